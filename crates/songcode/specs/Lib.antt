@@ -18,3 +18,5 @@ pub mod Meter
 pub mod Lyrics
 pub mod Tables
 pub mod Answer
+pub mod WrittenText
+pub mod WrittenPattern

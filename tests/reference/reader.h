@@ -1,0 +1,76 @@
+/* The second reader of SongCode charts: its two calls, for any C program to link.
+   Written from document 01 alone, apart from the proved reader, to be compared with it. */
+#ifndef READER_H
+#define READER_H
+
+#include <stddef.h>
+#include <stdint.h>
+
+enum {
+    READER_TEXT_LIMIT = 65536,    /* bytes of a chart */
+    READER_MEASURE_LIMIT = 65535, /* measures of a song, before cuts */
+    READER_TIME_LIMIT = 32,       /* beats of a measure */
+    READER_KEYS = 8               /* words of the keys table */
+};
+
+/* The refusals, numbered as in document 01. */
+enum reader_refusal {
+    READER_ACCEPTED = 0,
+    REFUSED_TEXT_TOO_LONG = 1,
+    REFUSED_BAD_TEXT = 2,
+    REFUSED_BLOCK_ORDER = 3,
+    REFUSED_KEY = 4,
+    REFUSED_SETTING = 5,
+    REFUSED_DEFINITION_HEAD = 6,
+    REFUSED_PATTERN_TEXT = 7,
+    REFUSED_LINE = 8,
+    REFUSED_NO_SECTION = 9,
+    REFUSED_REFERENCE_UNDEFINED = 10,
+    REFUSED_REFERENCE_KIND = 11,
+    REFUSED_DIVISION = 12,
+    REFUSED_NO_CHORD_BEFORE = 13,
+    REFUSED_SONG_TOO_LONG = 14,
+    REFUSED_NOTHING_LEFT = 15,
+    REFUSED_COUNT_MISSING = 16,
+    REFUSED_COUNT_SUM = 17,
+    REFUSED_TABLE_TOO_SHORT = 18,
+    REFUSED_BEAT_NOT_FOUND = 19
+};
+
+/* The memory lent to a call: five tables, each with its length in words. */
+struct reader_tables {
+    uint32_t *keys;
+    size_t keys_length;
+    uint64_t *sections;
+    size_t sections_length;
+    uint32_t *measures;
+    size_t measures_length;
+    uint32_t *beats;
+    size_t beats_length;
+    uint64_t *items;
+    size_t items_length;
+};
+
+/* The answer: refusal 0, line 0 and the four counts, or a refusal with its line and counts of 0. */
+struct reader_answer {
+    unsigned refusal;
+    size_t line;
+    size_t sections;
+    size_t measures;
+    size_t beats;
+    size_t items;
+};
+
+struct reader_place {
+    unsigned refusal;
+    size_t place;
+};
+
+/* Reads a chart into the tables. A refusal changes no table word; words past the counts keep what they held.
+   Uses memory of its own in proportion to the text and the song; ends the program if there is none. */
+struct reader_answer reader_read(const unsigned char *text, size_t length, const struct reader_tables *tables);
+
+/* The place of the first record of any measures table that holds the beat, or refusal 19 and place 0. */
+struct reader_place reader_find(const uint32_t *measures, size_t length, uint32_t beat);
+
+#endif
