@@ -20,3 +20,5 @@ pub mod Tables
 pub mod Answer
 pub mod WrittenText
 pub mod WrittenPattern
+pub mod WrittenSection
+pub mod WrittenSong
