@@ -22,3 +22,6 @@ pub mod WrittenText
 pub mod WrittenPattern
 pub mod WrittenSection
 pub mod WrittenSong
+pub mod Performance
+pub mod WrittenLyrics
+pub mod Fits
