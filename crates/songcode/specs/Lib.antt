@@ -25,3 +25,4 @@ pub mod WrittenSong
 pub mod Performance
 pub mod WrittenLyrics
 pub mod Fits
+pub mod Given
