@@ -1,0 +1,2 @@
+-- The answer's functions and the description agree: laws of lists, then text page by page.
+pub mod ListLaws
