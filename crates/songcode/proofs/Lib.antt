@@ -1,2 +1,5 @@
 -- The answer's functions and the description agree: laws of lists, then text page by page.
 pub mod ListLaws
+pub mod CutsAgree
+pub mod LinesAgree
+pub mod BlocksAgree

@@ -1,7 +1,7 @@
 -- General laws of the words on lists: tests, longest beginnings, what is gathered, what is reversed, what is complained of.
 use Prim.Native.Nat.{ℕ, zero, suc, _+_, _*_}
 use mathlib.Core.Path.{_≡_, refl, ap, sym, _∙_}
-use mathlib.Core.List.{List, [], _∷_, _++_, append-assoc, append-nil}
+use mathlib.Core.List.{List, [], _∷_, _++_, append-assoc, reverse, reverse-cons}
 use mathlib.Core.Bool.{Bool, true, false, _||_, _&&_}
 use mathlib.Core.Option.{Option, none, some}
 use native.Mathlib.Omega.{arith}
@@ -179,6 +179,11 @@ module _ {A : Type 0} where
   unfolding All
   append-all p [] ys a = (tt, a)
   append-all p (x ∷ xs) ys a = let h = append-all p xs ys (a .1) in ((a .0, h .0), h .1)
+
+  pub all-reverse : (p : A → Bool) (xs : List A) → All p xs → All p (reverse xs)
+  unfolding All
+  all-reverse p [] a = tt
+  all-reverse p (x ∷ xs) a = rw reverse-cons (all-append p (reverse xs) (x ∷ []) (all-reverse p xs (a .1)) (a .0, tt))
 
   pub times-length : (n : ℕ) (xs : List A) → length (times n xs) ≡ n * length xs
   unfolding times
