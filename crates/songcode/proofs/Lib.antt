@@ -3,3 +3,5 @@ pub mod ListLaws
 pub mod CutsAgree
 pub mod LinesAgree
 pub mod BlocksAgree
+pub mod WidthsAgree
+pub mod CharactersAgree
