@@ -5,3 +5,4 @@ pub mod LinesAgree
 pub mod BlocksAgree
 pub mod WidthsAgree
 pub mod CharactersAgree
+pub mod CharacterCounts

@@ -1,7 +1,7 @@
 -- General laws of the words on lists: tests, longest beginnings, what is gathered, what is reversed, what is complained of.
 use Prim.Native.Nat.{ℕ, zero, suc, _+_, _*_}
 use mathlib.Core.Path.{_≡_, refl, ap, sym, _∙_}
-use mathlib.Core.List.{List, [], _∷_, _++_, append-assoc, reverse, reverse-cons}
+use mathlib.Core.List.{List, [], _∷_, _++_, append-assoc, reverse, reverse-cons, List·Memᴰ, List·Memᴰ·head, List·Memᴰ·tail}
 use mathlib.Core.Bool.{Bool, true, false, _||_, _&&_}
 use mathlib.Core.Option.{Option, none, some}
 use native.Mathlib.Omega.{arith}
@@ -159,6 +159,11 @@ module _ {A : Type 0} where
   unfolding every All
   all-every p [] a = refl
   all-every p (x ∷ xs) a = pass-both (a .0) (all-every p xs (a .1))
+
+  pub all-member : (p : A → Bool) {xs : List A} {x : A} → All p xs → List·Memᴰ x xs → p x ≡ true
+  unfolding All
+  all-member p a (List·Memᴰ·head e) = rw e (a .0)
+  all-member p a (List·Memᴰ·tail m) = all-member p (a .1) m
 
   pub any-none : (p : A → Bool) (xs : List A) → any p xs ≡ false → Each (λ x. p x ≡ false) xs
   unfolding any Each

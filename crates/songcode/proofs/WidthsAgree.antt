@@ -80,13 +80,21 @@ listed-above low {fs = g ∷ gs} e (List·Memᴰ·head q) = rw q (ascending-cons
 listed-above low {fs = g ∷ gs} e (List·Memᴰ·tail m) =
     let h = ascending-cons low g gs e in let i = listed-above (g .firstHigh) (h .2) m in omega arith
 
-within-low : (low high b : ℕ) → within low high b ≡ true → low ≤ b
+pub within-low : (low high b : ℕ) → within low high b ≡ true → low ≤ b
 unfolding within
 within-low low high b e = leb-true low b (both-pass (leb low b) (leb b high) e .0)
 
-beyond : (low high b : ℕ) → high < b → within low high b ≡ false
+pub within-high : (low high b : ℕ) → within low high b ≡ true → b ≤ high
+unfolding within
+within-high low high b e = leb-true b high (both-pass (leb low b) (leb b high) e .1)
+
+pub beyond : (low high b : ℕ) → high < b → within low high b ≡ false
 unfolding within
 beyond low high b h = rw (lt-leb b high h) (by-cases (leb low b) (λ e. rw e) (λ e. rw e))
+
+pub beneath : (low high b : ℕ) → b < low → within low high b ≡ false
+unfolding within
+beneath low high b h = rw (lt-leb low b h)
 
 -- A listed form whose bytes stand in front gives the width.
 width-of-form : (low : ℕ) {fs : List Form} {f : Form} (b : ℕ) (bs : List ℕ) → ascending low fs ≡ true → List·Memᴰ f fs → within (f .firstLow) (f .firstHigh) b ≡ true → follows f (f .more) bs ≡ true → widthBy fs b bs ≡ suc (f .more)
