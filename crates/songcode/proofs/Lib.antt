@@ -6,3 +6,4 @@ pub mod BlocksAgree
 pub mod WidthsAgree
 pub mod CharactersAgree
 pub mod CharacterCounts
+pub mod PlacesAgree

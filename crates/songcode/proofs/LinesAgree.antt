@@ -3,12 +3,9 @@ use Prim.Native.Nat.{ℕ, suc}
 use mathlib.Core.Path.{_≡_, refl, ap, sym, _∙_}
 use mathlib.Core.Logic.{_↔_}
 use mathlib.Core.List.{List, [], _∷_, _++_, append-nil, reverse, reverseAux, reverse-append, reverse-reverse}
-use mathlib.Core.Bool.{false}
-use lib.ListN.{length, take}
 use Rattle.songcode.specs.Lists.{taken, left}
-use Rattle.songcode.specs.Bytes.{Byte, isBlank, placed}
+use Rattle.songcode.specs.Bytes.{Byte, isBlank}
 use Rattle.songcode.specs.Lines.{Line, cutLines, dropLast, trimmed, numbered, lines}
-use Rattle.songcode.specs.Answer.{lineOfPlace}
 use Rattle.songcode.specs.WrittenText.{All, Stops, lastOf, Solid, Trims, Counts, no-line, a-line, WrittenLines}
 use Rattle.songcode.proofs.ListLaws.{taken-left, taken-all, left-stops, left-is, all-append, all-reverse}
 use Rattle.songcode.proofs.CutsAgree.{pieces, cuts-complete, cuts-sound}
@@ -93,13 +90,3 @@ lines-exact bs ls = ((λ e. rw e at (lines-sound bs)), lines-complete bs ls)
 -- Every text has one list of lines.
 pub lines-unique : {bs : List Byte} {ls ms : List Line} → WrittenLines bs ls → WrittenLines bs ms → ls ≡ ms
 lines-unique {bs} {ls} {ms} w v = sym (lines-complete bs ls w) ∙ lines-complete bs ms v
-
--- The line of a place is how many lines the text before it has.
-numbered-length : (n : ℕ) (raws : List (List Byte)) → length (numbered n raws) ≡ length raws
-unfolding numbered
-numbered-length n [] = refl
-numbered-length n (raw ∷ raws) = ap suc (numbered-length (suc n) raws)
-
-pub lineOfPlace-counts : (at : ℕ) (bs : List ℕ) (ls : List Line) → WrittenLines (placed 0 (take at bs)) ls → lineOfPlace at bs ≡ length ls
-unfolding lineOfPlace lines
-lineOfPlace-counts at bs ls w = rw (← lines-complete (placed 0 (take at bs)) ls w) (ap suc (sym (numbered-length 2 (cutLines (placed 0 (take at bs)) .others))))
