@@ -1,2 +1,4 @@
 pub mod PatternLaws
 pub mod NumbersAgree
+pub mod Spellings
+pub mod ChordsAgree

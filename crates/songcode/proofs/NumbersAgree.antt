@@ -12,15 +12,15 @@ use Rattle.songcode.specs.Lists.{if_then_else_}
 use Rattle.songcode.specs.Bytes.{Byte}
 use Rattle.songcode.specs.Numbers.{isDecimal, valueFrom, numberIn, countIn, repeatIn}
 use Rattle.songcode.specs.WrittenPattern.{Number}
-use Rattle.songcode.proofs.PatternLaws.{and-true, if-some}
+use Rattle.songcode.proofs.PatternLaws.{both-pass, if-some}
 
 number-sound : (low high : ℕ) (bs : List Byte) (n : ℕ) → numberIn low high bs ≡ some n → Number low high bs n
 unfolding numberIn
 number-sound low high bs n h =
     let v = valueFrom 0 bs in
     let g = if-some _ h in
-    let a = and-true _ (leb v high) (g .0) in
-    let b = and-true (isDecimal bs) (leb low v) (a .0) in
+    let a = both-pass _ (leb v high) (g .0) in
+    let b = both-pass (isDecimal bs) (leb low v) (a .0) in
     record { decimal = b .0; says = sym (g .1); atLeast = omega (arith, leb-true low v (b .1), g .1); atMost = omega (arith, leb-true v high (a .1), g .1) }
 
 number-complete : (low high : ℕ) (bs : List Byte) (n : ℕ) → Number low high bs n → numberIn low high bs ≡ some n
