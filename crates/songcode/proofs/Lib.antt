@@ -4,3 +4,4 @@ pub mod Spellings
 pub mod ChordsAgree
 pub mod WordsAgree
 pub mod TokensAgree
+pub mod ItemsAgree

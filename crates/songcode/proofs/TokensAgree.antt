@@ -116,3 +116,21 @@ text-complete (t-close {w} {bs} {zs} {ts} {n} e p s z m t) =
     rw (e, lexed-behind w bs zs ts p s z (text-complete t)) (ap (λ o. closingToken o ∷ ts) (repeat-exact w n .1 m))
 text-complete (t-word {w} {bs} {zs} {ts} e p s z v t) =
     rw (e, lexed-behind w bs zs ts p s z (text-complete t)) (ap (λ u. u ∷ ts) (word-complete v))
+
+-- The same of lines.
+no-wrong-append : (ts us : List Token) → NoWrong (ts ++ us) → NoWrong ts × NoWrong us
+unfolding NoWrong
+no-wrong-append [] us n = (tt, n)
+no-wrong-append (t ∷ ts) us n = let h = no-wrong-append ts us (n .1) in ((n .0, h .0), h .1)
+
+pub text-lines-sound : (l : Line) (ls : List Line) → NoWrong (tokensOf l ls) → TextLines l ls (tokensOf l ls)
+unfolding tokensOf NoWrong
+text-lines-sound l [] n = one-line (text-sound (l .text) n)
+text-lines-sound l (m ∷ ms) n =
+    let h = no-wrong-append (tokens (l .text)) (lineEnd ∷ tokensOf m ms) n in
+    more-lines (text-sound (l .text) (h .0)) (text-lines-sound m ms (h .1 .1)) refl
+
+pub text-lines-complete : {l : Line} {ls : List Line} {ts : List Token} → TextLines l ls ts → tokensOf l ls ≡ ts
+unfolding tokensOf
+text-lines-complete (one-line t) = text-complete t
+text-lines-complete (more-lines t ts e) = let h = text-complete t in let g = text-lines-complete ts in cc
