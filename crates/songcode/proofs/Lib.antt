@@ -5,3 +5,5 @@ pub mod ChordsAgree
 pub mod WordsAgree
 pub mod TokensAgree
 pub mod ItemsAgree
+pub mod WrittenTokens
+pub mod PatternAgree

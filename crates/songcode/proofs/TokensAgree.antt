@@ -2,6 +2,7 @@
 use Prim.Native.Nat.{ℕ}
 use native.Mathlib.Omega.{arith}
 use mathlib.Core.Path.{_≡_, refl, ap, sym, _∙_}
+use mathlib.Core.Logic.{_↔_}
 use mathlib.Core.List.{List, [], _∷_, _++_, append-nil}
 use mathlib.Core.Bool.{Bool, true, false}
 use mathlib.Core.Option.{Option, none, some}
@@ -134,3 +135,10 @@ pub text-lines-complete : {l : Line} {ls : List Line} {ts : List Token} → Text
 unfolding tokensOf
 text-lines-complete (one-line t) = text-complete t
 text-lines-complete (more-lines t ts e) = let h = text-complete t in let g = text-lines-complete ts in cc
+
+-- Together, of tokens of which none is wrong.
+pub text-exact : (bs : List Byte) (ts : List Token) → NoWrong ts → (tokens bs ≡ ts) ↔ Text bs ts
+text-exact bs ts n = ((λ e. rw e at (text-sound bs (rw e n))), text-complete)
+
+pub text-lines-exact : (l : Line) (ls : List Line) (ts : List Token) → NoWrong ts → (tokensOf l ls ≡ ts) ↔ TextLines l ls ts
+text-lines-exact l ls ts n = ((λ e. rw e at (text-lines-sound l ls (rw e n))), text-lines-complete)
