@@ -24,6 +24,10 @@ pub both-pass : (a b : Bool) → a && b ≡ true → (a ≡ true) × (b ≡ true
 both-pass true b h = (refl, h)
 both-pass false b h = true-is-not-false h refl
 
+pub none-passes : (a b : Bool) → a || b ≡ false → (a ≡ false) × (b ≡ false)
+none-passes true b h = true-is-not-false refl h
+none-passes false b h = (refl, h)
+
 -- What a reading under a test gives.
 pub if-some : {A : Type 0} (t : Bool) {x y : A} → (if t then some x else none) ≡ some y → (t ≡ true) × (x ≡ y)
 unfolding if_then_else_
