@@ -10,14 +10,15 @@ use mathlib.Core.Bool.{Bool, true, false, _&&_}
 use mathlib.Core.Option.{Option, none, some}
 use borrow.Author.Tests.{leb-true, le-leb}
 use lib.Dec.{leb}
-use lib.ListN.{length, getElem?, take, drop, take-append-drop, length-append}
+use lib.ListN.{length, getElem?, take, drop, take-append-drop}
 use lib.Seq.{take-at, drop-at}
-use Rattle.songcode.specs.Lists.{if_then_else_, any, every, gather}
-use Rattle.songcode.specs.Bytes.{Byte, values, ascii, same, begins}
-use Rattle.songcode.specs.Chords.{rows, spellings, bases, Base, longestFrom, longestBase, isBase, Chord, chordBy, chordIn}
-use Rattle.songcode.specs.WrittenPattern.{Begins, SpelledChord}
-use Rattle.songcode.proofs.PatternLaws.{by-cases, true-is-not-false, none-some, if-some, both-pass, every-at, any-at, any-where}
-use Rattle.songcode.proofs.Spellings.{same-true, same-refl, begins-true, begins-append, front-once, distinct, distinct-once, longest-holds, longest-least}
+use Rattle.songcode.specs.Lists.{if_then_else_, any, every}
+use Rattle.songcode.specs.Bytes.{Byte, values, same, begins}
+use Rattle.songcode.specs.Chords.{bases, Base, longestBase, isBase, Chord, chordBy, chordIn}
+use Rattle.songcode.specs.WrittenPattern.{SpelledChord}
+use Rattle.songcode.proofs.PatternLaws.{true-is-not-false, none-some, if-some, every-at, any-at, any-where}
+use Rattle.songcode.proofs.Spellings.{same-true, same-refl, begins-true, begins-append, front-once, distinct, distinct-once}
+use Rattle.songcode.proofs.LongestBase.{longest-holds, longest-least}
 
 -- No two base chords are spelled alike: one test over all of them.
 bases-distinct : distinct bases ≡ true
@@ -95,10 +96,10 @@ chord-sound w c h = go (longestBase w) refl h
           joined = rw (← extends) (sym (take-append-drop n w));
           numbered = rw (← based, spelled) (f .numbered);
           longest = λ k s i t.
-            let r = longest-there w k s i (rw (t .joined) (begins-append s (t .rest))) in
-            let same-base : r .0 ≡ b = cc (r .1) in
-            rw (long, ← same-base) (r .2);
-          short = rw (← extends) (leb-true _ 31 (g .0))
+              let r = longest-there w k s i (rw (t .joined) (begins-append s (t .rest))) in
+              let same-base : r .0 ≡ b = cc (r .1) in
+              rw (long, ← same-base) (r .2);
+          short = rw (← extends) (leb-true _ 31 (g .0));
         }
 
 chord-complete : (w : List Byte) (c : Chord) → SpelledChord w c → chordIn w ≡ some c
@@ -106,7 +107,7 @@ unfolding chordIn chordBy if_then_else_
 chord-complete w c h =
     let v = length-values (h .base) in
     let begun : begins (values (h .base)) (values w) ≡ true =
-      rw (h .joined, values-append) (begins-append (values (h .base)) (values (c .extension))) in
+    rw (h .joined, values-append) (begins-append (values (h .base)) (values (c .extension))) in
     let r = longest-there w (c .base) (values (h .base)) (h .numbered) begun in
     let b = r .0 in
     let f = longest-fits w b (r .1) in
@@ -124,8 +125,8 @@ pub base-exact : (w : List Byte) → (isBase w ≡ true) ↔ ((n : ℕ) × (getE
 unfolding isBase
 base-exact w = (
   (λ h.
-  let r = any-where (λ s. same s (values w)) bases h in
-  (r .0, r .2 ∙ ap some (same-true (r .1) (values w) (r .3)))),
+      let r = any-where (λ s. same s (values w)) bases h in
+      (r .0, r .2 ∙ ap some (same-true (r .1) (values w) (r .3)))),
   (λ r. any-at (λ s. same s (values w)) bases (r .0) (r .1) (same-refl (values w))),
 )
 

@@ -1,9 +1,11 @@
 pub mod PatternLaws
 pub mod NumbersAgree
 pub mod Spellings
+pub mod LongestBase
 pub mod ChordsAgree
 pub mod WordsAgree
 pub mod TokensAgree
 pub mod ItemsAgree
 pub mod WrittenTokens
 pub mod PatternAgree
+pub mod SideAgree

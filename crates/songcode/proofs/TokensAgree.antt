@@ -1,7 +1,7 @@
 -- A pattern text is read as the tokens of which it is written.
 use Prim.Native.Nat.{ℕ}
 use native.Mathlib.Omega.{arith}
-use mathlib.Core.Path.{_≡_, refl, ap, sym, _∙_}
+use mathlib.Core.Path.{_≡_, refl, ap}
 use mathlib.Core.Logic.{_↔_}
 use mathlib.Core.List.{List, [], _∷_, _++_, append-nil}
 use mathlib.Core.Bool.{Bool, true, false}
@@ -9,8 +9,8 @@ use mathlib.Core.Option.{Option, none, some}
 use Rattle.songcode.specs.Bytes.{Byte}
 use Rattle.songcode.specs.Numbers.{repeatIn}
 use Rattle.songcode.specs.Lines.{Line}
-use Rattle.songcode.specs.Tokens.{Token, semicolon, colon, lineEnd, opens, closes, wrong, Class, blank, semi, double, bracket, closing, plain, class, closingToken, wordToken, Lexed, word, lexedBy, lexed, tokens, tokensOf}
-use Rattle.songcode.specs.WrittenPattern.{Number, Word, Plain, NoPlain, Text, t-end, t-blank, t-semicolon, t-colon, t-open, t-close, t-word, TextLines, one-line, more-lines}
+use Rattle.songcode.specs.Tokens.{Token, semicolon, colon, lineEnd, opens, wrong, Class, blank, semi, double, bracket, closing, plain, class, closingToken, Lexed, word, lexedBy, lexed, tokens, tokensOf}
+use Rattle.songcode.specs.WrittenPattern.{Plain, NoPlain, Text, t-end, t-blank, t-semicolon, t-colon, t-open, t-close, t-word, TextLines, one-line, more-lines}
 use Rattle.songcode.proofs.NumbersAgree.{repeat-exact}
 use Rattle.songcode.proofs.WordsAgree.{word-sound, word-complete}
 

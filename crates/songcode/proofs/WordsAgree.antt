@@ -5,7 +5,7 @@ use Prim.Native.String.{String}
 use native.Mathlib.Omega.{arith}
 use mathlib.Core.Path.{_≡_, refl, ap, sym, _∙_}
 use mathlib.Core.Logic.{_↔_}
-use mathlib.Core.List.{List, [], _∷_, _++_}
+use mathlib.Core.List.{List, [], _∷_}
 use mathlib.Core.Bool.{Bool, true, false}
 use mathlib.Core.Option.{Option, none, some}
 use borrow.Author.Tests.{eqb-true}
@@ -13,9 +13,9 @@ use Rattle.songcode.specs.Lists.{if_then_else_}
 use Rattle.songcode.specs.Bytes.{Byte, values, ascii, same, is, isByte}
 use Rattle.songcode.specs.Numbers.{countIn}
 use Rattle.songcode.specs.Chords.{Chord, chordIn}
-use Rattle.songcode.specs.Song.{Sound, chord, again, silence}
+use Rattle.songcode.specs.Song.{chord}
 use Rattle.songcode.specs.Tokens.{Token, sound, remover, reference, semicolon, colon, lineEnd, opens, closes, wrong, chordToken, referenceToken, dollarOr, wordToken}
-use Rattle.songcode.specs.WrittenPattern.{Number, SpelledChord, Word, spells-again, spells-silence, spells-remover, spells-reference, spells-chord}
+use Rattle.songcode.specs.WrittenPattern.{SpelledChord, Word, spells-again, spells-silence, spells-remover, spells-reference, spells-chord}
 use Rattle.songcode.proofs.PatternLaws.{by-cases, true-is-not-false}
 use Rattle.songcode.proofs.NumbersAgree.{count-exact}
 use Rattle.songcode.proofs.Spellings.{same-true}
@@ -88,7 +88,7 @@ unfolding dollarOr chordToken if_then_else_ isByte fromAToG values
 dollar-chord [] c s h = true-is-not-false h refl
 dollar-chord (b ∷ bs) c s h =
     let d : isByte (code "$") b ≡ false =
-      by-cases (isByte (code "$") b) (λ e. true-is-not-false h (rw (eqb-true (b .value) (code "$") e))) (λ e. e) in
+    by-cases (isByte (code "$") b) (λ e. true-is-not-false h (rw (eqb-true (b .value) (code "$") e))) (λ e. e) in
     rw d (ap chordToken (chord-exact (b ∷ bs) c .1 s))
 
 pub word-complete : {w : List Byte} {t : Token} → Word w t → wordToken w ≡ t
