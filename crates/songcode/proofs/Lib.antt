@@ -9,3 +9,4 @@ pub mod ItemsAgree
 pub mod WrittenTokens
 pub mod PatternAgree
 pub mod SideAgree
+pub mod AppendedAgree

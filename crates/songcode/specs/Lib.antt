@@ -20,3 +20,4 @@ pub mod Tables
 pub mod Answer
 pub mod WrittenText
 pub mod WrittenPattern
+pub mod PatternAppended
