@@ -12,3 +12,15 @@ pub mod WidthsAgree
 pub mod CharactersAgree
 pub mod CharacterCounts
 pub mod PlacesAgree
+pub mod PatternLaws
+pub mod NumbersAgree
+pub mod Spellings
+pub mod LongestBase
+pub mod ChordsAgree
+pub mod WordsAgree
+pub mod TokensAgree
+pub mod ItemsAgree
+pub mod WrittenTokens
+pub mod PatternAgree
+pub mod SideAgree
+pub mod AppendedAgree
