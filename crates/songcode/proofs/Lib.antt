@@ -3,7 +3,9 @@ pub mod ListLaws
 pub mod VerdictAgree
 pub mod PlayingAgree
 pub mod RowLaws
-pub mod CutLaws
+pub mod TurnedRows
+pub mod CutFront
+pub mod CutBack
 -- The answer's functions and the description agree: laws of lists, then text page by page.
 pub mod CutsAgree
 pub mod LinesAgree
@@ -24,3 +26,4 @@ pub mod WrittenTokens
 pub mod PatternAgree
 pub mod SideAgree
 pub mod AppendedAgree
+pub mod SectionPlays

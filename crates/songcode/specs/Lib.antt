@@ -20,13 +20,10 @@ pub mod Tables
 pub mod Answer
 pub mod WrittenText
 pub mod WrittenPattern
-<<<<<<< HEAD
 pub mod WrittenSection
 pub mod WrittenSong
 pub mod Performance
 pub mod WrittenLyrics
 pub mod Fits
 pub mod Given
-=======
 pub mod PatternAppended
->>>>>>> 9fade65ead1ff441c01428938dd5de3d3cfa1110
