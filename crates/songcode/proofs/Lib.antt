@@ -27,3 +27,4 @@ pub mod PatternAgree
 pub mod SideAgree
 pub mod AppendedAgree
 pub mod SectionPlays
+pub mod MeterAgree

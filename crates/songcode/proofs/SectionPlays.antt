@@ -37,8 +37,7 @@ row-plays n l r p h =
 plays-row : (n l : ℕ) (r : Items) (row : List (List Beat)) → PlaysAlone n r row → (rowFaults n l r ≡ []) × (row ≡ measuresOf n none r) × (allFit n r ≡ true)
 unfolding rowFaults
 plays-row n l r row p =
-    let g = items-by n none r row (p .later) (p .plays) in
-    (
+    let g = items-by n none r row (p .later) (p .plays) in (
       rw (nil-complainIf {b = not (allFit n r)} 12 l (rw (g .fitting)), nil-complainIf {b = stray none r} 13 l (g .steady)),
       g .rowThere,
       g .fitting,
@@ -73,18 +72,28 @@ meter-some s x = go (timeAmong (x .keys)) (timeAmong (s .keys)) (among-some (x .
     go (some n) b f g = f n refl
 
 -- A lead-in or tail.
-side-plays : (n : ℕ) (o : Option Side) → ((x : Side) → o ≡ some x → references (x .items) ≡ []) → sideFaults n o ≡ [] → PlaysSide n o (sideMeasures n o)
+pub side-plays : (n : ℕ) (o : Option Side) → ((x : Side) → o ≡ some x → references (x .items) ≡ []) → sideFaults n o ≡ [] → PlaysSide n o (sideMeasures n o)
 unfolding sideFaults PlaysSide sideMeasures
 side-plays n none p h = refl
 side-plays n (some x) p h = row-plays n (x .line) (x .items) (p x refl) h
 
-plays-side : (n : ℕ) (o : Option Side) (row : List (List Beat)) → PlaysSide n o row → (sideFaults n o ≡ []) × (row ≡ sideMeasures n o)
+pub plays-side : (n : ℕ) (o : Option Side) (row : List (List Beat)) → PlaysSide n o row → (sideFaults n o ≡ []) × (row ≡ sideMeasures n o)
 unfolding sideFaults PlaysSide sideMeasures
 plays-side n none row p = (refl, p)
 plays-side n (some x) row p = let g = plays-row n (x .line) (x .items) row p in (g .0, g .1)
 
 -- Beats and measures that are there.
 module _ {A : Type 0} where
+  some-of : (row : List A) → isEmpty row ≡ false → 1 ≤ length row
+  unfolding isEmpty
+  some-of [] e = true-is-not-false refl e
+  some-of (m ∷ row) e = omega arith
+
+  not-empty : (row : List A) → 1 ≤ length row → isEmpty row ≡ false
+  unfolding isEmpty
+  not-empty [] h = absurd (omega arith)
+  not-empty (m ∷ row) h = refl
+
   some-beat : (row : List (List A)) → Filled row → 1 ≤ length row → 1 ≤ total row
   unfolding Filled total
   some-beat [] f h = absurd (omega arith)
@@ -133,3 +142,60 @@ filled-back-if : (o : Option Cut) (row : List (List Beat)) → Filled row → Fi
 unfolding applied
 filled-back-if none row f = f
 filled-back-if (some c) row f = filled-cutBack c row f
+
+-- A pattern that stages 4 and 5 pass.
+unfoldable pub pass-of : ℕ → Option Items → List (List Beat)
+pass-of n none = []
+pass-of n (some r) = measuresOf n none r
+
+-- Stage 5 passes cuts that leave a measure.
+keeps-some : (n header : ℕ) (ms : List Modifier) (r : Items) → cutFaults n header ms (some r) ≡ [] → 1 ≤ length (keptMeasures n ms (some r))
+unfolding cutFaults
+keeps-some n header ms r c = some-of (keptMeasures n ms (some r)) (complainIf-nil (isEmpty (keptMeasures n ms (some r))) 15 header c)
+
+some-kept : (n header : ℕ) (ms : List Modifier) (r : Items) → 1 ≤ length (keptMeasures n ms (some r)) → cutFaults n header ms (some r) ≡ []
+unfolding cutFaults
+some-kept n header ms r h = nil-complainIf 15 header (not-empty (keptMeasures n ms (some r)) h)
+
+pub pattern-plays : (n header : ℕ) (ms : List Modifier) (o : Option Items) → 1 ≤ n → ((r : Items) → o ≡ some r → references r ≡ []) → playedFaults n header o ≡ [] → cutFaults n header ms o ≡ [] → PlaysPattern n ms o (pass-of n o) (keptMeasures n ms o)
+unfolding playedFaults cutFaults PlaysPattern keptMeasures pass-of cutRow
+pattern-plays n header ms none h p f c = (isEmpty-true ms (not-false (isEmpty ms) (complainIf-nil (not (isEmpty ms)) 15 header c)), refl, refl)
+pattern-plays n header ms (some r) h p f c =
+    let alone = row-plays n header r (p r refl) f in
+    let fits = plays-row n header r (measuresOf n none r) alone in
+    let row = times (repeats ms) (measuresOf n none r) in
+    let shorter = applied cutFront (saidBy cutStartSaid ms) row in
+    let a : Filled row = filled-times (repeats ms) (measuresOf n none r) (filled-items n none r h (fits .2)) in
+    let b : Filled shorter = filled-front-if (saidBy cutStartSaid ms) row a in
+    let kept : 1 ≤ length (applied cutBack (saidBy cutEndSaid ms) shorter) = keeps-some n header ms r c in (
+      shorter,
+      alone,
+      front-if (saidBy cutStartSaid ms) row a (some-before (saidBy cutEndSaid ms) shorter b kept),
+      back-if (saidBy cutEndSaid ms) shorter b kept,
+      some-beat _ (filled-back-if (saidBy cutEndSaid ms) shorter b) kept,
+    )
+
+pub record PatternPlayed (n header : ℕ) (ms : List Modifier) (o : Option Items) (pass middle : List (List Beat)) : Type 0 where
+  pub metered : playedFaults n header o ≡ []
+  pub left-over : cutFaults n header ms o ≡ []
+  pub passThere : pass ≡ pass-of n o
+  pub middleThere : middle ≡ keptMeasures n ms o
+
+pub plays-pattern : (n header : ℕ) (ms : List Modifier) (o : Option Items) (pass middle : List (List Beat)) → 1 ≤ n → PlaysPattern n ms o pass middle → PatternPlayed n header ms o pass middle
+unfolding playedFaults cutFaults PlaysPattern keptMeasures pass-of cutRow isEmpty
+plays-pattern n header ms none pass middle h (e, p, m) =
+    record { metered = refl; left-over = rw e (nil-complainIf {b = false} 15 header refl); passThere = p; middleThere = m }
+plays-pattern n header ms (some r) pass middle h (shorter, alone, front, back, some-left) =
+    let g = plays-row n header r pass alone in
+    let row = times (repeats ms) pass in
+    let a : Filled row = filled-times (repeats ms) pass (subst (λ x. Filled x) (sym (g .1)) (filled-items n none r h (g .2))) in
+    let f = if-front (saidBy cutStartSaid ms) row shorter a front in
+    let b : Filled shorter = subst (λ x. Filled x) f (filled-front-if (saidBy cutStartSaid ms) row a) in
+    let k = if-back (saidBy cutEndSaid ms) shorter middle b back in
+    let m : middle ≡ applied cutBack (saidBy cutEndSaid ms) (applied cutFront (saidBy cutStartSaid ms) (times (repeats ms) (measuresOf n none r))) = sym k ∙ ap (λ x. applied cutBack (saidBy cutEndSaid ms) x) (sym f) ∙ ap (λ x. applied cutBack (saidBy cutEndSaid ms) (applied cutFront (saidBy cutStartSaid ms) (times (repeats ms) x))) (g .1) in
+    record {
+      metered = g .0;
+      left-over = some-kept n header ms r (subst (λ x. 1 ≤ length x) m (some-measure middle some-left));
+      passThere = g .1;
+      middleThere = m;
+    }
