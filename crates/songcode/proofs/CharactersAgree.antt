@@ -1,10 +1,9 @@
 -- Good bytes: a text is good to its end exactly if it is whole characters, and else good up to the first place where no whole character stands.
 use Prim.Native.Nat.{ℕ, zero, suc, _+_, _≤_}
-use mathlib.Core.Path.{_≡_, refl, ap, sym, subst, _∙_}
+use mathlib.Core.Path.{_≡_, refl, ap, sym, _∙_}
 use mathlib.Core.Logic.{_↔_}
 use mathlib.Core.List.{List, [], _∷_, _++_, append-assoc, append-nil, head-eq-of-cons-eq, tail-eq-of-cons-eq}
 use native.Mathlib.Omega.{arith}
-use native.Mathlib.Nat.{zero-add, suc-add}
 use lib.ListN.{length, take, drop, length-append, take-append-drop}
 use Rattle.songcode.specs.Characters.{forms, widthBy, goodBytes}
 use Rattle.songcode.specs.WrittenText.{Character, Characters, no-character, a-character}

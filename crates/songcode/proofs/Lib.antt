@@ -10,9 +10,12 @@ pub mod CutBack
 pub mod CutsAgree
 pub mod LinesAgree
 pub mod BlocksAgree
+pub mod ByteLaws
+pub mod FormLaws
 pub mod WidthsAgree
 pub mod CharactersAgree
 pub mod CharacterCounts
+pub mod CharacterParts
 pub mod PlacesAgree
 pub mod PatternLaws
 pub mod NumbersAgree

@@ -1,23 +1,24 @@
 -- The line that a bad place is given: the number of the line in which its byte stands.
-use Prim.Native.Nat.{ℕ, suc, _+_, _<_}
-use mathlib.Core.Path.{_≡_, refl, ap, sym, subst, _∙_}
+use Prim.Native.Nat.{ℕ, suc, _<_}
+use mathlib.Core.Path.{_≡_, refl, ap, subst}
 use mathlib.Core.List.{List, [], _∷_, _++_, List·Memᴰ·head}
-use mathlib.Core.Bool.{Bool, true, false}
+use mathlib.Core.Bool.{true, false}
 use native.Mathlib.Omega.{arith}
-use native.Mathlib.Nat.{add-zero, add-suc, suc-add, zero-add}
+use native.Mathlib.Nat.{zero-add}
 use lib.Dec.{eqb}
-use lib.ListN.{length, take, length-append}
+use lib.ListN.{length, length-append}
 use lib.Seq.{take-at}
 use borrow.Author.Tests.{eqb-true}
 use Rattle.songcode.specs.Lists.{if_then_else_}
 use Rattle.songcode.specs.Bytes.{Byte, placed}
-use Rattle.songcode.specs.Characters.{Form, form, forms, within, goodBytes}
+use Rattle.songcode.specs.Characters.{form, forms, within, goodBytes}
 use Rattle.songcode.specs.Lines.{Ending, lf, cr, inside, ending, endingOf, Cut, put, cutLines}
 use Rattle.songcode.specs.Answer.{lineOfPlace}
 use Rattle.songcode.specs.WrittenText.{Follows, Character, Cuts}
 use Rattle.songcode.proofs.ListLaws.{by-cases}
+use Rattle.songcode.proofs.ByteLaws.{placed-append}
 use Rattle.songcode.proofs.CutsAgree.{pieces, cuts-complete}
-use Rattle.songcode.proofs.CharactersAgree.{Stuck, FirstBad, first-bad}
+use Rattle.songcode.proofs.CharactersAgree.{Stuck, first-bad}
 
 -- A byte stands on the line of this number, counted from 1.
 pub record StandsOn (lines : List (List Byte)) (b : Byte) (number : ℕ) : Type 0 where
@@ -59,24 +60,17 @@ unfolding cutLines put pieces
 stands [] b ys e = rw e (record { before = []; front = []; back = cutLines ys .first; behind = cutLines ys .others; listed = refl; counted = refl })
 stands (x ∷ xs) b ys e = rw (endingOf-front xs b ys e) (put-stands (ending x) (endingOf xs) x b (cutLines (xs ++ (b ∷ ys))) (cutLines xs) (stands xs b ys e))
 
-placed-append : (at : ℕ) (xs ys : List ℕ) → placed at (xs ++ ys) ≡ placed at xs ++ placed (at + length xs) ys
-unfolding placed
-placed-append at [] ys = rw (add-zero at)
-placed-append at (x ∷ xs) ys = rw (placed-append (suc at) xs ys, suc-add, add-suc)
-
 -- CR and LF are whole characters, so that a bad byte ends no line.
 one-byte : (b : ℕ) → within 0x01 0x7F b ≡ true → Character (b ∷ [])
 unfolding forms Follows
 one-byte b w = record { form = form 0x01 0x7F 0 0x80 0xBF; listed = List·Memᴰ·head refl; first = b; rest = []; spelled = refl; begins = w; asMany = refl; follows = tt }
 
+stuck-is-not : (b c : ℕ) (bs : List ℕ) → within 0x01 0x7F c ≡ true → Stuck (b ∷ bs) → eqb b c ≡ false
+stuck-is-not b c bs w s = by-cases (eqb b c) (λ e. absurd (s (b ∷ []) bs (one-byte b (rw (eqb-true b c e) w)) refl)) (λ e. e)
+
 stuck-ends-no-line : (at b : ℕ) (bs : List ℕ) → Stuck (b ∷ bs) → ending (record { place = at; value = b }) ≡ inside
 unfolding ending if_then_else_ within
-stuck-ends-no-line at b bs s =
-    by-cases (eqb b 10)
-    (λ e. absurd (s (b ∷ []) bs (one-byte b (rw (eqb-true b 10 e))) refl))
-    (λ e. by-cases (eqb b 13)
-    (λ f. absurd (s (b ∷ []) bs (one-byte b (rw (eqb-true b 13 f))) refl))
-    (λ f. rw (e, f)))
+stuck-ends-no-line at b bs s = rw (stuck-is-not b 10 bs refl s, stuck-is-not b 13 bs refl s)
 
 stands-behind : (front : List ℕ) (b : ℕ) (rest : List ℕ) → Stuck (b ∷ rest) → StandsOn (pieces (cutLines (placed 0 (front ++ (b ∷ rest))))) (record { place = length front; value = b }) (lineOfPlace (length front) (front ++ (b ∷ rest)))
 unfolding lineOfPlace placed

@@ -26,4 +26,5 @@ pub mod Performance
 pub mod WrittenLyrics
 pub mod Fits
 pub mod Given
+pub mod Described
 pub mod PatternAppended
