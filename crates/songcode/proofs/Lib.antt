@@ -1,0 +1,4 @@
+pub mod ListLaws
+pub mod PatternLaws
+pub mod NumbersAgree
+pub mod LyricLineAgree
