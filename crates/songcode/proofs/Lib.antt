@@ -1,4 +1,6 @@
 pub mod ListLaws
 pub mod PatternLaws
 pub mod NumbersAgree
+pub mod Spellings
 pub mod LyricLineAgree
+pub mod StyleAgree
