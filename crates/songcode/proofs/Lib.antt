@@ -4,3 +4,5 @@ pub mod NumbersAgree
 pub mod Spellings
 pub mod LyricLineAgree
 pub mod StyleAgree
+pub mod FaultLaws
+pub mod ReferencesAgree
