@@ -6,3 +6,4 @@ pub mod LyricLineAgree
 pub mod StyleAgree
 pub mod FaultLaws
 pub mod ReferencesAgree
+pub mod PutInPlain
