@@ -7,3 +7,5 @@ pub mod StyleAgree
 pub mod FaultLaws
 pub mod ReferencesAgree
 pub mod PutInPlain
+pub mod LyricsAgree
+pub mod PromptsAgree

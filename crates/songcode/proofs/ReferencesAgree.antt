@@ -1,15 +1,12 @@
 -- References are not complained of exactly where each can be put in.
 use Prim.Native.Nat.{ℕ, _≤_}
-use native.Mathlib.Omega.{arith}
 use mathlib.Core.Path.{_≡_, refl, sym}
 use mathlib.Core.Logic.{_↔_}
-use mathlib.Core.List.{List, [], _∷_, _++_}
-use mathlib.Core.Bool.{Bool, true, false, not}
+use mathlib.Core.List.{List, [], _∷_}
+use mathlib.Core.Bool.{true, false}
 use mathlib.Core.Option.{Option, none, some}
 use borrow.Author.Tests.{leb-true, le-leb}
-use lib.Dec.{leb}
 use Rattle.songcode.specs.Lists.{gather}
-use Rattle.songcode.specs.Complaints.{complainIf}
 use Rattle.songcode.specs.Song.{Items, Pattern, items, named, Definition, Section, Song}
 use Rattle.songcode.specs.PatternText.{depth, loopsDeep, references, noReference}
 use Rattle.songcode.specs.References.{definitionOf, itemsOf, putIn, itemsFault, referenceFault, depthFault, definitionReferences, definitionsReferences, namedFault, sectionReference, referenceFaults}

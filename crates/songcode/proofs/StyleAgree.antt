@@ -5,16 +5,16 @@ use native.Mathlib.Omega.{arith}
 use mathlib.Core.Path.{_≡_, refl, ap, sym, subst, _∙_}
 use mathlib.Core.Logic.{_↔_}
 use mathlib.Core.List.{List, [], _∷_, _++_, append-assoc, reverse, reverse-append, reverse-cons, reverse-reverse}
-use mathlib.Core.Bool.{Bool, true, false, _&&_}
+use mathlib.Core.Bool.{true}
 use borrow.Author.Tests.{leb-true, le-leb}
 use lib.Dec.{leb}
 use lib.ListN.{length, take, drop, length-append, length-take, length-drop, length-reverse, take-append-drop}
 use lib.Seq.{take-append-seam, take-at, drop-at, drop-drop}
 use Rattle.songcode.specs.Lists.{if_then_else_}
 use Rattle.songcode.specs.Bytes.{Byte, values, ascii, begins}
-use Rattle.songcode.specs.Lyrics.{bracketed, Styled, between, styled}
+use Rattle.songcode.specs.Lyrics.{bracketed, between, styled}
 use Rattle.songcode.specs.WrittenLyrics.{Marked, StyledText, informs, for-crew, is-plain}
-use Rattle.songcode.proofs.ListLaws.{by-cases, true-is-not-false, both-pass, pass-both}
+use Rattle.songcode.proofs.ListLaws.{by-cases, true-is-not-false, both-pass}
 use Rattle.songcode.proofs.Spellings.{begins-true, begins-append, front-once}
 
 -- A text without its places: its length, its parts, and from its end.
@@ -84,14 +84,14 @@ module _ {mark : String} (m : Mark mark) where
       let g = both-pass (begins (ascii mark) (values text)) (begins (ascii mark) (values (reverse text))) (h .0) in
       let long = leb-true 7 (length text) (h .1) in
       let drops = drop 3 text in
-      record
-        { opening = take 3 text;
+      record {
+        opening = take 3 text;
         ending = reverse (take 3 (reverse text));
         written = sym (take-append-drop 3 text) ∙ ap (λ bs. take 3 text ++ bs) (sym (take-append-drop (length text - 6) drops) ∙ ap (λ bs. take (length text - 6) drops ++ bs) (end-of text (omega arith)));
         opens = rw (m .three) at (front-values (ascii mark) text (g .0));
         ends = turned (take 3 (reverse text)) (rw (m .three) at (front-values (ascii mark) (reverse text) (g .1)));
-        long = simp (length-take, length-drop) (omega arith)
-        }
+        long = simp (length-take, length-drop) (omega arith);
+      }
 
   marked-bracketed : (text inner : List Byte) → Marked mark text inner → (bracketed (ascii mark) text ≡ true) × (between text ≡ inner)
   unfolding bracketed between
