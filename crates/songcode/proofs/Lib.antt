@@ -31,3 +31,10 @@ pub mod SideAgree
 pub mod AppendedAgree
 pub mod SectionPlays
 pub mod MeterAgree
+pub mod LyricLineAgree
+pub mod StyleAgree
+pub mod FaultLaws
+pub mod ReferencesAgree
+pub mod PutInPlain
+pub mod LyricsAgree
+pub mod PromptsAgree

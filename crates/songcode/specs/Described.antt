@@ -25,4 +25,4 @@ pub record Described (room : Room) (bs : List ℕ) (t : Tables) : Type 0 where
   pub written : WrittenChart bs song
   pub fits : Fits song parts
   pub words : t ≡ tables song
-  pub room : HasRoom room t
+  pub fitting : HasRoom room t
