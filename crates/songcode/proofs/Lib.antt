@@ -31,6 +31,8 @@ pub mod SideAgree
 pub mod AppendedAgree
 pub mod SectionPlays
 pub mod MeterAgree
+pub mod ItemsWritten
+pub mod TablesAgree
 pub mod LyricLineAgree
 pub mod StyleAgree
 pub mod FaultLaws

@@ -24,7 +24,7 @@ use Rattle.songcode.proofs.FaultLaws.{neither-exact, pairs-exact, unles
 use Rattle.songcode.proofs.LyricLineAgree.{count-exact}
 
 -- One line: it is counted exactly if a count is written.
-counted-line : (l : LyricLine) → isCounted l ≡ true → (n : ℕ) × (words : List Byte) × (countOf l ≡ some n) × CountedLine (l .text) words n
+pub counted-line : (l : LyricLine) → isCounted l ≡ true → (n : ℕ) × (words : List Byte) × (countOf l ≡ some n) × CountedLine (l .text) words n
 unfolding isCounted isSome countOf
 counted-line l e = go (countOf l) refl e
   where
@@ -32,7 +32,7 @@ counted-line l e = go (countOf l) refl e
     go none f t = true-is-not-false t refl
     go (some n) f t = let w = count-exact (l .text) n .0 f in (n, w .0, f, w .1)
 
-line-counted : (l : LyricLine) {words : List Byte} {n : ℕ} → CountedLine (l .text) words n → countOf l ≡ some n
+pub line-counted : (l : LyricLine) {words : List Byte} {n : ℕ} → CountedLine (l .text) words n → countOf l ≡ some n
 unfolding countOf
 line-counted l {words} {n} w = count-exact (l .text) n .1 (words, w)
 

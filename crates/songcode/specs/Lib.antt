@@ -25,6 +25,7 @@ pub mod WrittenSong
 pub mod Performance
 pub mod WrittenLyrics
 pub mod Fits
+pub mod WrittenTables
 pub mod Given
 pub mod Described
 pub mod PatternAppended
