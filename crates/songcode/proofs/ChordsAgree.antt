@@ -99,7 +99,7 @@ chord-sound w c h = go (longestBase w) refl h
               let r = longest-there w k s i (rw (t .joined) (begins-append s (t .rest))) in
               let same-base : r .0 ≡ b = cc (r .1) in
               rw (long, ← same-base) (r .2);
-          short = rw (← extends) (leb-true _ 31 (g .0));
+          short = rw (← extends) (omega (arith, leb-true (length (drop n w)) 31 (g .0)));
         }
 
 chord-complete : (w : List Byte) (c : Chord) → SpelledChord w c → chordIn w ≡ some c
