@@ -4,7 +4,7 @@ use mathlib.Core.Path.{_≡_, refl, ap, _∙_}
 use mathlib.Core.List.{List, [], _∷_, _++_, append-assoc, append-nil}
 use lib.ListN.{replicate}
 use Rattle.songcode.specs.Song.{Sounds, only, also, Measure, Beside, nothing, aLineEnd, Separator, bySemicolon, byLineEnd, byColon, Item, measure, loop, refer, Items, one, next}
-use Rattle.songcode.specs.Tokens.{Token, sound, remover, colon, closes}
+use Rattle.songcode.specs.Tokens.{Token, sound, remover, closes}
 use Rattle.songcode.specs.WrittenPattern.{writeSounds, writeRemovers, writeMeasure, writeBeside, writeSeparator, writeItem, writeItems}
 use Rattle.songcode.specs.PatternAppended.{soundsTokens, measureTokens, besideTokens, separatorTokens, itemTokens, itemsTokens}
 

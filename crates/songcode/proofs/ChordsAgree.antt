@@ -51,6 +51,15 @@ values-take zero w = refl
 values-take (suc n) [] = refl
 values-take (suc n) (b ∷ w) = ap (λ xs. b .value ∷ xs) (values-take n w)
 
+-- The bytes of a word that spell what stands at its front.
+front-spelled : (w : List Byte) (s : List ℕ) (n : ℕ) → begins s (values w) ≡ true → length s ≡ n → values (take n w) ≡ s
+front-spelled w s n t e = let b = begins-true s (values w) t in values-take n w ∙ ap (λ xs. take n xs) (b .joined) ∙ take-at s (b .rest) n e
+
+base-begins : (w : List Byte) (c : Chord) (h : SpelledChord w c) → begins (values (h .base)) (values w) ≡ true
+base-begins w c h =
+    ap (λ xs. begins (values (h .base)) (values xs)) (h .joined)
+    ∙ rw (values-append (h .base) (c .extension)) (begins-append (values (h .base)) (values (c .extension)))
+
 -- The longest base that fits a word is one of the bases, and fits.
 record Fits (w : List Byte) (b : Base) : Type 0 where
   spelling : List ℕ
@@ -85,9 +94,8 @@ chord-sound w c h = go (longestBase w) refl h
     go (some b) e h =
         let f = longest-fits w b e in
         let g = if-some (leb (length (drop (b .length) w)) 31) h in
-        let begun = begins-true (f .spelling) (values w) (f .fits) in
         let n = b .length in
-        let spelled : values (take n w) ≡ f .spelling = values-take n w ∙ ap (λ xs. take n xs) (begun .joined) ∙ take-at (f .spelling) (begun .rest) n (f .long) in
+        let spelled = front-spelled w (f .spelling) n (f .fits) (f .long) in
         let extends : drop n w ≡ c .extension = ap (λ (d : Chord). d .extension) (g .1) in
         let based : b .number ≡ c .base = ap (λ (d : Chord). d .base) (g .1) in
         let long : length (take n w) ≡ n = sym (length-values (take n w)) ∙ ap length spelled ∙ f .long in
@@ -99,15 +107,14 @@ chord-sound w c h = go (longestBase w) refl h
               let r = longest-there w k s i (rw (t .joined) (begins-append s (t .rest))) in
               let same-base : r .0 ≡ b = cc (r .1) in
               rw (long, ← same-base) (r .2);
-          short = rw (← extends) (leb-true _ 31 (g .0));
+          short = rw (← extends) (omega (arith, leb-true (length (drop n w)) 31 (g .0)));
         }
 
 chord-complete : (w : List Byte) (c : Chord) → SpelledChord w c → chordIn w ≡ some c
 unfolding chordIn chordBy if_then_else_
 chord-complete w c h =
     let v = length-values (h .base) in
-    let begun : begins (values (h .base)) (values w) ≡ true =
-    rw (h .joined, values-append) (begins-append (values (h .base)) (values (c .extension))) in
+    let begun = base-begins w c h in
     let r = longest-there w (c .base) (values (h .base)) (h .numbered) begun in
     let b = r .0 in
     let f = longest-fits w b (r .1) in

@@ -83,13 +83,15 @@ is-same s w e = rw e
 is-false : (s : String) (w : List Byte) → fromAToG (ascii s) ≡ false → fromAToG (values w) ≡ true → is s w ≡ false
 is-false s w f h = by-cases (is s w) (λ e. true-is-not-false h (rw (is-true s w e) f)) (λ e. e)
 
+not-dollar : (b : Byte) (xs : List ℕ) → fromAToG (b .value ∷ xs) ≡ true → isByte (code "$") b ≡ false
+unfolding isByte fromAToG
+not-dollar b xs h =
+    by-cases (isByte (code "$") b) (λ e. true-is-not-false h (rw (eqb-true (b .value) (code "$") e))) (λ e. e)
+
 dollar-chord : (w : List Byte) (c : Chord) → SpelledChord w c → fromAToG (values w) ≡ true → dollarOr w ≡ sound (chord c)
-unfolding dollarOr chordToken if_then_else_ isByte fromAToG values
+unfolding dollarOr chordToken if_then_else_ fromAToG values
 dollar-chord [] c s h = true-is-not-false h refl
-dollar-chord (b ∷ bs) c s h =
-    let d : isByte (code "$") b ≡ false =
-    by-cases (isByte (code "$") b) (λ e. true-is-not-false h (rw (eqb-true (b .value) (code "$") e))) (λ e. e) in
-    rw d (ap chordToken (chord-exact (b ∷ bs) c .1 s))
+dollar-chord (b ∷ bs) c s h = rw (not-dollar b (values bs) h) (ap chordToken (chord-exact (b ∷ bs) c .1 s))
 
 pub word-complete : {w : List Byte} {t : Token} → Word w t → wordToken w ≡ t
 unfolding wordToken if_then_else_ dollarOr referenceToken same ascii values isByte fromAToG
