@@ -1,0 +1,4 @@
+pub mod ListLaws
+pub mod PatternStub
+pub mod OptionLaws
+pub mod SettingAgree
