@@ -2,3 +2,5 @@ pub mod ListLaws
 pub mod PatternStub
 pub mod OptionLaws
 pub mod SettingAgree
+pub mod LineAgree
+pub mod KindAgree

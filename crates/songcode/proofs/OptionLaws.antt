@@ -12,9 +12,13 @@ use Rattle.songcode.specs.Lists.{if_then_else_, isSome, andThen}
 use Rattle.songcode.specs.Bytes.{same}
 use Rattle.songcode.proofs.ListLaws.{true-is-not-false, both-pass, pass-both, nil-is-not-cons}
 
+-- Two constructors are not the same.
+pub zero-is-not-one : {X : Type 0} → _≡_ {A = ℕ} 0 1 → X
+zero-is-not-one e = absurd (omega arith)
+
 module _ {A : Type 0} where
   pub none-is-not-some : {X : Type 0} {x : A} → none ≡ some x → X
-  none-is-not-some e = let z : _≡_ {A = ℕ} 0 1 = cc in absurd (omega arith)
+  none-is-not-some e = zero-is-not-one (cc)
 
   -- A reading that says just what is described is there exactly where something is described.
   pub isSome-exact : {P : A → Type 0} (o : Option A) → ((x : A) → (o ≡ some x) ↔ P x) → (isSome o ≡ true) ↔ ((x : A) × P x)
