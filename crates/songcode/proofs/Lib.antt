@@ -4,3 +4,4 @@ pub mod OptionLaws
 pub mod SettingAgree
 pub mod LineAgree
 pub mod KindAgree
+pub mod KeyAgree
