@@ -5,3 +5,4 @@ pub mod SettingAgree
 pub mod LineAgree
 pub mod KindAgree
 pub mod KeyAgree
+pub mod ModifierAgree

@@ -20,11 +20,21 @@ module _ {A : Type 0} where
   pub none-is-not-some : {X : Type 0} {x : A} → none ≡ some x → X
   none-is-not-some e = zero-is-not-one (cc)
 
+  pub isSome-some : (o : Option A) → isSome o ≡ true → (x : A) × (o ≡ some x)
+  unfolding isSome
+  isSome-some none e = true-is-not-false e refl
+  isSome-some (some x) e = (x, refl)
+
+  pub some-isSome : {x : A} {o : Option A} → o ≡ some x → isSome o ≡ true
+  unfolding isSome
+  some-isSome e = rw e
+
   -- A reading that says just what is described is there exactly where something is described.
   pub isSome-exact : {P : A → Type 0} (o : Option A) → ((x : A) → (o ≡ some x) ↔ P x) → (isSome o ≡ true) ↔ ((x : A) × P x)
-  unfolding isSome
-  isSome-exact none f = ((λ e. true-is-not-false e refl), (λ w. none-is-not-some (f (w .0) .1 (w .1))))
-  isSome-exact (some x) f = ((λ e. (x, f x .0 refl)), (λ w. refl))
+  isSome-exact o f = (
+    (λ e. let h = isSome-some o e in (h .0, f (h .0) .0 (h .1))),
+    (λ w. some-isSome (f (w .0) .1 (w .1))),
+  )
 
   -- The first of several choices, or one behind it.
   pub first-or : (P : A → Type 0) {k : A} (b : Bool) (x : A) (o : Option A) → (b ≡ true → P x) → (o ≡ some k → P k) → (if b then some x else o) ≡ some k → P k
