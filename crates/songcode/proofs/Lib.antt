@@ -6,3 +6,4 @@ pub mod LineAgree
 pub mod KindAgree
 pub mod KeyAgree
 pub mod ModifierAgree
+pub mod EachLaws
