@@ -7,3 +7,4 @@ pub mod KindAgree
 pub mod KeyAgree
 pub mod ModifierAgree
 pub mod EachLaws
+pub mod OrderAgree
