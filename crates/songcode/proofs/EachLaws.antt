@@ -47,6 +47,11 @@ module _ {A B : Type 0} {R : A → B → Type 0} where
   each-length none-each = refl
   each-length (and-each r rs) = rw (each-length rs)
 
+pub holds-both : {A : Type 0} (P Q : A → Type 0) (xs : List A) → Holds P xs → Holds Q xs → Holds (λ x. P x × Q x) xs
+unfolding Holds
+holds-both P Q [] p q = tt
+holds-both P Q (x ∷ xs) p q = ((p .0, q .0), holds-both P Q xs (p .1) (q .1))
+
 pub collect-none : {A B : Type 0} (f : A → Option B) (xs : List A) → Holds (λ x. f x ≡ none) xs → collect f xs ≡ []
 unfolding Holds collect prepend
 collect-none f [] h = refl

@@ -8,3 +8,4 @@ pub mod KeyAgree
 pub mod ModifierAgree
 pub mod EachLaws
 pub mod OrderAgree
+pub mod HeaderAgree
