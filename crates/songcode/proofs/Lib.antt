@@ -9,3 +9,5 @@ pub mod ModifierAgree
 pub mod EachLaws
 pub mod OrderAgree
 pub mod HeaderAgree
+pub mod BodyAgree
+pub mod SectionAgree
