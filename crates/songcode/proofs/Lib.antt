@@ -11,3 +11,4 @@ pub mod OrderAgree
 pub mod HeaderAgree
 pub mod BodyAgree
 pub mod SectionAgree
+pub mod BlockAgree
