@@ -12,3 +12,4 @@ pub mod HeaderAgree
 pub mod BodyAgree
 pub mod SectionAgree
 pub mod BlockAgree
+pub mod DefinitionAgree
