@@ -16,6 +16,11 @@ use Rattle.songcode.proofs.ListLaws.{by-cases, true-is-not-false, both-
 use Rattle.songcode.proofs.OptionLaws.{zero-is-not-one}
 use Rattle.songcode.proofs.SettingAgree.{is-exact}
 
+pub by-kind : {X : Type 0} (k : Kind) → (k ≡ keyLine → X) → (k ≡ modifierLine → X) → (k ≡ patternLine → X) → X
+by-kind keyLine f g h = f refl
+by-kind modifierLine f g h = g refl
+by-kind patternLine f g h = h refl
+
 -- How a kind is chosen, undone.
 abbrev choice : Bool → Bool → Kind
 choice at under = if at then keyLine else if under then modifierLine else patternLine

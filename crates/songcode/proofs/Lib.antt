@@ -13,3 +13,5 @@ pub mod BodyAgree
 pub mod SectionAgree
 pub mod BlockAgree
 pub mod DefinitionAgree
+pub mod MetadataAgree
+pub mod SongAgree

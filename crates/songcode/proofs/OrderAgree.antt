@@ -8,12 +8,8 @@ use Rattle.songcode.specs.Lines.{Line}
 use Rattle.songcode.specs.Complaints.{Complaint}
 use Rattle.songcode.specs.Sections.{Kind, keyLine, modifierLine, patternLine, kindOfLine, isPatternLine, notPatternLine, Place, amongKeys, early, inPattern, behind, misplaced, placeAfter, order, patternRun}
 use Rattle.songcode.specs.WrittenText.{All, Stops}
-use Rattle.songcode.proofs.ListLaws.{Each as Holds, nil-is-not-cons, taken-is, left-is}
-
-by-kind : {X : Type 0} (k : Kind) → (k ≡ keyLine → X) → (k ≡ modifierLine → X) → (k ≡ patternLine → X) → X
-by-kind keyLine f g h = f refl
-by-kind modifierLine f g h = g refl
-by-kind patternLine f g h = h refl
+use Rattle.songcode.proofs.ListLaws.{Each as Holds, nil-is-not-cons, taken-is}
+use Rattle.songcode.proofs.KindAgree.{by-kind}
 
 -- Every line is of one kind.
 unfoldable pub Kinds : Kind → List Line → Type 0
