@@ -11,12 +11,12 @@ use Rattle.songcode.specs.Sections.{Kind, keyLine, modifierLine, pattern
 use Rattle.songcode.specs.WrittenText.{All}
 use Rattle.songcode.specs.WrittenSection.{Each, keyNumber, modifierNumber, SectionKey, ModifierLine, PatternLine, PatternLines}
 use Rattle.songcode.proofs.ListLaws.{Each as Holds, each-append, append-each, each-map, gather-nil, nil-gather, collect-append, all-append, append-all}
-use Rattle.songcode.proofs.OptionLaws.{zero-is-not-one}
+use Rattle.songcode.proofs.ChoiceLaws.{zero-is-not-one}
 use Rattle.songcode.proofs.EachLaws.{each-of, each-holds, each-collect, each-said, holds-both, collect-none}
-use Rattle.songcode.proofs.KindAgree.{undashed, pattern-line-exact}
+use Rattle.songcode.proofs.LineAgree.{undashed, pattern-line-exact}
 use Rattle.songcode.proofs.KeyAgree.{key-line-kind, key-line-in, key-line-said, section-key-exact}
 use Rattle.songcode.proofs.ModifierAgree.{modifier-line-kind, modifier-line-on, modifier-line-said, modifier-line-exact}
-use Rattle.songcode.proofs.OrderAgree.{Kinds, order-sound, order-complete, run-is}
+use Rattle.songcode.proofs.LineOrder.{Kinds, order-sound, order-complete, run-is}
 
 -- What lines of another kind say is nothing.
 module _ {B : Type 0} (f : Line → Option B) where

@@ -22,14 +22,15 @@ use Rattle.songcode.specs.SongText.{definition, blockKind, headIn, heads
 use Rattle.songcode.specs.WrittenSection.{Each, none-each, and-each, Distinct}
 use Rattle.songcode.specs.WrittenSong.{BeginsWith, DefinitionHead, DefinitionLines, WrittenDefinition, idOf}
 use Rattle.songcode.proofs.ListLaws.{Each as Holds, none-passes, pass-none, nil-is-not-cons, append-is-nil, gather-nil, nil-gather, complainIf-nil, nil-complainIf}
-use Rattle.songcode.proofs.OptionLaws.{none-is-not-some, isSome-some, some-isSome}
+use Rattle.songcode.proofs.NumbersAgree.{count-exact}
+use Rattle.songcode.proofs.PatternAgree.{definition-exact}
+use Rattle.songcode.proofs.ChoiceLaws.{isSome-some, some-isSome}
 use Rattle.songcode.proofs.EachLaws.{each-of, each-holds, each-mapped, each-length, holds-both, twice-exact}
-use Rattle.songcode.proofs.BlockAgree.{Blocks, definition-begins, begins-definition}
-use Rattle.songcode.proofs.PatternStub.{number-exact, definition-exact}
+use Rattle.songcode.proofs.BlockOrder.{Blocks, definition-begins, begins-definition}
 
 -- "`$n` alone on the first line"
 head-of : (bs : List Byte) (n : ℕ) → BeginsWith (code "$") bs → countIn (behindFirst bs) ≡ some n → DefinitionHead bs n
-unfolding BeginsWith isByte behindFirst countIn
+unfolding BeginsWith isByte behindFirst
 head-of [] n s e = absurd s
 head-of (b ∷ bs) n s e =
     record {
@@ -37,7 +38,7 @@ head-of (b ∷ bs) n s e =
       digits = bs;
       written = refl;
       signs = eqb-true (b .value) (code "$") s;
-      number = number-exact 1 9999 bs n .0 e;
+      number = count-exact bs n .0 e;
     }
 
 module _ {b : Block} {d : Definition} (w : WrittenDefinition b d) where
@@ -46,8 +47,8 @@ module _ {b : Block} {d : Definition} (w : WrittenDefinition b d) where
   definition-kind = rw (w .head .written) (begins-definition (w .head .dollar) (w .head .digits) (w .head .signs))
 
   head-read : headIn (b .first) ≡ some (d .id)
-  unfolding headIn behindFirst countIn
-  head-read = rw (w .head .written) (number-exact 1 9999 (w .head .digits) (d .id) .1 (w .head .number))
+  unfolding headIn behindFirst
+  head-read = rw (w .head .written) (count-exact (w .head .digits) (d .id) .1 (w .head .number))
 
 -- "then zero or more pattern lines"
 lines-of : (ls : List Line) → definitionFaults ls ≡ [] → DefinitionLines ls (definitionItems ls)
@@ -64,9 +65,9 @@ of-lines [] (some r) w = absurd w
 of-lines (l ∷ ls) none w = absurd w
 of-lines (l ∷ ls) (some r) w = let e = definition-exact l ls r .1 w in (rw e, e)
 
-pub definition-once : {b : Block} {d : Definition} → WrittenDefinition b d → definitionIn b ≡ d
+pub definition-read : {b : Block} {d : Definition} → WrittenDefinition b d → definitionIn b ≡ d
 unfolding definitionIn orElse
-definition-once {b} {d} w =
+definition-read {b} {d} w =
     same (sym (w .headNumber)) (rw (head-read w)) (of-lines (b .others) (d .items) (w .text) .1)
   where
     same : {h i j k : ℕ} {o p : Option Items} → h ≡ i → j ≡ k → o ≡ p → _≡_ {A = Definition} (record { head = h; id = j; items = o }) (record { head = i; id = k; items = p })

@@ -20,10 +20,10 @@ use Rattle.songcode.specs.WrittenText.{All, Stops}
 use Rattle.songcode.specs.WrittenPattern.{WrittenPattern}
 use Rattle.songcode.specs.WrittenSection.{Unmarked, Marked, Header, LyricLines, no-lyrics, with-lyrics}
 use Rattle.songcode.proofs.ListLaws.{true-is-not-false, both-pass, pass-both, nil-is-not-cons, taken-left, taken-all, left-stops, taken-is, complainIf-nil, nil-complainIf}
-use Rattle.songcode.proofs.OptionLaws.{isSome-some, some-isSome}
+use Rattle.songcode.proofs.ChoiceLaws.{isSome-some, some-isSome}
 use Rattle.songcode.proofs.SettingAgree.{without}
-use Rattle.songcode.proofs.KindAgree.{dashes-notDashes, notDashes-dashes}
-use Rattle.songcode.proofs.PatternStub.{pattern-exact}
+use Rattle.songcode.proofs.LineAgree.{dashes-notDashes, notDashes-dashes}
+use Rattle.songcode.proofs.PatternAgree.{pattern-exact}
 
 -- "name of 1 to 50 characters up to the first `!`"
 abbrev unmarked : Byte → Bool
@@ -85,9 +85,9 @@ pub there-pattern : (header : ℕ) (l : Line) (ps : List Line) (p : Pattern) →
 unfolding patternFaults complainIf isSome
 there-pattern header l ps p w = rw (pattern-exact l ps p .1 w)
 
-pub pattern-once : (l : Line) (ps : List Line) (p : Pattern) → WrittenPattern l ps p → orElse (patternIn (l ∷ ps)) (named 0) ≡ p
+pub pattern-read : (l : Line) (ps : List Line) (p : Pattern) → WrittenPattern l ps p → orElse (patternIn (l ∷ ps)) (named 0) ≡ p
 unfolding patternIn orElse
-pattern-once l ps p w = rw (pattern-exact l ps p .1 w)
+pattern-read l ps p w = rw (pattern-exact l ps p .1 w)
 
 -- "then, if wanted, `--` alone and one or more lyric lines"
 pub lyrics-there : (ls : List Line) → Stops notDashes ls → lyricFaults ls ≡ [] → (ys : List LyricLine) × LyricLines ls ys
@@ -106,7 +106,7 @@ unfolding Stops
 lyrics-stop no-lyrics = tt
 lyrics-stop (with-lyrics {dashes} d) = notDashes-dashes dashes d
 
-pub lyrics-once : {ls : List Line} {ys : List LyricLine} → LyricLines ls ys → lyricsIn ls ≡ ys
+pub lyrics-read : {ls : List Line} {ys : List LyricLine} → LyricLines ls ys → lyricsIn ls ≡ ys
 unfolding lyricsIn lyricLine
-lyrics-once no-lyrics = refl
-lyrics-once (with-lyrics d) = refl
+lyrics-read no-lyrics = refl
+lyrics-read (with-lyrics d) = refl

@@ -16,10 +16,11 @@ use Rattle.songcode.specs.Keys.{nameIn, settingIn, keyNamed, isSetting, 
 use Rattle.songcode.specs.Sections.{keyLine, kindOfLine, behindFirst, nameOf, settingOf, keyNameOf, keyFaultsBy, keyFaults, keyOf, keySaid, keyIn}
 use Rattle.songcode.specs.WrittenSection.{keySpelling, KeyLine, OfSection, SectionKey, keyNumber}
 use Rattle.songcode.proofs.ListLaws.{true-is-not-false, append-is-nil, nil-is-not-cons, complainIf-nil, nil-complainIf}
-use Rattle.songcode.proofs.OptionLaws.{none-is-not-some, first-or}
+use Rattle.songcode.proofs.PatternLaws.{none-some}
+use Rattle.songcode.proofs.ChoiceLaws.{first-or}
 use Rattle.songcode.proofs.SettingAgree.{is-exact, setting-exact}
-use Rattle.songcode.proofs.LineAgree.{Unblank, signed-name, signed-setting, signed-begins, reads-signed}
-use Rattle.songcode.proofs.KindAgree.{at-key, key-at}
+use Rattle.songcode.proofs.SignedAgree.{Unblank, signed-name, signed-setting, signed-begins, reads-signed}
+use Rattle.songcode.proofs.LineAgree.{at-key, key-at}
 
 -- A key by its name.
 key-spelled : (w : List Byte) (k : KeyName) → values w ≡ keySpelling k → keyNamed w ≡ some k
@@ -44,7 +45,7 @@ spelled-key w k =
     (first-or Spelled (is "bpm" w) bpm _ (is-exact "bpm" w .0)
     (first-or Spelled (is "time" w) time _ (is-exact "time" w .0)
     (first-or Spelled (is "warning" w) warning _ (is-exact "warning" w .0)
-    (first-or Spelled (is "end" w) end none (is-exact "end" w .0) none-is-not-some)))))))
+    (first-or Spelled (is "end" w) end none (is-exact "end" w .0) (none-some refl))))))))
 
 pub key-named-exact : (w : List Byte) (k : KeyName) → (keyNamed w ≡ some k) ↔ (values w ≡ keySpelling k)
 key-named-exact w k = (spelled-key w k, key-spelled w k)
@@ -86,9 +87,9 @@ pub key-line-setting : {l : Line} {k : Key} → KeyLine l k → settingOf l ≡ 
 unfolding settingOf
 key-line-setting {k} w = signed-setting (key-unblank (k .key)) (w .written)
 
-pub key-line-once : {l : Line} {k : Key} → KeyLine l k → keyOf l ≡ some k
+pub key-line-read : {l : Line} {k : Key} → KeyLine l k → keyOf l ≡ some k
 unfolding keyOf andThen
-key-line-once w = rw (key-line-name w, key-line-setting w)
+key-line-read w = rw (key-line-name w, key-line-setting w)
 
 -- The keys' numbers are their places in the table.
 key-number : (n : KeyName) (bs : List Byte) → keyPlace n ≡ keyNumber (record { key = n; setting = bs })
@@ -108,7 +109,7 @@ key-line-said {k} w = rw (key-line-kind w, keySaid, key-line-name w) (ap some (k
 
 pub key-line-in : {l : Line} {k : Key} → KeyLine l k → keyIn l ≡ some k
 unfolding keyIn
-key-line-in w = rw (key-line-kind w, keyIn) (key-line-once w)
+key-line-in w = rw (key-line-kind w, keyIn) (key-line-read w)
 
 -- A key line without faults is as described.
 unfaulted : (allowed : KeyName → Bool) (o : Option KeyName) (l : Line) → keyFaultsBy allowed o l ≡ [] → (k : KeyName) × (o ≡ some k) × (allowed k ≡ true) × (isSetting k (settingOf l) ≡ true)

@@ -1,17 +1,29 @@
+-- The answer's functions and the description agree.
 pub mod ListLaws
-pub mod PatternStub
-pub mod OptionLaws
+pub mod PatternLaws
+pub mod NumbersAgree
+pub mod Spellings
+pub mod LongestBase
+pub mod ChordsAgree
+pub mod WordsAgree
+pub mod TokensAgree
+pub mod ItemsAgree
+pub mod WrittenTokens
+pub mod PatternAgree
+pub mod SideAgree
+-- Lines, sections, definitions, metadata and songs.
+pub mod ChoiceLaws
+pub mod EachLaws
 pub mod SettingAgree
+pub mod SignedAgree
 pub mod LineAgree
-pub mod KindAgree
 pub mod KeyAgree
 pub mod ModifierAgree
-pub mod EachLaws
-pub mod OrderAgree
+pub mod LineOrder
 pub mod HeaderAgree
 pub mod BodyAgree
 pub mod SectionAgree
-pub mod BlockAgree
-pub mod DefinitionAgree
+pub mod BlockOrder
 pub mod MetadataAgree
+pub mod DefinitionAgree
 pub mod SongAgree

@@ -1,75 +1,108 @@
--- The name and setting of a line that begins with a sign: what is read is what is described.
-use Prim.Native.Nat.{ℕ, _≤_}
+-- A line's kind by its first bytes, and `--` alone: what is read is what is described.
+use Prim.Native.Nat.{ℕ}
+use Prim.Native.Char.{code}
 use mathlib.Core.Path.{_≡_, refl}
+use mathlib.Core.Logic.{_↔_}
 use mathlib.Core.List.{List, [], _∷_, _++_}
-use mathlib.Core.Bool.{Bool, true, false, _||_, not}
-use lib.Dec.{eqb}
-use lib.ListN.{length}
-use native.Mathlib.Omega.{arith}
-use borrow.Author.Tests.{eqb-true, eq-eqb, not-false}
-use Rattle.songcode.specs.Lists.{if_then_else_, taken, left, every}
-use Rattle.songcode.specs.Bytes.{Byte, values, isByte, isBlank, notBlank}
-use Rattle.songcode.specs.Keys.{nameIn, settingIn}
-use Rattle.songcode.specs.Sections.{behindFirst}
-use Rattle.songcode.specs.WrittenText.{All, Stops}
-use Rattle.songcode.specs.WrittenSection.{Signed}
+use mathlib.Core.Bool.{Bool, true, false, _&&_}
+use borrow.Author.Tests.{not-true, not-false}
+use Rattle.songcode.specs.Lists.{if_then_else_}
+use Rattle.songcode.specs.Bytes.{Byte, values, ascii, isByte, isLetter, is}
+use Rattle.songcode.specs.Lines.{Line}
+use Rattle.songcode.specs.Sections.{Kind, keyLine, modifierLine, patternLine, kindOf, kindOfLine, notDashes}
+use Rattle.songcode.specs.WrittenSection.{Signed, PatternBytes, PatternLine}
 use Rattle.songcode.specs.WrittenSong.{BeginsWith}
-use Rattle.songcode.proofs.ListLaws.{both-pass, taken-left, taken-all, left-stops, taken-is, left-is}
+use Rattle.songcode.proofs.ListLaws.{by-cases, true-is-not-false, both-pass}
+use Rattle.songcode.proofs.ChoiceLaws.{zero-is-not-one, Differ, first-chosen, second-chosen, third-chosen}
+use Rattle.songcode.proofs.SettingAgree.{is-exact}
 
--- A spelling without blanks.
-abbrev unblank : ℕ → Bool
-unblank v = not (eqb v 32 || eqb v 9)
+pub by-kind : {X : Type 0} (k : Kind) → (k ≡ keyLine → X) → (k ≡ modifierLine → X) → (k ≡ patternLine → X) → X
+by-kind keyLine f g h = f refl
+by-kind modifierLine f g h = g refl
+by-kind patternLine f g h = h refl
 
-unfoldable pub Unblank : List ℕ → Type 0
-Unblank spelling = every unblank spelling ≡ true
+-- Kinds by the first bytes.
+kinds-differ : Differ keyLine modifierLine patternLine
+unfolding Differ
+kinds-differ = ((λ e. zero-is-not-one (cc)), (λ e. zero-is-not-one (cc)), (λ e. zero-is-not-one (cc)))
 
-word-solid : (word : List Byte) → Unblank (values word) → All notBlank word
-unfolding Unblank every values All notBlank isBlank
-word-solid [] e = tt
-word-solid (b ∷ bs) e = let h = both-pass (unblank (b .value)) (every unblank (values bs)) e in (h .0, word-solid bs (h .1))
+pub at-key : (bs : List Byte) → BeginsWith (code "@") bs → kindOf bs ≡ keyLine
+unfolding BeginsWith kindOf if_then_else_
+at-key [] s = absurd s
+at-key (b ∷ []) s = rw s
+at-key (b ∷ c ∷ bs) s = rw s
 
-gap-stops : (gap rest : List Byte) → 1 ≤ length gap → All isBlank gap → Stops notBlank (gap ++ rest)
-unfolding All Stops notBlank
-gap-stops [] rest h a = absurd (omega arith)
-gap-stops (b ∷ gap) rest h a = rw (a .0)
+pub key-at : (bs : List Byte) → kindOf bs ≡ keyLine → BeginsWith (code "@") bs
+unfolding BeginsWith kindOf if_then_else_
+key-at [] e = zero-is-not-one (cc)
+key-at (b ∷ []) e = first-chosen keyLine modifierLine patternLine kinds-differ (isByte (code "@") b) false e
+key-at (b ∷ c ∷ bs) e = first-chosen keyLine modifierLine patternLine kinds-differ (isByte (code "@") b) (isByte (code "_") b && isLetter c) e
 
--- A line as described is read so.
-module _ {sign : ℕ} {spelling : List ℕ} {bs setting : List Byte} where
-  pub signed-name : Unblank spelling → Signed sign spelling bs setting → values (nameIn (behindFirst bs)) ≡ spelling
-  unfolding nameIn behindFirst
-  signed-name u w =
-      rw
-      (w .written, taken-is notBlank (w .word) (w .gap ++ setting) (word-solid (w .word) (rw (w .spelled) u)) (gap-stops (w .gap) setting (w .parted) (w .blanks)))
-      (w .spelled)
+pub modifier-under : (bs : List Byte) → kindOf bs ≡ modifierLine → BeginsWith (code "_") bs
+unfolding BeginsWith kindOf if_then_else_
+modifier-under [] e = zero-is-not-one (cc)
+modifier-under (b ∷ []) e = true-is-not-false (second-chosen keyLine modifierLine patternLine kinds-differ (isByte (code "@") b) false e) refl
+modifier-under (b ∷ c ∷ bs) e = both-pass _ _ (second-chosen keyLine modifierLine patternLine kinds-differ (isByte (code "@") b) (isByte (code "_") b && isLetter c) e) .0
 
-  pub signed-setting : Unblank spelling → Signed sign spelling bs setting → settingIn (behindFirst bs) ≡ setting
-  unfolding settingIn behindFirst
-  signed-setting u w =
-      rw
-      (w .written, left-is notBlank (w .word) (w .gap ++ setting) (word-solid (w .word) (rw (w .spelled) u)) (gap-stops (w .gap) setting (w .parted) (w .blanks)), left-is isBlank (w .gap) setting (w .blanks) (w .solid))
+-- A spelling that begins with a letter.
+unfoldable pub Lettered : List ℕ → Type 0
+unfolding isLetter
+Lettered [] = ⊥
+Lettered (v ∷ vs) = isLetter (record { place = 0; value = v }) ≡ true
 
-  pub signed-begins : Signed sign spelling bs setting → BeginsWith sign bs
-  unfolding BeginsWith isByte
-  signed-begins w = rw (w .written) (eq-eqb (w .first .value) sign (w .signs))
+under-modifier : (b : Byte) (word rest : List Byte) → b .value ≡ code "_" → Lettered (values word) → kindOf (b ∷ (word ++ rest)) ≡ modifierLine
+unfolding kindOf if_then_else_ isByte values Lettered isLetter
+under-modifier b [] rest e l = absurd l
+under-modifier b (c ∷ word) rest e l = rw (e, l)
 
--- A line read to have a setting is as described.
-gap-there : (bs : List Byte) → Stops notBlank bs → (left isBlank bs ≡ [] → ⊥) → 1 ≤ length (taken isBlank bs)
-unfolding Stops notBlank left taken if_then_else_
-gap-there [] s h = absurd (h refl)
-gap-there (b ∷ bs) s h = rw (not-false (isBlank b) s) (omega arith)
+pub signed-modifier : {spelling : List ℕ} {bs setting : List Byte} → Lettered spelling → Signed (code "_") spelling bs setting → kindOf bs ≡ modifierLine
+signed-modifier l w =
+    rw (w .written) (under-modifier (w .first) (w .word) (w .gap ++ _) (w .signs) (rw (w .spelled) l))
 
-pub reads-signed : (sign : ℕ) (bs : List Byte) → BeginsWith sign bs → (settingIn (behindFirst bs) ≡ [] → ⊥) → Signed sign (values (nameIn (behindFirst bs))) bs (settingIn (behindFirst bs))
-unfolding BeginsWith isByte nameIn settingIn behindFirst
-reads-signed sign [] s h = absurd s
-reads-signed sign (b ∷ bs) s h =
-    record {
-      first = b;
-      word = taken notBlank bs;
-      gap = taken isBlank (left notBlank bs);
-      written = rw (taken-left isBlank (left notBlank bs), taken-left notBlank bs);
-      signs = eqb-true (b .value) sign s;
-      spelled = refl;
-      blanks = taken-all isBlank (left notBlank bs);
-      parted = gap-there (left notBlank bs) (left-stops notBlank bs) h;
-      solid = left-stops isBlank (left notBlank bs);
-    }
+-- A pattern line is neither, and no `--`.
+pattern-bytes : (bs : List Byte) → kindOf bs ≡ patternLine → PatternBytes bs
+unfolding kindOf if_then_else_ PatternBytes
+pattern-bytes [] e = tt
+pattern-bytes (b ∷ []) e = third-chosen keyLine modifierLine patternLine kinds-differ (isByte (code "@") b) false e .0
+pattern-bytes (b ∷ c ∷ bs) e =
+    let h = third-chosen keyLine modifierLine patternLine kinds-differ (isByte (code "@") b) (isByte (code "_") b && isLetter c) e in (h .0, λ u. rw u at (h .1))
+
+bytes-pattern : (bs : List Byte) → PatternBytes bs → kindOf bs ≡ patternLine
+unfolding kindOf if_then_else_ PatternBytes
+bytes-pattern [] w = refl
+bytes-pattern (b ∷ []) w = rw w
+bytes-pattern (b ∷ c ∷ bs) w = by-cases (isByte (code "_") b) (λ u. rw (w .0, u, w .1 u)) (λ u. rw (w .0, u))
+
+pub dashes-pattern : (bs : List Byte) → values bs ≡ ascii "--" → kindOf bs ≡ patternLine
+unfolding kindOf if_then_else_ isByte values ascii
+dashes-pattern [] e = refl
+dashes-pattern (b ∷ []) e = let h : b .value ≡ 45 = cc in rw h
+dashes-pattern (b ∷ c ∷ bs) e = let h : b .value ≡ 45 = cc in rw h
+
+-- `--` alone, and no other line, ends what stands before the lyrics.
+pub notDashes-exact : (l : Line) → (notDashes l ≡ true) ↔ (values (l .text) ≡ ascii "--" → ⊥)
+unfolding notDashes
+notDashes-exact l = (
+  (λ e v. true-is-not-false (is-exact "--" (l .text) .1 v) (not-true (is "--" (l .text)) e)),
+  (λ h. by-cases (is "--" (l .text)) (λ d. absurd (h (is-exact "--" (l .text) .0 d))) (λ d. rw d)),
+)
+
+pub dashes-notDashes : (l : Line) → notDashes l ≡ false → values (l .text) ≡ ascii "--"
+unfolding notDashes
+dashes-notDashes l e = is-exact "--" (l .text) .0 (not-false _ e)
+
+pub notDashes-dashes : (l : Line) → values (l .text) ≡ ascii "--" → notDashes l ≡ false
+unfolding notDashes
+notDashes-dashes l e = rw (is-exact "--" (l .text) .1 e)
+
+-- What is no pattern line is no `--`.
+pub undashed : (l : Line) → (kindOfLine l ≡ patternLine → ⊥) → notDashes l ≡ true
+unfolding kindOfLine
+undashed l h = notDashes-exact l .1 (λ v. h (dashes-pattern (l .text) v))
+
+pub pattern-line-exact : (l : Line) → ((kindOfLine l ≡ patternLine) × (notDashes l ≡ true)) ↔ PatternLine l
+unfolding kindOfLine
+pattern-line-exact l = (
+  (λ h. record { kind = pattern-bytes (l .text) (h .0); undashed = notDashes-exact l .0 (h .1) }),
+  (λ w. (bytes-pattern (l .text) (w .kind), notDashes-exact l .1 (w .undashed))),
+)

@@ -11,7 +11,7 @@ use Rattle.songcode.specs.SongText.{metadataLines, metadataFault, metada
 use Rattle.songcode.specs.WrittenSection.{Each, Distinct, KeyLine, keyNumber}
 use Rattle.songcode.proofs.ListLaws.{nil-is-not-cons, append-is-nil, gather-nil, nil-gather}
 use Rattle.songcode.proofs.EachLaws.{each-of, each-holds, each-collect, each-said, twice-exact}
-use Rattle.songcode.proofs.KindAgree.{by-kind}
+use Rattle.songcode.proofs.LineAgree.{by-kind}
 use Rattle.songcode.proofs.KeyAgree.{key-line-kind, key-line-in, key-line-said, key-line-exact}
 
 fault-key : (l : Line) → metadataFault l ≡ [] → (k : Key) × KeyLine l k

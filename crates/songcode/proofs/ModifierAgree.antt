@@ -19,11 +19,13 @@ use Rattle.songcode.specs.Modifiers.{ModifierName, ofRepeat, ofCutStart,
 use Rattle.songcode.specs.Sections.{modifierLine, kindOfLine, behindFirst, nameOf, settingOf, modifierNameOf, modifierOf, modifierFaultsBy, modifierFaults, modifierSaid, modifierOn}
 use Rattle.songcode.specs.WrittenSection.{Signed, modifierNumber, modifierSpelling, ModifierSetting, ModifierLine}
 use Rattle.songcode.proofs.ListLaws.{true-is-not-false, nil-is-not-cons, complainIf-nil}
-use Rattle.songcode.proofs.OptionLaws.{none-is-not-some, isSome-some, first-or, andThen-some}
+use Rattle.songcode.proofs.PatternLaws.{none-some, andThen-some}
+use Rattle.songcode.proofs.NumbersAgree.{repeat-exact}
+use Rattle.songcode.proofs.SideAgree.{side-exact}
+use Rattle.songcode.proofs.ChoiceLaws.{isSome-some, first-or}
 use Rattle.songcode.proofs.SettingAgree.{is-exact, cut-exact}
-use Rattle.songcode.proofs.LineAgree.{Unblank, signed-name, signed-setting, reads-signed}
-use Rattle.songcode.proofs.KindAgree.{Lettered, signed-modifier, modifier-under}
-use Rattle.songcode.proofs.PatternStub.{number-exact, side-exact}
+use Rattle.songcode.proofs.SignedAgree.{Unblank, signed-name, signed-setting, reads-signed}
+use Rattle.songcode.proofs.LineAgree.{Lettered, signed-modifier, modifier-under}
 
 -- A modifier's name, and the name's spelling.
 nameFor : Modifier → ModifierName
@@ -64,7 +66,7 @@ spelled-modifier w m =
     (first-or Spelled (is "cutStart" w) ofCutStart _ (is-exact "cutStart" w .0)
     (first-or Spelled (is "cutEnd" w) ofCutEnd _ (is-exact "cutEnd" w .0)
     (first-or Spelled (is "before" w) ofBefore _ (is-exact "before" w .0)
-    (first-or Spelled (is "after" w) ofAfter none (is-exact "after" w .0) none-is-not-some))))
+    (first-or Spelled (is "after" w) ofAfter none (is-exact "after" w .0) (none-some refl)))))
 
 modifier-unblank : (m : ModifierName) → Unblank (spelling m)
 unfolding Unblank every spelling ascii
@@ -84,11 +86,11 @@ modifier-lettered ofAfter = refl
 
 -- What a name and its setting say is as described.
 setting-sound : (m : ModifierName) (line : ℕ) (bs : List Byte) (x : Modifier) → modifierIn m line bs ≡ some x → (nameFor x ≡ m) × ModifierSetting line x bs
-unfolding modifierIn repeatIn nameFor ModifierSetting
+unfolding modifierIn nameFor ModifierSetting
 setting-sound ofRepeat line bs x e =
     let a = andThen-some (repeatIn bs) _ e in
     let h : repeated (a .0) ≡ x = cc in
-    rw (← h) (refl, number-exact 2 9999 bs (a .0) .0 (a .1))
+    rw (← h) (refl, repeat-exact bs (a .0) .0 (a .1))
 setting-sound ofCutStart line bs x e =
     let a = andThen-some (cutIn bs) _ e in
     let h : cutStart (a .0) ≡ x = cc in
@@ -107,8 +109,8 @@ setting-sound ofAfter line bs x e =
     rw (← h) (refl, (refl, side-exact bs (a .0) .0 (a .1)))
 
 setting-complete : (line : ℕ) (bs : List Byte) (x : Modifier) → ModifierSetting line x bs → modifierIn (nameFor x) line bs ≡ some x
-unfolding modifierIn repeatIn nameFor ModifierSetting andThen
-setting-complete line bs (repeated n) w = rw (number-exact 2 9999 bs n .1 w)
+unfolding modifierIn nameFor ModifierSetting andThen
+setting-complete line bs (repeated n) w = rw (repeat-exact bs n .1 w)
 setting-complete line bs (cutStart c) w = rw (cut-exact bs c .1 w)
 setting-complete line bs (cutEnd c) w = rw (cut-exact bs c .1 w)
 setting-complete line bs (before l r) w = rw (w .0, side-exact bs r .1 (w .1))
@@ -136,22 +138,22 @@ module _ {l : Line} {m : Modifier} (w : ModifierLine l m) where
   modifier-line-name =
       modifier-spelled (nameOf l) (nameFor m) (signed-name (modifier-unblank (nameFor m)) signed)
 
-  modifier-line-reads : modifierIn (nameFor m) (l .number) (settingOf l) ≡ some m
+  modifier-line-says : modifierIn (nameFor m) (l .number) (settingOf l) ≡ some m
   unfolding settingOf
-  modifier-line-reads =
+  modifier-line-says =
       rw (signed-setting (modifier-unblank (nameFor m)) signed) (setting-complete (l .number) (w .setting) m (w .allowed))
 
-  pub modifier-line-once : modifierOf l ≡ some m
+  pub modifier-line-read : modifierOf l ≡ some m
   unfolding modifierOf andThen
-  modifier-line-once = rw modifier-line-name modifier-line-reads
+  modifier-line-read = rw modifier-line-name modifier-line-says
 
   pub modifier-line-on : modifierOn l ≡ some m
   unfolding modifierOn
-  modifier-line-on = rw (modifier-line-kind, modifierOn) modifier-line-once
+  modifier-line-on = rw (modifier-line-kind, modifierOn) modifier-line-read
 
   no-faults : modifierFaults l ≡ []
   unfolding modifierFaults modifierFaultsBy complainIf isSome
-  no-faults = rw (modifier-line-name, modifier-line-reads)
+  no-faults = rw (modifier-line-name, modifier-line-says)
 
 -- The modifiers' numbers.
 modifier-number : (m : Modifier) → modifierPlace (nameFor m) ≡ modifierNumber m
@@ -183,7 +185,7 @@ modifier-line-of l m x kind n e =
       setting = settingOf l;
       written =
           rw (name-spelled x, h .0, ← (spelled-modifier (nameOf l) m n))
-          (reads-signed (code "_") (l .text) (modifier-under (l .text) kind) (λ q. none-is-not-some (sym (setting-empty m (l .number)) ∙ (rw q at e))));
+          (reads-signed (code "_") (l .text) (modifier-under (l .text) kind) (λ q. none-some (setting-empty m (l .number)) (rw q at e)));
       allowed = h .1;
     }
 

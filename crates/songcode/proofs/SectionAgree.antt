@@ -13,8 +13,8 @@ use Rattle.songcode.specs.WrittenPattern.{WrittenPattern}
 use Rattle.songcode.specs.WrittenSection.{Distinct, keyNumber, modifierNumber, WrittenSection}
 use Rattle.songcode.proofs.ListLaws.{append-is-nil, taken-left, taken-all, left-stops, taken-is, left-is, append-all}
 use Rattle.songcode.proofs.EachLaws.{twice-exact}
-use Rattle.songcode.proofs.OrderAgree.{Kinds}
-use Rattle.songcode.proofs.HeaderAgree.{header-exact, pattern-there, there-pattern, pattern-once, lyrics-there, there-lyrics, lyrics-stop, lyrics-once}
+use Rattle.songcode.proofs.LineOrder.{Kinds}
+use Rattle.songcode.proofs.HeaderAgree.{header-exact, pattern-there, there-pattern, pattern-read, lyrics-there, there-lyrics, lyrics-stop, lyrics-read}
 use Rattle.songcode.proofs.BodyAgree.{Body, keys-read, keys-said, modifiers-read, modifiers-said, run-found, in-order, body-undashed, body-unfaulted, body-of, pattern-lines-of, pattern-lines-kinds}
 
 -- A block of which nothing is complained.
@@ -142,12 +142,12 @@ module _ {b : Block} {s : Section} (w : WrittenSection b s) where
 
   pattern-is : orElse (patternIn (patternRun (body b))) (named 0) ≡ s .pattern
   pattern-is =
-      rw (run-found parts) (pattern-once (w .firstPattern) (w .morePattern) (s .pattern) (w .pattern))
+      rw (run-found parts) (pattern-read (w .firstPattern) (w .morePattern) (s .pattern) (w .pattern))
 
   pub section-once : sectionIn b ≡ s
   unfolding sectionIn
   section-once =
-      same-section (sym (w .headerNumber)) (keys-read parts) pattern-is (modifiers-read parts) (rw ending-is (lyrics-once (w .lyrics)))
+      same-section (sym (w .headerNumber)) (keys-read parts) pattern-is (modifiers-read parts) (rw ending-is (lyrics-read (w .lyrics)))
 
 pub section-exact : (b : Block) → (sectionFaults b ≡ []) ↔ ((s : Section) × WrittenSection b s)
 section-exact b = (section-sound b, λ w. of-quiet b (quiet (w .1)))

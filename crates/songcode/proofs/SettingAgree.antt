@@ -22,13 +22,16 @@ use Rattle.songcode.specs.WrittenText.{All, Stops}
 use Rattle.songcode.specs.WrittenPattern.{Number}
 use Rattle.songcode.specs.WrittenSection.{Phrase, TimeText, Setting, CutText, measures-alone, beats-alone, both}
 use Rattle.songcode.proofs.ListLaws.{by-cases, true-is-not-false, both-pass, pass-both, taken-left, taken-all, left-stops, taken-is, left-is}
-use Rattle.songcode.proofs.OptionLaws.{none-is-not-some, isSome-exact, andThen-some, same-exact}
-use Rattle.songcode.proofs.PatternStub.{number-exact, base-exact}
+use Rattle.songcode.proofs.PatternLaws.{none-some, andThen-some}
+use Rattle.songcode.proofs.Spellings.{same-true, same-refl}
+use Rattle.songcode.proofs.NumbersAgree.{number-exact, count-exact}
+use Rattle.songcode.proofs.ChordsAgree.{base-exact}
+use Rattle.songcode.proofs.ChoiceLaws.{isSome-exact}
 
 -- A text is the quoted one, exactly if its bytes are.
 pub is-exact : (word : String) (bs : List Byte) → (is word bs ≡ true) ↔ (values bs ≡ ascii word)
 unfolding is
-is-exact word bs = ((λ e. sym (same-exact (ascii word) (values bs) .0 e)), (λ e. same-exact (ascii word) (values bs) .1 (sym e)))
+is-exact word bs = ((λ e. sym (same-true (ascii word) (values bs) e)), (λ e. rw e (same-refl (ascii word))))
 
 -- A sign below the digits stands in no number.
 abbrev pub without : ℕ → Byte → Bool
@@ -73,7 +76,7 @@ time-sound bs n e =
         number = number-exact 1 32 above n .0 (rw t at e);
         quarters = is-exact "/4" under .0 t;
       })
-    (λ f. none-is-not-some (rw f at e))
+    (λ f. none-some refl (rw f at e))
 
 begins-slash : (under : List Byte) → values under ≡ ascii "/4" → Stops (without (code "/")) under
 unfolding Stops isByte values ascii
@@ -104,29 +107,21 @@ dash-is : (b : Byte) → b .value ≡ code "-" → undashed b ≡ false
 unfolding isDash isByte
 dash-is b e = rw e
 
-counted : {bs : List Byte} {n : ℕ} → Number 1 9999 bs n → countIn bs ≡ some n
-unfolding countIn
-counted {bs} {n} w = number-exact 1 9999 bs n .1 w
-
-count-of : {bs : List Byte} {n : ℕ} → countIn bs ≡ some n → Number 1 9999 bs n
-unfolding countIn
-count-of {bs} {n} e = number-exact 1 9999 bs n .0 e
-
 cut-sound : (m r : List Byte) (c : Cut) → Stops undashed r → cutBy m r ≡ some c → CutText (m ++ r) c
 unfolding cutBy cut Stops
 cut-sound m [] c s e =
     let a = andThen-some (countIn m) _ e in
     let h : cut (a .0) 0 ≡ c = cc in
-    rw (append-nil, ← h) (measures-alone (count-of (a .1)))
+    rw (append-nil, ← h) (measures-alone (count-exact _ _ .0 (a .1)))
 cut-sound [] (dash ∷ b) c s e =
     let a = andThen-some (countIn b) _ e in
     let h : cut 0 (a .0) ≡ c = cc in
-    rw (← h) (beats-alone dash (is-dash dash s) (count-of (a .1)))
+    rw (← h) (beats-alone dash (is-dash dash s) (count-exact _ _ .0 (a .1)))
 cut-sound (d ∷ m) (dash ∷ b) c s e =
     let a = andThen-some (countIn (d ∷ m)) _ e in
     let i = andThen-some (countIn b) _ (a .2) in
     let h : cut (a .0) (i .0) ≡ c = cc in
-    rw (← h) (both {ms = d ∷ m} dash (is-dash dash s) (count-of (a .1)) (count-of (i .1)) refl)
+    rw (← h) (both {ms = d ∷ m} dash (is-dash dash s) (count-exact _ _ .0 (a .1)) (count-exact _ _ .0 (i .1)) refl)
 
 cut-parts : (m r : List Byte) → All undashed m → Stops undashed r → cutIn (m ++ r) ≡ cutBy m r
 unfolding cutIn
@@ -138,14 +133,14 @@ number-undashed {bs} w = decimal-without (code "-") (omega arith) bs (w .decimal
 
 cut-complete : {bs : List Byte} {c : Cut} → CutText bs c → cutIn bs ≡ some c
 unfolding cutBy cut Stops All andThen
-cut-complete (measures-alone {bs} w) = (rw append-nil at (cut-parts bs [] (number-undashed w) tt)) ∙ (rw (counted w))
-cut-complete (beats-alone {bs} dash e w) = cut-parts [] (dash ∷ bs) tt (dash-is dash e) ∙ (rw (counted w))
+cut-complete (measures-alone {bs} w) = (rw append-nil at (cut-parts bs [] (number-undashed w) tt)) ∙ (rw (count-exact _ _ .1 w))
+cut-complete (beats-alone {bs} dash e w) = cut-parts [] (dash ∷ bs) tt (dash-is dash e) ∙ (rw (count-exact _ _ .1 w))
 cut-complete (both {ms} {bs} {m} {b} dash e v w q) =
     rw q (cut-parts ms (dash ∷ bs) (number-undashed v) (dash-is dash e) ∙ by ms v)
   where
     by : (ms : List Byte) → Number 1 9999 ms m → cutBy ms (dash ∷ bs) ≡ some (cut m b)
     by [] v = true-is-not-false (v .decimal) refl
-    by (d ∷ ms) v = rw (counted v, counted w)
+    by (d ∷ ms) v = rw (count-exact _ _ .1 v, count-exact _ _ .1 w)
 
 pub cut-exact : (bs : List Byte) (c : Cut) → (cutIn bs ≡ some c) ↔ CutText bs c
 unfolding cutIn

@@ -17,9 +17,9 @@ use Rattle.songcode.specs.WrittenSection.{Each, none-each, and-each, Dis
 use Rattle.songcode.specs.WrittenSong.{WrittenDefinition, SectionBlock, WrittenSong}
 use Rattle.songcode.proofs.ListLaws.{true-is-not-false, nil-is-not-cons, append-is-nil, gather-nil, nil-gather, complainIf-nil}
 use Rattle.songcode.proofs.EachLaws.{each-of, each-holds, each-mapped, each-length, holds-both}
-use Rattle.songcode.proofs.BlockAgree.{Blocks, section-begins, begins-section, metadata-exact, Ordered, order-sound, in-order, metadata-lines, definition-blocks, section-blocks}
+use Rattle.songcode.proofs.BlockOrder.{Blocks, section-begins, begins-section, metadata-exact, Ordered, order-sound, in-order, metadata-lines, definition-blocks, section-blocks}
 use Rattle.songcode.proofs.MetadataAgree.{keys-read, metadata-sound, metadata-complete}
-use Rattle.songcode.proofs.DefinitionAgree.{definition-kind, definition-once, definitions-sound, definitions-complete}
+use Rattle.songcode.proofs.DefinitionAgree.{definition-kind, definition-read, definitions-sound, definitions-complete}
 use Rattle.songcode.proofs.SectionAgree.{section-exact, section-once}
 
 -- "then one or more sections"
@@ -142,7 +142,7 @@ module _ {bs : List Block} {s : Song} (w : WrittenSong bs s) where
   unfolding songIn
   song-once =
       same-song (keys-read keys-there)
-      (rw definitions-are (each-mapped definitionIn (λ b d x. definition-once x) (w .definitions)))
+      (rw definitions-are (each-mapped definitionIn (λ b d x. definition-read x) (w .definitions)))
       (rw sections-are (each-mapped sectionIn (λ b t x. section-once (x .section)) (w .sections)))
 
 pub song-exact : (bs : List Block) → (textFaults bs ≡ []) ↔ ((s : Song) × WrittenSong bs s)

@@ -9,7 +9,7 @@ use Rattle.songcode.specs.Complaints.{Complaint}
 use Rattle.songcode.specs.Sections.{Kind, keyLine, modifierLine, patternLine, kindOfLine, isPatternLine, notPatternLine, Place, amongKeys, early, inPattern, behind, misplaced, placeAfter, order, patternRun}
 use Rattle.songcode.specs.WrittenText.{All, Stops}
 use Rattle.songcode.proofs.ListLaws.{Each as Holds, nil-is-not-cons, taken-is}
-use Rattle.songcode.proofs.KindAgree.{by-kind}
+use Rattle.songcode.proofs.LineAgree.{by-kind}
 
 -- Every line is of one kind.
 unfoldable pub Kinds : Kind → List Line → Type 0

@@ -13,49 +13,32 @@ use Rattle.songcode.specs.Complaints.{complainIf}
 use Rattle.songcode.specs.SongText.{BlockKind, metadata, definition, section, kindOfText, blockKind, turn, blockOrder, linesIf, metadataLines, definitionIf, sectionIf, definitionBlocks, sectionBlocks}
 use Rattle.songcode.specs.WrittenSong.{BeginsWith, BeginsWithout, linesOf, Metadata}
 use Rattle.songcode.proofs.ListLaws.{Each as Holds, nil-is-not-cons, true-is-not-false, append-is-nil, gather-append, nil-gather, each-map, complainIf-nil, nil-complainIf}
-use Rattle.songcode.proofs.OptionLaws.{zero-is-not-one}
+use Rattle.songcode.proofs.ChoiceLaws.{zero-is-not-one, Differ, first-chosen, second-chosen, third-chosen}
 
 by-kind : {X : Type 0} (k : BlockKind) → (k ≡ metadata → X) → (k ≡ definition → X) → (k ≡ section → X) → X
 by-kind metadata f g h = f refl
 by-kind definition f g h = g refl
 by-kind section f g h = h refl
 
--- Kinds by the first byte.
-abbrev choice : Bool → Bool → BlockKind
-choice at dollar = if at then metadata else if dollar then definition else section
-
-choice-metadata : (at dollar : Bool) → choice at dollar ≡ metadata → at ≡ true
-unfolding if_then_else_
-choice-metadata true dollar e = refl
-choice-metadata false true e = zero-is-not-one (cc)
-choice-metadata false false e = zero-is-not-one (cc)
-
-choice-definition : (at dollar : Bool) → choice at dollar ≡ definition → dollar ≡ true
-unfolding if_then_else_
-choice-definition true dollar e = zero-is-not-one (cc)
-choice-definition false true e = refl
-choice-definition false false e = zero-is-not-one (cc)
-
-choice-section : (at dollar : Bool) → choice at dollar ≡ section → (at ≡ false) × (dollar ≡ false)
-unfolding if_then_else_
-choice-section true dollar e = zero-is-not-one (cc)
-choice-section false true e = zero-is-not-one (cc)
-choice-section false false e = (refl, refl)
+-- Kinds by the first bytes.
+kinds-differ : Differ metadata definition section
+unfolding Differ
+kinds-differ = ((λ e. zero-is-not-one (cc)), (λ e. zero-is-not-one (cc)), (λ e. zero-is-not-one (cc)))
 
 metadata-begins : (bs : List Byte) → kindOfText bs ≡ metadata → BeginsWith (code "@") bs
 unfolding kindOfText BeginsWith
 metadata-begins [] e = zero-is-not-one (cc)
-metadata-begins (b ∷ bs) e = choice-metadata (isByte (code "@") b) (isByte (code "$") b) e
+metadata-begins (b ∷ bs) e = first-chosen metadata definition section kinds-differ (isByte (code "@") b) (isByte (code "$") b) e
 
 pub definition-begins : (bs : List Byte) → kindOfText bs ≡ definition → BeginsWith (code "$") bs
 unfolding kindOfText BeginsWith
 definition-begins [] e = zero-is-not-one (cc)
-definition-begins (b ∷ bs) e = choice-definition (isByte (code "@") b) (isByte (code "$") b) e
+definition-begins (b ∷ bs) e = second-chosen metadata definition section kinds-differ (isByte (code "@") b) (isByte (code "$") b) e
 
 pub section-begins : (bs : List Byte) → kindOfText bs ≡ section → BeginsWithout (code "@") bs × BeginsWithout (code "$") bs
 unfolding kindOfText BeginsWithout
 section-begins [] e = (tt, tt)
-section-begins (b ∷ bs) e = choice-section (isByte (code "@") b) (isByte (code "$") b) e
+section-begins (b ∷ bs) e = third-chosen metadata definition section kinds-differ (isByte (code "@") b) (isByte (code "$") b) e
 
 begins-metadata : (bs : List Byte) → BeginsWith (code "@") bs → kindOfText bs ≡ metadata
 unfolding kindOfText BeginsWith if_then_else_
