@@ -1,74 +1,13 @@
--- The kinds of blocks by their first bytes, and their order: nothing stands after a later kind exactly where metadata, definitions and sections follow one another.
-use Prim.Native.Nat.{ℕ, max}
-use Prim.Native.Char.{code}
+-- The order of blocks: nothing stands after a later kind exactly where metadata, definitions and sections follow one another, and those of each kind are then found.
 use mathlib.Core.Path.{_≡_, refl, ap, sym, _∙_}
 use mathlib.Core.List.{List, [], _∷_, _++_, append-nil}
-use mathlib.Core.Bool.{Bool, true, false, not}
-use lib.Dec.{ltb}
-use borrow.Author.Tests.{eq-eqb}
-use Rattle.songcode.specs.Lists.{if_then_else_, gather}
-use Rattle.songcode.specs.Bytes.{Byte, isByte}
-use Rattle.songcode.specs.Lines.{Line, Block}
+use Rattle.songcode.specs.Lists.{gather}
+use Rattle.songcode.specs.Lines.{Block}
 use Rattle.songcode.specs.Complaints.{complainIf}
-use Rattle.songcode.specs.SongText.{BlockKind, metadata, definition, section, kindOfText, blockKind, turn, blockOrder, linesIf, metadataLines, definitionIf, sectionIf, definitionBlocks, sectionBlocks}
-use Rattle.songcode.specs.WrittenSong.{BeginsWith, BeginsWithout, linesOf, Metadata}
-use Rattle.songcode.proofs.ListLaws.{Each as Holds, nil-is-not-cons, true-is-not-false, append-is-nil, gather-append, nil-gather, each-map, complainIf-nil, nil-complainIf}
-use Rattle.songcode.proofs.ChoiceLaws.{zero-is-not-one, Differ, first-chosen, second-chosen, third-chosen}
-
-by-kind : {X : Type 0} (k : BlockKind) → (k ≡ metadata → X) → (k ≡ definition → X) → (k ≡ section → X) → X
-by-kind metadata f g h = f refl
-by-kind definition f g h = g refl
-by-kind section f g h = h refl
-
--- Kinds by the first bytes.
-kinds-differ : Differ metadata definition section
-unfolding Differ
-kinds-differ = ((λ e. zero-is-not-one (cc)), (λ e. zero-is-not-one (cc)), (λ e. zero-is-not-one (cc)))
-
-metadata-begins : (bs : List Byte) → kindOfText bs ≡ metadata → BeginsWith (code "@") bs
-unfolding kindOfText BeginsWith
-metadata-begins [] e = zero-is-not-one (cc)
-metadata-begins (b ∷ bs) e = first-chosen metadata definition section kinds-differ (isByte (code "@") b) (isByte (code "$") b) e
-
-pub definition-begins : (bs : List Byte) → kindOfText bs ≡ definition → BeginsWith (code "$") bs
-unfolding kindOfText BeginsWith
-definition-begins [] e = zero-is-not-one (cc)
-definition-begins (b ∷ bs) e = second-chosen metadata definition section kinds-differ (isByte (code "@") b) (isByte (code "$") b) e
-
-pub section-begins : (bs : List Byte) → kindOfText bs ≡ section → BeginsWithout (code "@") bs × BeginsWithout (code "$") bs
-unfolding kindOfText BeginsWithout
-section-begins [] e = (tt, tt)
-section-begins (b ∷ bs) e = third-chosen metadata definition section kinds-differ (isByte (code "@") b) (isByte (code "$") b) e
-
-begins-metadata : (bs : List Byte) → BeginsWith (code "@") bs → kindOfText bs ≡ metadata
-unfolding kindOfText BeginsWith if_then_else_
-begins-metadata [] s = absurd s
-begins-metadata (b ∷ bs) s = rw s
-
-pub begins-definition : (b : Byte) (bs : List Byte) → b .value ≡ code "$" → kindOfText (b ∷ bs) ≡ definition
-unfolding kindOfText isByte if_then_else_
-begins-definition b bs e = rw e
-
-pub begins-section : (bs : List Byte) → BeginsWithout (code "@") bs → BeginsWithout (code "$") bs → kindOfText bs ≡ section
-unfolding kindOfText BeginsWithout if_then_else_
-begins-section [] s t = refl
-begins-section (b ∷ bs) s t = rw (s, t)
-
--- Every block is of one kind.
-unfoldable pub Blocks : BlockKind → List Block → Type 0
-unfolding Holds
-Blocks k bs = Holds (λ b. blockKind b ≡ k) bs
-
-pub metadata-exact : (bs : List Block) → (Blocks metadata bs → Metadata bs) × (Metadata bs → Blocks metadata bs)
-unfolding Blocks Metadata blockKind
-metadata-exact bs = (to bs, from bs)
-  where
-    to : (bs : List Block) → Blocks metadata bs → Metadata bs
-    to [] h = tt
-    to (b ∷ bs) h = (metadata-begins (b .first .text) (h .0), to bs (h .1))
-    from : (bs : List Block) → Metadata bs → Blocks metadata bs
-    from [] h = tt
-    from (b ∷ bs) h = (begins-metadata (b .first .text) (h .0), from bs (h .1))
+use Rattle.songcode.specs.SongText.{BlockKind, metadata, definition, section, blockKind, turn, blockOrder, linesIf, metadataLines, definitionIf, sectionIf, definitionBlocks, sectionBlocks}
+use Rattle.songcode.specs.WrittenSong.{linesOf}
+use Rattle.songcode.proofs.ListLaws.{nil-is-not-cons, gather-append}
+use Rattle.songcode.proofs.BlockKinds.{by-kind, Blocks}
 
 -- Metadata, then definitions, then sections.
 pub record Ordered (bs : List Block) : Type 0 where
@@ -105,37 +44,37 @@ order-sound [] e =
 order-sound (b ∷ bs) e =
     by-kind (blockKind b)
     (λ k.
-      let h = order-sound bs (rw k at e) in
-      record {
-        ofMetadata = b ∷ h .ofMetadata;
-        ofDefinitions = h .ofDefinitions;
-        ofSections = h .ofSections;
-        written = ap (λ xs. b ∷ xs) (h .written);
-        metadatas = (k, h .metadatas);
-        definitions = h .definitions;
-        sections = h .sections;
-      })
+    let h = order-sound bs (rw k at e) in
+    record {
+      ofMetadata = b ∷ h .ofMetadata;
+      ofDefinitions = h .ofDefinitions;
+      ofSections = h .ofSections;
+      written = ap (λ xs. b ∷ xs) (h .written);
+      metadatas = (k, h .metadatas);
+      definitions = h .definitions;
+      sections = h .sections;
+    })
     (λ k.
-      let h = order-definitions bs (rw k at e) in
-      record {
-        ofMetadata = [];
-        ofDefinitions = b ∷ h .0;
-        ofSections = h .1;
-        written = ap (λ xs. b ∷ xs) (h .2);
-        metadatas = tt;
-        definitions = (k, h .3);
-        sections = h .4;
-      })
+    let h = order-definitions bs (rw k at e) in
+    record {
+      ofMetadata = [];
+      ofDefinitions = b ∷ h .0;
+      ofSections = h .1;
+      written = ap (λ xs. b ∷ xs) (h .2);
+      metadatas = tt;
+      definitions = (k, h .3);
+      sections = h .4;
+    })
     (λ k.
-      record {
-        ofMetadata = [];
-        ofDefinitions = [];
-        ofSections = b ∷ bs;
-        written = refl;
-        metadatas = tt;
-        definitions = tt;
-        sections = (k, order-sections bs (rw k at e));
-      })
+    record {
+      ofMetadata = [];
+      ofDefinitions = [];
+      ofSections = b ∷ bs;
+      written = refl;
+      metadatas = tt;
+      definitions = tt;
+      sections = (k, order-sections bs (rw k at e));
+    })
 
 -- Blocks in their order are not complained of.
 sections-order : (bs : List Block) → Blocks section bs → blockOrder 2 bs ≡ []

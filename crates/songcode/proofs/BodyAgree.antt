@@ -1,16 +1,14 @@
 -- The lines between a section's header and its lyrics, in their parts: what is said, read and complained of.
-use Prim.Native.Nat.{ℕ}
-use mathlib.Core.Path.{_≡_, refl, ap, sym, _∙_}
+use mathlib.Core.Path.{_≡_, sym, _∙_}
 use mathlib.Core.List.{List, [], _∷_, _++_, map, append-nil}
-use mathlib.Core.Bool.{Bool, true, false}
-use mathlib.Core.Option.{Option, none, some}
+use mathlib.Core.Option.{Option, none}
 use Rattle.songcode.specs.Lists.{gather, collect}
 use Rattle.songcode.specs.Lines.{Line}
 use Rattle.songcode.specs.Song.{Key, Modifier}
 use Rattle.songcode.specs.Sections.{Kind, keyLine, modifierLine, patternLine, kindOfLine, keySaid, modifierSaid, faults, amongKeys, order, patternRun, notDashes, keyIn, modifierOn}
 use Rattle.songcode.specs.WrittenText.{All}
-use Rattle.songcode.specs.WrittenSection.{Each, keyNumber, modifierNumber, SectionKey, ModifierLine, PatternLine, PatternLines}
-use Rattle.songcode.proofs.ListLaws.{Each as Holds, each-append, append-each, each-map, gather-nil, nil-gather, collect-append, all-append, append-all}
+use Rattle.songcode.specs.WrittenSection.{Each, keyNumber, modifierNumber, SectionKey, ModifierLine, PatternLines}
+use Rattle.songcode.proofs.ListLaws.{Each as Holds, each-append, append-each, each-map, gather-nil, nil-gather, collect-append, all-append}
 use Rattle.songcode.proofs.ChoiceLaws.{zero-is-not-one}
 use Rattle.songcode.proofs.EachLaws.{each-of, each-holds, each-collect, each-said, holds-both, collect-none}
 use Rattle.songcode.proofs.LineAgree.{undashed, pattern-line-exact}
@@ -140,15 +138,19 @@ body-of ls o e =
     let h = append-each _ (p .keys) (p .pattern ++ p .modifiers) (rw (p .written) at (gather-nil faults ls e)) in
     let i = append-each _ (p .pattern) (p .modifiers) (h .1) in
     let k = each-of _ faults-key (p .keys) (holds-both _ _ (p .keys) (p .ofKeys) (h .0)) in
-    let m = each-of _ faults-modifier (p .modifiers) (holds-both _ _ (p .modifiers) (p .ofModifiers) (i .1)) in
-    (k .0, p .pattern, m .0, record {
-      keyLines = p .keys;
-      modifierLines = p .modifiers;
-      written = p .written;
-      ofKeys = k .1;
-      ofRun = p .ofPattern;
-      ofModifiers = m .1;
-    })
+    let m = each-of _ faults-modifier (p .modifiers) (holds-both _ _ (p .modifiers) (p .ofModifiers) (i .1)) in (
+      k .0,
+      p .pattern,
+      m .0,
+      record {
+        keyLines = p .keys;
+        modifierLines = p .modifiers;
+        written = p .written;
+        ofKeys = k .1;
+        ofRun = p .ofPattern;
+        ofModifiers = m .1;
+      },
+    )
 
 -- Pattern lines are those of their kind that are no `--`.
 pub pattern-lines-of : (ls : List Line) → Kinds patternLine ls → All notDashes ls → PatternLines ls

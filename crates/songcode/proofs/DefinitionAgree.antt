@@ -1,10 +1,9 @@
 -- Definitions: nothing is complained of exactly where they are described, and they are the ones read.
 use Prim.Native.Nat.{ℕ, suc, _+_, _≤_}
 use Prim.Native.Char.{code}
-use mathlib.Core.Path.{_≡_, refl, ap, sym, _∙_}
-use mathlib.Core.Logic.{_↔_}
+use mathlib.Core.Path.{_≡_, refl, sym}
 use mathlib.Core.List.{List, [], _∷_, _++_, map}
-use mathlib.Core.Bool.{Bool, true, false, _||_, not}
+use mathlib.Core.Bool.{true, _||_, not}
 use mathlib.Core.Option.{Option, none, some}
 use lib.Dec.{leb}
 use lib.ListN.{length}
@@ -21,12 +20,12 @@ use Rattle.songcode.specs.Sections.{behindFirst, twice}
 use Rattle.songcode.specs.SongText.{definition, blockKind, headIn, headsFaults, firstLine, definitionItems, definitionFaults, definitionsFaults, definitionIn}
 use Rattle.songcode.specs.WrittenSection.{Each, none-each, and-each, Distinct}
 use Rattle.songcode.specs.WrittenSong.{BeginsWith, DefinitionHead, DefinitionLines, WrittenDefinition, idOf}
-use Rattle.songcode.proofs.ListLaws.{Each as Holds, none-passes, pass-none, nil-is-not-cons, append-is-nil, gather-nil, nil-gather, complainIf-nil, nil-complainIf}
+use Rattle.songcode.proofs.ListLaws.{Each as Holds, none-passes, append-is-nil, gather-nil, nil-gather, complainIf-nil}
 use Rattle.songcode.proofs.NumbersAgree.{count-exact}
 use Rattle.songcode.proofs.PatternAgree.{definition-exact}
 use Rattle.songcode.proofs.ChoiceLaws.{isSome-some, some-isSome}
-use Rattle.songcode.proofs.EachLaws.{each-of, each-holds, each-mapped, each-length, holds-both, twice-exact}
-use Rattle.songcode.proofs.BlockOrder.{Blocks, definition-begins, begins-definition}
+use Rattle.songcode.proofs.EachLaws.{each-of, each-holds, each-length, holds-both, twice-exact}
+use Rattle.songcode.proofs.BlockKinds.{Blocks, definition-begins, begins-definition}
 
 -- "`$n` alone on the first line"
 head-of : (bs : List Byte) (n : ℕ) → BeginsWith (code "$") bs → countIn (behindFirst bs) ≡ some n → DefinitionHead bs n
@@ -101,12 +100,14 @@ heads-said (and-each w ws) = rw (head-read w, heads-said ws)
 definition-of : (b : Block) → (blockKind b ≡ definition) × ((isSome (headIn (b .first)) ≡ true) × (definitionFaults (b .others) ≡ [])) → (d : Definition) × WrittenDefinition b d
 unfolding blockKind headIn
 definition-of b h =
-    let n = isSome-some (headIn (b .first)) (h .1 .0) in
-    (record { head = b .first .number; id = n .0; items = definitionItems (b .others) }, record {
-      head = head-of (b .first .text) (n .0) (definition-begins (b .first .text) (h .0)) (n .1);
-      headNumber = refl;
-      text = lines-of (b .others) (h .1 .1);
-    })
+    let n = isSome-some (headIn (b .first)) (h .1 .0) in (
+      record { head = b .first .number; id = n .0; items = definitionItems (b .others) },
+      record {
+        head = head-of (b .first .text) (n .0) (definition-begins (b .first .text) (h .0)) (n .1);
+        headNumber = refl;
+        text = lines-of (b .others) (h .1 .1);
+      },
+    )
 
 pub definitions-sound : (ds : List Block) → Blocks definition ds → definitionsFaults ds ≡ [] → (xs : List Definition) × Each WrittenDefinition ds xs × Distinct (map idOf xs) × (length xs ≤ 26)
 unfolding definitionsFaults Blocks Heads

@@ -1,15 +1,14 @@
 -- Lists written line by line as other lists, what is collected from them, and what stands once.
 use Prim.Native.Nat.{ℕ}
-use mathlib.Core.Path.{_≡_, refl, ap}
+use mathlib.Core.Path.{_≡_, refl}
 use mathlib.Core.Logic.{_↔_}
-use mathlib.Core.List.{List, [], _∷_, _++_, map}
-use mathlib.Core.Bool.{Bool, true, false, _||_}
+use mathlib.Core.List.{List, [], _∷_, map}
+use mathlib.Core.Bool.{false}
 use mathlib.Core.Option.{Option, none, some}
 use lib.Dec.{eqb}
 use lib.ListN.{length}
 use borrow.Author.Tests.{eqb-false, ne-eqb}
 use Rattle.songcode.specs.Lists.{any, collect, prepend}
-use Rattle.songcode.specs.Complaints.{complainIf}
 use Rattle.songcode.specs.Lines.{Line}
 use Rattle.songcode.specs.Sections.{twiceBy, twice}
 use Rattle.songcode.specs.WrittenSection.{Each, none-each, and-each, Absent, Distinct}

@@ -1,15 +1,14 @@
 -- A section's header, its pattern and its lyric lines: nothing is complained of exactly where they are described.
-use Prim.Native.Nat.{ℕ, _≤_}
+use Prim.Native.Nat.{ℕ}
 use Prim.Native.Char.{code}
-use mathlib.Core.Path.{_≡_, refl, ap, sym, _∙_}
+use mathlib.Core.Path.{_≡_, refl, sym}
 use mathlib.Core.Logic.{_↔_}
-use mathlib.Core.List.{List, [], _∷_, _++_, map}
-use mathlib.Core.Bool.{Bool, true, false, _&&_, not}
-use mathlib.Core.Option.{Option, none, some}
+use mathlib.Core.List.{List, [], _∷_}
+use mathlib.Core.Bool.{Bool, true}
 use lib.Dec.{leb}
 use borrow.Author.Tests.{leb-true, le-leb, not-true, not-false}
 use Rattle.songcode.specs.Lists.{taken, left, isEmpty, isSome, orElse}
-use Rattle.songcode.specs.Bytes.{Byte, isByte}
+use Rattle.songcode.specs.Bytes.{Byte}
 use Rattle.songcode.specs.Characters.{characters}
 use Rattle.songcode.specs.Lines.{Line}
 use Rattle.songcode.specs.Complaints.{complainIf}
@@ -19,8 +18,8 @@ use Rattle.songcode.specs.Sections.{headerFaults, notDashes, lyricFaults
 use Rattle.songcode.specs.WrittenText.{All, Stops}
 use Rattle.songcode.specs.WrittenPattern.{WrittenPattern}
 use Rattle.songcode.specs.WrittenSection.{Unmarked, Marked, Header, LyricLines, no-lyrics, with-lyrics}
-use Rattle.songcode.proofs.ListLaws.{true-is-not-false, both-pass, pass-both, nil-is-not-cons, taken-left, taken-all, left-stops, taken-is, complainIf-nil, nil-complainIf}
-use Rattle.songcode.proofs.ChoiceLaws.{isSome-some, some-isSome}
+use Rattle.songcode.proofs.ListLaws.{true-is-not-false, both-pass, nil-is-not-cons, taken-left, taken-all, left-stops, taken-is, complainIf-nil}
+use Rattle.songcode.proofs.ChoiceLaws.{isSome-some}
 use Rattle.songcode.proofs.SettingAgree.{without}
 use Rattle.songcode.proofs.LineAgree.{dashes-notDashes, notDashes-dashes}
 use Rattle.songcode.proofs.PatternAgree.{pattern-exact}

@@ -1,21 +1,20 @@
 -- Key lines, of metadata and of sections: nothing is complained of exactly where one is described, and it is the key read.
-use Prim.Native.Nat.{ℕ}
 use Prim.Native.Char.{code}
 use mathlib.Core.Path.{_≡_, refl, ap, sym}
 use mathlib.Core.Logic.{_↔_}
-use mathlib.Core.List.{List, [], _∷_, _++_}
+use mathlib.Core.List.{List, []}
 use mathlib.Core.Bool.{Bool, true, false, not}
 use mathlib.Core.Option.{Option, none, some}
 use borrow.Author.Tests.{not-false}
 use Rattle.songcode.specs.Lists.{if_then_else_, every, andThen}
 use Rattle.songcode.specs.Bytes.{Byte, values, ascii, same, is}
 use Rattle.songcode.specs.Lines.{Line}
-use Rattle.songcode.specs.Complaints.{Complaint, complainIf}
+use Rattle.songcode.specs.Complaints.{complainIf}
 use Rattle.songcode.specs.Song.{KeyName, name, artist, original, capo, bpm, time, warning, end, Key}
-use Rattle.songcode.specs.Keys.{nameIn, settingIn, keyNamed, isSetting, ofSection, ofMetadata, keyPlace}
+use Rattle.songcode.specs.Keys.{nameIn, keyNamed, isSetting, ofSection, ofMetadata, keyPlace}
 use Rattle.songcode.specs.Sections.{keyLine, kindOfLine, behindFirst, nameOf, settingOf, keyNameOf, keyFaultsBy, keyFaults, keyOf, keySaid, keyIn}
 use Rattle.songcode.specs.WrittenSection.{keySpelling, KeyLine, OfSection, SectionKey, keyNumber}
-use Rattle.songcode.proofs.ListLaws.{true-is-not-false, append-is-nil, nil-is-not-cons, complainIf-nil, nil-complainIf}
+use Rattle.songcode.proofs.ListLaws.{true-is-not-false, append-is-nil, nil-is-not-cons, complainIf-nil}
 use Rattle.songcode.proofs.PatternLaws.{none-some}
 use Rattle.songcode.proofs.ChoiceLaws.{first-or}
 use Rattle.songcode.proofs.SettingAgree.{is-exact, setting-exact}
@@ -158,7 +157,7 @@ pub section-key-exact : (l : Line) → kindOfLine l ≡ keyLine → (keyFaults o
 unfolding keyFaults
 section-key-exact l kind = (
   (λ e.
-    let h = unfaulted ofSection (keyNameOf l) l e in
-    (_, record { line = key-line-of l (h .0) kind (h .1) (h .3); here = of-section-exact (h .0) .0 (h .2) })),
+      let h = unfaulted ofSection (keyNameOf l) l e in
+      (_, record { line = key-line-of l (h .0) kind (h .1) (h .3); here = of-section-exact (h .0) .0 (h .2) })),
   (λ w. no-faults ofSection (w .1 .line) (of-section-exact (w .0 .key) .1 (w .1 .here))),
 )

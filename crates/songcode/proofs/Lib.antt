@@ -23,6 +23,7 @@ pub mod LineOrder
 pub mod HeaderAgree
 pub mod BodyAgree
 pub mod SectionAgree
+pub mod BlockKinds
 pub mod BlockOrder
 pub mod MetadataAgree
 pub mod DefinitionAgree

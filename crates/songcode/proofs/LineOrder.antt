@@ -1,12 +1,10 @@
 -- The order of a section's lines: nothing stands out of place exactly where keys, pattern lines and modifiers follow one another, and the pattern's run is then found.
-use Prim.Native.Nat.{ℕ}
-use mathlib.Core.Path.{_≡_, refl, ap, sym, _∙_}
-use mathlib.Core.List.{List, [], _∷_, _++_, map}
-use mathlib.Core.Bool.{Bool, true, false, not}
-use Rattle.songcode.specs.Lists.{if_then_else_, taken, left}
+use mathlib.Core.Path.{_≡_, refl, ap, sym}
+use mathlib.Core.List.{List, [], _∷_, _++_}
+use mathlib.Core.Bool.{true, false}
+use Rattle.songcode.specs.Lists.{if_then_else_, left}
 use Rattle.songcode.specs.Lines.{Line}
-use Rattle.songcode.specs.Complaints.{Complaint}
-use Rattle.songcode.specs.Sections.{Kind, keyLine, modifierLine, patternLine, kindOfLine, isPatternLine, notPatternLine, Place, amongKeys, early, inPattern, behind, misplaced, placeAfter, order, patternRun}
+use Rattle.songcode.specs.Sections.{Kind, keyLine, modifierLine, patternLine, kindOfLine, isPatternLine, notPatternLine, amongKeys, inPattern, behind, misplaced, placeAfter, order, patternRun}
 use Rattle.songcode.specs.WrittenText.{All, Stops}
 use Rattle.songcode.proofs.ListLaws.{Each as Holds, nil-is-not-cons, taken-is}
 use Rattle.songcode.proofs.LineAgree.{by-kind}
@@ -52,28 +50,28 @@ order-sound [] e =
 order-sound (l ∷ ls) e =
     by-kind (kindOfLine l)
     (λ k.
-      let h = order-sound ls (rw k at e) in
-      record {
-        keys = l ∷ h .keys;
-        pattern = h .pattern;
-        modifiers = h .modifiers;
-        written = ap (λ xs. l ∷ xs) (h .written);
-        ofKeys = (k, h .ofKeys);
-        ofPattern = h .ofPattern;
-        ofModifiers = h .ofModifiers;
-      })
+    let h = order-sound ls (rw k at e) in
+    record {
+      keys = l ∷ h .keys;
+      pattern = h .pattern;
+      modifiers = h .modifiers;
+      written = ap (λ xs. l ∷ xs) (h .written);
+      ofKeys = (k, h .ofKeys);
+      ofPattern = h .ofPattern;
+      ofModifiers = h .ofModifiers;
+    })
     (λ k. nil-is-not-cons (sym (rw k at e)))
     (λ k.
-      let h = order-in-pattern ls (rw k at e) in
-      record {
-        keys = [];
-        pattern = l ∷ h .0;
-        modifiers = h .1;
-        written = ap (λ xs. l ∷ xs) (h .2);
-        ofKeys = tt;
-        ofPattern = (k, h .3);
-        ofModifiers = h .4;
-      })
+    let h = order-in-pattern ls (rw k at e) in
+    record {
+      keys = [];
+      pattern = l ∷ h .0;
+      modifiers = h .1;
+      written = ap (λ xs. l ∷ xs) (h .2);
+      ofKeys = tt;
+      ofPattern = (k, h .3);
+      ofModifiers = h .4;
+    })
 
 -- Lines in their order are not out of place.
 behind-order : (ms : List Line) → Kinds modifierLine ms → order behind ms ≡ []

@@ -1,12 +1,10 @@
 -- Metadata: nothing is complained of exactly where every line is a key and none is said twice, and they are the keys read.
-use Prim.Native.Nat.{ℕ}
-use mathlib.Core.Path.{_≡_, refl, ap, sym, _∙_}
-use mathlib.Core.List.{List, [], _∷_, _++_, map}
-use mathlib.Core.Option.{Option, none, some}
-use Rattle.songcode.specs.Lists.{gather, collect}
+use mathlib.Core.Path.{_≡_, sym}
+use mathlib.Core.List.{List, [], map}
+use Rattle.songcode.specs.Lists.{collect}
 use Rattle.songcode.specs.Lines.{Line, Block}
 use Rattle.songcode.specs.Song.{Key}
-use Rattle.songcode.specs.Sections.{keyLine, kindOfLine, twice, keySaid, keyIn}
+use Rattle.songcode.specs.Sections.{kindOfLine, twice, keySaid, keyIn}
 use Rattle.songcode.specs.SongText.{metadataLines, metadataFault, metadataFaults}
 use Rattle.songcode.specs.WrittenSection.{Each, Distinct, KeyLine, keyNumber}
 use Rattle.songcode.proofs.ListLaws.{nil-is-not-cons, append-is-nil, gather-nil, nil-gather}

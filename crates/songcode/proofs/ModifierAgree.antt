@@ -1,24 +1,22 @@
 -- Modifier lines: nothing is complained of exactly where one is described, and it is the modifier read.
 use Prim.Native.Nat.{ℕ}
 use Prim.Native.Char.{code}
-use mathlib.Core.Path.{_≡_, refl, ap, sym, _∙_}
+use mathlib.Core.Path.{_≡_, refl, ap, sym}
 use mathlib.Core.Logic.{_↔_}
-use mathlib.Core.List.{List, [], _∷_, _++_}
-use mathlib.Core.Bool.{Bool, true, false, not}
+use mathlib.Core.List.{List, []}
 use mathlib.Core.Option.{Option, none, some}
 use borrow.Author.Tests.{not-false}
 use Rattle.songcode.specs.Lists.{if_then_else_, every, isSome, andThen}
 use Rattle.songcode.specs.Bytes.{Byte, values, ascii, same, is}
 use Rattle.songcode.specs.Lines.{Line}
-use Rattle.songcode.specs.Complaints.{Complaint, complainIf}
+use Rattle.songcode.specs.Complaints.{complainIf}
 use Rattle.songcode.specs.Numbers.{repeatIn}
 use Rattle.songcode.specs.PatternText.{sideText}
 use Rattle.songcode.specs.Song.{Modifier, repeated, cutStart, cutEnd, before, after}
-use Rattle.songcode.specs.Keys.{nameIn, settingIn}
 use Rattle.songcode.specs.Modifiers.{ModifierName, ofRepeat, ofCutStart, ofCutEnd, ofBefore, ofAfter, modifierNamed, cutIn, modifierIn, settingRefusal, modifierPlace}
-use Rattle.songcode.specs.Sections.{modifierLine, kindOfLine, behindFirst, nameOf, settingOf, modifierNameOf, modifierOf, modifierFaultsBy, modifierFaults, modifierSaid, modifierOn}
+use Rattle.songcode.specs.Sections.{modifierLine, kindOfLine, nameOf, settingOf, modifierNameOf, modifierOf, modifierFaultsBy, modifierFaults, modifierSaid, modifierOn}
 use Rattle.songcode.specs.WrittenSection.{Signed, modifierNumber, modifierSpelling, ModifierSetting, ModifierLine}
-use Rattle.songcode.proofs.ListLaws.{true-is-not-false, nil-is-not-cons, complainIf-nil}
+use Rattle.songcode.proofs.ListLaws.{nil-is-not-cons, complainIf-nil}
 use Rattle.songcode.proofs.PatternLaws.{none-some, andThen-some}
 use Rattle.songcode.proofs.NumbersAgree.{repeat-exact}
 use Rattle.songcode.proofs.SideAgree.{side-exact}

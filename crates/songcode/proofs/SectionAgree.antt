@@ -1,19 +1,17 @@
 -- Sections: nothing is complained of exactly where one is described, and it is the section read.
 use Prim.Native.Nat.{ℕ}
-use mathlib.Core.Path.{_≡_, refl, ap, sym, _∙_}
+use mathlib.Core.Path.{_≡_, refl, sym, _∙_}
 use mathlib.Core.Logic.{_↔_}
-use mathlib.Core.List.{List, [], _∷_, _++_, map, append-assoc}
-use mathlib.Core.Bool.{Bool, true, false}
-use Rattle.songcode.specs.Lists.{taken, left, gather, collect, orElse}
+use mathlib.Core.List.{List, [], _∷_, _++_, append-assoc}
+use Rattle.songcode.specs.Lists.{gather, orElse}
 use Rattle.songcode.specs.Lines.{Line, Block}
 use Rattle.songcode.specs.Song.{Key, Modifier, Pattern, named, LyricLine, Section}
 use Rattle.songcode.specs.Sections.{amongKeys, order, twice, keySaid, modifierSaid, faults, patternFaults, patternRun, patternIn, headerFaults, notDashes, lyricFaults, body, ending, sectionFaults, sectionIn}
-use Rattle.songcode.specs.WrittenText.{All, Stops}
+use Rattle.songcode.specs.WrittenText.{All}
 use Rattle.songcode.specs.WrittenPattern.{WrittenPattern}
-use Rattle.songcode.specs.WrittenSection.{Distinct, keyNumber, modifierNumber, WrittenSection}
+use Rattle.songcode.specs.WrittenSection.{WrittenSection}
 use Rattle.songcode.proofs.ListLaws.{append-is-nil, taken-left, taken-all, left-stops, taken-is, left-is, append-all}
 use Rattle.songcode.proofs.EachLaws.{twice-exact}
-use Rattle.songcode.proofs.LineOrder.{Kinds}
 use Rattle.songcode.proofs.HeaderAgree.{header-exact, pattern-there, there-pattern, pattern-read, lyrics-there, there-lyrics, lyrics-stop, lyrics-read}
 use Rattle.songcode.proofs.BodyAgree.{Body, keys-read, keys-said, modifiers-read, modifiers-said, run-found, in-order, body-undashed, body-unfaulted, body-of, pattern-lines-of, pattern-lines-kinds}
 
@@ -64,26 +62,28 @@ section-of : (b : Block) → Quiet b → {keys : List Key} {l : Line} {ps : List
 unfolding body ending
 section-of b q {keys} {l} {ps} {mods} w p h =
     let y = lyrics-there (ending b) (left-stops notDashes (b .others)) (q .lyrics) in
-    let all = taken-all notDashes (b .others) in
-    (record { header = b .first .number; keys = keys; pattern = p; modifiers = mods; lyrics = y .0 }, record {
-      keyLines = w .keyLines;
-      firstPattern = l;
-      morePattern = ps;
-      modifierLines = w .modifierLines;
-      lastLines = ending b;
-      written = sym (taken-left notDashes (b .others)) ∙ rw (w .written) (regroup (w .keyLines) (l ∷ ps) (w .modifierLines) (ending b));
-      header = header-exact (b .first) .0 (q .header);
-      headerNumber = refl;
-      keys = w .ofKeys;
-      keysOnce = rw (keys-said w) at (twice-exact 4 keySaid (body b) .0 (q .keysOnce));
-      patternLines =
-          pattern-lines-of (l ∷ ps) (w .ofRun)
-          (append-all notDashes (l ∷ ps) _ (append-all notDashes (w .keyLines) _ (rw (w .written) at all) .1) .0);
-      pattern = h;
-      modifiers = w .ofModifiers;
-      modifiersOnce = rw (modifiers-said w) at (twice-exact 8 modifierSaid (body b) .0 (q .modifiersOnce));
-      lyrics = y .1;
-    })
+    let all = taken-all notDashes (b .others) in (
+      record { header = b .first .number; keys = keys; pattern = p; modifiers = mods; lyrics = y .0 },
+      record {
+        keyLines = w .keyLines;
+        firstPattern = l;
+        morePattern = ps;
+        modifierLines = w .modifierLines;
+        lastLines = ending b;
+        written = sym (taken-left notDashes (b .others)) ∙ rw (w .written) (regroup (w .keyLines) (l ∷ ps) (w .modifierLines) (ending b));
+        header = header-exact (b .first) .0 (q .header);
+        headerNumber = refl;
+        keys = w .ofKeys;
+        keysOnce = rw (keys-said w) at (twice-exact 4 keySaid (body b) .0 (q .keysOnce));
+        patternLines =
+            pattern-lines-of (l ∷ ps) (w .ofRun)
+            (append-all notDashes (l ∷ ps) _ (append-all notDashes (w .keyLines) _ (rw (w .written) at all) .1) .0);
+        pattern = h;
+        modifiers = w .ofModifiers;
+        modifiersOnce = rw (modifiers-said w) at (twice-exact 8 modifierSaid (body b) .0 (q .modifiersOnce));
+        lyrics = y .1;
+      },
+    )
 
 section-sound : (b : Block) → sectionFaults b ≡ [] → (s : Section) × WrittenSection b s
 section-sound b e =

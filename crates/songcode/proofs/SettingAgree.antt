@@ -1,27 +1,26 @@
 -- The settings of keys and modifiers: what is read is what is described.
-use Prim.Native.Nat.{ℕ, _≤_, _<_}
+use Prim.Native.Nat.{ℕ, _<_}
 use Prim.Native.Char.{code}
 use Prim.Native.String.{String}
-use mathlib.Core.Path.{_≡_, refl, ap, sym, _∙_}
+use mathlib.Core.Path.{_≡_, refl, sym, _∙_}
 use mathlib.Core.Logic.{_↔_}
 use mathlib.Core.List.{List, [], _∷_, _++_, append-nil}
-use mathlib.Core.Bool.{Bool, true, false, _&&_, _||_, not}
-use mathlib.Core.Option.{Option, none, some}
-use lib.Dec.{eqb, leb}
+use mathlib.Core.Bool.{Bool, true, false, not}
+use mathlib.Core.Option.{some}
+use lib.Dec.{eqb}
 use native.Mathlib.Omega.{arith}
 use borrow.Author.Tests.{leb-true, le-leb, eqb-true, ne-eqb, not-false}
-use Rattle.songcode.specs.Lists.{if_then_else_, taken, left, isSome, andThen}
-use Rattle.songcode.specs.Bytes.{Byte, values, ascii, same, is, isByte}
+use Rattle.songcode.specs.Lists.{if_then_else_, taken, left, andThen}
+use Rattle.songcode.specs.Bytes.{Byte, values, ascii, is, isByte}
 use Rattle.songcode.specs.Characters.{characters}
 use Rattle.songcode.specs.Numbers.{isDigit, digits, isDecimal, numberIn, countIn}
-use Rattle.songcode.specs.Chords.{isBase}
 use Rattle.songcode.specs.Song.{KeyName, name, artist, original, capo, bpm, time, warning, end, Cut}
 use Rattle.songcode.specs.Keys.{isPhrase, bpmIn, timeIn, isSetting}
 use Rattle.songcode.specs.Modifiers.{cut, isDash, cutBy, cutIn}
 use Rattle.songcode.specs.WrittenText.{All, Stops}
 use Rattle.songcode.specs.WrittenPattern.{Number}
 use Rattle.songcode.specs.WrittenSection.{Phrase, TimeText, Setting, CutText, measures-alone, beats-alone, both}
-use Rattle.songcode.proofs.ListLaws.{by-cases, true-is-not-false, both-pass, pass-both, taken-left, taken-all, left-stops, taken-is, left-is}
+use Rattle.songcode.proofs.ListLaws.{by-cases, true-is-not-false, both-pass, pass-both, taken-left, left-stops, taken-is, left-is}
 use Rattle.songcode.proofs.PatternLaws.{none-some, andThen-some}
 use Rattle.songcode.proofs.Spellings.{same-true, same-refl}
 use Rattle.songcode.proofs.NumbersAgree.{number-exact, count-exact}
@@ -69,13 +68,13 @@ time-sound bs n e =
     let under = left (without (code "/")) bs in
     by-cases (is "/4" under)
     (λ t.
-      record {
-        above = above;
-        under = under;
-        written = sym (taken-left (without (code "/")) bs);
-        number = number-exact 1 32 above n .0 (rw t at e);
-        quarters = is-exact "/4" under .0 t;
-      })
+    record {
+      above = above;
+      under = under;
+      written = sym (taken-left (without (code "/")) bs);
+      number = number-exact 1 32 above n .0 (rw t at e);
+      quarters = is-exact "/4" under .0 t;
+    })
     (λ f. none-some refl (rw f at e))
 
 begins-slash : (under : List Byte) → values under ≡ ascii "/4" → Stops (without (code "/")) under

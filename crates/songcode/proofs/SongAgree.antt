@@ -1,23 +1,23 @@
 -- Songs: nothing is complained of in stage 2 exactly where one is described, and it is the song read; so there is one reading.
-use Prim.Native.Nat.{ℕ, _≤_}
-use Prim.Native.Char.{code}
-use mathlib.Core.Path.{_≡_, refl, ap, sym, _∙_}
+use Prim.Native.Nat.{_≤_}
+use mathlib.Core.Path.{_≡_, refl, sym, _∙_}
 use mathlib.Core.Logic.{_↔_}
-use mathlib.Core.List.{List, [], _∷_, _++_, map}
-use mathlib.Core.Bool.{Bool, true, false}
+use mathlib.Core.List.{List, [], _∷_, _++_}
+use mathlib.Core.Bool.{true}
 use lib.ListN.{length}
 use native.Mathlib.Omega.{arith}
 use Rattle.songcode.specs.Lists.{isEmpty, gather}
-use Rattle.songcode.specs.Lines.{Line, Block}
+use Rattle.songcode.specs.Lines.{Block}
 use Rattle.songcode.specs.Complaints.{Complaint, complainIf}
 use Rattle.songcode.specs.Song.{Key, Definition, Section, Song}
 use Rattle.songcode.specs.Sections.{sectionFaults, sectionIn}
-use Rattle.songcode.specs.SongText.{metadata, definition, section, blockKind, blockOrder, metadataLines, metadataFaults, definitionBlocks, sectionBlocks, definitionsFaults, definitionIn, orNoSection, textFaults, songIn}
-use Rattle.songcode.specs.WrittenSection.{Each, none-each, and-each, Distinct, KeyLine, keyNumber, WrittenSection}
-use Rattle.songcode.specs.WrittenSong.{WrittenDefinition, SectionBlock, WrittenSong}
+use Rattle.songcode.specs.SongText.{metadata, section, blockKind, blockOrder, metadataLines, metadataFaults, definitionBlocks, sectionBlocks, definitionsFaults, definitionIn, orNoSection, textFaults, songIn}
+use Rattle.songcode.specs.WrittenSection.{Each, KeyLine}
+use Rattle.songcode.specs.WrittenSong.{SectionBlock, WrittenSong}
 use Rattle.songcode.proofs.ListLaws.{true-is-not-false, nil-is-not-cons, append-is-nil, gather-nil, nil-gather, complainIf-nil}
 use Rattle.songcode.proofs.EachLaws.{each-of, each-holds, each-mapped, each-length, holds-both}
-use Rattle.songcode.proofs.BlockOrder.{Blocks, section-begins, begins-section, metadata-exact, Ordered, order-sound, in-order, metadata-lines, definition-blocks, section-blocks}
+use Rattle.songcode.proofs.BlockKinds.{Blocks, section-begins, begins-section, metadata-exact}
+use Rattle.songcode.proofs.BlockOrder.{Ordered, order-sound, in-order, metadata-lines, definition-blocks, section-blocks}
 use Rattle.songcode.proofs.MetadataAgree.{keys-read, metadata-sound, metadata-complete}
 use Rattle.songcode.proofs.DefinitionAgree.{definition-kind, definition-read, definitions-sound, definitions-complete}
 use Rattle.songcode.proofs.SectionAgree.{section-exact, section-once}
@@ -79,21 +79,23 @@ song-sound bs e =
     let k = metadata-sound bs (q .keys) in
     let d = definitions-sound (o .ofDefinitions) (o .definitions) (rw (definition-blocks o) at (q .definitions)) in
     let quiet = gather-nil sectionFaults (o .ofSections) (rw (section-blocks o) at (q .sections)) in
-    let s = each-of _ section-of (o .ofSections) (holds-both _ _ (o .ofSections) (o .sections) quiet) in
-    (record { keys = k .0; definitions = d .0; sections = s .0 }, record {
-      metadata = o .ofMetadata;
-      definitionBlocks = o .ofDefinitions;
-      sectionBlocks = o .ofSections;
-      written = o .written;
-      ofMetadata = metadata-exact (o .ofMetadata) .0 (o .metadatas);
-      keys = rw (metadata-lines o) at (k .1);
-      keysOnce = k .2;
-      definitions = d .1;
-      definitionsOnce = d .2;
-      atMost = d .3;
-      sections = s .1;
-      atLeast = rw (section-blocks o, each-length (s .1)) at (q .atLeast);
-    })
+    let s = each-of _ section-of (o .ofSections) (holds-both _ _ (o .ofSections) (o .sections) quiet) in (
+      record { keys = k .0; definitions = d .0; sections = s .0 },
+      record {
+        metadata = o .ofMetadata;
+        definitionBlocks = o .ofDefinitions;
+        sectionBlocks = o .ofSections;
+        written = o .written;
+        ofMetadata = metadata-exact (o .ofMetadata) .0 (o .metadatas);
+        keys = rw (metadata-lines o) at (k .1);
+        keysOnce = k .2;
+        definitions = d .1;
+        definitionsOnce = d .2;
+        atMost = d .3;
+        sections = s .1;
+        atLeast = rw (section-blocks o, each-length (s .1)) at (q .atLeast);
+      },
+    )
 
 same-song : {k l : List Key} {d e : List Definition} {s t : List Section} → k ≡ l → d ≡ e → s ≡ t → _≡_ {A = Song} (record { keys = k; definitions = d; sections = s }) (record { keys = l; definitions = e; sections = t })
 same-song a b c = cc
