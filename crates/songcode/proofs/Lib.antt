@@ -17,6 +17,7 @@ pub mod CharactersAgree
 pub mod CharacterCounts
 pub mod CharacterParts
 pub mod PlacesAgree
+-- The answer's functions and the description agree.
 pub mod PatternLaws
 pub mod NumbersAgree
 pub mod Spellings
@@ -40,3 +41,20 @@ pub mod ReferencesAgree
 pub mod PutInPlain
 pub mod LyricsAgree
 pub mod PromptsAgree
+-- Lines, sections, definitions, metadata and songs.
+pub mod ChoiceLaws
+pub mod EachLaws
+pub mod SettingAgree
+pub mod SignedAgree
+pub mod LineAgree
+pub mod KeyAgree
+pub mod ModifierAgree
+pub mod LineOrder
+pub mod HeaderAgree
+pub mod BodyAgree
+pub mod SectionAgree
+pub mod BlockKinds
+pub mod BlockOrder
+pub mod MetadataAgree
+pub mod DefinitionAgree
+pub mod SongAgree
