@@ -1,7 +1,7 @@
 -- General laws of the words on lists: tests, longest beginnings, what is gathered, what is reversed, what is complained of.
 use Prim.Native.Nat.{ℕ, zero, suc, _+_, _*_}
-use mathlib.Core.Path.{_≡_, refl, ap, sym, _∙_}
-use mathlib.Core.List.{List, [], _∷_, _++_, append-assoc, reverse, reverse-cons, List·Memᴰ, List·Memᴰ·head, List·Memᴰ·tail}
+use mathlib.Core.Path.{_≡_, refl, ap, sym}
+use mathlib.Core.List.{List, [], _∷_, _++_, append-assoc, reverse, reverse-cons, tail-eq-of-cons-eq, List·Memᴰ, List·Memᴰ·head, List·Memᴰ·tail}
 use mathlib.Core.Bool.{Bool, true, false, _||_, _&&_}
 use mathlib.Core.Option.{Option, none, some}
 use native.Mathlib.Omega.{arith}
@@ -63,6 +63,13 @@ module _ {A : Type 0} where
   pub append-is-nil : (xs ys : List A) → xs ++ ys ≡ [] → (xs ≡ []) × (ys ≡ [])
   append-is-nil [] ys e = (refl, e)
   append-is-nil (x ∷ xs) ys e = nil-is-not-cons (sym e)
+
+  -- Two cuts of one list: the second lies behind the first, or before it.
+  pub append-cases : {X : Type 0} (v w xs ys : List A) → v ++ w ≡ xs ++ ys → ((m : List A) → xs ≡ v ++ m → w ≡ m ++ ys → X) → ((x : A) (m : List A) → v ≡ xs ++ (x ∷ m) → ys ≡ (x ∷ m) ++ w → X) → X
+  append-cases [] w xs ys e f g = f xs refl e
+  append-cases (a ∷ v) w [] ys e f g = g a v refl (sym e)
+  append-cases (a ∷ v) w (x ∷ xs) ys e f g =
+      append-cases v w xs ys (tail-eq-of-cons-eq e) (λ m p q. f m (cc) q) (λ b m p q. g b m (cc) q)
 
   pub isEmpty-true : (xs : List A) → isEmpty xs ≡ true → xs ≡ []
   unfolding isEmpty

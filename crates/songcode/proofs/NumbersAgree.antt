@@ -1,10 +1,9 @@
 -- A number is read exactly where it is spelled.
 use Prim.Native.Nat.{ℕ}
 use native.Mathlib.Omega.{arith}
-use mathlib.Core.Path.{_≡_, refl, sym}
+use mathlib.Core.Path.{_≡_, sym}
 use mathlib.Core.Logic.{_↔_}
 use mathlib.Core.List.{List}
-use mathlib.Core.Bool.{true}
 use mathlib.Core.Option.{some}
 use borrow.Author.Tests.{leb-true, le-leb}
 use lib.Dec.{leb}

@@ -1,8 +1,8 @@
 -- Laws on tests, readings and lists that the agreement of pattern text uses.
 use Prim.Native.Nat.{ℕ, zero, suc}
 use native.Mathlib.Omega.{arith}
-use mathlib.Core.Path.{_≡_, refl, ap, sym, _∙_}
-use mathlib.Core.List.{List, [], _∷_, _++_}
+use mathlib.Core.Path.{_≡_, refl}
+use mathlib.Core.List.{List, [], _∷_}
 use mathlib.Core.Bool.{Bool, true, false, _||_, _&&_}
 use mathlib.Core.Option.{Option, none, some}
 use lib.ListN.{getElem?}
@@ -23,6 +23,10 @@ none-some h g = let z : _≡_ {A = ℕ} 0 1 = cc in absurd (omega arith)
 pub both-pass : (a b : Bool) → a && b ≡ true → (a ≡ true) × (b ≡ true)
 both-pass true b h = (refl, h)
 both-pass false b h = true-is-not-false h refl
+
+pub none-passes : (a b : Bool) → a || b ≡ false → (a ≡ false) × (b ≡ false)
+none-passes true b h = true-is-not-false refl h
+none-passes false b h = (refl, h)
 
 -- What a reading under a test gives.
 pub if-some : {A : Type 0} (t : Bool) {x y : A} → (if t then some x else none) ≡ some y → (t ≡ true) × (x ≡ y)

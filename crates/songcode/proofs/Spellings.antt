@@ -1,20 +1,17 @@
 -- Spellings in a list: equal texts, texts at the front of others, and the longest that fits.
-use Prim.Native.Nat.{ℕ, zero, suc, _+_, _≤_}
+use Prim.Native.Nat.{ℕ, zero, suc}
 use native.Mathlib.Omega.{arith}
-use native.Mathlib.Nat.{suc-add, add-suc, add-zero}
 use mathlib.Core.Path.{_≡_, refl, ap, sym, _∙_}
-use mathlib.Core.Logic.{_↔_}
 use mathlib.Core.List.{List, [], _∷_, _++_}
-use mathlib.Core.Bool.{Bool, true, false, _&&_, not}
-use mathlib.Core.Option.{Option, none, some}
-use borrow.Author.Tests.{eqb-true, eq-eqb, ltb-true, ltb-false, not-true}
-use lib.Dec.{eqb, ltb}
+use mathlib.Core.Bool.{Bool, true, _&&_, not}
+use mathlib.Core.Option.{some}
+use borrow.Author.Tests.{eqb-true, eq-eqb, not-true}
+use lib.Dec.{eqb}
 use lib.ListN.{length, getElem?}
-use Rattle.songcode.specs.Lists.{if_then_else_, any}
+use Rattle.songcode.specs.Lists.{any}
 use Rattle.songcode.specs.Bytes.{same, begins}
-use Rattle.songcode.specs.Chords.{Base, longer, longestFrom}
 use Rattle.songcode.specs.WrittenPattern.{Begins}
-use Rattle.songcode.proofs.PatternLaws.{by-cases, true-is-not-false, none-some, both-pass, any-at}
+use Rattle.songcode.proofs.PatternLaws.{true-is-not-false, none-some, both-pass, any-at}
 
 pub same-true : (xs ys : List ℕ) → same xs ys ≡ true → xs ≡ ys
 unfolding same
@@ -82,68 +79,3 @@ distinct-once (t ∷ ss) zero (suc j) d e f = again t ss j d (f ∙ sym e)
 distinct-once (t ∷ ss) (suc i) zero d e f = again t ss i d (e ∙ sym f)
 distinct-once (t ∷ ss) (suc i) (suc j) d e f =
     ap suc (distinct-once ss i j (both-pass (not (any (same t) ss)) (distinct ss) d .1) e f)
-
--- The longer of two, the first of which need not be there, is one of them and no shorter than either.
-longer-holds : (P : Base → Type 0) (best : Option Base) (x : Base) → ((b : Base) → best ≡ some b → P b) → P x → (b : Base) → longer best x ≡ some b → P b
-unfolding longer if_then_else_
-longer-holds P none x f p b e = let z : b ≡ x = cc in rw z p
-longer-holds P (some a) x f p b e =
-    by-cases (ltb (a .length) (x .length)) (λ t. let g = rw t at e in let z : b ≡ x = cc in rw z p) (λ t. f b (rw t at e))
-
-longer-least : (best : Option Base) (x : Base) → (b : Base) × (longer best x ≡ some b) × (x .length ≤ b .length) × ((a : Base) → best ≡ some a → a .length ≤ b .length)
-unfolding longer if_then_else_
-longer-least none x = (x, refl, omega arith, λ a e. none-some refl e)
-longer-least (some c) x =
-    by-cases
-    (ltb (c .length) (x .length))
-    (λ t. (x, rw t, omega arith, λ a e. let z : a ≡ c = cc in rw z (omega (arith, ltb-true (c .length) (x .length) t))))
-    (λ t. (c, rw t, ltb-false (c .length) (x .length) t, λ a e. let z : a ≡ c = cc in rw z (omega arith)))
-
--- The longest of the spellings that fit a word, the first of which has the number n, and of one found before.
-module _ (word : List ℕ) where
-  -- What holds of the one found before and of each that fits holds of the longest.
-  pub longest-holds : (P : Base → Type 0) (ss : List (List ℕ)) (n : ℕ) (best : Option Base)
-      → ((b : Base) → best ≡ some b → P b)
-      → ((k : ℕ) (s : List ℕ) → getElem? ss k ≡ some s → begins s word ≡ true → P (record { number = n + k; length = length s }))
-      → (b : Base) → longestFrom n ss word best ≡ some b → P b
-  unfolding longestFrom if_then_else_
-  longest-holds P [] n best f g b e = f b e
-  longest-holds P (s ∷ ss) n best f g b e =
-      longest-holds
-      P
-      ss
-      (suc n)
-      _
-      (by-cases
-      (begins s word)
-      (λ t. rw t (longer-holds P best (record { number = n; length = length s }) f (rw add-zero at (g 0 s refl t))))
-      (λ t. rw t f))
-      (λ k u i t. rw (suc-add, ← add-suc) (g (suc k) u i t))
-      b
-      e
-
-  -- The one found before, and each that fits, is no longer than the longest.
-  pub longest-kept : (ss : List (List ℕ)) (n : ℕ) (best : Option Base) (a : Base) → best ≡ some a
-      → (b : Base) × (longestFrom n ss word best ≡ some b) × (a .length ≤ b .length)
-  unfolding longestFrom if_then_else_
-  longest-kept [] n best a e = (a, e, omega arith)
-  longest-kept (s ∷ ss) n best a e =
-      let l = longer-least best (record { number = n; length = length s }) in
-      by-cases
-      (begins s word)
-      (λ t.
-      let r = longest-kept ss (suc n) _ (l .0) (l .1) in
-      (r .0, rw t (r .1), omega (arith, r .2, l .3 a e)))
-      (λ t. let r = longest-kept ss (suc n) best a e in (r .0, rw t (r .1), r .2))
-
-  pub longest-least : (ss : List (List ℕ)) (n : ℕ) (best : Option Base) (k : ℕ) (s : List ℕ) → getElem? ss k ≡ some s → begins s word ≡ true
-      → (b : Base) × (longestFrom n ss word best ≡ some b) × (length s ≤ b .length)
-  unfolding longestFrom if_then_else_
-  longest-least [] n best k s i t = none-some refl i
-  longest-least (u ∷ ss) n best zero s i t =
-      let z : s ≡ u = cc in
-      let x : Base = record { number = n; length = length s } in
-      let l = longer-least best x in
-      let r = longest-kept ss (suc n) _ (l .0) (l .1) in
-      rw (← z, t) (r .0, r .1, omega (arith, r .2, l .2))
-  longest-least (u ∷ ss) n best (suc k) s i t = longest-least ss (suc n) _ k s i t

@@ -25,3 +25,6 @@ pub mod WrittenSong
 pub mod Performance
 pub mod WrittenLyrics
 pub mod Fits
+pub mod Given
+pub mod Described
+pub mod PatternAppended

@@ -8,7 +8,7 @@ use Rattle.songcode.specs.Lists.{times, gather}
 use Rattle.songcode.specs.Chords.{Chord}
 use Rattle.songcode.specs.Song.{Sound, chord, again, silence, Sounds, only, also, Measure, Item, measure, loop, refer, Items, one, next, Cut, Modifier, Section, Song}
 use Rattle.songcode.specs.References.{patternItems}
-use Rattle.songcode.specs.Playing.{Beat, timeOf, positions, lasting, saidBy, beforeSaid, afterSaid, cutStartSaid, cutEndSaid, repeats}
+use Rattle.songcode.specs.Playing.{Beat, Side, timeOf, positions, lasting, saidBy, beforeSaid, afterSaid, cutStartSaid, cutEndSaid, repeats}
 
 -- What a position sounds behind the last chord, and the last chord behind it.
 -- "`%` is the last chord before it in the written order of its own text ...; silence isn't a chord."
@@ -48,9 +48,9 @@ pub record PlaysAlone (n : ℕ) (r : Items) (row : List (List Beat)) : Type 0 wh
   pub later : Option Chord
   pub plays : PlaysItems n none r row later
 
-unfoldable pub PlaysSide : ℕ → Option Items → List (List Beat) → Type 0
+unfoldable pub PlaysSide : ℕ → Option Side → List (List Beat) → Type 0
 PlaysSide n none row = row ≡ []
-PlaysSide n (some r) row = PlaysAlone n r row
+PlaysSide n (some x) row = PlaysAlone n (x .items) row
 
 module _ {A : Type 0} where
   -- The beats of a row of measures.
@@ -107,6 +107,7 @@ PlaysPattern n ms (some r) pass middle =
     × PlaysAlone n r pass
     × CutIf CutsFront (saidBy cutStartSaid ms) (times (repeats ms) pass) shorter
     × CutIf CutsBack (saidBy cutEndSaid ms) shorter middle
+    × (1 ≤ total middle)
 
 -- The third demand: "each section is, beat for beat, its lead-in, then its pattern as often as it is repeated less the two cuts, then its tail,
 -- all counted in that section's own meter."
