@@ -3,7 +3,7 @@ use Prim.Native.Nat.{ℕ}
 use mathlib.Core.Path.{_≡_, refl, ap}
 use mathlib.Core.Logic.{_↔_, _⊎_, inl, inr}
 use mathlib.Core.List.{List, [], _∷_}
-use mathlib.Core.Bool.{Bool, true, false, _||_, _&&_, not}
+use mathlib.Core.Bool.{true, false, _&&_, not}
 use mathlib.Core.Option.{Option, none, some}
 use borrow.Author.Tests.{eqb-true, eq-eqb, not-false}
 use lib.Dec.{eqb}
@@ -19,7 +19,7 @@ use Rattle.songcode.specs.WrittenSection.{Each, none-each, and-each}
 use Rattle.songcode.specs.WrittenLyrics.{CountedLine}
 use Rattle.songcode.specs.Performance.{Parts, joined}
 use Rattle.songcode.specs.Fits.{Counted, none-counted, and-counted, Uncounted, SumsBy, AllSum, UncountedBy, NoneCounted}
-use Rattle.songcode.proofs.ListLaws.{by-cases, true-is-not-false, pass-none, none-passes, append-is-nil, gather-append, any-append, complainIf-nil}
+use Rattle.songcode.proofs.ListLaws.{by-cases, true-is-not-false, append-is-nil, gather-append, any-append, complainIf-nil}
 use Rattle.songcode.proofs.FaultLaws.{neither-exact, pairs-exact, unless-exact}
 use Rattle.songcode.proofs.LyricLineAgree.{count-exact}
 
