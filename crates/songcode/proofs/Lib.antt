@@ -34,6 +34,8 @@ pub mod SectionPlays
 pub mod MeterAgree
 pub mod ItemsWritten
 pub mod TablesAgree
+pub mod PlainAgree
+pub mod AnswerAgree
 pub mod LyricLineAgree
 pub mod StyleAgree
 pub mod FaultLaws

@@ -49,7 +49,7 @@ text-unbarred (t-open e t) u = text-unbarred t (u .1)
 text-unbarred (t-close {w} {bs} e p s z m t) u = text-unbarred t (unbarred-behind w bs (rw z at (u .1)))
 text-unbarred (t-word {w} {bs} {ts} e p s z v t) u = word-unbarred ts v (u .0) ∙ text-unbarred t (unbarred-behind w bs (rw z at (u .1)))
 
-side-references : {bs : List Byte} (r : Items) → Text bs (writeItems r []) → Unbarred bs → references r ≡ []
+pub side-references : {bs : List Byte} (r : Items) → Text bs (writeItems r []) → Unbarred bs → references r ≡ []
 unfolding mentioned
 side-references r t u = sym (append-nil (references r)) ∙ sym (items-mentioned r []) ∙ text-unbarred t u
 
