@@ -164,6 +164,9 @@ by-described room bs t d =
       rw same e,
     )
 
+pub described-song : {room : Room} {bs : List ℕ} {t : Tables} (d : Described room bs t) → songOf bs ≡ d .song
+described-song {room} {bs} d = song-read bs (d .song) (of-chart bs (d .song) (d .written))
+
 -- Demand 3: accepted exactly.
 pub accepted-exactly : (room : Room) (bs : List ℕ) (t : Tables) → (answer room bs ≡ accepted t) ↔ Described room bs t
 unfolding answer answerBy

@@ -36,6 +36,7 @@ pub mod ItemsWritten
 pub mod TablesAgree
 pub mod PlainAgree
 pub mod AnswerAgree
+pub mod StarredProved
 pub mod LyricLineAgree
 pub mod StyleAgree
 pub mod FaultLaws
@@ -60,3 +61,4 @@ pub mod BlockOrder
 pub mod MetadataAgree
 pub mod DefinitionAgree
 pub mod SongAgree
+pub mod Demanded

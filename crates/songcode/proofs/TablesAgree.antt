@@ -21,7 +21,7 @@ module _ (s : Song) where
   parts-words first (and-each {x} {y} {xs} {ys} e es) =
       rw e (ap (λ ws. sectionWord (x .header) first (length (joined y)) (timeOf s x) (bpmOf s x) ∷ ws) (parts-words (first + length (joined y)) es))
 
-  parts-measures : {xs : List Section} {ps : List Parts} → Each (λ x p. played s x ≡ joined p) xs ps → gather (played s) xs ≡ gather joined ps
+  pub parts-measures : {xs : List Section} {ps : List Parts} → Each (λ x p. played s x ≡ joined p) xs ps → gather (played s) xs ≡ gather joined ps
   unfolding gather
   parts-measures none-each = refl
   parts-measures (and-each {x} {y} {xs} {ys} e es) = rw (e, parts-measures es)

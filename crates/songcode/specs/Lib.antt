@@ -28,4 +28,6 @@ pub mod Fits
 pub mod WrittenTables
 pub mod Given
 pub mod Described
+pub mod Starred
 pub mod PatternAppended
+pub mod Demands

@@ -1,0 +1,27 @@
+-- What is promised of the definitions, in one place: the demands of the supply contract, said of the answer and of the description.
+-- `proofs/Demanded.antt` proves every one as it stands here.
+use Prim.Native.Nat.{ℕ}
+use mathlib.Core.Path.{_≡_}
+use mathlib.Core.Logic.{_↔_}
+use mathlib.Core.List.{List}
+use Rattle.songcode.specs.Song.{Section, Song}
+use Rattle.songcode.specs.Complaints.{complaint}
+use Rattle.songcode.specs.Tables.{Tables}
+use Rattle.songcode.specs.Answer.{Room, stages, refused, accepted, answer}
+use Rattle.songcode.specs.Performance.{Parts, PlaysSection}
+use Rattle.songcode.specs.WrittenSong.{WrittenChart}
+use Rattle.songcode.specs.Given.{Given}
+use Rattle.songcode.specs.Described.{Described}
+use Rattle.songcode.specs.Starred.{starred, ClaimAll}
+
+pub record Demands : Type 0 where
+  -- "A bad file gets one refusal number and one line, by the order in document 01": each is given exactly when stated and earlier ones are not.
+  pub refused-exactly : (room : Room) (bs : List ℕ) (number line : ℕ) → (answer room bs ≡ refused number line) ↔ Given (stages room bs) (complaint number line)
+  -- "A file is accepted exactly when it is a song by the description in document 01 and the lent tables have room", and every word is the described one.
+  pub accepted-exactly : (room : Room) (bs : List ℕ) (t : Tables) → (answer room bs ≡ accepted t) ↔ Described room bs t
+  -- "No file has two readings": no bytes are two songs, no chart has two sets of tables, and no section is played in two ways.
+  pub one-song : (bs : List ℕ) (s t : Song) → WrittenChart bs s → WrittenChart bs t → s ≡ t
+  pub one-answer : (room : Room) (bs : List ℕ) (t u : Tables) → Described room bs t → Described room bs u → t ≡ u
+  pub one-playing : (s : Song) (x : Section) (p q : Parts) → PlaysSection s x p → PlaysSection s x q → p ≡ q
+  -- The starred trial charts.
+  pub charts : ClaimAll starred
