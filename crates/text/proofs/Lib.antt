@@ -1,0 +1,7 @@
+-- Laws of the definitions that the proofs of the functions cite.
+pub mod ListLaws
+pub mod TestLaws
+pub mod LeadLaws
+pub mod GoodLaws
+pub mod EndLaws
+pub mod RefusalLaws
