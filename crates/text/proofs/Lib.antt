@@ -5,3 +5,5 @@ pub mod LeadLaws
 pub mod GoodLaws
 pub mod EndLaws
 pub mod RefusalLaws
+pub mod SpanLaws
+pub mod WalkLaws

@@ -2,3 +2,4 @@
 pub mod Leads
 pub mod Ends
 pub mod Refusals
+pub mod Spans

@@ -1,6 +1,7 @@
 // The text of a chart: its bytes, its characters, its lines, and what stage 1 says of it.
 mod characters;
 mod ends;
+mod lines;
 
 pub use characters::Lead;
 pub use characters::good_bytes;
@@ -8,6 +9,11 @@ pub use characters::is_tail;
 pub use characters::lead_of;
 pub use characters::width_at;
 pub use ends::line_of;
+pub use lines::Line;
+pub use lines::front_blanks;
+pub use lines::is_blank;
+pub use lines::line_at;
+pub use lines::solid_len;
 ghost use mathlib.Core.Path.{_≡_};
 ghost use lib.ListN.{getD};
 ghost use Rattle.songcode.specs.Complaints.{earliest};
