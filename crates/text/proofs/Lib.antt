@@ -7,3 +7,6 @@ pub mod EndLaws
 pub mod RefusalLaws
 pub mod SpanLaws
 pub mod WalkLaws
+pub mod CutLaws
+pub mod TrimLaws
+pub mod LineLaws

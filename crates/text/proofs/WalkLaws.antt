@@ -33,6 +33,14 @@ pub line-past : (s : List ℕ) (n at : ℕ) → length s ≤ at → record { num
 unfolding lineOf lineLength frontBlanks solidLength breakLength
 line-past s n at h = rw (drop-of-length-le s h) (simp add-zero)
 
+-- How many bytes a line has with its line end; the place of the next.
+abbrev pub whole : List ℕ → ℕ
+whole bs = lineLength bs + breakLength (drop (lineLength bs) bs)
+
+pub next-is : (s : List ℕ) (n at : ℕ) → lineAt s n at .next ≡ at + whole (drop at s)
+unfolding lineOf
+next-is s n at = omega arith
+
 -- A line that is there has a byte or a line end, so the next one stands further on.
 cr-breaks : (next : Ending) → 0 < breakWidth cr next
 unfolding breakWidth
@@ -40,7 +48,7 @@ cr-breaks lf = omega arith
 cr-breaks cr = omega arith
 cr-breaks inside = omega arith
 
-line-has : (bs : List ℕ) → 0 < length bs → 0 < lineLength bs + breakLength (drop (lineLength bs) bs)
+line-has : (bs : List ℕ) → 0 < length bs → 0 < whole bs
 unfolding lineLength longer breakLength breakWidth
 line-has [] h = absurd (omega arith)
 line-has (b ∷ bs) h = by-ending b (λ e. rw e (omega arith)) (λ e. rw (e, e) (omega arith)) (λ e. rw (e, e) (omega (arith, cr-breaks (end (getD bs 0 0)))))
@@ -53,6 +61,11 @@ line-onward s at e w h p q =
     let z = line-has (drop at s) (omega arith) in
     omega arith
 
+pub next-further : (s : List ℕ) (n at : ℕ) → at < length s → at < lineAt s n at .next
+next-further s n at h =
+    let l = length-drop at s in
+    omega (arith, next-is s n at, line-has (drop at s) (omega arith))
+
 -- The bytes of the line before are passed over.
 passed : (n at k : ℕ) (bs : List ℕ) → spansFrom n at k bs ≡ spansFrom n (at + k) 0 (drop k bs)
 unfolding spansFrom
@@ -61,10 +74,11 @@ passed n at (suc k) [] = refl
 passed n at (suc k) (b ∷ bs) = let e : suc at + k ≡ at + suc k = omega arith in passed n (suc at) k bs ∙ rw e refl
 
 -- What is left at a place is the line there, and what is left at the next one.
-pub spans-next : (s : List ℕ) (n at : ℕ) → at < length s → at < lineAt s n at .next
+pub spans-next : (s : List ℕ) (n at : ℕ) → at < length s
     → spansFrom n at 0 (drop at s) ≡ lineAt s n at ∷ spansFrom (n + 1) (lineAt s n at .next) 0 (drop (lineAt s n at .next) s)
 unfolding spansFrom
-spans-next s n at h p =
+spans-next s n at h =
+    let p = next-further s n at h in
     let m = lineAt s n at .next in
     let c = drop-cons s at 0 h in
     let k : suc at + (m - suc at) ≡ m = omega arith in

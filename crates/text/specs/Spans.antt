@@ -99,3 +99,14 @@ spans s = spansFrom 1 0 0 s
 -- A line as songcode has it: its number and its bytes with their places.
 abbrev pub lineText : List ℕ → Line → songcode.Line
 lineText s l = record { number = l .number; text = placed (l .start) (part (l .start) (l .stop) s) }
+
+-- The text is empty, or its last byte ends a line: one more line stands behind, an empty one. The first test says so of what stands before.
+unfoldable pub isEnd : Ending → Bool
+isEnd inside = false
+isEnd lf = true
+isEnd cr = true
+
+unfoldable pub endsOpen : Bool → List ℕ → Bool
+unfolding isEnd ending
+endsOpen before [] = before
+endsOpen before (b ∷ bs) = endsOpen (isEnd (end b)) bs
