@@ -9,7 +9,7 @@ use lib.ListN.{length, getD, take, drop, drop-of-length-le, length-take, length-
 use lib.Seq.{drop-cons, drop-drop}
 use Rattle.songcode.specs.Lines.{Ending, lf, cr, inside, ending}
 use Rattle.text.specs.declared.lines.Line.{Line}
-use Rattle.text.specs.Spans.{end, part, longer, lineLength, breakWidth, breakLength, frontBlanks, solidLength, lineOf, lineAt, spansFrom}
+use Rattle.text.specs.Spans.{end, part, longer, lineLength, breakWidth, breakLength, frontBlanks, solidLength, lineOf, lineAt, Found, spansFrom}
 use Rattle.text.proofs.SpanLaws.{by-ending}
 
 -- A part is as long as its places say.
@@ -88,6 +88,10 @@ spans-next s n at h =
     ap (λ (l : List ℕ). spansFrom n at 0 l) c
     ∙ ap (λ (l : List ℕ). lineOf n at l ∷ spansFrom (suc n) (suc at) (lineOf n at l .next - suc at) (drop (suc at) s)) (sym c)
     ∙ ap (λ (ls : List Line). lineAt s n at ∷ ls) there
+
+-- The same by the line as it was found.
+pub spans-found : {s : List ℕ} {n at : ℕ} {l : Line} → Found s n at l → at < length s → spansFrom n at 0 (drop at s) ≡ l ∷ spansFrom (n + 1) (l .next) 0 (drop (l .next) s)
+spans-found {s} {n} {at} f h = rw (f .is) (spans-next s n at h)
 
 pub spans-over : (s : List ℕ) (n at : ℕ) → length s ≤ at → spansFrom n at 0 (drop at s) ≡ []
 unfolding spansFrom
