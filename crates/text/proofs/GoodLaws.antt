@@ -1,0 +1,84 @@
+-- Good bytes, character by character, at a place of a text: what the loop of good_bytes cites.
+use Prim.Native.Nat.{ℕ, zero, suc, _+_, _-_, _<_, _≤_}
+use mathlib.Core.Path.{_≡_, refl, sym, ap, _∙_}
+use mathlib.Core.List.{List, [], _∷_}
+use mathlib.Core.Bool.{Bool, true, false, _&&_}
+use native.Mathlib.Omega.{arith}
+use native.Mathlib.Nat.{zero-add}
+use lib.ListN.{length, getD, drop, drop-of-length-le, length-drop}
+use lib.Seq.{drop-cons, drop-drop}
+use Rattle.songcode.specs.Lists.{if_then_else_}
+use Rattle.songcode.specs.Characters.{Form, forms, within, isTail, tails, follows, widthBy, goodBytes}
+use Rattle.text.specs.Leads.{widthAt}
+use Rattle.text.proofs.TestLaws.{by-cases, false-not-true}
+
+-- What follows a first byte stands in the text.
+tails-fit : (n : ℕ) (bs : List ℕ) → tails n bs ≡ true → n ≤ length bs
+unfolding tails
+tails-fit zero bs h = omega arith
+tails-fit (suc n) [] h = absurd (false-not-true h)
+tails-fit (suc n) (b ∷ bs) h =
+    by-cases (isTail b) (λ e. let g : tails n bs ≡ true = rw e at h in let k = tails-fit n bs g in omega arith) (λ e. absurd (false-not-true (rw e at h)))
+
+follows-fit : (f : Form) (n : ℕ) (bs : List ℕ) → follows f n bs ≡ true → n ≤ length bs
+unfolding follows
+follows-fit f zero bs h = omega arith
+follows-fit f (suc n) [] h = absurd (false-not-true h)
+follows-fit f (suc n) (b ∷ bs) h =
+    by-cases
+    (within (f .secondLow) (f .secondHigh) b)
+    (λ e. let g : tails n bs ≡ true = rw e at h in let k = tails-fit n bs g in omega arith)
+    (λ e. absurd (false-not-true (rw e at h)))
+
+width-fits : (fs : List Form) (b : ℕ) (bs : List ℕ) → widthBy fs b bs ≤ suc (length bs)
+unfolding widthBy if_then_else_
+width-fits [] b bs = omega arith
+width-fits (f ∷ fs) b bs =
+    by-cases
+    (within (f .firstLow) (f .firstHigh) b)
+    (λ e. by-cases
+    (follows f (f .more) bs)
+    (λ g. let k = follows-fit f (f .more) bs g in rw (e, g) (omega arith))
+    (λ g. rw (e, g) (omega arith)))
+    (λ e. rw e (width-fits fs b bs))
+
+-- A character stands within the text.
+pub width-at-fits : (s : List ℕ) (i : ℕ) → i < length s → i + widthAt s i ≤ length s
+width-at-fits s i h =
+    let k = width-fits forms (getD s i 0) (drop (suc i) s) in
+    let l = length-drop (suc i) s in
+    omega arith
+
+-- The bytes that belong to the character before are passed over.
+good-inside : (k : ℕ) (bs : List ℕ) → k ≤ length bs → goodBytes k bs ≡ k + goodBytes 0 (drop k bs)
+unfolding goodBytes
+good-inside zero bs h = sym (zero-add _)
+good-inside (suc k) [] h = absurd (omega arith)
+good-inside (suc k) (b ∷ bs) h = omega (arith, good-inside k bs (omega arith))
+
+good-here : (b : ℕ) (bs : List ℕ) (k : ℕ) → widthBy forms b bs ≡ suc k → goodBytes 0 (b ∷ bs) ≡ suc (goodBytes k bs)
+unfolding goodBytes
+good-here b bs k e = rw (e, goodBytes)
+
+good-not : (b : ℕ) (bs : List ℕ) → widthBy forms b bs ≡ 0 → goodBytes 0 (b ∷ bs) ≡ 0
+unfolding goodBytes
+good-not b bs e = rw (e, goodBytes)
+
+module _ (s : List ℕ) (i : ℕ) (h : i < length s) where
+  pub good-stop : widthAt s i ≡ 0 → goodBytes 0 (drop i s) ≡ 0
+  good-stop e = rw (drop-cons s i 0) (good-not (getD s i 0) (drop (suc i) s) e)
+
+  pub good-more : (w : ℕ) → w ≡ widthAt s i → (w ≡ 0 → ⊥) → goodBytes 0 (drop i s) ≡ w + goodBytes 0 (drop (i + w) s)
+  good-more zero e n = absurd (n refl)
+  good-more (suc k) e n =
+      let fits = width-at-fits s i h in
+      let l = length-drop (suc i) s in
+      let here = good-here (getD s i 0) (drop (suc i) s) k (sym e) in
+      let inside = good-inside k (drop (suc i) s) (omega arith) in
+      let behind : suc i + k ≡ i + suc k = omega arith in
+      let over = drop-drop k (suc i) s ∙ ap (λ (n : ℕ). drop n s) behind in
+      rw (drop-cons s i 0) (here ∙ ap suc (inside ∙ ap (λ (r : List ℕ). k + goodBytes 0 r) over) ∙ omega arith)
+
+pub good-over : (s : List ℕ) (i : ℕ) → length s ≤ i → goodBytes 0 (drop i s) ≡ 0
+unfolding goodBytes
+good-over s i h = rw (drop-of-length-le s h)

@@ -1,0 +1,12 @@
+-- Laws of the definitions that the proofs of the functions cite.
+pub mod ListLaws
+pub mod TestLaws
+pub mod LeadLaws
+pub mod GoodLaws
+pub mod EndLaws
+pub mod RefusalLaws
+pub mod SpanLaws
+pub mod WalkLaws
+pub mod CutLaws
+pub mod TrimLaws
+pub mod LineLaws

@@ -1,0 +1,121 @@
+use Rattle.text.proofs.WalkLaws.{part-length, line-past, line-is, line-onward}
+use native.Mathlib.Omega.{arith}
+use mathlib.Core.Path.{refl}
+use Prim.Native.Nat.{_+_, _-_, _≤_}
+use borrow.Author.Needs.{needs}
+use Rattle.text.proofs.lines.line_at.Statement.{statement}
+use Rattle.text.proofs.lines.line_at.Tie as tie
+use Rattle.text.proofs.lines.line_at.Reads as reads
+use Rattle.text.proofs.lines.line_at.Lts as lts
+use Rattle.text.proofs.lines.break_len.Reads as break-len-reads
+use Rattle.text.proofs.lines.front_blanks.Reads as front-blanks-reads
+use Rattle.text.proofs.lines.line_end.Reads as line-end-reads
+use Rattle.text.proofs.lines.solid_len.Reads as solid-len-reads
+
+-- src/lines.rt:87:9
+returns : tie.Need-returns
+returns c =
+    record {
+      is = line-past (c .before .before .args .s .now) _ _ (c .if1 .taken);
+      number = refl;
+      start = omega arith;
+      stop = omega arith;
+      next = omega arith;
+      over = omega arith;
+      onward = omega arith;
+    }
+
+-- src/lines.rt:94:9
+line-end-requires : tie.Need-line-end-requires
+line-end-requires c κs = search needs
+
+-- src/lines.rt:95:31
+sub-front-blanks : tie.Need-sub-front-blanks
+sub-front-blanks c = search needs
+
+-- src/lines.rt:95:31
+part-front-blanks-start : tie.Need-part-front-blanks-start
+part-front-blanks-start c = search needs
+
+-- src/lines.rt:95:31
+part-front-blanks-end : tie.Need-part-front-blanks-end
+part-front-blanks-end c = search needs
+
+-- src/lines.rt:95:18
+front-blanks-requires : tie.Need-front-blanks-requires
+front-blanks-requires c κs = search needs
+
+-- src/lines.rt:95:13
+add-a : tie.Need-add-a
+add-a c = search needs
+
+-- src/lines.rt:96:23
+sub-solid-len : tie.Need-sub-solid-len
+sub-solid-len c = search needs
+
+-- src/lines.rt:96:23
+part-solid-len-start : tie.Need-part-solid-len-start
+part-solid-len-start c = search needs
+
+-- src/lines.rt:96:23
+part-solid-len-end : tie.Need-part-solid-len-end
+part-solid-len-end c = search needs
+
+-- src/lines.rt:96:9
+solid-len-requires : tie.Need-solid-len-requires
+solid-len-requires c κs = search needs
+
+-- src/lines.rt:97:9
+break-len-requires : tie.Need-break-len-requires
+break-len-requires c κs = search needs
+
+-- src/lines.rt:101:15
+add-t11 : tie.Need-add-t11
+add-t11 c = search needs
+
+-- src/lines.rt:102:15
+add-t8 : tie.Need-add-t8
+add-t8 c = search needs
+
+-- src/lines.rt:83:1
+returns-2 : tie.Need-returns-2
+returns-2 c =
+    let q = c .before .before .before .before .before in
+    let s = q .before .before .before .args .s .now in
+    let at = q .before .before .before .args .at in
+    let e = q .line-end .result in
+    let f = c .before .before .before .front-blanks .result in
+    let h = q .line-end .ensures in
+    let blanks = c .before .before .before .front-blanks .ensures in
+    let solid = c .before .solid-len .ensures in
+    let b : f ≤ e - at = rw (part-length s at e (omega arith)) at (blanks .1) in
+    let k : c .before .solid-len .result ≤ e - (at + f) = rw (part-length s (at + f) e (omega arith)) at (solid .1) in
+    record {
+      is = line-is s _ at e f _ _ (h .0) (blanks .0) (solid .0) (c .break-len .ensures .0);
+      number = refl;
+      start = omega arith;
+      stop = omega arith;
+      next = omega arith;
+      over = omega arith;
+      onward = omega (arith, line-onward s at e _ (q .before .if1 .left) (h .0) (c .break-len .ensures .0));
+    }
+
+pub line-at-spec : {M : Type 1} → statement M
+line-at-spec =
+    tie.close
+    (tie.spec
+    returns
+    line-end-requires
+    sub-front-blanks
+    part-front-blanks-start
+    part-front-blanks-end
+    front-blanks-requires
+    add-a
+    sub-solid-len
+    part-solid-len-start
+    part-solid-len-end
+    solid-len-requires
+    break-len-requires
+    add-t11
+    add-t8
+    returns-2)

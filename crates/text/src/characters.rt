@@ -1,0 +1,134 @@
+// Characters by RFC 3629: how many bytes the one at a place has, and how many bytes are good.
+use super::byte_at;
+ghost use mathlib.Core.Path.{_≡_};
+ghost use Prim.Native.Nat.{_≤_};
+ghost use lib.ListN.{length};
+ghost use Rattle.songcode.specs.Characters.{within, isTail, tails, goodBytes};
+ghost use Rattle.text.specs.Leads.{leadOf, widthFrom, widthAt};
+
+// What a first byte announces: the width of its character (0 for none), and the range of the second byte.
+pub struct Lead {
+    pub width: usize,
+    pub low: u8,
+    pub high: u8,
+}
+
+fn announce(width: usize, low: u8, high: u8) -> Lead
+    ensures { λ r. ⌜ r ≡ record { width = width; low = low; high = high } ⌝ }
+{
+    Lead { width, low, high }
+}
+
+// The forms of RFC 3629, section 4, in the order of their first bytes.
+pub fn lead_of(b: u8) -> Lead
+    ensures { λ r. ⌜ r ≡ leadOf b ⌝ }
+{
+    if b < 0x01 {
+        announce(0, 0x80, 0xBF)
+    } else if b < 0x80 {
+        announce(1, 0x80, 0xBF)
+    } else if b < 0xC2 {
+        announce(0, 0x80, 0xBF)
+    } else if b < 0xE0 {
+        announce(2, 0x80, 0xBF)
+    } else if b < 0xE1 {
+        announce(3, 0xA0, 0xBF)
+    } else if b < 0xED {
+        announce(3, 0x80, 0xBF)
+    } else if b < 0xEE {
+        announce(3, 0x80, 0x9F)
+    } else if b < 0xF0 {
+        announce(3, 0x80, 0xBF)
+    } else if b < 0xF1 {
+        announce(4, 0x90, 0xBF)
+    } else if b < 0xF4 {
+        announce(4, 0x80, 0xBF)
+    } else if b < 0xF5 {
+        announce(4, 0x80, 0x8F)
+    } else {
+        announce(0, 0x80, 0xBF)
+    }
+}
+
+fn is_within(low: u8, high: u8, b: u8) -> bool
+    ensures { λ r. ⌜ r ≡ within low high b ⌝ }
+{
+    low <= b && b <= high
+}
+
+// A byte that begins no character.
+pub fn is_tail(b: u8) -> bool
+    ensures { λ r. ⌜ r ≡ isTail b ⌝ }
+{
+    is_within(0x80, 0xBF, b)
+}
+
+// So many tails stand in front.
+fn has_tails(n: usize, bs: &[u8]) -> bool
+    ensures { λ r. ⌜ r ≡ tails n (now (bs .entry)) ⌝ }
+{
+    if bs.len() < n {
+        return false;
+    }
+    let mut i = 0;
+    while i < n {
+        if !is_tail(bs[i]) {
+            return false;
+        }
+        i += 1;
+    }
+    true
+}
+
+// The width that a lead announces, if the bytes that it wants stand in front of the rest.
+fn width_from(lead: Lead, rest: &[u8]) -> usize
+    ensures { λ r. ⌜ r ≡ widthFrom lead (now (rest .entry)) ⌝ }
+{
+    let width = lead.width;
+    if width < 2 {
+        return width;
+    }
+    if rest.len() == 0 {
+        return 0;
+    }
+    if !is_within(lead.low, lead.high, rest[0]) {
+        return 0;
+    }
+    if has_tails(width - 2, &rest[1..]) {
+        width
+    } else {
+        0
+    }
+}
+
+// The width of the character at a place, or 0 where no whole one stands.
+pub fn width_at(s: &[u8], i: usize) -> usize
+    ensures { λ r. ⌜ r ≡ widthAt (now (s .entry)) i ⌝ }
+{
+    if s.len() <= i {
+        return 0;
+    }
+    let b = s[i];
+    if b < 0x01 {
+        return 0;
+    }
+    if b < 0x80 {
+        return 1;
+    }
+    width_from(lead_of(b), &s[i + 1..])
+}
+
+// How many bytes stand before the first place with a zero or no whole character.
+pub fn good_bytes(s: &[u8]) -> usize
+    ensures { λ r. ⌜ (r ≡ goodBytes 0 (now (s .entry))) × (r ≤ length (now (s .entry))) ⌝ }
+{
+    let mut i = 0;
+    while i < s.len() {
+        let w = width_at(s, i);
+        if w == 0 {
+            return i;
+        }
+        i += w;
+    }
+    i
+}

@@ -1,0 +1,51 @@
+// The text of a chart: its bytes, its characters, its lines, and what stage 1 says of it.
+mod characters;
+mod ends;
+mod lines;
+
+pub use characters::Lead;
+pub use characters::good_bytes;
+pub use characters::is_tail;
+pub use characters::lead_of;
+pub use characters::width_at;
+pub use ends::line_of;
+pub use lines::Line;
+pub use lines::front_blanks;
+pub use lines::is_blank;
+pub use lines::line_at;
+pub use lines::solid_len;
+ghost use mathlib.Core.Path.{_≡_};
+ghost use lib.ListN.{getD};
+ghost use Rattle.songcode.specs.Complaints.{earliest};
+ghost use Rattle.songcode.specs.Answer.{inputFaults};
+ghost use Rattle.text.specs.Refusals.{refusalOf};
+
+// The byte at i, or 0 past the end.
+pub fn byte_at(s: &[u8], i: usize) -> u8
+    ensures { λ r. ⌜ r ≡ getD (now (s .entry)) i 0 ⌝ }
+{
+    if i < s.len() { s[i] } else { 0 }
+}
+
+// A refusal's number and the line that it names; both 0 where nothing is refused.
+pub struct Refusal {
+    pub number: usize,
+    pub line: usize,
+}
+
+// Stage 1: "over 65,536 bytes", "bad UTF-8 or zero byte".
+pub fn judge_input(s: &[u8]) -> Refusal
+    ensures { λ r. ⌜ r ≡ refusalOf (earliest (inputFaults (now (s .entry)))) ⌝ }
+{
+    if 65536 < s.len() {
+        return Refusal { number: 1, line: 0 };
+    }
+    let good = good_bytes(s);
+    if good < s.len() {
+        return Refusal {
+            number: 2,
+            line: line_of(s, good),
+        };
+    }
+    Refusal { number: 0, line: 0 }
+}
