@@ -1,0 +1,1 @@
+// The tokens of pattern text as words; base chords, decimals, words.
