@@ -111,7 +111,8 @@ unfolding keyIn
 key-line-in w = rw (key-line-kind w, keyIn) (key-line-read w)
 
 -- A key line without faults is as described.
-unfaulted : (allowed : KeyName → Bool) (o : Option KeyName) (l : Line) → keyFaultsBy allowed o l ≡ [] → (k : KeyName) × (o ≡ some k) × (allowed k ≡ true) × (isSetting k (settingOf l) ≡ true)
+unfaulted : (allowed : KeyName → Bool) (o : Option KeyName) (l : Line) → keyFaultsBy allowed o l ≡ []
+    → (k : KeyName) × (o ≡ some k) × (allowed k ≡ true) × (isSetting k (settingOf l) ≡ true)
 unfolding keyFaultsBy
 unfaulted allowed none l e = nil-is-not-cons (sym e)
 unfaulted allowed (some k) l e =
@@ -121,10 +122,10 @@ unfaulted allowed (some k) l e =
 no-faults : (allowed : KeyName → Bool) {l : Line} {k : Key} → KeyLine l k → allowed (k .key) ≡ true → keyFaults allowed l ≡ []
 unfolding keyFaults keyFaultsBy complainIf
 no-faults allowed {k} w a =
-    rw
-    (key-line-name w, a, key-line-setting w, setting-exact (k .key) (k .setting) .1 (w .allowed))
+    rw (key-line-name w, a, key-line-setting w, setting-exact (k .key) (k .setting) .1 (w .allowed))
 
-key-line-of : (l : Line) (k : KeyName) → kindOfLine l ≡ keyLine → keyNameOf l ≡ some k → isSetting k (settingOf l) ≡ true → KeyLine l (record { key = k; setting = settingOf l })
+key-line-of : (l : Line) (k : KeyName) → kindOfLine l ≡ keyLine → keyNameOf l ≡ some k → isSetting k (settingOf l) ≡ true
+    → KeyLine l (record { key = k; setting = settingOf l })
 unfolding kindOfLine keyNameOf nameOf settingOf
 key-line-of l k kind n s =
     record {

@@ -58,7 +58,8 @@ regroup : (ks ps ms es : List Line) → (ks ++ (ps ++ ms)) ++ es ≡ ks ++ (ps +
 regroup ks ps ms es = simp append-assoc
 
 -- Sound: a block of which nothing is complained is a section.
-section-of : (b : Block) → Quiet b → {keys : List Key} {l : Line} {ps : List Line} {mods : List Modifier} → Body (body b) keys (l ∷ ps) mods → (p : Pattern) → WrittenPattern l ps p → (s : Section) × WrittenSection b s
+section-of : (b : Block) → Quiet b → {keys : List Key} {l : Line} {ps : List Line} {mods : List Modifier} → Body (body b) keys (l ∷ ps) mods
+    → (p : Pattern) → WrittenPattern l ps p → (s : Section) × WrittenSection b s
 unfolding body ending
 section-of b q {keys} {l} {ps} {mods} w p h =
     let y = lyrics-there (ending b) (left-stops notDashes (b .others)) (q .lyrics) in
@@ -92,7 +93,10 @@ section-sound b e =
     let t = pattern-there (b .first .number) (w .1) (rw (run-found (w .3)) at (q .pattern)) in
     section-of b q (rw (t .2) at (w .3)) (t .3) (t .4)
 
-same-section : {h i : ℕ} {k l : List Key} {p q : Pattern} {m n : List Modifier} {y z : List LyricLine} → h ≡ i → k ≡ l → p ≡ q → m ≡ n → y ≡ z → _≡_ {A = Section} (record { header = h; keys = k; pattern = p; modifiers = m; lyrics = y }) (record { header = i; keys = l; pattern = q; modifiers = n; lyrics = z })
+same-section : {h i : ℕ} {k l : List Key} {p q : Pattern} {m n : List Modifier} {y z : List LyricLine}
+    → h ≡ i → k ≡ l → p ≡ q → m ≡ n → y ≡ z
+    → _≡_ {A = Section} (record { header = h; keys = k; pattern = p; modifiers = m; lyrics = y })
+    (record { header = i; keys = l; pattern = q; modifiers = n; lyrics = z })
 same-section a b c d e = cc
 
 -- Complete: a section described is one of which nothing is complained, and the one read.

@@ -97,7 +97,8 @@ song-sound bs e =
       },
     )
 
-same-song : {k l : List Key} {d e : List Definition} {s t : List Section} → k ≡ l → d ≡ e → s ≡ t → _≡_ {A = Song} (record { keys = k; definitions = d; sections = s }) (record { keys = l; definitions = e; sections = t })
+same-song : {k l : List Key} {d e : List Definition} {s t : List Section} → k ≡ l → d ≡ e → s ≡ t
+    → _≡_ {A = Song} (record { keys = k; definitions = d; sections = s }) (record { keys = l; definitions = e; sections = t })
 same-song a b c = cc
 
 -- Complete: a song described is one of which nothing is complained, and the one read.
