@@ -11,6 +11,7 @@ use Rattle.songcode.specs.Demands.{Demands}
 use Rattle.songcode.proofs.MeterAgree.{plays-section}
 use Rattle.songcode.proofs.AnswerAgree.{accepted-exactly, refused-exactly, one-reading}
 use Rattle.songcode.proofs.StarredProved.{starred-proved}
+use Rattle.songcode.proofs.EdgesProved.{edges-proved}
 
 one-answer : (room : Room) (bs : List ℕ) (t u : Tables) → Described room bs t → Described room bs u → t ≡ u
 one-answer room bs t u d e =
@@ -28,4 +29,5 @@ demanded =
       one-answer = one-answer;
       one-playing = one-playing;
       charts = starred-proved;
+      at-edges = edges-proved;
     }

@@ -1,23 +1,22 @@
--- That the answer's definitions and the description agree.
+-- That the answer and the description agree, page by page; last, the demands.
+-- General laws.
 pub mod ListLaws
+pub mod ChoiceLaws
+pub mod FaultLaws
+pub mod EachLaws
 pub mod VerdictAgree
-pub mod PlayingAgree
-pub mod RowLaws
-pub mod TurnedRows
-pub mod CutFront
-pub mod CutBack
--- The answer's functions and the description agree: laws of lists, then text page by page.
-pub mod CutsAgree
-pub mod LinesAgree
-pub mod BlocksAgree
+-- Characters, lines and blocks.
 pub mod ByteLaws
 pub mod FormLaws
 pub mod WidthsAgree
 pub mod CharactersAgree
 pub mod CharacterCounts
 pub mod CharacterParts
+pub mod CutsAgree
+pub mod LinesAgree
 pub mod PlacesAgree
--- The answer's functions and the description agree.
+pub mod BlocksAgree
+-- Pattern text.
 pub mod PatternLaws
 pub mod NumbersAgree
 pub mod Spellings
@@ -30,23 +29,7 @@ pub mod WrittenTokens
 pub mod PatternAgree
 pub mod SideAgree
 pub mod AppendedAgree
-pub mod SectionPlays
-pub mod MeterAgree
-pub mod ItemsWritten
-pub mod TablesAgree
-pub mod PlainAgree
-pub mod AnswerAgree
-pub mod StarredProved
-pub mod LyricLineAgree
-pub mod StyleAgree
-pub mod FaultLaws
-pub mod ReferencesAgree
-pub mod PutInPlain
-pub mod LyricsAgree
-pub mod PromptsAgree
 -- Lines, sections, definitions, metadata and songs.
-pub mod ChoiceLaws
-pub mod EachLaws
 pub mod SettingAgree
 pub mod SignedAgree
 pub mod LineAgree
@@ -61,4 +44,26 @@ pub mod BlockOrder
 pub mod MetadataAgree
 pub mod DefinitionAgree
 pub mod SongAgree
+-- References and playing.
+pub mod ReferencesAgree
+pub mod PutInPlain
+pub mod PlayingAgree
+pub mod RowLaws
+pub mod TurnedRows
+pub mod CutFront
+pub mod CutBack
+pub mod SectionPlays
+pub mod MeterAgree
+pub mod PlainAgree
+-- Lyrics and tables.
+pub mod LyricLineAgree
+pub mod StyleAgree
+pub mod LyricsAgree
+pub mod PromptsAgree
+pub mod ItemsWritten
+pub mod TablesAgree
+-- The whole.
+pub mod AnswerAgree
+pub mod StarredProved
+pub mod EdgesProved
 pub mod Demanded

@@ -1,3 +1,4 @@
+-- Document 01 as definitions. First the answer, in the paper's order.
 pub mod Lists
 pub mod Bytes
 pub mod Characters
@@ -18,16 +19,19 @@ pub mod Meter
 pub mod Lyrics
 pub mod Tables
 pub mod Answer
+-- Then the description, which calls no reader: how a song is written, what it plays, which tables it has.
 pub mod WrittenText
 pub mod WrittenPattern
+pub mod PatternAppended
 pub mod WrittenSection
 pub mod WrittenSong
 pub mod Performance
 pub mod WrittenLyrics
 pub mod Fits
 pub mod WrittenTables
-pub mod Given
 pub mod Described
+pub mod Given
+-- Last what is promised of both.
 pub mod Starred
-pub mod PatternAppended
+pub mod Edges
 pub mod Demands
