@@ -1,20 +1,21 @@
 -- A text cut at its first line end: what songcode's cutLines does, line by line.
-use Prim.Native.Nat.{ℕ, zero, suc, _+_, _-_, _<_, _≤_}
-use mathlib.Core.Path.{_≡_, refl, sym, ap, _∙_}
+use Prim.Native.Nat.{ℕ, suc, _+_, _-_}
+use mathlib.Core.Path.{_≡_, refl, sym}
 use mathlib.Core.List.{List, [], _∷_}
 use mathlib.Core.Bool.{Bool, true, false}
 use native.Mathlib.Omega.{arith}
 use native.Mathlib.Numerals.{add-one}
 use native.Mathlib.Nat.{suc-add}
+use borrow.Author.Tests.{ltb-false}
 use lib.Dec.{ltb}
-use lib.ListN.{length, getD, take, drop}
+use lib.ListN.{getD, take, drop}
 use Rattle.songcode.specs.Lists.{if_then_else_}
 use Rattle.songcode.specs.Bytes.{Byte, placed}
-use Rattle.songcode.specs.Lines.{Ending, lf, cr, inside, ending, endingOf, Cut, put, cutLines}
+use Rattle.songcode.specs.Lines.{cr, endingOf, Cut, put, cutLines}
 use Rattle.text.specs.Spans.{end, longer, lineLength, breakWidth, breakLength, isEnd, endsOpen}
 use Rattle.text.proofs.TestLaws.{false-not-true}
 use Rattle.text.proofs.SpanLaws.{by-ending}
-use Rattle.text.proofs.WalkLaws.{whole}
+use Rattle.text.proofs.WalkLaws.{whole, cr-breaks}
 
 -- The line in front has a line end.
 abbrev pub ended : List ℕ → Bool
@@ -56,12 +57,6 @@ open-line t b [] = by-ending b (λ e. rw e) (λ e. rw (e, e)) (λ e. open-cr t b
 open-line t b (c ∷ bs) =
     by-ending b (λ e. rw (e, suc-add) (open-line false c bs)) (λ e. rw (e, e)) (λ e. open-cr t b (c ∷ bs) e)
 
-cr-ends : (next : Ending) → ltb 0 (breakWidth cr next) ≡ false → ⊥
-unfolding breakWidth
-cr-ends lf h = false-not-true (sym h)
-cr-ends cr h = false-not-true (sym h)
-cr-ends inside h = false-not-true (sym h)
-
 -- A line without a line end is the last.
 pub unended : (bs : List ℕ) → ended bs ≡ false → drop (whole bs) bs ≡ []
 unfolding lineLength longer breakLength breakWidth
@@ -71,4 +66,4 @@ unended (b ∷ bs) h =
     b
     (λ e. let g : ended bs ≡ false = rw e at h in rw (e, suc-add) (unended bs g))
     (λ e. let g : true ≡ false = rw (e, e) at h in absurd (false-not-true (sym g)))
-    (λ e. let g : ltb 0 (breakWidth cr (end (getD bs 0 0))) ≡ false = rw (e, e) at h in absurd (cr-ends (end (getD bs 0 0)) g))
+    (λ e. let g : ltb 0 (breakWidth cr (end (getD bs 0 0))) ≡ false = rw (e, e) at h in absurd (omega (arith, ltb-false 0 (breakWidth cr (end (getD bs 0 0))) g, cr-breaks (end (getD bs 0 0)))))

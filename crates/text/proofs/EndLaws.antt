@@ -1,8 +1,8 @@
 -- Line ends, one byte at a time: what the loop of line_ends cites.
-use Prim.Native.Nat.{ℕ, zero, suc, _+_, _-_, _<_, _≤_}
+use Prim.Native.Nat.{ℕ, suc, _+_, _-_, _<_, _≤_}
 use mathlib.Core.Path.{_≡_, refl, sym, ap, _∙_}
 use mathlib.Core.List.{List, [], _∷_}
-use mathlib.Core.Bool.{Bool, true, false, _||_, _&&_, not}
+use mathlib.Core.Bool.{Bool, true, false}
 use native.Mathlib.Omega.{arith}
 use native.Mathlib.Nat.{add-zero}
 use native.Mathlib.Numerals.{add-one}
@@ -11,7 +11,7 @@ use lib.ListN.{length, getD, take, drop, drop-of-length-le}
 use lib.Seq.{drop-cons, getD-drop, take-all}
 use Rattle.songcode.specs.Lists.{if_then_else_}
 use Rattle.songcode.specs.Bytes.{Byte, placed}
-use Rattle.songcode.specs.Lines.{Ending, ending, endingOf, Cut, put, cutLines}
+use Rattle.songcode.specs.Lines.{ending, endingOf, Cut, put, cutLines}
 use Rattle.songcode.specs.Answer.{lineOfPlace}
 use Rattle.text.specs.Ends.{endsLine, lineEnds}
 use Rattle.text.proofs.TestLaws.{by-cases}

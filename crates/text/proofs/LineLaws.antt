@@ -5,19 +5,19 @@ use mathlib.Core.List.{List, [], _∷_, _++_, map}
 use mathlib.Core.Bool.{Bool, true, false}
 use native.Mathlib.Numerals.{add-one}
 use native.Mathlib.Omega.{arith}
-use native.Mathlib.Nat.{add-zero, add-assoc}
+use native.Mathlib.Nat.{add-zero}
 use borrow.Author.Tests.{ltb-true, ltb-false}
 use lib.Dec.{ltb}
 use lib.ListN.{length, getD, take, drop, drop-of-length-le, length-take, length-drop}
 use lib.Seq.{drop-cons, drop-drop, take-take}
 use Rattle.songcode.specs.Lists.{when, isEmpty}
 use Rattle.songcode.specs.Bytes.{placed}
-use Rattle.songcode.specs.Lines.{Line, Runs, cutLines, trimmed, dropLast, numbered, lines, shut, join, runs, blocks}
+use Rattle.songcode.specs.Lines.{Line, cutLines, trimmed, numbered, lines, shut, join, runs, blocks}
 use Rattle.songcode.specs.Answer.{blocksOf}
-use Rattle.text.specs.Spans.{part, lineLength, breakLength, frontBlanks, solidLength, lineOf, lineAt, spansFrom, spans, lineText, endsOpen}
+use Rattle.text.specs.Spans.{lineLength, frontBlanks, solidLength, lineOf, lineAt, spansFrom, spans, lineText, endsOpen}
 use Rattle.text.proofs.TestLaws.{by-cases, false-not-true}
 use Rattle.text.proofs.ListLaws.{drop-take}
-use Rattle.text.proofs.WalkLaws.{whole, next-is, next-further, spans-next, spans-over}
+use Rattle.text.proofs.WalkLaws.{whole, next-is, next-further, spans-next}
 use Rattle.text.proofs.CutLaws.{ended, behind, cut-line, open-line, unended}
 use Rattle.text.proofs.TrimLaws.{solid-le, trimmed-placed}
 

@@ -5,16 +5,30 @@ use mathlib.Core.List.{List, [], _∷_}
 use native.Mathlib.Numerals.{add-one}
 use native.Mathlib.Omega.{arith}
 use native.Mathlib.Nat.{add-zero}
+use borrow.Author.Tests.{eqb-true, eqb-false}
+use lib.Dec.{eqb}
 use lib.ListN.{length, getD, take, drop, drop-of-length-le, length-take, length-drop}
 use lib.Seq.{drop-cons, drop-drop}
-use Rattle.songcode.specs.Lines.{Ending, lf, cr, inside, ending}
+use Rattle.songcode.specs.Lists.{isEmpty}
+use Rattle.songcode.specs.Bytes.{placed}
+use Rattle.songcode.specs.Lines.{Ending, lf, cr, inside}
 use Rattle.text.specs.declared.lines.Line.{Line}
 use Rattle.text.specs.Spans.{end, part, longer, lineLength, breakWidth, breakLength, frontBlanks, solidLength, lineOf, lineAt, Found, spansFrom}
+use Rattle.text.proofs.TestLaws.{by-cases}
 use Rattle.text.proofs.SpanLaws.{by-ending}
 
 -- A part is as long as its places say.
 pub part-length : (s : List ℕ) (a e : ℕ) → e ≤ length s → length (part a e s) ≡ e - a
 part-length s a e h = simp (length-take, length-drop) (omega arith)
+
+-- A line is blank where its places are the same.
+pub empty-line : (s : List ℕ) (a e : ℕ) → a ≤ e → e ≤ length s → isEmpty (placed a (part a e s)) ≡ eqb a e
+unfolding isEmpty placed
+empty-line s a e p q =
+    by-cases
+    (eqb a e)
+    (λ t. let k : e - a ≡ 0 = omega (arith, eqb-true a e t) in rw (t, k))
+    (λ t. let n = eqb-false a e t in let k : e - a ≡ suc (e - suc a) = omega arith in rw (t, k, drop-cons s a 0 (omega arith)))
 
 -- What the code finds, piece by piece, is the line.
 pub line-is : (s : List ℕ) (n at e f k w : ℕ) → e ≡ at + lineLength (drop at s) → f ≡ frontBlanks (part at e s) → k ≡ solidLength (part (at + f) e s) → w ≡ breakLength (drop e s)
@@ -42,7 +56,7 @@ unfolding lineOf
 next-is s n at = omega arith
 
 -- A line that is there has a byte or a line end, so the next one stands further on.
-cr-breaks : (next : Ending) → 0 < breakWidth cr next
+pub cr-breaks : (next : Ending) → 0 < breakWidth cr next
 unfolding breakWidth
 cr-breaks lf = omega arith
 cr-breaks cr = omega arith

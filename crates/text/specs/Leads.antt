@@ -1,5 +1,5 @@
 -- What a first byte announces, taken from the forms of RFC 3629, and the width of the character at a place.
-use Prim.Native.Nat.{ℕ, zero, suc, _-_}
+use Prim.Native.Nat.{ℕ, suc, _-_}
 use mathlib.Core.List.{List, [], _∷_}
 use lib.ListN.{getD, drop}
 use Rattle.songcode.specs.Lists.{if_then_else_}

@@ -1,5 +1,4 @@
 // Characters by RFC 3629: how many bytes the one at a place has, and how many bytes are good.
-use super::byte_at;
 ghost use mathlib.Core.Path.{_≡_};
 ghost use Prim.Native.Nat.{_≤_};
 ghost use lib.ListN.{length};

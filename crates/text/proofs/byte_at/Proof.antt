@@ -1,20 +1,16 @@
-use lib.ListN.{List·getD-eq-default}
+-- Past the end a list gives its default.
 use mathlib.Core.Path.{sym}
 use borrow.Author.Needs.{needs}
+use lib.ListN.{List·getD-eq-default}
 use Rattle.text.proofs.byte_at.Statement.{statement}
 use Rattle.text.proofs.byte_at.Tie as tie
-use Rattle.text.proofs.byte_at.Reads as reads
-use Rattle.text.proofs.byte_at.Lts as lts
 
--- src/lib.rt:21:22
 shared-slice-read-result : tie.Need-shared-slice-read-result
 shared-slice-read-result c = search needs
 
--- src/lib.rt:18:1
 returns : tie.Need-returns
 returns c = search needs
 
--- src/lib.rt:18:1
 returns-2 : tie.Need-returns-2
 returns-2 c = sym (List·getD-eq-default (c .before .args .s .now) 0 (c .if1 .left))
 

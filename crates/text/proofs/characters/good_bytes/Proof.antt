@@ -1,15 +1,13 @@
-use Rattle.text.proofs.GoodLaws.{width-at-fits, good-stop, good-more, good-over}
-use Rattle.songcode.specs.Characters.{goodBytes}
-use lib.ListN.{length, drop}
-use native.Mathlib.Omega.{arith}
-use mathlib.Core.Path.{_≡_, sym, _∙_}
+-- What was passed, and the good bytes from there on, are the good bytes of the text.
 use Prim.Native.Nat.{_≤_, _+_, _-_}
+use mathlib.Core.Path.{_≡_, sym, _∙_}
+use native.Mathlib.Omega.{arith}
 use borrow.Author.Needs.{needs}
+use lib.ListN.{length, drop}
+use Rattle.songcode.specs.Characters.{goodBytes}
+use Rattle.text.proofs.GoodLaws.{width-at-fits, good-stop, good-more, good-over}
 use Rattle.text.proofs.characters.good_bytes.Statement.{statement}
 use Rattle.text.proofs.characters.good_bytes.Tie as tie
-use Rattle.text.proofs.characters.good_bytes.Reads as reads
-use Rattle.text.proofs.characters.good_bytes.Lts as lts
-use Rattle.text.proofs.characters.width_at.Reads as width-at-reads
 
 abbrev Inv-loop : tie.InvT-loop
 Inv-loop s i₀ i = (i ≤ length s) × (i + goodBytes 0 (drop i s) ≡ goodBytes 0 s)
@@ -23,31 +21,29 @@ fits c =
     let q = c .before .before .before in
     rw (c .before .width-at .ensures) (width-at-fits (q .before .before .args .s .now) (q .loop .i) (c .before .before .loop-test .taken))
 
--- src/characters.rt:126:5
 loop-holds : tie.Need-loop-holds Inv-loop μ-loop
 loop-holds c = search needs
 
--- src/characters.rt:127:13
 width-at-requires : tie.Need-width-at-requires Inv-loop μ-loop
 width-at-requires c κs = search needs
 
--- src/characters.rt:129:13
 returns : tie.Need-returns Inv-loop μ-loop
-returns c = let q = c .before .before .before in (omega (arith, good-stop (q .before .before .args .s .now) (q .loop .i) (c .before .before .loop-test .taken) (sym (c .before .width-at .ensures) ∙ c .if1 .taken)), omega arith)
+returns c =
+    let q = c .before .before .before in
+    (omega (arith, good-stop (q .before .before .args .s .now) (q .loop .i) (c .before .before .loop-test .taken) (sym (c .before .width-at .ensures) ∙ c .if1 .taken)), omega arith)
 
--- src/characters.rt:131:9
 add-i : tie.Need-add-i Inv-loop μ-loop
 add-i c = omega (arith, fits c)
 
--- src/characters.rt:126:5
 loop-less : tie.Need-loop-less Inv-loop μ-loop
 loop-less c = omega (arith, fits c)
 
--- src/characters.rt:126:5
 loop-again : tie.Need-loop-again Inv-loop μ-loop
-loop-again c = let q = c .before .before .before in let m = good-more (q .before .before .args .s .now) (q .loop .i) (c .before .before .loop-test .taken) _ (c .before .width-at .ensures) (c .if1 .left) in (omega (arith, fits c), omega arith)
+loop-again c =
+    let q = c .before .before .before in
+    let m = good-more (q .before .before .args .s .now) (q .loop .i) (c .before .before .loop-test .taken) _ (c .before .width-at .ensures) (c .if1 .left) in
+    (omega (arith, fits c), omega arith)
 
--- src/characters.rt:122:1
 returns-2 : tie.Need-returns-2 Inv-loop μ-loop
 returns-2 c = (omega (arith, good-over (c .before .before .before .args .s .now) (c .before .loop .i) (c .loop-test .left)), omega arith)
 

@@ -1,17 +1,15 @@
-use Rattle.text.proofs.LeadLaws.{tails-short, tails-stop, tails-more, tails-none}
-use Rattle.songcode.specs.Characters.{tails}
-use borrow.Author.Tests.{not-true, not-false}
-use lib.ListN.{drop}
+-- The tails still to be seen are those of the bytes behind.
+use Prim.Native.Nat.{_≤_, _-_}
+use mathlib.Core.Path.{_≡_, refl, sym, _∙_}
 use native.Mathlib.Nat.{sub-zero}
 use native.Mathlib.Omega.{arith}
-use mathlib.Core.Path.{_≡_, refl, sym, _∙_}
-use Prim.Native.Nat.{_≤_, _+_, _-_}
+use borrow.Author.Tests.{not-true, not-false}
 use borrow.Author.Needs.{needs}
+use lib.ListN.{drop}
+use Rattle.songcode.specs.Characters.{tails}
+use Rattle.text.proofs.LeadLaws.{tails-short, tails-stop, tails-more, tails-none}
 use Rattle.text.proofs.characters.has_tails.Statement.{statement}
 use Rattle.text.proofs.characters.has_tails.Tie as tie
-use Rattle.text.proofs.characters.has_tails.Reads as reads
-use Rattle.text.proofs.characters.has_tails.Lts as lts
-use Rattle.text.proofs.characters.is_tail.Reads as is-tail-reads
 
 abbrev Inv-loop : tie.InvT-loop
 Inv-loop n bs i₀ i = (i ≤ n) × (tails (n - i) (drop i bs) ≡ tails n bs)
@@ -19,39 +17,34 @@ Inv-loop n bs i₀ i = (i ≤ n) × (tails (n - i) (drop i bs) ≡ tails n bs)
 abbrev μ-loop : tie.MeasureT-loop
 μ-loop n bs i₀ i = n - i
 
--- src/characters.rt:71:9
 returns : tie.Need-returns Inv-loop μ-loop
 returns c = tails-short _ _ (c .if1 .taken)
 
--- src/characters.rt:74:5
 loop-holds : tie.Need-loop-holds Inv-loop μ-loop
 loop-holds c = (omega arith, rw sub-zero refl)
 
--- src/characters.rt:75:21
 shared-slice-read-is-tail : tie.Need-shared-slice-read-is-tail Inv-loop μ-loop
 shared-slice-read-is-tail c = search needs
 
--- src/characters.rt:75:13
 is-tail-requires : tie.Need-is-tail-requires Inv-loop μ-loop
 is-tail-requires c κs = search needs
 
--- src/characters.rt:76:13
 returns-2 : tie.Need-returns-2 Inv-loop μ-loop
-returns-2 c = let q = c .before .before .before .before in sym (tails-stop _ (q .loop .i) _ (c .before .before .before .loop-test .taken) (omega arith) (sym (c .before .is-tail .ensures) ∙ not-true _ (c .if2 .taken))) ∙ q .loop .inv .1
+returns-2 c =
+    let q = c .before .before .before .before in
+    sym (tails-stop _ (q .loop .i) _ (c .before .before .before .loop-test .taken) (omega arith) (sym (c .before .is-tail .ensures) ∙ not-true _ (c .if2 .taken))) ∙ q .loop .inv .1
 
--- src/characters.rt:78:9
 add-i : tie.Need-add-i Inv-loop μ-loop
 add-i c = search needs
 
--- src/characters.rt:74:5
 loop-less : tie.Need-loop-less Inv-loop μ-loop
 loop-less c = search needs
 
--- src/characters.rt:74:5
 loop-again : tie.Need-loop-again Inv-loop μ-loop
-loop-again c = let q = c .before .before .before .before in (omega arith, sym (tails-more _ (q .loop .i) _ (c .before .before .before .loop-test .taken) (omega arith) (sym (c .before .is-tail .ensures) ∙ not-false _ (c .if2 .left))) ∙ q .loop .inv .1)
+loop-again c =
+    let q = c .before .before .before .before in
+    (omega arith, sym (tails-more _ (q .loop .i) _ (c .before .before .before .loop-test .taken) (omega arith) (sym (c .before .is-tail .ensures) ∙ not-false _ (c .if2 .left))) ∙ q .loop .inv .1)
 
--- src/characters.rt:67:1
 returns-3 : tie.Need-returns-3 Inv-loop μ-loop
 returns-3 c = sym (tails-none _ (c .before .loop .i) _ (c .loop-test .left)) ∙ c .before .loop .inv .1
 

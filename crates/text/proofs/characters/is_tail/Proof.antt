@@ -1,16 +1,12 @@
-use Rattle.songcode.specs.Characters.{isTail}
+-- A tail is a byte within the range of tails.
 use borrow.Author.Needs.{needs}
+use Rattle.songcode.specs.Characters.{isTail}
 use Rattle.text.proofs.characters.is_tail.Statement.{statement}
 use Rattle.text.proofs.characters.is_tail.Tie as tie
-use Rattle.text.proofs.characters.is_tail.Reads as reads
-use Rattle.text.proofs.characters.is_tail.Lts as lts
-use Rattle.text.proofs.characters.is_within.Reads as is-within-reads
 
--- src/characters.rt:63:5
 is-within-requires : tie.Need-is-within-requires
 is-within-requires c κs = search needs
 
--- src/characters.rt:60:1
 returns : tie.Need-returns
 unfolding isTail
 returns c = search needs

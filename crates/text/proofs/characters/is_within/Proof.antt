@@ -1,17 +1,13 @@
-use Rattle.songcode.specs.Characters.{within}
+-- The two comparisons are those of the definition.
 use borrow.Author.Tests.{le-leb, lt-leb}
-use borrow.Author.Needs.{needs}
+use Rattle.songcode.specs.Characters.{within}
 use Rattle.text.proofs.characters.is_within.Statement.{statement}
 use Rattle.text.proofs.characters.is_within.Tie as tie
-use Rattle.text.proofs.characters.is_within.Reads as reads
-use Rattle.text.proofs.characters.is_within.Lts as lts
 
--- src/characters.rt:53:1
 returns : tie.Need-returns
 unfolding within
 returns c = rw (le-leb _ _ (c .if1 .taken))
 
--- src/characters.rt:53:1
 returns-2 : tie.Need-returns-2
 unfolding within
 returns-2 c = rw (lt-leb _ _ (c .if1 .left))

@@ -1,58 +1,53 @@
-use Rattle.text.proofs.LeadLaws.{width-short, width-ended, width-second, width-whole, width-broken}
-use borrow.Author.Tests.{not-true, not-false}
-use native.Mathlib.Omega.{arith}
+-- The width of a lead by what stands behind the first byte.
 use mathlib.Core.Path.{sym, _∙_}
+use native.Mathlib.Omega.{arith}
+use borrow.Author.Tests.{not-true, not-false}
 use borrow.Author.Needs.{needs}
+use Rattle.text.proofs.LeadLaws.{width-short, width-ended, width-second, width-whole, width-broken}
 use Rattle.text.proofs.characters.width_from.Statement.{statement}
 use Rattle.text.proofs.characters.width_from.Tie as tie
-use Rattle.text.proofs.characters.width_from.Reads as reads
-use Rattle.text.proofs.characters.width_from.Lts as lts
-use Rattle.text.proofs.characters.has_tails.Reads as has-tails-reads
-use Rattle.text.proofs.characters.is_within.Reads as is-within-reads
 
--- src/characters.rt:89:9
 returns : tie.Need-returns
 returns c = width-short (c .before .before .args .lead) _ (c .if1 .taken)
 
--- src/characters.rt:92:9
 returns-2 : tie.Need-returns-2
 returns-2 c = width-ended (c .before .before .before .args .lead) (c .before .if1 .left) _ (c .if2 .taken)
 
--- src/characters.rt:94:40
 shared-slice-read-is-within : tie.Need-shared-slice-read-is-within
 shared-slice-read-is-within c = search needs
 
--- src/characters.rt:94:9
 is-within-requires : tie.Need-is-within-requires
 is-within-requires c κs = search needs
 
--- src/characters.rt:95:9
 returns-3 : tie.Need-returns-3
-returns-3 c = let l = c .before .before .before .before .before .before .args .lead in let s = c .before .before .before .before .before .before .args .rest .now in width-second l (c .before .before .before .before .if1 .left) s (omega arith) (sym (c .before .is-within .ensures) ∙ not-true _ (c .if3 .taken))
+returns-3 c =
+    let l = c .before .before .before .before .before .before .args .lead in
+    let s = c .before .before .before .before .before .before .args .rest .now in
+    width-second l (c .before .before .before .before .if1 .left) s (omega arith) (sym (c .before .is-within .ensures) ∙ not-true _ (c .if3 .taken))
 
--- src/characters.rt:97:29
 sub-has-tails : tie.Need-sub-has-tails
 sub-has-tails c = search needs
 
--- src/characters.rt:97:29
 part-has-tails-start : tie.Need-part-has-tails-start
 part-has-tails-start c = search needs
 
--- src/characters.rt:97:29
 part-has-tails-end : tie.Need-part-has-tails-end
 part-has-tails-end c = search needs
 
--- src/characters.rt:97:8
 has-tails-requires : tie.Need-has-tails-requires
 has-tails-requires c κs = search needs
 
--- src/characters.rt:84:1
 returns-4 : tie.Need-returns-4
-returns-4 c = let l = c .before .before .before .before .before .before .before .before .before .args .lead in let s = c .before .before .before .before .before .before .before .before .before .args .rest .now in width-whole l (c .before .before .before .before .before .before .before .if1 .left) s (omega arith) (sym (c .before .before .before .before .is-within .ensures) ∙ not-false _ (c .before .before .before .if3 .left)) (c .before .has-tails .ensures) (c .if4 .taken)
+returns-4 c =
+    let l = c .before .before .before .before .before .before .before .before .before .args .lead in
+    let s = c .before .before .before .before .before .before .before .before .before .args .rest .now in
+    width-whole l (c .before .before .before .before .before .before .before .if1 .left) s (omega arith) (sym (c .before .before .before .before .is-within .ensures) ∙ not-false _ (c .before .before .before .if3 .left)) (c .before .has-tails .ensures) (c .if4 .taken)
 
--- src/characters.rt:84:1
 returns-5 : tie.Need-returns-5
-returns-5 c = let l = c .before .before .before .before .before .before .before .before .before .args .lead in let s = c .before .before .before .before .before .before .before .before .before .args .rest .now in width-broken l (c .before .before .before .before .before .before .before .if1 .left) s (omega arith) (sym (c .before .before .before .before .is-within .ensures) ∙ not-false _ (c .before .before .before .if3 .left)) (c .before .has-tails .ensures) (c .if4 .left)
+returns-5 c =
+    let l = c .before .before .before .before .before .before .before .before .before .args .lead in
+    let s = c .before .before .before .before .before .before .before .before .before .args .rest .now in
+    width-broken l (c .before .before .before .before .before .before .before .if1 .left) s (omega arith) (sym (c .before .before .before .before .is-within .ensures) ∙ not-false _ (c .before .before .before .if3 .left)) (c .before .has-tails .ensures) (c .if4 .left)
 
 pub width-from-spec : {M : Type 1} → statement M
 width-from-spec =

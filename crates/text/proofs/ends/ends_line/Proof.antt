@@ -1,22 +1,17 @@
-use Rattle.text.specs.Ends.{endsLine}
+-- The byte and the next one tell whether a line ends.
 use borrow.Author.Tests.{eq-eqb, ne-eqb}
-use borrow.Author.Needs.{needs}
+use Rattle.text.specs.Ends.{endsLine}
 use Rattle.text.proofs.ends.ends_line.Statement.{statement}
 use Rattle.text.proofs.ends.ends_line.Tie as tie
-use Rattle.text.proofs.ends.ends_line.Reads as reads
-use Rattle.text.proofs.ends.ends_line.Lts as lts
 
--- src/ends.rt:14:9
 returns : tie.Need-returns
 unfolding endsLine
 returns c = rw (c .if1 .taken)
 
--- src/ends.rt:17:9
 returns-2 : tie.Need-returns-2
 unfolding endsLine
 returns-2 c = rw (ne-eqb _ _ (c .before .if1 .left), ne-eqb _ _ (c .if2 .taken))
 
--- src/ends.rt:10:1
 returns-3 : tie.Need-returns-3
 unfolding endsLine
 returns-3 c = rw (ne-eqb _ _ (c .before .if1 .left), eq-eqb _ _ (c .if2 .left))

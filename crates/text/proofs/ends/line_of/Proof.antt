@@ -1,39 +1,30 @@
-use native.Mathlib.Omega.{arith}
-use Rattle.text.proofs.EndLaws.{line-past, line-within}
-use lib.Seq.{length-take-le}
+-- One more than the line ends before the place.
 use mathlib.Core.Path.{sym}
+use native.Mathlib.Omega.{arith}
 use borrow.Author.Needs.{needs}
+use lib.Seq.{length-take-le}
+use Rattle.text.proofs.EndLaws.{line-past, line-within}
 use Rattle.text.proofs.ends.line_of.Statement.{statement}
 use Rattle.text.proofs.ends.line_of.Tie as tie
-use Rattle.text.proofs.ends.line_of.Reads as reads
-use Rattle.text.proofs.ends.line_of.Lts as lts
-use Rattle.text.proofs.ends.line_ends.Reads as line-ends-reads
 
--- src/ends.rt:42:16
 line-ends-requires : tie.Need-line-ends-requires
 line-ends-requires c κs = search needs
 
--- src/ends.rt:42:16
 add-result : tie.Need-add-result
 add-result c = search needs
 
--- src/ends.rt:42:9
 returns : tie.Need-returns
 returns c = line-past _ _ (c .before .if1 .taken) (c .line-ends .ensures .0)
 
--- src/ends.rt:44:15
 slice-aggregate-line-ends : tie.Need-slice-aggregate-line-ends
 slice-aggregate-line-ends c = sym (length-take-le _ _ (c .before .if1 .left))
 
--- src/ends.rt:44:5
 line-ends-requires-2 : tie.Need-line-ends-requires-2
 line-ends-requires-2 c κs = search needs
 
--- src/ends.rt:44:5
 add-result-2 : tie.Need-add-result-2
 add-result-2 c = omega (arith, length-take-le _ (c .before .before .before .before .args .s .now) (c .before .before .if1 .left))
 
--- src/ends.rt:38:1
 returns-2 : tie.Need-returns-2
 returns-2 c = line-within _ _ (c .line-ends2 .ensures .0)
 

@@ -1,17 +1,13 @@
-use Rattle.songcode.specs.Bytes.{isBlank}
+-- A space or a tab.
 use borrow.Author.Tests.{ne-eqb}
-use borrow.Author.Needs.{needs}
+use Rattle.songcode.specs.Bytes.{isBlank}
 use Rattle.text.proofs.lines.is_blank.Statement.{statement}
 use Rattle.text.proofs.lines.is_blank.Tie as tie
-use Rattle.text.proofs.lines.is_blank.Reads as reads
-use Rattle.text.proofs.lines.is_blank.Lts as lts
 
--- src/lines.rt:17:1
 returns : tie.Need-returns
 unfolding isBlank
 returns c = rw (c .if1 .taken)
 
--- src/lines.rt:17:1
 returns-2 : tie.Need-returns-2
 unfolding isBlank
 returns-2 c = rw (ne-eqb _ _ (c .if1 .left))

@@ -1,18 +1,12 @@
-use Rattle.text.proofs.WalkLaws.{part-length, line-past, line-is, line-onward}
-use native.Mathlib.Omega.{arith}
-use mathlib.Core.Path.{refl}
+-- The line is put together from its pieces, and its places stand in order.
 use Prim.Native.Nat.{_+_, _-_, _≤_}
+use mathlib.Core.Path.{refl}
+use native.Mathlib.Omega.{arith}
 use borrow.Author.Needs.{needs}
+use Rattle.text.proofs.WalkLaws.{part-length, line-past, line-is, line-onward}
 use Rattle.text.proofs.lines.line_at.Statement.{statement}
 use Rattle.text.proofs.lines.line_at.Tie as tie
-use Rattle.text.proofs.lines.line_at.Reads as reads
-use Rattle.text.proofs.lines.line_at.Lts as lts
-use Rattle.text.proofs.lines.break_len.Reads as break-len-reads
-use Rattle.text.proofs.lines.front_blanks.Reads as front-blanks-reads
-use Rattle.text.proofs.lines.line_end.Reads as line-end-reads
-use Rattle.text.proofs.lines.solid_len.Reads as solid-len-reads
 
--- src/lines.rt:87:9
 returns : tie.Need-returns
 returns c =
     record {
@@ -25,59 +19,45 @@ returns c =
       onward = omega arith;
     }
 
--- src/lines.rt:94:9
 line-end-requires : tie.Need-line-end-requires
 line-end-requires c κs = search needs
 
--- src/lines.rt:95:31
 sub-front-blanks : tie.Need-sub-front-blanks
 sub-front-blanks c = search needs
 
--- src/lines.rt:95:31
 part-front-blanks-start : tie.Need-part-front-blanks-start
 part-front-blanks-start c = search needs
 
--- src/lines.rt:95:31
 part-front-blanks-end : tie.Need-part-front-blanks-end
 part-front-blanks-end c = search needs
 
--- src/lines.rt:95:18
 front-blanks-requires : tie.Need-front-blanks-requires
 front-blanks-requires c κs = search needs
 
--- src/lines.rt:95:13
 add-a : tie.Need-add-a
 add-a c = search needs
 
--- src/lines.rt:96:23
 sub-solid-len : tie.Need-sub-solid-len
 sub-solid-len c = search needs
 
--- src/lines.rt:96:23
 part-solid-len-start : tie.Need-part-solid-len-start
 part-solid-len-start c = search needs
 
--- src/lines.rt:96:23
 part-solid-len-end : tie.Need-part-solid-len-end
 part-solid-len-end c = search needs
 
--- src/lines.rt:96:9
 solid-len-requires : tie.Need-solid-len-requires
 solid-len-requires c κs = search needs
 
--- src/lines.rt:97:9
 break-len-requires : tie.Need-break-len-requires
 break-len-requires c κs = search needs
 
--- src/lines.rt:101:15
 add-t11 : tie.Need-add-t11
 add-t11 c = search needs
 
--- src/lines.rt:102:15
 add-t8 : tie.Need-add-t8
 add-t8 c = search needs
 
--- src/lines.rt:83:1
 returns-2 : tie.Need-returns-2
 returns-2 c =
     let q = c .before .before .before .before .before in

@@ -1,14 +1,13 @@
-use Rattle.text.proofs.SpanLaws.{line-lf, line-cr, line-more, line-over}
-use Rattle.text.specs.Spans.{lineLength}
-use lib.ListN.{length, drop}
-use native.Mathlib.Omega.{arith}
-use mathlib.Core.Path.{_≡_}
+-- The bytes passed, and those of the line from here on, are the length of the line.
 use Prim.Native.Nat.{_≤_, _+_, _-_, max}
+use mathlib.Core.Path.{_≡_}
+use native.Mathlib.Omega.{arith}
 use borrow.Author.Needs.{needs}
+use lib.ListN.{length, drop}
+use Rattle.text.specs.Spans.{lineLength}
+use Rattle.text.proofs.SpanLaws.{line-lf, line-cr, line-more, line-over}
 use Rattle.text.proofs.lines.line_end.Statement.{statement}
 use Rattle.text.proofs.lines.line_end.Tie as tie
-use Rattle.text.proofs.lines.line_end.Reads as reads
-use Rattle.text.proofs.lines.line_end.Lts as lts
 
 abbrev Inv-loop : tie.InvT-loop
 Inv-loop s at i₀ i = (at ≤ i) × (i ≤ max at (length s)) × (i + lineLength (drop i s) ≡ at + lineLength (drop at s))
@@ -16,39 +15,36 @@ Inv-loop s at i₀ i = (at ≤ i) × (i ≤ max at (length s)) × (i + lineLengt
 abbrev μ-loop : tie.MeasureT-loop
 μ-loop s at i₀ i = length s - i
 
--- src/lines.rt:28:5
 loop-holds : tie.Need-loop-holds Inv-loop μ-loop
 loop-holds c = search needs
 
--- src/lines.rt:29:12
 shared-slice-read-if1 : tie.Need-shared-slice-read-if1 Inv-loop μ-loop
 shared-slice-read-if1 c = search needs
 
--- src/lines.rt:30:13
 returns : tie.Need-returns Inv-loop μ-loop
-returns c = let q = c .before .before .before in (omega (arith, line-lf (q .before .args .s .now) (q .loop .i) (c .before .before .loop-test .taken) (c .if1 .taken)), omega arith, omega arith)
+returns c =
+    let q = c .before .before .before in
+    (omega (arith, line-lf (q .before .args .s .now) (q .loop .i) (c .before .before .loop-test .taken) (c .if1 .taken)), omega arith, omega arith)
 
--- src/lines.rt:32:12
 shared-slice-read-if2 : tie.Need-shared-slice-read-if2 Inv-loop μ-loop
 shared-slice-read-if2 c = search needs
 
--- src/lines.rt:33:13
 returns-2 : tie.Need-returns-2 Inv-loop μ-loop
-returns-2 c = let q = c .before .before .before .before .before in (omega (arith, line-cr (q .before .args .s .now) (q .loop .i) (c .before .before .before .before .loop-test .taken) (c .if2 .taken)), omega arith, omega arith)
+returns-2 c =
+    let q = c .before .before .before .before .before in
+    (omega (arith, line-cr (q .before .args .s .now) (q .loop .i) (c .before .before .before .before .loop-test .taken) (c .if2 .taken)), omega arith, omega arith)
 
--- src/lines.rt:35:9
 add-i : tie.Need-add-i Inv-loop μ-loop
 add-i c = search needs
 
--- src/lines.rt:28:5
 loop-less : tie.Need-loop-less Inv-loop μ-loop
 loop-less c = search needs
 
--- src/lines.rt:28:5
 loop-again : tie.Need-loop-again Inv-loop μ-loop
-loop-again c = let q = c .before .before .before .before .before in (omega arith, omega arith, omega (arith, line-more (q .before .args .s .now) (q .loop .i) (c .before .before .before .before .loop-test .taken) (c .before .before .if1 .left) (c .if2 .left)))
+loop-again c =
+    let q = c .before .before .before .before .before in
+    (omega arith, omega arith, omega (arith, line-more (q .before .args .s .now) (q .loop .i) (c .before .before .before .before .loop-test .taken) (c .before .before .if1 .left) (c .if2 .left)))
 
--- src/lines.rt:24:1
 returns-3 : tie.Need-returns-3 Inv-loop μ-loop
 returns-3 c = (omega (arith, line-over (c .before .before .args .s .now) (c .before .loop .i) (c .loop-test .left)), omega arith, omega arith)
 
