@@ -36,7 +36,7 @@ use Rattle.songcode.proofs.LinesAgree.{lines-sound, lines-complete}
 use Rattle.songcode.proofs.BlocksAgree.{blocks-sound, blocks-complete}
 use Rattle.songcode.proofs.SongAgree.{song-exact, song-once, song-reading}
 use Rattle.songcode.proofs.ReferencesAgree.{references-exact}
-use Rattle.songcode.proofs.MeterAgree.{playing-exact, parts-played}
+use Rattle.songcode.proofs.MeterAgree.{playing-exact, parts-played, parts-performed}
 use Rattle.songcode.proofs.LyricsAgree.{counts-exact}
 use Rattle.songcode.proofs.TablesAgree.{tables-exact}
 use Rattle.songcode.proofs.VerdictAgree.{verdict-given, given-verdict, Silent, verdict-silent, silent-verdict}
@@ -137,7 +137,7 @@ described-by room bs p =
       parts = q .0;
       written = chart-of bs s (p .input) w;
       fits = record { definitionsRefer = r .0; sectionsRefer = r .1; plays = q .1; short = q .2; counts = counts-exact s (q .0) each .0 (p .counts, p .sums) };
-      words = tables-exact s (q .0) (tables s) each .0 refl;
+      words = tables-exact s (q .0) (tables s) (parts-performed s (q .1)) .0 refl;
       fitting = room-exact room (tables s) .0 (p .room-there);
     }
 
@@ -150,7 +150,7 @@ by-described room bs t d =
     let each = parts-played (d .song) (f .plays) in
     let q = playing-exact (d .song) (song-plain (d .song) w (f .definitionsRefer)) .1 (d .parts, f .plays, f .short) in
     let c = counts-exact (d .song) (d .parts) each .1 (f .counts) in
-    let e : t ≡ tables (d .song) = tables-exact (d .song) (d .parts) t each .1 (d .words) in (
+    let e : t ≡ tables (d .song) = tables-exact (d .song) (d .parts) t (parts-performed (d .song) (f .plays)) .1 (d .words) in (
       record {
         input = input-exact bs .1 (d .written .short, d .written .characters);
         text = song-exact (blocksOf bs) .1 (d .song, w);

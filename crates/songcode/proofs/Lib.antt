@@ -52,6 +52,7 @@ pub mod RowLaws
 pub mod TurnedRows
 pub mod CutFront
 pub mod CutBack
+pub mod InheritsAgree
 pub mod SectionPlays
 pub mod MeterAgree
 pub mod PlainAgree
