@@ -10,6 +10,7 @@ use Rattle.songcode.specs.Described.{Described}
 use Rattle.songcode.specs.Demands.{Demands}
 use Rattle.songcode.proofs.MeterAgree.{plays-section}
 use Rattle.songcode.proofs.AnswerAgree.{accepted-exactly, refused-exactly, one-reading}
+use Rattle.songcode.proofs.FindingAgree.{found-exact}
 use Rattle.songcode.proofs.StarredProved.{starred-proved}
 use Rattle.songcode.proofs.EdgesProved.{edges-proved}
 
@@ -28,6 +29,7 @@ demanded =
       one-song = one-reading;
       one-answer = one-answer;
       one-playing = one-playing;
+      found-exactly = found-exact;
       charts = starred-proved;
       at-edges = edges-proved;
     }

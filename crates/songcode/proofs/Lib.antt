@@ -65,6 +65,7 @@ pub mod ItemsWritten
 pub mod TablesAgree
 -- The whole.
 pub mod AnswerAgree
+pub mod FindingAgree
 pub mod StarredProved
 pub mod EdgesProved
 pub mod Demanded

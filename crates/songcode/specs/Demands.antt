@@ -4,6 +4,7 @@ use Prim.Native.Nat.{ℕ}
 use mathlib.Core.Path.{_≡_}
 use mathlib.Core.Logic.{_↔_}
 use mathlib.Core.List.{List, map}
+use mathlib.Core.Option.{some}
 use Rattle.songcode.specs.Song.{Section, Song}
 use Rattle.songcode.specs.Complaints.{complaint, verdict}
 use Rattle.songcode.specs.Tables.{Tables}
@@ -12,6 +13,7 @@ use Rattle.songcode.specs.Performance.{Parts, PlaysSection}
 use Rattle.songcode.specs.WrittenSong.{WrittenChart}
 use Rattle.songcode.specs.Given.{Given}
 use Rattle.songcode.specs.Described.{Described}
+use Rattle.songcode.specs.Finding.{placeOf, FirstHolding}
 use Rattle.songcode.specs.Starred.{starred, ClaimAll}
 use Rattle.songcode.specs.Edges.{edges, ample}
 
@@ -24,6 +26,8 @@ pub record Demands : Type 0 where
   pub one-song : (bs : List ℕ) (s t : Song) → WrittenChart bs s → WrittenChart bs t → s ≡ t
   pub one-answer : (room : Room) (bs : List ℕ) (t u : Tables) → Described room bs t → Described room bs u → t ≡ u
   pub one-playing : (s : Song) (x : Section) (p q : Parts) → PlaysSection s x p → PlaysSection s x q → p ≡ q
+  -- The second call: "the place of the first record that holds that beat".
+  pub found-exactly : (beat : ℕ) (table : List ℕ) (place : ℕ) → (placeOf beat table ≡ some place) ↔ FirstHolding beat table place
   -- The starred trial charts; the charts at the edges of the tests that answer and description share.
   pub charts : ClaimAll starred
   pub at-edges : map (λ e. verdict (stages ample (e .chart))) edges ≡ map (λ e. e .verdict) edges

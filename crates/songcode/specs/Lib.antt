@@ -31,7 +31,9 @@ pub mod Fits
 pub mod WrittenTables
 pub mod Described
 pub mod Given
--- Last what is promised of both.
+-- The second call.
+pub mod Finding
+-- Last what is promised of all this.
 pub mod Starred
 pub mod Edges
 pub mod Demands
