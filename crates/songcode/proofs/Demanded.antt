@@ -8,6 +8,8 @@ use Rattle.songcode.specs.Answer.{Room, accepted, answer}
 use Rattle.songcode.specs.Performance.{Parts, PlaysSection}
 use Rattle.songcode.specs.Described.{Described}
 use Rattle.songcode.specs.Demands.{Demands}
+use Rattle.songcode.proofs.CharactersAgree.{first-bad}
+use Rattle.songcode.proofs.PlacesAgree.{bad-line}
 use Rattle.songcode.proofs.MeterAgree.{plays-section}
 use Rattle.songcode.proofs.AnswerAgree.{accepted-exactly, refused-exactly, one-reading}
 use Rattle.songcode.proofs.FindingAgree.{found-exact}
@@ -25,6 +27,8 @@ pub demanded : Demands
 demanded =
     record {
       refused-exactly = refused-exactly;
+      first-bad = first-bad;
+      bad-line = bad-line;
       accepted-exactly = accepted-exactly;
       one-song = one-reading;
       one-answer = one-answer;

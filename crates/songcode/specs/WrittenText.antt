@@ -40,6 +40,19 @@ pub data Characters : List ℕ → Type 0 where
   no-character : Characters []
   a-character : {c bs zs : List ℕ} → Character c → zs ≡ c ++ bs → Characters bs → Characters zs
 
+-- No whole character stands in front.
+abbrev pub Stuck : List ℕ → Type 0
+Stuck bs = (c ys : List ℕ) → Character c → bs ≡ c ++ ys → ⊥
+
+-- "the first place, read character by character, with a zero or no whole character": before it stand whole characters.
+pub record FirstBad (bs : List ℕ) (place : ℕ) : Type 0 where
+  pub front : List ℕ
+  pub rest : List ℕ
+  pub joins : bs ≡ front ++ rest
+  pub whole : Characters front
+  pub size : length front ≡ place
+  pub stuck : Stuck rest
+
 -- No line ends in it.
 unfoldable pub Inside : List Byte → Type 0
 Inside [] = Unit {0}
@@ -51,6 +64,15 @@ pub data Cuts : List Byte → List (List Byte) → Type 0 where
   ends-lf : {l ts zs : List Byte} {ls : List (List Byte)} (b : Byte) → Inside l → ending b ≡ lf → Cuts ts ls → zs ≡ l ++ (b ∷ ts) → Cuts zs (l ∷ ls)
   ends-cr : {l ts zs : List Byte} {ls : List (List Byte)} (b : Byte) → Inside l → ending b ≡ cr → (endingOf ts ≡ lf → ⊥) → Cuts ts ls → zs ≡ l ++ (b ∷ ts) → Cuts zs (l ∷ ls)
   ends-crlf : {l ts zs : List Byte} {ls : List (List Byte)} (b d : Byte) → Inside l → ending b ≡ cr → ending d ≡ lf → Cuts ts ls → zs ≡ l ++ (b ∷ d ∷ ts) → Cuts zs (l ∷ ls)
+
+-- A byte stands on the line of this number, counted from 1.
+pub record StandsOn (lines : List (List Byte)) (b : Byte) (number : ℕ) : Type 0 where
+  pub before : List (List Byte)
+  pub front : List Byte
+  pub back : List Byte
+  pub behind : List (List Byte)
+  pub listed : lines ≡ before ++ ((front ++ (b ∷ back)) ∷ behind)
+  pub counted : suc (length before) ≡ number
 
 -- The last byte of a text that begins with b.
 unfoldable pub lastOf : Byte → List Byte → Byte
