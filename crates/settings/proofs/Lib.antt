@@ -1,0 +1,3 @@
+-- Laws of the definitions that the proofs of the functions cite, and that callers use.
+pub mod PartLaws
+pub mod KindLaws

@@ -1,0 +1,4 @@
+-- What the contracts on the lines of a chart say, over the definitions of songcode.
+pub mod Kinds
+pub mod Names
+pub mod Parts
