@@ -1,3 +1,4 @@
 -- Laws of the definitions that the proofs of the functions cite, and that callers use.
 pub mod PartLaws
 pub mod KindLaws
+pub mod NameLaws

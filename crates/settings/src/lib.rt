@@ -1,6 +1,7 @@
 // What a line of a chart is and says: its kind, its name and its setting, its header, its cut, its count and style.
 mod keys;
 mod kinds;
+mod modifiers;
 mod parts;
 
 pub use keys::KeyName;
@@ -10,6 +11,8 @@ pub use kinds::Kind;
 pub use kinds::block_kind;
 pub use kinds::is_dashes;
 pub use kinds::kind_of;
+pub use modifiers::ModifierName;
+pub use modifiers::modifier_named;
 pub use parts::name_end;
 pub use parts::same_text;
 pub use parts::setting_start;

@@ -1,3 +1,6 @@
+use mathlib.Core.Path.{_≡_, refl, sym, ap, _∙_}
+use Rattle.songcode.specs.Bytes.{placed, ascii}
+use Rattle.settings.proofs.NameLaws.{is-by}
 use borrow.Author.Needs.{needs}
 use Rattle.settings.proofs.kinds.is_dashes.Statement.{statement}
 use Rattle.settings.proofs.kinds.is_dashes.Tie as tie
@@ -15,7 +18,8 @@ same-text-requires c κs = search needs
 
 -- src/kinds.rt:69:1
 returns : tie.Need-returns
-returns c = search needs
+unfolding ascii
+returns c = sym (is-by "--" 0 (c .before .before .before .args .w .now) (c .same-text .ensures) refl)
 
 pub is-dashes-spec : {M : Type 1} → statement M
 is-dashes-spec = tie.close (tie.spec slice-aggregate-same-text same-text-requires returns)

@@ -1,3 +1,5 @@
+use native.Mathlib.Omega.{arith}
+use Rattle.settings.proofs.PartLaws.{name-part}
 use borrow.Author.Needs.{needs}
 use Rattle.settings.proofs.parts.name_end.Statement.{statement}
 use Rattle.settings.proofs.parts.name_end.Tie as tie
@@ -27,7 +29,7 @@ add-result c = search needs
 
 -- src/parts.rt:57:1
 returns : tie.Need-returns
-returns c = search needs
+returns c = let a = c .before .before .before .args in (name-part (a .s .now) (a .a) (a .e) (c .word-length .result) (c .word-length .ensures .0) (omega arith), omega arith, omega arith)
 
 pub name-end-spec : {M : Type 1} → statement M
 name-end-spec =

@@ -1,3 +1,5 @@
+use native.Mathlib.Omega.{arith}
+use Rattle.settings.proofs.PartLaws.{setting-part}
 use borrow.Author.Needs.{needs}
 use Rattle.settings.proofs.parts.setting_start.Statement.{statement}
 use Rattle.settings.proofs.parts.setting_start.Tie as tie
@@ -48,7 +50,9 @@ add-result c = search needs
 
 -- src/parts.rt:65:1
 returns : tie.Need-returns
-returns c = search needs
+returns c = let q = c .before .before in
+    let a = q .before .before .before .args in
+    (setting-part (a .s .now) (a .a) (a .e) (q .word-length .result) (c .front-blanks .result) (q .word-length .ensures .0) (c .front-blanks .ensures .0), omega arith, omega arith)
 
 pub setting-start-spec : {M : Type 1} → statement M
 setting-start-spec =
