@@ -2,3 +2,5 @@
 pub mod Kinds
 pub mod Names
 pub mod Parts
+pub mod Phrases
+pub mod LyricParts
