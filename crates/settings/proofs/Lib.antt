@@ -6,3 +6,4 @@ pub mod NameLaws
 pub mod PhraseLaws
 pub mod LyricLaws
 pub mod StyleLaws
+pub mod NumberLaws
