@@ -7,3 +7,5 @@ pub mod PhraseLaws
 pub mod LyricLaws
 pub mod StyleLaws
 pub mod NumberLaws
+pub mod ValueLaws
+pub mod WordLaws
