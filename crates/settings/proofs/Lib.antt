@@ -9,3 +9,4 @@ pub mod StyleLaws
 pub mod NumberLaws
 pub mod ValueLaws
 pub mod WordLaws
+pub mod CutLaws
