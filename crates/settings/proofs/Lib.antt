@@ -10,3 +10,4 @@ pub mod NumberLaws
 pub mod ValueLaws
 pub mod WordLaws
 pub mod CutLaws
+pub mod ReadLaws

@@ -8,7 +8,7 @@ use mathlib.Core.Option.{Option, none, some}
 use native.Mathlib.Omega.{arith}
 use borrow.Author.Tests.{leb-true}
 use lib.Dec.{leb}
-use lib.ListN.{drop}
+use lib.ListN.{length, drop}
 use Rattle.songcode.specs.Lists.{if_then_else_, any}
 use Rattle.songcode.specs.Bytes.{Byte, placed, is, isByte}
 use Rattle.songcode.specs.Numbers.{isDigit, digits, isDecimal, valueFrom, numberIn, countIn, repeatIn}
@@ -75,6 +75,11 @@ pub count-behind-first : (a : ℕ) (w : List ℕ) → countIn (behindFirst (plac
 unfolding behindFirst placed
 count-behind-first a [] = refl
 count-behind-first a (x ∷ w) = countIn-placeless (suc a) w
+
+pub count-nothing : (a : ℕ) (w : List ℕ) → length w ≡ 0 → countIn (behindFirst (placed a w)) ≡ none
+unfolding behindFirst placed countIn numberIn isDecimal if_then_else_
+count-nothing a [] h = refl
+count-nothing a (x ∷ w) h = let z : ⊥ = omega arith in absurd z
 
 pub countBehind-placeless : Placeless countBehind
 unfolding countBehind placed isByte
