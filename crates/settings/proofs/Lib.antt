@@ -11,3 +11,4 @@ pub mod ValueLaws
 pub mod WordLaws
 pub mod CutLaws
 pub mod ReadLaws
+pub mod OfLineLaws

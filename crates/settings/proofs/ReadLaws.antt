@@ -1,15 +1,14 @@
 -- What the code's answers say of songcode's readings.
-use Prim.Native.Nat.{ℕ, zero, suc, _+_, _<_, _≤_}
-use mathlib.Core.Path.{_≡_, refl, sym, ap, _∙_}
+use Prim.Native.Nat.{ℕ, zero, suc, _+_, _≤_}
+use mathlib.Core.Path.{_≡_, refl, sym, _∙_}
 use mathlib.Core.List.{List, [], _∷_}
-use mathlib.Core.Bool.{Bool, true, false, not}
+use mathlib.Core.Bool.{Bool, true, false}
 use mathlib.Core.Option.{Option, none, some}
 use native.Mathlib.Omega.{arith}
 use borrow.Author.Tests.{eq-eqb, ne-eqb}
-use lib.Dec.{eqb}
-use lib.ListN.{length, getD, take, drop}
+use lib.ListN.{getD, take, drop}
 use Rattle.songcode.specs.Lists.{if_then_else_, isSome, andThen}
-use Rattle.songcode.specs.Bytes.{Byte, placed, ascii, same, is, isByte}
+use Rattle.songcode.specs.Bytes.{Byte, placed, ascii, same, isByte}
 use Rattle.songcode.specs.Song.{KeyName, name, artist, original, capo, bpm, time, warning, end}
 use Rattle.songcode.specs.Keys.{timeIn, isSetting}
 use Rattle.songcode.specs.Modifiers.{cut, cutIn}

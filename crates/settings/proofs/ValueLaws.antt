@@ -1,17 +1,11 @@
 -- The readings of a line that look at its values alone: the same wherever the line stands.
-use Prim.Native.Nat.{ℕ, _+_}
 use Prim.Native.String.{String}
-use mathlib.Core.Path.{_≡_, refl, sym, ap, _∙_}
-use mathlib.Core.List.{List}
-use mathlib.Core.Bool.{Bool, true, false, not}
-use mathlib.Core.Option.{Option}
-use lib.Dec.{eqb}
-use lib.ListN.{take, drop}
-use Rattle.songcode.specs.Lists.{if_then_else_, taken, left, isSome}
-use Rattle.songcode.specs.Bytes.{Byte, placed, is, isByte}
+use mathlib.Core.Path.{sym, ap, _∙_}
+use Rattle.songcode.specs.Lists.{isSome}
+use Rattle.songcode.specs.Bytes.{placed, is}
 use Rattle.songcode.specs.Chords.{isBase}
 use Rattle.songcode.specs.Song.{KeyName, name, artist, original, capo, bpm, time, warning, end}
-use Rattle.songcode.specs.Keys.{keyNamed, isPhrase, bpmIn, timeIn, isSetting}
+use Rattle.songcode.specs.Keys.{keyNamed, bpmIn, timeIn, isSetting}
 use Rattle.songcode.specs.Modifiers.{modifierNamed}
 use Rattle.songcode.specs.Numbers.{numberIn}
 use Rattle.songcode.specs.Sections.{kindOf}

@@ -1,16 +1,15 @@
 -- A lyric line's words as places: what stands before its last word, and the count that the last word may be.
-use Prim.Native.Nat.{ℕ, suc, _+_, _-_, _<_, _≤_}
+use Prim.Native.Nat.{ℕ, _+_, _-_, _<_, _≤_}
 use mathlib.Core.Path.{_≡_, refl, sym, ap, _∙_}
-use mathlib.Core.List.{List, [], _∷_, _++_, reverse, reverse-append, reverse-reverse, append-cancel-right}
-use mathlib.Core.Bool.{Bool, true, false}
+use mathlib.Core.List.{List, _++_, reverse, reverse-append, reverse-reverse, append-cancel-right}
 use mathlib.Core.Option.{Option, none, some}
 use native.Mathlib.Omega.{arith}
-use lib.ListN.{length, getD, take, drop, length-drop, take-append-drop}
+use lib.ListN.{length, drop, length-drop, take-append-drop}
 use lib.Seq.{length-take-le}
 use Rattle.songcode.specs.Lists.{taken, left}
-use Rattle.songcode.specs.Bytes.{Byte, placed, isBlank, notBlank}
+use Rattle.songcode.specs.Bytes.{placed, isBlank, notBlank}
 use Rattle.songcode.specs.Lines.{dropLast}
-use Rattle.songcode.specs.Lyrics.{Words, countBehind, wordsBy, wordsOf}
+use Rattle.songcode.specs.Lyrics.{countBehind, wordsBy, wordsOf}
 use Rattle.songcode.proofs.ByteLaws.{placed-append}
 use Rattle.songcode.proofs.ListLaws.{taken-left}
 use Rattle.text.specs.Spans.{part, solidLength}

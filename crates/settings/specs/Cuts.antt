@@ -6,8 +6,6 @@ use Rattle.songcode.specs.Song as song
 use Rattle.songcode.specs.Modifiers.{cut}
 use Rattle.tokens.specs.declared.numbers.Number.{Number}
 use Rattle.tokens.specs.declared.numbers.Number.the-variants.{Is, Not}
-use Rattle.settings.specs.declared.cuts.Measures.{Measures}
-use Rattle.settings.specs.declared.cuts.Beats.{Beats}
 use Rattle.settings.specs.declared.cuts.Cut.{Cut}
 use Rattle.settings.specs.declared.cuts.CutRead.{CutRead}
 use Rattle.settings.specs.declared.cuts.CutRead.the-variants as read

@@ -1,6 +1,7 @@
 // Cuts: how many whole measures and how many beats they take.
 use super::parts::length_before;
-use tokens::{Number, number_in};
+use tokens::Number;
+use tokens::number_in;
 ghost use mathlib.Core.Path.{_≡_};
 ghost use Rattle.songcode.specs.Bytes.{placed};
 ghost use Rattle.songcode.specs.Modifiers.{cutIn};

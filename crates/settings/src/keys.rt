@@ -1,7 +1,10 @@
 // The names of keys, and their settings.
-use super::parts::{length_before, same_text};
+use super::parts::length_before;
+use super::parts::same_text;
 use super::phrases::is_phrase;
-use tokens::{Number, is_base, number_in};
+use tokens::Number;
+use tokens::is_base;
+use tokens::number_in;
 ghost use mathlib.Core.Path.{_≡_};
 ghost use Rattle.songcode.specs.Bytes.{placed};
 ghost use Rattle.songcode.specs.Keys.{keyNamed, bpmIn, timeIn};

@@ -1,7 +1,8 @@
 // The kinds of lines and blocks, and the head of a definition.
 use super::parts::same_text;
 use text::byte_at;
-use tokens::{Number, number_in};
+use tokens::Number;
+use tokens::number_in;
 ghost use mathlib.Core.Path.{_≡_};
 ghost use Rattle.songcode.specs.Bytes.{placed, is};
 ghost use Rattle.songcode.specs.Sections.{kindOf, behindFirst};

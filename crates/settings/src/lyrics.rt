@@ -1,6 +1,9 @@
 // Lyric lines: their counts, their texts without them, and the styles of these.
-use text::{byte_at, is_blank, solid_len};
-use tokens::{Number, number_in};
+use text::byte_at;
+use text::is_blank;
+use text::solid_len;
+use tokens::Number;
+use tokens::number_in;
 ghost use mathlib.Core.Path.{_≡_};
 ghost use mathlib.Core.List.{[], _∷_, reverse};
 ghost use Prim.Native.Nat.{_≤_};

@@ -1,6 +1,7 @@
 // The names of modifiers, and how often one repeats.
 use super::parts::same_text;
-use tokens::{Number, number_in};
+use tokens::Number;
+use tokens::number_in;
 ghost use mathlib.Core.Path.{_≡_};
 ghost use Rattle.songcode.specs.Bytes.{placed};
 ghost use Rattle.songcode.specs.Modifiers.{modifierNamed};

@@ -1,4 +1,4 @@
-use mathlib.Core.Path.{_≡_, refl, sym, ap, _∙_}
+use mathlib.Core.Path.{_∙_}
 use Rattle.songcode.specs.Bytes.{placed}
 use Rattle.songcode.specs.Numbers.{numberIn}
 use Rattle.songcode.specs.Keys.{bpmIn, timeIn, isSetting}

@@ -1,6 +1,4 @@
-use mathlib.Core.Path.{_≡_, refl, sym, ap, _∙_}
-use lib.ListN.{drop, drop-of-length-le}
-use native.Mathlib.Omega.{arith}
+use mathlib.Core.Path.{sym, ap, _∙_}
 use Rattle.songcode.specs.Numbers.{countIn}
 use Rattle.songcode.specs.Bytes.{placed}
 use Rattle.tokens.specs.Decimals.{numberOf}

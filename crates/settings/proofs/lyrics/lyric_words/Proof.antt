@@ -1,6 +1,5 @@
-use mathlib.Core.Path.{_≡_, refl, sym, ap, _∙_}
+use mathlib.Core.Path.{_∙_}
 use native.Mathlib.Omega.{arith}
-use mathlib.Core.Option.{none, some}
 use Rattle.songcode.specs.Bytes.{placed}
 use Rattle.songcode.specs.Lyrics.{countBehind}
 use Rattle.text.specs.Spans.{part}
