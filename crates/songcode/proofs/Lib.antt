@@ -11,7 +11,6 @@ pub mod FormLaws
 pub mod WidthsAgree
 pub mod CharactersAgree
 pub mod CharacterCounts
-pub mod CharacterParts
 pub mod CutsAgree
 pub mod LinesAgree
 pub mod PlacesAgree
