@@ -12,3 +12,4 @@ pub mod WordLaws
 pub mod CutLaws
 pub mod ReadLaws
 pub mod OfLineLaws
+pub mod BackLaws
