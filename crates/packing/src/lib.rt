@@ -1,0 +1,37 @@
+// The words of the keys, sections and items tables: "bit-packed fields, most significant first, bits not named are 0".
+// Every field is asked to fit its bits, so that no field spills into its neighbour.
+ghost use mathlib.Core.Path.{_≡_};
+ghost use Prim.Native.Nat.{_+_, _*_, _^_, _<_, _≤_};
+ghost use Rattle.songcode.specs.Tables.{sectionWord};
+
+// keys: present 1, offset 16, length 9.
+pub fn key_word(offset: usize, length: usize) -> u32
+    requires { ⌜ (offset < 65536) × (length < 512) ⌝ }
+    ensures { λ r. ⌜ r ≡ 2 ^ 31 + offset * 2 ^ 15 + length * 2 ^ 6 ⌝ }
+{
+    2147483648 + (offset as u32) * 32768 + (length as u32) * 64
+}
+
+// sections: header line 17, first measure 16, measures 16, N 6, bpm 9.
+pub fn section_word(header: usize, first: usize, measures: usize, meter: usize, tempo: usize) -> u64
+    requires { ⌜ (header < 131072) × (first < 65536) × (measures < 65536) × (meter < 64) × (tempo < 512) ⌝ }
+    ensures { λ r. ⌜ r ≡ sectionWord header first measures meter tempo ⌝ }
+{
+    (header as u64) * 140737488355328
+        + (first as u64) * 2147483648
+        + (measures as u64) * 32768
+        + (meter as u64) * 512
+        + (tempo as u64)
+}
+
+// items: text offset 16, length 16, first measure 16, measures 14, style 2.
+pub fn item_word(offset: usize, length: usize, first: usize, measures: usize, style: usize) -> u64
+    requires { ⌜ (offset < 65536) × (length < 65536) × (first < 65536) × (measures < 16384) × (style < 4) ⌝ }
+    ensures { λ r. ⌜ r ≡ offset * 2 ^ 48 + length * 2 ^ 32 + first * 2 ^ 16 + measures * 2 ^ 2 + style ⌝ }
+{
+    (offset as u64) * 281474976710656
+        + (length as u64) * 4294967296
+        + (first as u64) * 65536
+        + (measures as u64) * 4
+        + (style as u64)
+}
