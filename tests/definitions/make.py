@@ -1,7 +1,8 @@
 """Writes a crate of claims: for each chart of tests/charts that is small enough to compute, that the definitions' answer is the one in tables.jsonl.
 
-make.py CHARTS CRATE [--spoil]   CHARTS is tests/charts, CRATE the folder of the crate to write.
-With --spoil one expected word is altered, and the claim is false.
+make.py CHARTS CRATE                        claims of the charts in CHARTS (tests/charts), as the crate in the folder CRATE
+make.py CHARTS CRATE --spoil                one claim that is false: one expected word is altered
+make.py CHARTS CRATE --packed LIST ANSWERS  claims of generated charts too: a packed list and the second reader's answers to it
 """
 import json
 import pathlib
@@ -9,6 +10,8 @@ import sys
 
 LARGEST_CHART = 2000  # bytes
 LARGEST_SONG = 1200  # beats
+LARGEST_GENERATED_CHART = 400
+LARGEST_GENERATED_SONG = 200
 CHARTS_A_FILE = 100
 
 HEAD = """-- Charts and their answers, claimed of the definitions.
@@ -82,6 +85,33 @@ def claims(charts):
     yield "over-long", LARGE, f"(replicate {TOO_LONG} 65)", "refused 1 0"
 
 
+def unpacked(data):
+    """The charts of a packed list, each with the words of its header line."""
+    at = 0
+    while at < len(data):
+        end = data.index(b"\n", at)
+        header = data[at:end].split()
+        at = end + 1 + int(header[0])
+        yield header, data[end + 1 : at]
+
+
+def lengths_in(header):
+    given = dict(zip(TABLES, header[1:]))
+    return {n: LARGE[n] if given.get(n, b"-") == b"-" else int(given[n]) for n in TABLES}
+
+
+def generated(packed, answers):
+    """Charts that nobody wrote by hand, with the answers of the second reader."""
+    for (header, data), line in zip(unpacked(packed.read_bytes()), answers.read_text().splitlines(), strict=True):
+        said, *tables = line.split("|")
+        number, refusal, place, _, _, beats, _ = (int(word) for word in said.split())
+        if len(data) > LARGEST_GENERATED_CHART or beats > LARGEST_GENERATED_SONG:
+            continue
+        row = {"refusal": refusal, "line": place}
+        row.update((n, [int(w) for w in words.split()]) for n, words in zip(TABLES, tables, strict=True))
+        yield f"generated {number}", lengths_in(header), text(data), expected(row)
+
+
 def spoiled(charts):
     """One claim that is false: a beat's head bit is turned over."""
     row, data = next((row, data) for row, data in charts_in(charts) if row["beats"])
@@ -92,6 +122,8 @@ def spoiled(charts):
 def main():
     charts, crate = pathlib.Path(sys.argv[1]), pathlib.Path(sys.argv[2])
     rows = list(spoiled(charts) if "--spoil" in sys.argv else claims(charts))
+    if "--packed" in sys.argv:
+        rows += generated(pathlib.Path(sys.argv[4]), pathlib.Path(sys.argv[5]))
     (crate / "src").mkdir(parents=True)
     (crate / "specs").mkdir()
     (crate / "src" / "lib.rt").write_text("")
