@@ -1,0 +1,5 @@
+-- Laws of the definitions that the proofs of the functions cite.
+pub mod SignLaws
+pub mod StretchLaws
+pub mod PageLaws
+pub mod LookLaws
