@@ -3,3 +3,4 @@ pub mod SignLaws
 pub mod StretchLaws
 pub mod PageLaws
 pub mod LookLaws
+pub mod WalkLaws

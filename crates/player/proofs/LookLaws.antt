@@ -11,7 +11,8 @@ use lib.ListN.{length}
 use Rattle.songcode.specs.Lists.{if_then_else_}
 use Rattle.player.specs.declared.pens.Pen.{Pen}
 use Rattle.player.specs.Signs.{kindOf, wordOf, isPosition, voiceOf, chordOf, chordsOf, lastingOf, partOf, partsOf, soundsAs, soundingOf, positionsAt}
-use Rattle.player.specs.Page.{Page, Ink, Fine, inked, measureOf}
+use Rattle.player.specs.Page.{Page, Ink, Fine, inked, measureOf, play}
+use Rattle.player.specs.Walks.{End, finish, oneOf}
 use Rattle.player.proofs.SignLaws.{positions-none, positions-more, positions-next, parts-length, sounding-length}
 use Rattle.player.proofs.PageLaws.{inked-append, Moved, moved-inked}
 
@@ -81,3 +82,15 @@ beats-few n p s ps e f =
   where
     le-self : (k : ℕ) → k ≤ k
     le-self k = omega arith
+
+pub few-beats : (n at stop s share : ℕ) (ps : List ℕ) → stop ≡ at + length ps → s ≡ soundingOf ps → share ≡ n / (stop - at) → n ≤ 32 → share * s ≤ 32
+few-beats n at stop s share ps e f h k = let a = beats-few n (stop - at) s ps (omega arith) f in rw h (omega arith)
+
+-- A measure of the text.
+pub one-done : (n : ℕ) (ws : List ℕ) (to at last stop share l : ℕ) (g h : Page) → stop ≡ at + length (positionsAt ws to at) → share ≡ n / (stop - at) → l ≡ chordsOf last (positionsAt ws to at)
+    → h ≡ measureOf (partsOf share last (positionsAt ws to at)) g → _≡_ {A = End} (record { at = stop; last = l; page = h }) (finish (oneOf n ws to at last) g)
+unfolding finish oneOf play
+one-done n ws to at last stop share l g h e f k m =
+    let z : stop - at ≡ length (positionsAt ws to at) = omega arith in
+    let f' : share ≡ n / length (positionsAt ws to at) = rw z at f in
+    rw (m, f', e, k)

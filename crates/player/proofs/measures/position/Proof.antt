@@ -1,3 +1,4 @@
+use Rattle.player.proofs.LookLaws.{part-removed, part-sounds}
 use borrow.Author.Needs.{needs}
 use Rattle.player.proofs.measures.position.Statement.{statement}
 use Rattle.player.proofs.measures.position.Tie as tie
@@ -13,7 +14,7 @@ kind-requires c κs = search needs
 
 -- src/measures.rt:64:9
 returns : tie.Need-returns
-returns c = search needs
+returns c = let a = c .before .before .before .args in part-removed (a .share) (a .last) (a .w) _ (record { pen = a .p; bs = a .bs .now }) (c .before .kind .ensures) (c .if1 .taken)
 
 -- src/measures.rt:66:20
 voice-requires : tie.Need-voice-requires
@@ -29,7 +30,7 @@ same-length c = search needs
 
 -- src/measures.rt:59:1
 returns-2 : tie.Need-returns-2
-returns-2 c = search needs
+returns-2 c = let a = c .before .before .before .before .before .before .before .before .args in part-sounds (a .share) (a .last) (a .w) _ _ (record { pen = a .p; bs = a .bs .now }) _ (c .before .before .before .before .before .before .kind .ensures) (c .before .before .before .before .before .if1 .left) (c .before .before .before .before .voice .ensures .0) (c .before .before .lasting .ensures)
 
 pub position-spec : {M : Type 1} → statement M
 position-spec =

@@ -1,3 +1,10 @@
+use Rattle.player.proofs.LookLaws.{parts-next, parts-over, fine-part}
+use Rattle.player.specs.Signs.{partsOf, positionsAt}
+use Rattle.player.specs.Page.{Ink, Fine, inked}
+use lib.ListN.{length}
+use mathlib.Core.Path.{_≡_, refl}
+use native.Mathlib.Omega.{arith}
+use Prim.Native.Nat.{_≤_, _-_, _+_}
 use borrow.Author.Needs.{needs}
 use Rattle.player.proofs.measures.positions.Statement.{statement}
 use Rattle.player.proofs.measures.positions.Tie as tie
@@ -8,14 +15,14 @@ use Rattle.player.proofs.leaves.word_at.Reads as word-at-reads
 use Rattle.player.proofs.measures.position.Reads as position-reads
 
 abbrev Inv-loop : tie.InvT-loop
-Inv-loop words to at stop share last bs₀ q₀ l₀ i₀ bs q l i = ?
+Inv-loop words to at stop share last bs₀ q₀ l₀ i₀ bs q l i = (length bs ≡ length bs₀) × Fine q × (l ≤ 4227858432) × (stop ≡ i + length (positionsAt words to i)) × (_≡_ {A = Ink} (inked (partsOf share l (positionsAt words to i)) (record { pen = q; bs = bs })) (inked (partsOf share last (positionsAt words to at)) (record { pen = q₀; bs = bs₀ })))
 
 abbrev μ-loop : tie.MeasureT-loop
-μ-loop words to at stop share last bs₀ q₀ l₀ i₀ bs q l i = ?
+μ-loop words to at stop share last bs₀ q₀ l₀ i₀ bs q l i = stop - i
 
 -- src/measures.rt:77:5
 loop-holds : tie.Need-loop-holds Inv-loop μ-loop
-loop-holds c = search needs
+loop-holds c = let p = c .before .before .pre in (refl, p .0, p .1, p .2, refl)
 
 -- src/measures.rt:78:13
 word-at-requires : tie.Need-word-at-requires Inv-loop μ-loop
@@ -39,7 +46,9 @@ loop-less c = search needs
 
 -- src/measures.rt:77:5
 loop-again : tie.Need-loop-again Inv-loop μ-loop
-loop-again c = search needs
+loop-again c = let a = c .before .before .before .before .before .before .before .before .before .before .args in let l = c .before .before .before .before .before .before .before .loop in let w = c .before .before .before .before .before .word-at in let e = c .before .before .before .position in let y = c .chord-after in
+    let d = parts-next (a .words .now) (a .to) (l .i) (a .stop) (a .share) (l .l) (w .result) (y .result) _ _ _ (c .before .before .before .before .before .before .loop-test .taken) (l .inv .3) (w .ensures) (y .ensures .0) (e .ensures) (l .inv .4) in
+    (search needs, fine-part (a .share) (l .l) (w .result) _ _ (e .ensures) (l .inv .1), y .ensures .1, d .0, d .1)
 
 -- src/measures.rt:70:1
 same-length : tie.Need-same-length Inv-loop μ-loop
@@ -47,7 +56,7 @@ same-length c = search needs
 
 -- src/measures.rt:70:1
 returns : tie.Need-returns Inv-loop μ-loop
-returns c = search needs
+returns c = let a = c .before .before .before .before .args in let l = c .before .loop in parts-over (a .words .now) (a .to) (l .i) (a .stop) (a .share) (l .l) _ _ (c .loop-test .left) (l .inv .3) (l .inv .4)
 
 pub positions-spec : {M : Type 1} → statement M
 positions-spec =
