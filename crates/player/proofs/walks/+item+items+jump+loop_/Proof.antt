@@ -1,3 +1,13 @@
+use Rattle.player.proofs.WalkLaws.{fine-end, stop-test, rows-stop, rows-next, rows-end, level-none, level-more, item-loop, item-refer, item-separator, item-one, refer-done, loop-done, loop-next, loop-over, loop-early, item-onward, level-onward, end-onward}
+use Rattle.player.proofs.SignLaws.{stop-inside}
+use Rattle.player.specs.Walks.{Read, End, finish, itemOf, rowsBy, level}
+use Rattle.player.specs.Page.{Page, Fine, play}
+use Rattle.songcode.specs.Lists.{times}
+use lib.ListN.{length}
+use native.Mathlib.Nat.{sub-zero}
+use native.Mathlib.Omega.{arith}
+use mathlib.Core.Path.{_≡_, refl, ap}
+use Prim.Native.Nat.{_+_, _-_, _*_, _≤_}
 use borrow.Author.Needs.{needs}
 use Prim.Native.Nat.{ℕ, _<_}
 use borrow.Fn.Kinds.{In}
@@ -27,16 +37,16 @@ use Rattle.player.proofs.walks.+item+items+jump+loop_.{statement}
 use Rattle.player.proofs.walks.+item+items+jump+loop_.Tie.{close}
 
 abbrev μ-item : Measures 3 item-kinds.ps ℕ
-μ-item κs a = ?
+μ-item κs a = 3 * (a .1 .1 .1 .1 .1 .1 .0) + 2
 
 abbrev μ-items : Measures 3 items-kinds.ps ℕ
-μ-items κs a = ?
+μ-items κs a = 3 * (a .1 .1 .1 .1 .1 .1 .0)
 
 abbrev μ-jump : Measures 3 jump-kinds.ps ℕ
-μ-jump κs a = ?
+μ-jump κs a = 3 * (a .1 .1 .1 .1 .1 .1 .0) + 1
 
 abbrev μ-loop- : Measures 3 loop--kinds.ps ℕ
-μ-loop- κs a = ?
+μ-loop- κs a = 3 * (a .1 .1 .1 .1 .1 .1 .0) + 1
 
 abbrev item-at : ℕ → In 3 item-kinds.ps
 item-at t = and 3 item-kinds.ps (is 3 item-kinds.ps μ-item t) item.Pre
@@ -193,7 +203,7 @@ item-returns : (t : ℕ) → item-lts.Need-returns (
   measure-reads.Asked,
   measure-reads.Learnt,
 ) (item-at t) item.Post
-item-returns t c = search needs
+item-returns t c = let q = c .before .before .before .before .before .before .before .before .before .before .before .before .before in let a = q .args in let ws = a .words .now in let g : Page = record { pen = a .p; ms = a .ms .now; bs = a .bs .now } in let inner = level (a .depth) (a .d) (a .n) ws in (item-loop inner (a .d) (a .n) ws (a .to) (a .at) (a .last) _ _ _ g (c .before .before .before .before .before .before .before .before .before .word-at .ensures) (c .before .before .before .before .before .before .before .before .kind .ensures) (c .before .before .before .before .before .before .before .if1 .taken) (c .before .before .before .before .loop- .ensures .0), c .before .before .before .before .loop- .ensures .1)
 
 -- src/walks.rt:52:34
 item-number-requires : (t : ℕ) → item-lts.Need-number-requires (
@@ -288,7 +298,7 @@ item-returns-2 : (t : ℕ) → item-lts.Need-returns-2 (
   measure-reads.Asked,
   measure-reads.Learnt,
 ) (item-at t) item.Post
-item-returns-2 t c = search needs
+item-returns-2 t c = let q = c .before .before .before .before .before .before .before .before .before .before .before .before .before .before .before in let a = q .args in let ws = a .words .now in let g : Page = record { pen = a .p; ms = a .ms .now; bs = a .bs .now } in let inner = level (a .depth) (a .d) (a .n) ws in (item-refer inner (a .d) (a .n) ws (a .to) (a .at) (a .last) _ _ _ _ g (c .before .before .before .before .before .before .before .before .before .before .before .word-at .ensures) (c .before .before .before .before .before .before .before .before .before .before .kind .ensures) (c .before .before .before .before .before .before .before .before .before .if1 .left) (c .before .before .before .before .before .before .before .before .if2 .taken) (c .before .before .before .before .before .before .before .number .ensures .0) (c .before .before .before .before .jump .ensures .0), c .before .before .before .before .jump .ensures .1)
 
 -- src/walks.rt:54:8
 item-is-separator-requires : (t : ℕ) → item-lts.Need-is-separator-requires (
@@ -345,7 +355,7 @@ item-returns-3 : (t : ℕ) → item-lts.Need-returns-3 (
   measure-reads.Asked,
   measure-reads.Learnt,
 ) (item-at t) item.Post
-item-returns-3 t c = search needs
+item-returns-3 t c = let q = c .before .before .before .before .before .before .before .before .before in let a = q .args in let ws = a .words .now in let g : Page = record { pen = a .p; ms = a .ms .now; bs = a .bs .now } in let inner = level (a .depth) (a .d) (a .n) ws in (item-separator inner (a .d) (a .n) ws (a .to) (a .at) (a .last) _ _ _ g (c .before .before .before .before .before .word-at .ensures) (c .before .before .before .before .kind .ensures) (c .before .before .before .if1 .left) (c .before .before .if2 .left) (c .before .is-separator .ensures) (c .if3 .taken), q .pre .1 .1)
 
 -- src/walks.rt:57:5
 item-measure-requires : (t : ℕ) → item-lts.Need-measure-requires (
@@ -421,13 +431,13 @@ item-returns-4 : (t : ℕ) → item-lts.Need-returns-4 (
   measure-reads.Asked,
   measure-reads.Learnt,
 ) (item-at t) item.Post
-item-returns-4 t c = search needs
+item-returns-4 t c = let q = c .before .before .before .before .before .before .before .before .before .before .before .before .before .before .before .before in let a = q .args in let ws = a .words .now in let g : Page = record { pen = a .p; ms = a .ms .now; bs = a .bs .now } in let inner = level (a .depth) (a .d) (a .n) ws in (item-one inner (a .d) (a .n) ws (a .to) (a .at) (a .last) _ _ _ _ g (c .before .before .before .before .before .before .before .before .before .before .before .before .word-at .ensures) (c .before .before .before .before .before .before .before .before .before .before .before .kind .ensures) (c .before .before .before .before .before .before .before .before .before .before .if1 .left) (c .before .before .before .before .before .before .before .before .before .if2 .left) (c .before .before .before .before .before .before .before .before .is-separator .ensures) (c .before .before .before .before .before .before .before .if3 .left) (c .before .before .before .before .measure .ensures .0), c .before .before .before .before .measure .ensures .1)
 
 abbrev items-Inv-loop : items-lts.InvT-loop
-items-Inv-loop words d n to at last depth ms₀ bs₀ w₀ ms bs w = ?
+items-Inv-loop words d n to at last depth ms₀ bs₀ w₀ ms bs w = (f : ℕ) × (to ≤ w .at + f) × (w .last ≤ 4227858432) × Fine (w .pen) × (length ms ≡ length ms₀) × (length bs ≡ length bs₀) × (_≡_ {A = End} (finish (rowsBy (level (depth - 1) d n words) d n words f to (w .at) (w .last)) (record { pen = w .pen; ms = ms; bs = bs })) (finish (level depth d n words to at last) (record { pen = w₀ .pen; ms = ms₀; bs = bs₀ })))
 
 abbrev items-μ-loop : items-lts.MeasureT-loop
-items-μ-loop words d n to at last depth ms₀ bs₀ w₀ ms bs w = ?
+items-μ-loop words d n to at last depth ms₀ bs₀ w₀ ms bs w = to - w .at
 
 -- src/walks.rt:29:9
 items-returns : (t : ℕ) → items-lts.Need-returns (
@@ -440,7 +450,7 @@ items-returns : (t : ℕ) → items-lts.Need-returns (
   item-below t,
   item.Post,
 ) (items-at t) items.Post items-Inv-loop items-μ-loop
-items-returns t c = search needs
+items-returns t c = let q = c .before .before .before .before in let a = q .args in let ws = a .words .now in let g : Page = record { pen = a .p; ms = a .ms .now; bs = a .bs .now } in let inner = level (a .depth) (a .d) (a .n) ws in (level-none (a .depth) (a .d) (a .n) ws (a .to) (a .at) (a .last) g (c .if1 .taken), q .pre .1 .1)
 
 -- src/walks.rt:31:5
 items-loop-holds : (t : ℕ) → items-lts.Need-loop-holds (
@@ -453,7 +463,7 @@ items-loop-holds : (t : ℕ) → items-lts.Need-loop-holds (
   item-below t,
   item.Post,
 ) (items-at t) items.Post items-Inv-loop items-μ-loop
-items-loop-holds t c = search needs
+items-loop-holds t c = let q = c .before .before .before .before in let a = q .args in let ws = a .words .now in let g : Page = record { pen = a .p; ms = a .ms .now; bs = a .bs .now } in let inner = level (a .depth) (a .d) (a .n) ws in (a .to, omega arith, q .pre .1 .1, q .pre .1 .0, refl, refl, ap (λ (r : Read). finish r g) (level-more (a .depth) (a .d) (a .n) ws (a .to) (a .at) (a .last) (c .if1 .left)))
 
 -- src/walks.rt:33:25
 items-word-at-requires : (t : ℕ) → items-lts.Need-word-at-requires (
@@ -531,7 +541,7 @@ items-returns-2 : (t : ℕ) → items-lts.Need-returns-2 (
   item-below t,
   item.Post,
 ) (items-at t) items.Post items-Inv-loop items-μ-loop
-items-returns-2 t c = search needs
+items-returns-2 t c = let a = c .before .before .before .before .before .before .before .before .before .args in let ws = a .words .now in let l = c .before .before .before .before .loop in let g : Page = record { pen = l .w .pen; ms = l .ms; bs = l .bs } in let inner = level (a .depth - 1) (a .d) (a .n) ws in let t = stop-test ws (a .to) (l .w .at) _ _ (c .before .is-stop .result) _ (c .before .before .before .word-at .ensures) (c .before .before .kind .ensures) (c .before .is-stop .ensures) (c .if2 .taken) in (rows-end _ (l .w .at) (l .w .last) g _ (rows-stop inner (a .d) (a .n) ws (l .inv .0) (a .to) (l .w .at) (l .w .last) t) (l .inv .6), l .inv .2)
 
 -- src/walks.rt:36:46
 items-sub-item : (t : ℕ) → items-lts.Need-sub-item (
@@ -557,7 +567,7 @@ items-item-requires : (t : ℕ) → items-lts.Need-item-requires (
   item-below t,
   item.Post,
 ) (items-at t) items.Post items-Inv-loop items-μ-loop
-items-item-requires t c κs = search needs
+items-item-requires t c κs = let a = c .before .before .before .before .before .before .before .before .before .before .before .args in let ws = a .words .now in let l = c .before .before .before .before .before .before .loop in let g : Page = record { pen = l .w .pen; ms = l .ms; bs = l .bs } in let inner = level (a .depth - 1) (a .d) (a .n) ws in let t = stop-test ws (a .to) (l .w .at) _ _ (c .before .before .before .is-stop .result) _ (c .before .before .before .before .before .word-at .ensures) (c .before .before .before .before .kind .ensures) (c .before .before .before .is-stop .ensures) (c .before .before .if2 .left) in let h = stop-inside ws (a .to) (l .w .at) t in search needs
 
 -- src/walks.rt:31:5
 items-loop-less : (t : ℕ) → items-lts.Need-loop-less (
@@ -570,7 +580,7 @@ items-loop-less : (t : ℕ) → items-lts.Need-loop-less (
   item-below t,
   item.Post,
 ) (items-at t) items.Post items-Inv-loop items-μ-loop
-items-loop-less t c = search needs
+items-loop-less t c = let a = c .before .before .before .before .before .before .before .before .before .before .before .before .before .before .before .before .args in let ws = a .words .now in let l = c .before .before .before .before .before .before .before .before .before .before .before .loop in let g : Page = record { pen = l .w .pen; ms = l .ms; bs = l .bs } in let inner = level (a .depth - 1) (a .d) (a .n) ws in let t = stop-test ws (a .to) (l .w .at) _ _ (c .before .before .before .before .before .before .before .before .is-stop .result) _ (c .before .before .before .before .before .before .before .before .before .before .word-at .ensures) (c .before .before .before .before .before .before .before .before .before .kind .ensures) (c .before .before .before .before .before .before .before .before .is-stop .ensures) (c .before .before .before .before .before .before .before .if2 .left) in let h = stop-inside ws (a .to) (l .w .at) t in let e = end-onward (l .w .at + 1) _ (itemOf inner (a .d) (a .n) ws (a .to) (l .w .at) (l .w .last)) g (c .before .before .before .before .item .ensures .0) (item-onward inner (a .d) (a .n) ws (a .to) (l .w .at) (l .w .last) (level-onward (a .depth - 1) (a .d) (a .n) ws) t) in omega (arith, e, h)
 
 -- src/walks.rt:31:5
 items-loop-again : (t : ℕ) → items-lts.Need-loop-again (
@@ -583,7 +593,8 @@ items-loop-again : (t : ℕ) → items-lts.Need-loop-again (
   item-below t,
   item.Post,
 ) (items-at t) items.Post items-Inv-loop items-μ-loop
-items-loop-again t c = search needs
+items-loop-again t c = let a = c .before .before .before .before .before .before .before .before .before .before .before .before .before .before .before .before .args in let ws = a .words .now in let l = c .before .before .before .before .before .before .before .before .before .before .before .loop in let g : Page = record { pen = l .w .pen; ms = l .ms; bs = l .bs } in let inner = level (a .depth - 1) (a .d) (a .n) ws in let t = stop-test ws (a .to) (l .w .at) _ _ (c .before .before .before .before .before .before .before .before .is-stop .result) _ (c .before .before .before .before .before .before .before .before .before .before .word-at .ensures) (c .before .before .before .before .before .before .before .before .before .kind .ensures) (c .before .before .before .before .before .before .before .before .is-stop .ensures) (c .before .before .before .before .before .before .before .if2 .left) in let h = stop-inside ws (a .to) (l .w .at) t in let e = end-onward (l .w .at + 1) _ (itemOf inner (a .d) (a .n) ws (a .to) (l .w .at) (l .w .last)) g (c .before .before .before .before .item .ensures .0) (item-onward inner (a .d) (a .n) ws (a .to) (l .w .at) (l .w .last) (level-onward (a .depth - 1) (a .d) (a .n) ws) t) in
+    (l .inv .0 - 1, omega (arith, e, h, l .inv .1), c .before .before .before .before .item .ensures .1, fine-end _ (itemOf inner (a .d) (a .n) ws (a .to) (l .w .at) (l .w .last)) g (c .before .before .before .before .item .ensures .0) (l .inv .3), search needs, search needs, rows-next inner (a .d) (a .n) ws (l .inv .0) (a .to) (l .w .at) (l .w .last) g _ _ (omega (arith, h, l .inv .1)) t (c .before .before .before .before .item .ensures .0) (l .inv .6))
 
 -- src/walks.rt:66:9
 jump-stretch-of-requires : (t : ℕ) → jump-lts.Need-stretch-of-requires (
@@ -637,13 +648,13 @@ jump-returns : (t : ℕ) → jump-lts.Need-returns (
   items-below t,
   items.Post,
 ) (jump-at t) jump.Post
-jump-returns t c = search needs
+jump-returns t c = let q = c .before .before .before .before .before .before .before .before .before .before .before .before in let a = q .args in let ws = a .words .now in let g : Page = record { pen = a .p; ms = a .ms .now; bs = a .bs .now } in let inner = level (a .depth) (a .d) (a .n) ws in (refer-done inner (a .d) (a .n) ws (a .x) (a .at) (a .last) _ _ g (c .before .before .before .before .before .before .before .before .stretch-of .ensures) (c .before .before .before .before .before .items .ensures .0), c .before .before .before .before .before .items .ensures .1)
 
 abbrev loop--Inv-loop : loop--lts.InvT-loop
-loop--Inv-loop words d n to at last depth ms₀ bs₀ w k end q₀ i₀ ms bs q i = ?
+loop--Inv-loop words d n to at last depth ms₀ bs₀ w k end q₀ i₀ ms bs q i = (i ≤ k) × Fine q × (length ms ≡ length ms₀) × (length bs ≡ length bs₀) × (_≡_ {A = Page} (play (times (k - i) (level depth d n words to at last .row)) (record { pen = q; ms = ms; bs = bs })) (play (times k (level depth d n words to at last .row)) (record { pen = q₀; ms = ms₀; bs = bs₀ })))
 
 abbrev loop--μ-loop : loop--lts.MeasureT-loop
-loop--μ-loop words d n to at last depth ms₀ bs₀ w k end q₀ i₀ ms bs q i = ?
+loop--μ-loop words d n to at last depth ms₀ bs₀ w k end q₀ i₀ ms bs q i = k - i
 
 -- src/walks.rt:82:9
 loop--items-requires : (t : ℕ) → loop--lts.Need-items-requires (
@@ -687,7 +698,7 @@ loop--loop-holds : (t : ℕ) → loop--lts.Need-loop-holds (
   behind-reads.Asked,
   behind-reads.Learnt,
 ) (loop--at t) loop-.Post loop--Inv-loop loop--μ-loop
-loop--loop-holds t c = search needs
+loop--loop-holds t c = let q = c .before .before .before .before .before .before .before .before .before .before .before .before .before in let a = q .args in let ws = a .words .now in let g : Page = record { pen = a .p; ms = a .ms .now; bs = a .bs .now } in let inner = level (a .depth) (a .d) (a .n) ws in (omega arith, fine-end _ (level (a .depth) (a .d) (a .n) ws (a .to) (a .at) (a .last)) g (c .before .before .before .before .before .before .before .items .ensures .0) (q .pre .1 .0), refl, refl, rw (sub-zero (c .before .before .passes .result)))
 
 -- src/walks.rt:89:13
 loop--same-length : (t : ℕ) → loop--lts.Need-same-length (
@@ -720,7 +731,7 @@ loop--returns : (t : ℕ) → loop--lts.Need-returns (
   behind-reads.Asked,
   behind-reads.Learnt,
 ) (loop--at t) loop-.Post loop--Inv-loop loop--μ-loop
-loop--returns t c = search needs
+loop--returns t c = let a = c .before .before .before .before .before .before .before .before .before .before .before .before .before .before .before .before .before .args in let ws = a .words .now in let l = c .before .before .before .loop in let g : Page = record { pen = l .q; ms = l .ms; bs = l .bs } in let row = (level (a .depth) (a .d) (a .n) ws (a .to) (a .at) (a .last)) .row in (loop-done (level (a .depth) (a .d) (a .n) ws) (a .d) (a .n) ws (a .to) (a .at) (a .last) _ _ _ (record { pen = a .p; ms = a .ms .now; bs = a .bs .now }) g (c .before .before .before .before .before .before .before .before .before .before .before .items .ensures .0) (c .before .before .before .before .before .before .passes .ensures .0) (c .before .before .before .before .before .behind .ensures .0) (loop-early row _ g _ (c .if1 .taken) (l .inv .4)), c .before .before .before .before .before .before .before .before .before .before .before .items .ensures .1)
 
 -- src/walks.rt:91:13
 loop--items-requires-2 : (t : ℕ) → loop--lts.Need-items-requires-2 (
@@ -764,7 +775,7 @@ loop--loop-again : (t : ℕ) → loop--lts.Need-loop-again (
   behind-reads.Asked,
   behind-reads.Learnt,
 ) (loop--at t) loop-.Post loop--Inv-loop loop--μ-loop
-loop--loop-again t c = search needs
+loop--loop-again t c = let a = c .before .before .before .before .before .before .before .before .before .before .before .before .before .before .before .before .before .before .before .before .before .before .before .before .before .args in let ws = a .words .now in let l = c .before .before .before .before .before .before .before .before .before .before .before .loop in let g : Page = record { pen = l .q; ms = l .ms; bs = l .bs } in let row = (level (a .depth) (a .d) (a .n) ws (a .to) (a .at) (a .last)) .row in (omega arith, fine-end _ (level (a .depth) (a .d) (a .n) ws (a .to) (a .at) (a .last)) g (c .before .before .before .before .before .items2 .ensures .0) (l .inv .1), search needs, search needs, loop-next row (c .before .before .before .before .before .before .before .before .before .before .before .before .before .before .passes .result) (l .i) g _ (level (a .depth) (a .d) (a .n) ws (a .to) (a .at) (a .last)) _ (c .before .before .before .before .before .before .before .before .before .before .loop-test .taken) refl (c .before .before .before .before .before .items2 .ensures .0) (l .inv .4))
 
 -- src/walks.rt:77:1
 loop--same-length-3 : (t : ℕ) → loop--lts.Need-same-length-3 (
@@ -797,7 +808,7 @@ loop--returns-2 : (t : ℕ) → loop--lts.Need-returns-2 (
   behind-reads.Asked,
   behind-reads.Learnt,
 ) (loop--at t) loop-.Post loop--Inv-loop loop--μ-loop
-loop--returns-2 t c = search needs
+loop--returns-2 t c = let a = c .before .before .before .before .before .before .before .before .before .before .before .before .before .before .before .args in let ws = a .words .now in let l = c .before .loop in let g : Page = record { pen = l .q; ms = l .ms; bs = l .bs } in let row = (level (a .depth) (a .d) (a .n) ws (a .to) (a .at) (a .last)) .row in (loop-done (level (a .depth) (a .d) (a .n) ws) (a .d) (a .n) ws (a .to) (a .at) (a .last) _ _ _ (record { pen = a .p; ms = a .ms .now; bs = a .bs .now }) g (c .before .before .before .before .before .before .before .before .before .items .ensures .0) (c .before .before .before .before .passes .ensures .0) (c .before .before .before .behind .ensures .0) (loop-over row (c .before .before .before .before .passes .result) (l .i) g _ (c .loop-test .left) (l .inv .4)), c .before .before .before .before .before .before .before .before .before .items .ensures .1)
 
 pub +item+items+jump+loop--spec : {M : Type 1} → statement M
 +item+items+jump+loop--spec = close μ-item μ-items μ-jump μ-loop- (λ t. item-lts.spec (
