@@ -4,3 +4,5 @@ pub mod StretchLaws
 pub mod PageLaws
 pub mod LookLaws
 pub mod WalkLaws
+pub mod ContentLaws
+pub mod ShortLaws
