@@ -25,7 +25,7 @@ ink-of p bs = record { pen = p; bs = bs }
 abbrev page-of : Pen → List ℕ → List ℕ → Page
 page-of p ms bs = record { pen = p; ms = ms; bs = bs }
 
-sets-append : (t : List ℕ) (i : ℕ) (xs ys : List ℕ) → sets t i (xs ++ ys) ≡ sets (sets t i xs) (i + length xs) ys
+pub sets-append : (t : List ℕ) (i : ℕ) (xs ys : List ℕ) → sets t i (xs ++ ys) ≡ sets (sets t i xs) (i + length xs) ys
 sets-append t i [] ys = let e : i + 0 ≡ i = omega arith in rw e
 sets-append t i (x ∷ xs) ys = let e : i + suc (length xs) ≡ suc i + length xs = omega arith in rw e (sets-append (set t i x) (suc i) xs ys)
 

@@ -6,3 +6,5 @@ pub mod LookLaws
 pub mod WalkLaws
 pub mod ContentLaws
 pub mod ShortLaws
+pub mod WindowLaws
+pub mod SectionLaws

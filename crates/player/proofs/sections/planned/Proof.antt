@@ -1,3 +1,6 @@
+use Rattle.player.proofs.SectionLaws.{planned-is}
+use Rattle.player.specs.Walks.{rowOf}
+use Rattle.songcode.specs.Lists.{times}
 use borrow.Author.Needs.{needs}
 use Rattle.player.proofs.sections.planned.Statement.{statement}
 use Rattle.player.proofs.sections.planned.Tie as tie
@@ -41,7 +44,7 @@ minus-requires-3 c κs = search needs
 
 -- src/sections.rt:72:1
 returns : tie.Need-returns
-returns c = search needs
+returns c = let q = c .before .before .before .before .before .before .before .before .before .before in let a = q .args in let row = times (a .r) (rowOf (a .d) (a .n) (a .words .now) (a .s)) in let w = planned-is row (a .front) (a .back) _ _ _ _ _ _ _ (q .pre .1) (c .before .before .before .before .before .before .before .before .tally .ensures .0) (c .before .before .before .before .before .before .before .least .ensures) (c .before .before .before .before .before .before .tally2 .ensures .1 .0) (c .before .before .before .before .before .minus .ensures) (c .before .before .before .before .tally3 .ensures .1 .0) (c .before .minus2 .ensures) (c .minus3 .ensures) in (w .0, (w .1, w .2))
 
 pub planned-spec : {M : Type 1} → statement M
 planned-spec =
