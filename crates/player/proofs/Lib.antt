@@ -8,3 +8,4 @@ pub mod ContentLaws
 pub mod ShortLaws
 pub mod WindowLaws
 pub mod SectionLaws
+pub mod CutLaws

@@ -3,10 +3,15 @@ use Prim.Native.Nat.{ℕ, zero, suc, _+_, _-_, _*_}
 use mathlib.Core.List.{List, [], _∷_, _++_}
 use lib.ListN.{length, take, drop}
 use Rattle.songcode.specs.Lists.{times}
+use Rattle.songcode.specs.Song as Song
 use Rattle.songcode.specs.Tables.{measureWord}
 use Rattle.songcode.specs.Playing.{keep}
 use Rattle.songcode.specs.Performance.{total}
 use Rattle.player.specs.declared.sections.Cut.{Cut}
+
+-- A cut of the description as the code's value.
+unfoldable pub cutOf : Song.Cut → Cut
+cutOf c = record { whole = record { 0 = c .whole .measures }; further = record { 0 = c .further .beats } }
 
 module _ {A : Type 0} where
   -- What is left when s beats are passed over and n are kept; a measure with no beats left is gone.
