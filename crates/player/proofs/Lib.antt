@@ -9,3 +9,6 @@ pub mod ShortLaws
 pub mod WindowLaws
 pub mod SectionLaws
 pub mod CutLaws
+pub mod SoundLaws
+pub mod PutInLaws
+pub mod Meaning
