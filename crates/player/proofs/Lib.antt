@@ -12,3 +12,4 @@ pub mod CutLaws
 pub mod SoundLaws
 pub mod PutInLaws
 pub mod Meaning
+pub mod SectionMeaning
