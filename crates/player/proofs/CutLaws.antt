@@ -118,9 +118,18 @@ module _ {A : Type 0} where
   turned-lose k [] = rw turned-nil turned-nil
   turned-lose k (x ∷ xs) =
       let e : length x + total xs - k - length x ≡ total xs - k = omega arith in
-      rw (turned-cons x xs, lose-append k (turned xs) (reverse x ∷ []), total-turned xs, turned-append (lose k (turned xs)) (keep (drop (k - total xs) (reverse x)) []), turned-keep (drop (k - total xs) (reverse x)), reverse-drop (k - total xs) x, turned-lose k xs, e,
+      rw (
+        turned-cons x xs,
+        lose-append k (turned xs) (reverse x ∷ []),
+        total-turned xs,
+        turned-append (lose k (turned xs)) (keep (drop (k - total xs) (reverse x)) []),
+        turned-keep (drop (k - total xs) (reverse x)),
+        reverse-drop (k - total xs) x,
+        turned-lose k xs,
+        e,
         ← keep-append (take (length x - (k - total xs)) x) [] (stay (total xs - k) xs),
-        take-same (length x - (k - total xs)) (length x + total xs - k) x (ends (length x) (total xs) k))
+        take-same (length x - (k - total xs)) (length x + total xs - k) x (ends (length x) (total xs) k),
+      )
 
   -- Beats of what was lost and kept.
   total-lose : (n : ℕ) (row : List (List A)) → total (lose n row) ≡ total row - n

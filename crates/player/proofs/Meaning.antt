@@ -131,7 +131,7 @@ module _ (ws : List ℕ) (d : Definitions) (n : ℕ) where
           walked = rw (o .not-open, o .not-refer, o .not-separator, if_then_else_) (record {
             row-is = rw (l, ps) (ap (λ x. x ∷ []) (measure-beats n last m h));
             last-is = rw ps (measure-chord last m h);
-            text-is = rw l (sym (drop-drop (positions m) at (take to ws)) ∙ ap (drop (positions m)) e ∙ measure-drop m k)
+            text-is = rw l (sym (drop-drop (positions m) at (take to ws)) ∙ ap (drop (positions m)) e ∙ measure-drop m k);
           });
           goes-on = o .not-stop;
           inside = position-inside ws to at p;
@@ -149,7 +149,7 @@ module _ (ws : List ℕ) (d : Definitions) (n : ℕ) where
           walked = rw (o, z, c .0, c .1) (record {
             row-is = rw (w .row-is) (sym (times-one j (rowWords row) h) ∙ sym (words-times j row));
             last-is = w .last-is;
-            text-is = behind-here ws to (r .at) (tokenWord (closes j)) (tokenWords k) (w .text-is)
+            text-is = behind-here ws to (r .at) (tokenWord (closes j)) (tokenWords k) (w .text-is);
           });
           goes-on = rw o;
           inside = inside-here ws to at 3825205248 x e;
