@@ -13,3 +13,4 @@ pub mod SoundLaws
 pub mod PutInLaws
 pub mod Meaning
 pub mod SectionMeaning
+pub mod Walkables

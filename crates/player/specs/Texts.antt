@@ -40,6 +40,19 @@ unfolding ChordFits
 ChordsFit (only s) = ChordFits s
 ChordsFit (also ss s) = ChordsFit ss × ChordFits s
 
+-- Every chord and every number of the items fits its word.
+unfoldable mutual
+  unfolding ChordsFit
+
+  pub ItemFits : Item → Type 0
+  ItemFits (measure m) = ChordsFit (m .sounds)
+  ItemFits (loop r n) = (1 ≤ n) × (n < 67108864) × ItemsFit r
+  ItemFits (refer n) = n < 67108864
+
+  pub ItemsFit : Items → Type 0
+  ItemsFit (one i) = ItemFits i
+  ItemsFit (next r s i) = ItemsFit r × ItemFits i
+
 -- Items that can be walked where those inside can: numbers fit a word, and references say what stands in the definitions.
 module _ (ws : List ℕ) (d : Definitions) (f : ℕ → Option Items) where
   -- What the reference says: items that stand in its definition's stretch and hold no reference.
