@@ -13,7 +13,7 @@ use Rattle.songcode.specs.Performance.{total}
 use Rattle.songcode.proofs.TurnedRows.{total-append}
 use Rattle.songcode.proofs.ListLaws.{by-cases}
 use Rattle.player.specs.declared.pens.Pen.{Pen}
-use Rattle.player.specs.declared.sections.Cut.{Cut}
+use Rattle.settings.specs.declared.cuts.Cut.{Cut}
 use Rattle.player.specs.Page.{Page, Fine, play}
 use Rattle.player.specs.Windows.{window, firstBeat, lastBeat, keptOf, wholeOf, sectionRow, flat, heads}
 use Rattle.player.proofs.PageLaws.{fine-play}
@@ -44,15 +44,15 @@ take-capped m row h =
     (λ e. let l = leb-true m 65536 e in let z : min m 65536 ≡ m = omega arith in rw z)
     (λ e. let l = leb-false m 65536 e in let z : min m 65536 ≡ 65536 = omega arith in rw z (take-all 65536 row (omega arith) ∙ sym (take-all m row (omega arith))))
 
-pub planned-is : (row : List (List ℕ)) (f k : Cut) (a j x i y u v : ℕ) → length row ≤ 65535 → a ≡ min 65536 (length row) → j ≡ min (f .whole .0) 65536 → x ≡ total (take j row) → i ≡ a - k .whole .0
-    → y ≡ total (take i row) → u ≡ y - k .further .0 → v ≡ u - (x + f .further .0)
-    → (a ≡ length row) × (x + f .further .0 ≡ firstBeat f row) × (v ≡ lastBeat k row - firstBeat f row)
+pub planned-is : (row : List (List ℕ)) (f k : Cut) (a j x i y u v : ℕ) → length row ≤ 65535 → a ≡ min 65536 (length row) → j ≡ min (f .measures .0) 65536 → x ≡ total (take j row) → i ≡ a - k .measures .0
+    → y ≡ total (take i row) → u ≡ y - k .beats .0 → v ≡ u - (x + f .beats .0)
+    → (a ≡ length row) × (x + f .beats .0 ≡ firstBeat f row) × (v ≡ lastBeat k row - firstBeat f row)
 unfolding firstBeat lastBeat
 planned-is row f k a j x i y u v h p e q o r s w =
     let a' : a ≡ length row = omega arith in
-    let x' : x ≡ total (take (f .whole .0) row) = q ∙ rw e (ap total (take-capped (f .whole .0) row h)) in
-    let i' : i ≡ length row - k .whole .0 = rw a' at o in
-    let y' : y ≡ total (take (length row - k .whole .0) row) = rw i' at r in
+    let x' : x ≡ total (take (f .measures .0) row) = q ∙ rw e (ap total (take-capped (f .measures .0) row h)) in
+    let i' : i ≡ length row - k .measures .0 = rw a' at o in
+    let y' : y ≡ total (take (length row - k .measures .0) row) = rw i' at r in
     (a', rw x', rw (← y', ← x') (omega arith))
 
 -- What was written so far: the words of a row from the first place of both tables on.
@@ -129,8 +129,8 @@ total-whole row = rw (total-window 0 (total row) row) (omega arith)
 pub total-kept : (f k : Cut) (row : List (List ℕ)) → (total (keptOf f k row) ≤ lastBeat k row - firstBeat f row) × (lastBeat k row - firstBeat f row ≤ total row)
 unfolding keptOf lastBeat
 total-kept f k row =
-    let t = total-take-le (length row - k .whole .0) row in
-    (rw (total-window (firstBeat f row) (total (take (length row - k .whole .0) row) - k .further .0 - firstBeat f row) row) (omega arith), omega arith)
+    let t = total-take-le (length row - k .measures .0) row in
+    (rw (total-window (firstBeat f row) (total (take (length row - k .measures .0) row) - k .beats .0 - firstBeat f row) row) (omega arith), omega arith)
 
 pub fine-rounds : (row : List (List ℕ)) (g : Page) (q : Pen) (ms bs : List ℕ) → page q ms bs ≡ play row g → Fine (g .pen) → Fine q
 fine-rounds row g q ms bs e f = subst (λ (h : Page). Fine (h .pen)) (sym e) (fine-play row g f)

@@ -13,7 +13,7 @@ use Rattle.songcode.specs.Performance.{total}
 use Rattle.songcode.specs.Tables.{beatWord, measureWords}
 use Rattle.songcode.proofs.RowLaws.{Filled, filled-times}
 use Rattle.songcode.proofs.CutFront.{filled-cutFront}
-use Rattle.player.specs.declared.sections.Cut as code
+use Rattle.settings.specs.declared.cuts.Cut as code
 use Rattle.player.specs.Texts.{rowWords}
 use Rattle.player.specs.Windows.{cutOf, cutSaid, window, firstBeat, lastBeat, keptOf, wholeOf, sectionRow, flat, heads}
 use Rattle.player.proofs.WindowLaws.{whole-filled, total-window, window-none, total-take-le}
@@ -36,8 +36,8 @@ kept-none f b row e = rw e (window-none (firstBeat f row) row)
 pub kept-total : {A : Type 0} (f b : code.Cut) (row : List (List A)) → total (keptOf f b row) ≡ lastBeat b row - firstBeat f row
 unfolding keptOf lastBeat
 kept-total f b row =
-    let t = total-take-le (length row - b .whole .0) row in
-    total-window (firstBeat f row) (total (take (length row - b .whole .0) row) - b .further .0 - firstBeat f row) row ∙ omega arith
+    let t = total-take-le (length row - b .measures .0) row in
+    total-window (firstBeat f row) (total (take (length row - b .measures .0) row) - b .beats .0 - firstBeat f row) row ∙ omega arith
 
 -- The words of rows: as many measures and beats, and the same cuts.
 module _ {A B : Type 0} (f : A → B) where
@@ -89,11 +89,11 @@ rows-window s n row = window-words beatWord s n row
 
 first-words : (c : code.Cut) (row : List (List Beat)) → firstBeat c (rowWords row) ≡ firstBeat c row
 unfolding firstBeat
-first-words c row = rw (rows-take (c .whole .0) row, rows-total (take (c .whole .0) row))
+first-words c row = rw (rows-take (c .measures .0) row, rows-total (take (c .measures .0) row))
 
 last-words : (c : code.Cut) (row : List (List Beat)) → lastBeat c (rowWords row) ≡ lastBeat c row
 unfolding lastBeat
-last-words c row = rw (rows-length row, rows-take (length row - c .whole .0) row, rows-total (take (length row - c .whole .0) row))
+last-words c row = rw (rows-length row, rows-take (length row - c .measures .0) row, rows-total (take (length row - c .measures .0) row))
 
 kept-words : (f b : code.Cut) (row : List (List Beat)) → keptOf f b (rowWords row) ≡ rowWords (keptOf f b row)
 unfolding keptOf

@@ -50,14 +50,14 @@ walked = refl
 abbrev two : List (List ℕ)
 two = (1 ∷ 2 ∷ 3 ∷ 4 ∷ []) ∷ (5 ∷ 6 ∷ 7 ∷ 8 ∷ []) ∷ []
 
-front : keptOf (record { whole = record { 0 = 1 }; further = record { 0 = 2 } }) (record { whole = record { 0 = 0 }; further = record { 0 = 0 } }) two ≡ (7 ∷ 8 ∷ []) ∷ []
+front : keptOf (record { measures = record { 0 = 1 }; beats = record { 0 = 2 } }) (record { measures = record { 0 = 0 }; beats = record { 0 = 0 } }) two ≡ (7 ∷ 8 ∷ []) ∷ []
 unfolding keptOf
 front = refl
 
-back : keptOf (record { whole = record { 0 = 0 }; further = record { 0 = 0 } }) (record { whole = record { 0 = 0 }; further = record { 0 = 7 } }) two ≡ (1 ∷ []) ∷ []
+back : keptOf (record { measures = record { 0 = 0 }; beats = record { 0 = 0 } }) (record { measures = record { 0 = 0 }; beats = record { 0 = 7 } }) two ≡ (1 ∷ []) ∷ []
 unfolding keptOf
 back = refl
 
-gone : keptOf (record { whole = record { 0 = 0 }; further = record { 0 = 0 } }) (record { whole = record { 0 = 0 }; further = record { 0 = 8 } }) two ≡ []
+gone : keptOf (record { measures = record { 0 = 0 }; beats = record { 0 = 0 } }) (record { measures = record { 0 = 0 }; beats = record { 0 = 8 } }) two ≡ []
 unfolding keptOf
 gone = refl

@@ -8,16 +8,16 @@ use Rattle.songcode.specs.Song as Song
 use Rattle.songcode.specs.Tables.{measureWord}
 use Rattle.songcode.specs.Playing.{keep}
 use Rattle.songcode.specs.Performance.{total}
-use Rattle.player.specs.declared.sections.Cut.{Cut}
+use Rattle.settings.specs.declared.cuts.Cut.{Cut}
 
 -- A cut of the description as the code's value.
 unfoldable pub cutOf : Song.Cut → Cut
-cutOf c = record { whole = record { 0 = c .whole .measures }; further = record { 0 = c .further .beats } }
+cutOf c = record { measures = record { 0 = c .whole .measures }; beats = record { 0 = c .further .beats } }
 
 -- A cut that may be absent: then it takes nothing.
 unfoldable pub cutSaid : Option Song.Cut → Cut
 unfolding cutOf
-cutSaid none = record { whole = record { 0 = 0 }; further = record { 0 = 0 } }
+cutSaid none = record { measures = record { 0 = 0 }; beats = record { 0 = 0 } }
 cutSaid (some c) = cutOf c
 
 module _ {A : Type 0} where
@@ -30,11 +30,11 @@ module _ {A : Type 0} where
   -- The beat from which a row is kept, and the beat before which it ends.
   unfoldable pub firstBeat : Cut → List (List A) → ℕ
   unfolding total
-  firstBeat c row = total (take (c .whole .0) row) + c .further .0
+  firstBeat c row = total (take (c .measures .0) row) + c .beats .0
 
   unfoldable pub lastBeat : Cut → List (List A) → ℕ
   unfolding total
-  lastBeat c row = total (take (length row - c .whole .0) row) - c .further .0
+  lastBeat c row = total (take (length row - c .measures .0) row) - c .beats .0
 
   unfoldable pub keptOf : Cut → Cut → List (List A) → List (List A)
   unfolding window firstBeat lastBeat

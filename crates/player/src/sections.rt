@@ -5,6 +5,7 @@ use super::leaves::least;
 use super::leaves::minus;
 use super::pens::Pen;
 use super::walks::items;
+use settings::Cut;
 ghost use mathlib.Core.Path.{_≡_};
 ghost use Prim.Native.Nat.{ℕ, _+_, _-_, _*_, _≤_, _<_, min};
 ghost use lib.ListN.{length, take};
@@ -14,16 +15,6 @@ ghost use Rattle.songcode.specs.Performance.{total};
 ghost use Rattle.player.specs.Page.{Page, Fine, play};
 ghost use Rattle.player.specs.Walks.{rowOf};
 ghost use Rattle.player.specs.Windows.{firstBeat, lastBeat, sectionRow, flat, heads};
-
-// "A cut names measures and beats, and neither count stands for the other."
-pub struct Measures(pub usize);
-
-pub struct Beats(pub usize);
-
-pub struct Cut {
-    pub whole: Measures,
-    pub further: Beats,
-}
 
 pub struct Counts {
     pub measures: usize,
@@ -106,16 +97,16 @@ pub fn planned(
     front: Cut,
     back: Cut,
 ) -> Plan
-    requires { ⌜ (n ≤ 32) × (length (times r (rowOf d n (now words) s)) ≤ 65535) × (front .further .0 ≤ 9999) ⌝ }
+    requires { ⌜ (n ≤ 32) × (length (times r (rowOf d n (now words) s)) ≤ 65535) × (front .beats .0 ≤ 9999) ⌝ }
     ensures todo { λ p. ⌜ p .todo ≡ length (times r (rowOf d n (now (words .entry)) s)) ⌝ }
     ensures skip { λ p. ⌜ p .skip ≡ firstBeat front (times r (rowOf d n (now (words .entry)) s)) ⌝ }
     ensures left { λ p. ⌜ p .left ≡ lastBeat back (times r (rowOf d n (now (words .entry)) s)) - firstBeat front (times r (rowOf d n (now (words .entry)) s)) ⌝ }
 {
     let all = tally(words, d, n, s, r, 65536);
-    let f = tally(words, d, n, s, r, least(front.whole.0, 65536));
-    let e = tally(words, d, n, s, r, minus(all.measures, back.whole.0));
-    let first = f.beats + front.further.0;
-    let left = minus(minus(e.beats, back.further.0), first);
+    let f = tally(words, d, n, s, r, least(front.measures.0, 65536));
+    let e = tally(words, d, n, s, r, minus(all.measures, back.measures.0));
+    let first = f.beats + front.beats.0;
+    let left = minus(minus(e.beats, back.beats.0), first);
     Plan {
         todo: all.measures,
         skip: first,
@@ -138,7 +129,7 @@ pub fn play_section(
     ms: &mut [u32],
     bs: &mut [u32],
 ) -> Counts
-    requires cuts { ⌜ (n ≤ 32) × (front .further .0 ≤ 9999) × (length (times r (rowOf d n (now words) pattern)) ≤ 65535) ⌝ }
+    requires cuts { ⌜ (n ≤ 32) × (front .beats .0 ≤ 9999) × (length (times r (rowOf d n (now words) pattern)) ≤ 65535) ⌝ }
     requires room { ⌜ base + 32 * (length (rowOf d n (now words) lead) + length (times r (rowOf d n (now words) pattern)) + length (rowOf d n (now words) tail)) ≤ 2097120 ⌝ }
     ensures counts { λ c. ⌜ (c .measures ≡ length (sectionRow front back r (rowOf d n (now (words .entry)) lead) (rowOf d n (now (words .entry)) pattern) (rowOf d n (now (words .entry)) tail))) × (c .beats ≡ total (sectionRow front back r (rowOf d n (now (words .entry)) lead) (rowOf d n (now (words .entry)) pattern) (rowOf d n (now (words .entry)) tail))) ⌝ }
     ensures measures { λ c. ⌜ now (ms .exit) ≡ sets (now (ms .entry)) 0 (heads base (sectionRow front back r (rowOf d n (now (words .entry)) lead) (rowOf d n (now (words .entry)) pattern) (rowOf d n (now (words .entry)) tail))) ⌝ }
