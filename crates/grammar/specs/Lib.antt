@@ -1,0 +1,3 @@
+-- The check of pattern text, in the shape of the code.
+pub mod Kinds
+pub mod Checks
