@@ -1,1 +1,2 @@
 -- Laws of the check of pattern text.
+pub mod ArmLaws
