@@ -29,7 +29,7 @@ referred c p = check p (c .loops) true
 
 -- A loop that opens; in as many as may be open at once, none.
 unfoldable pub opened : Check → Check
-unfolding if_then_else_ loopsDeep
+unfolding if_then_else_
 opened c = if leb loopsDeep (c .loops) then spoiled else check Wants (c .loops + 1) (c .named)
 
 unfoldable pub closed : Check → Check

@@ -1,3 +1,4 @@
 -- The check of pattern text, in the shape of the code.
 pub mod Kinds
 pub mod Checks
+pub mod States
