@@ -29,7 +29,7 @@ pub past-limit : (d : ℕ) (c : Check) → loopsDeep < d → within d c ≡ spoi
 unfolding within if_then_else_
 past-limit d c h = simp (lt-leb _ _ h)
 
-by-limit : {X : Type 0} (d : ℕ) → (d ≤ loopsDeep → X) → (loopsDeep < d → X) → X
+pub by-limit : {X : Type 0} (d : ℕ) → (d ≤ loopsDeep → X) → (loopsDeep < d → X) → X
 by-limit d f g = by-cases (leb d loopsDeep) (λ t. f (leb-true _ _ t)) (λ t. g (leb-false _ _ t))
 
 opens-within : (p : Place) (n : ℕ) (b : Bool) → n < loopsDeep → opened (check p n b) ≡ check Wants (suc n) b
@@ -69,12 +69,12 @@ module _ (d n : ℕ) (b : Bool) (p : Place) (low : n ≤ d) where
       (λ m. past-limit (max (suc n) d) (check Wants (suc n) b) (omega arith) ∙ spoiled-within d (check p n b) Opens (sym (opens-past p n b (omega arith)) ∙ h))
 
 -- An item in a row adds its depth and its references.
-depth-added : (r : Begun) (i : Item) → depth (add r i) ≡ max (depthBegun r) (depthI i)
+pub depth-added : (r : Begun) (i : Item) → depth (add r i) ≡ max (depthBegun r) (depthI i)
 unfolding add depthBegun depth
 depth-added start i = omega arith
 depth-added (more r s) i = refl
 
-references-added : (r : Begun) (i : Item) → references (add r i) ≡ referencesBegun r ++ referencesI i
+pub references-added : (r : Begun) (i : Item) → references (add r i) ≡ referencesBegun r ++ referencesI i
 unfolding add referencesBegun references
 references-added start i = refl
 references-added (more r s) i = refl

@@ -19,7 +19,7 @@ use Rattle.grammar.specs.States.{placeBefore, placeBehind, placeInMeasur
 use Rattle.grammar.proofs.RowLaws.{step-within, spoiled-within, alike-within, separated, with-measure, with-reference, row-opened, row-closed, none-closed}
 
 -- What holds of the places before an item, and of those behind one.
-before : (P : Place → Type 0) (r : Begun) (os : List Begun) → P Fresh → P Wants → P Joins → P (placeBefore r os)
+pub before : (P : Place → Type 0) (r : Begun) (os : List Begun) → P Fresh → P Wants → P Joins → P (placeBefore r os)
 unfolding placeBefore
 before P start [] f w j = f
 before P start (o ∷ os) f w j = w
@@ -33,7 +33,7 @@ unfolding placeInMeasure
 in-measure P zero s r = s
 in-measure P (suc n) s r = r
 
-behind : (P : Place → Type 0) (r : Begun) (os : List Begun) (i : Item) → P Sounds → P Removed → P Alone → P Full → P (placeBehind r os i)
+pub behind : (P : Place → Type 0) (r : Begun) (os : List Begun) (i : Item) → P Sounds → P Removed → P Alone → P Full → P (placeBehind r os i)
 unfolding placeBehind
 behind P r os (measure m) s d a f = in-measure P (m .removers) s d
 behind P r os (loop q n) s d a f = f

@@ -4,12 +4,16 @@ use mathlib.Core.List.{List, [], _∷_}
 use mathlib.Core.Bool.{Bool, true, false, _&&_, not}
 use lib.Dec.{eqb, leb}
 use Rattle.songcode.specs.Lists.{if_then_else_}
+use Rattle.songcode.specs.Bytes.{Byte}
+use Rattle.songcode.specs.Lines.{Line}
+use Rattle.songcode.specs.Tokens.{tokens, tokensOf}
 use Rattle.songcode.specs.PatternText.{loopsDeep}
 use Rattle.grammar.specs.declared.kinds.Kind.{Kind}
 use Rattle.grammar.specs.declared.kinds.Kind.the-variants.{Sound, Remover, Reference, Semicolon, Colon, LineEnd, Opens, Closes, Wrong}
 use Rattle.grammar.specs.declared.checks.Place.{Place}
 use Rattle.grammar.specs.declared.checks.Place.the-variants.{Fresh, Wants, Joins, Sounds, Removed, Alone, Full, Ended, Bad}
 use Rattle.grammar.specs.declared.checks.Check.{Check}
+use Rattle.grammar.specs.Kinds.{kindsOf}
 
 abbrev pub check : Place → ℕ → Bool → Check
 check p n b = record { place = p; loops = n; named = b }
@@ -141,3 +145,10 @@ unfoldable pub checkRun : Check → List Kind → Check
 unfolding checkStep
 checkRun c [] = c
 checkRun c (k ∷ ks) = checkRun (checkStep c k) ks
+
+-- The check behind a line's text, and behind the lines of a text with a line end between neighbours.
+abbrev pub checkText : Check → List Byte → Check
+checkText c bs = checkRun c (kindsOf (tokens bs))
+
+abbrev pub checkLines : Line → List Line → Check
+checkLines l ls = checkRun first (kindsOf (tokensOf l ls))

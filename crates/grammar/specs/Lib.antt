@@ -2,3 +2,4 @@
 pub mod Kinds
 pub mod Checks
 pub mod States
+pub mod Verdicts
