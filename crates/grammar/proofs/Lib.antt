@@ -1,5 +1,6 @@
 -- Laws of the check of pattern text.
 pub mod ArmLaws
+pub mod TestLaws
 pub mod RowLaws
 pub mod StepLaws
 pub mod TextLaws

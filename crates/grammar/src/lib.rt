@@ -1,6 +1,7 @@
 // Pattern text against the rules: a small state by value, stepped by the words of its tokens.
 mod checks;
 mod kinds;
+mod verdicts;
 
 pub use checks::Check;
 pub use checks::LOOPS_DEEP;
@@ -9,7 +10,11 @@ pub use checks::start;
 pub use checks::step_kind;
 pub use kinds::Kind;
 pub use kinds::kind_of;
+pub use verdicts::definition_fine;
+pub use verdicts::section_fine;
+pub use verdicts::unnamed_fine;
 ghost use mathlib.Core.Path.{_≡_};
+ghost use Rattle.grammar.specs.declared.kinds.Kind.the-variants.{LineEnd};
 ghost use Rattle.grammar.specs.Kinds.{wordKind};
 ghost use Rattle.grammar.specs.Checks.{checkStep};
 
@@ -18,4 +23,11 @@ pub fn step_check(c: Check, word: u32) -> Check
     ensures { λ r. ⌜ r ≡ checkStep c (wordKind word) ⌝ }
 {
     step_kind(c, kind_of(word))
+}
+
+// The check where a line ends and another one follows.
+pub fn line_between(c: Check) -> Check
+    ensures { λ r. ⌜ r ≡ checkStep c LineEnd ⌝ }
+{
+    step_kind(c, Kind::LineEnd)
 }
