@@ -6,4 +6,5 @@ pub mod StepLaws
 pub mod TextLaws
 pub mod WordLaws
 pub mod LateLaws
+pub mod PartLaws
 pub mod VerdictLaws

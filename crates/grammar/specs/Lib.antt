@@ -3,3 +3,4 @@ pub mod Kinds
 pub mod Checks
 pub mod States
 pub mod Verdicts
+pub mod Sides

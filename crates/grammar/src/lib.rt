@@ -1,6 +1,7 @@
 // Pattern text against the rules: a small state by value, stepped by the words of its tokens.
 mod checks;
 mod kinds;
+mod sides;
 mod verdicts;
 
 pub use checks::Check;
