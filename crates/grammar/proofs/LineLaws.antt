@@ -1,10 +1,10 @@
 -- The check of a line taken token by token, by the words of the tokens; and the verdict on a lead-in or tail.
-use Prim.Native.Nat.{ℕ, _+_, _-_, _^_, _≤_}
+use Prim.Native.Nat.{ℕ, _^_, _≤_}
 use mathlib.Core.Path.{_≡_, refl, sym, ap, _∙_}
 use mathlib.Core.List.{List, [], _∷_}
-use mathlib.Core.Bool.{Bool, true, false}
+use mathlib.Core.Bool.{true, false}
 use native.Mathlib.Omega.{arith}
-use lib.ListN.{length, take, drop, length-take, length-drop}
+use lib.ListN.{length}
 use Rattle.songcode.specs.Lists.{if_then_else_, isSome, any}
 use Rattle.songcode.specs.Bytes.{Byte, placed}
 use Rattle.songcode.specs.Tokens.{Token, tokens}
@@ -15,7 +15,7 @@ use Rattle.text.specs.Spans.{part}
 use Rattle.text.proofs.WalkLaws.{part-length}
 use Rattle.grammar.specs.declared.kinds.Kind.{Kind}
 use Rattle.grammar.specs.declared.checks.Check.{Check}
-use Rattle.grammar.specs.Kinds.{kindOf, kindsOf, wordKind, wordKinds, FitsWord}
+use Rattle.grammar.specs.Kinds.{kindsOf, wordKind, wordKinds, FitsWord}
 use Rattle.grammar.specs.Checks.{first, checkStep, checkRun, checkText, checkWords}
 use Rattle.grammar.specs.Verdicts.{unnamedFine}
 use Rattle.grammar.proofs.FitLaws.{tokens-fit}

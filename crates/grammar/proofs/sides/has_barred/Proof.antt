@@ -1,5 +1,5 @@
 use Prim.Native.Nat.{_≤_, _-_}
-use mathlib.Core.Path.{_≡_, refl, sym, _∙_}
+use mathlib.Core.Path.{_≡_, sym, _∙_}
 use native.Mathlib.Omega.{arith}
 use Rattle.grammar.specs.Sides.{anyBarred}
 use Rattle.grammar.proofs.PartLaws.{barred-here, barred-further, barred-nowhere}
