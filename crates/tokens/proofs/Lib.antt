@@ -3,3 +3,5 @@ pub mod FitLaws
 pub mod RowLaws
 pub mod BaseLaws
 pub mod DecimalLaws
+pub mod PartLaws
+pub mod WordLaws
