@@ -5,3 +5,5 @@ pub mod BaseLaws
 pub mod DecimalLaws
 pub mod PartLaws
 pub mod WordLaws
+pub mod LexLaws
+pub mod LaidLaws

@@ -2,3 +2,4 @@
 pub mod TokenWords
 pub mod Bases
 pub mod Decimals
+pub mod Lexing

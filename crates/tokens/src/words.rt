@@ -13,16 +13,12 @@ ghost use Rattle.songcode.specs.Tokens.{chordToken, referenceToken, closingToke
 ghost use Rattle.text.specs.Spans.{part};
 ghost use Rattle.tokens.specs.TokenWords.{tokenWord};
 
-// What a kind weighs in a word, and the words of the tokens that have no number.
+// What a kind weighs in a word, and the words of the three signs and of a wrong word.
 const KIND: usize = 67108864;
-pub const SILENCE: u32 = 4227858432;
-pub const AGAIN: u32 = 4160749568;
-pub const REMOVER: u32 = 4093640704;
-pub const SEMICOLON: u32 = 4026531840;
-pub const COLON: u32 = 3959422976;
-pub const LINE_END: u32 = 3892314112;
-pub const OPENS: u32 = 3825205248;
-pub const WRONG: u32 = 3623878656;
+const SILENCE: u32 = 4227858432;
+const AGAIN: u32 = 4160749568;
+const REMOVER: u32 = 4093640704;
+const WRONG: u32 = 3623878656;
 
 // The word is this one byte.
 fn is_sign(sign: u8, w: &[u8]) -> bool
