@@ -4,8 +4,6 @@ mod kinds;
 mod sides;
 mod verdicts;
 
-use tokens::Lexed;
-use tokens::next_token;
 pub use checks::Check;
 pub use checks::LOOPS_DEEP;
 pub use checks::Place;
@@ -14,6 +12,8 @@ pub use checks::step_kind;
 pub use kinds::Kind;
 pub use kinds::kind_of;
 pub use sides::side_fine;
+use tokens::Lexed;
+use tokens::next_token;
 pub use verdicts::definition_fine;
 pub use verdicts::section_fine;
 pub use verdicts::unnamed_fine;
