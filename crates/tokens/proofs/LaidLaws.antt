@@ -7,7 +7,10 @@ use native.Mathlib.Numerals.{add-one}
 use native.Mathlib.Nat.{add-zero}
 use lib.ListN.{length, take, drop, set, length-append, length-take, length-drop, take-append-drop}
 use lib.Seq.{set-split, set-at, drop-cons}
-use Rattle.tokens.specs.Lexing.{laid}
+use Rattle.tokens.specs.declared.lexing.Lexed.{Lexed}
+use Rattle.tokens.specs.declared.lexing.Lexed.the-variants.{Token, End}
+use Rattle.tokens.specs.TokenWords.{tokenWords}
+use Rattle.tokens.specs.Lexing.{tokensFrom, Reads, laid}
 
 -- Nothing is laid yet.
 pub laid-none : (n : ℕ) (held : List ℕ) → held ≡ laid n [] held
@@ -29,3 +32,19 @@ laid-more n v new held h =
 
 pub laid-length : (n : ℕ) (new held : List ℕ) → n + length new ≤ length held → length (laid n new held) ≡ length held
 laid-length n new held h = simp (length-append, length-take, length-drop) (omega arith)
+
+-- The same where the fill is known.
+pub laid-next : (n fill v : ℕ) (words held done : List ℕ) → words ≡ laid n done held → fill ≡ n + length done → fill < length held
+    → (set words fill v ≡ laid n (done ++ (v ∷ [])) held) × (fill + 1 ≡ n + length (done ++ (v ∷ [])))
+laid-next n fill v words held done w f h =
+    (rw (w, f) (laid-more n v done held (omega arith)), simp length-append (omega arith))
+
+-- What the code found at a place, in words.
+pub read-next : (s : List ℕ) (at stop : ℕ) {r : Lexed} {v next : ℕ} → r ≡ Token v next → Reads s at stop r
+    → (at < next) × (next ≤ stop) × (tokenWords (tokensFrom at stop s) ≡ v ∷ tokenWords (tokensFrom next stop s))
+unfolding Reads tokenWords
+read-next s at stop e m = let g = rw e at m in (g .1, g .2, rw (g .4, g .3))
+
+pub read-end : (s : List ℕ) (at stop : ℕ) {r : Lexed} → r ≡ End → Reads s at stop r → tokenWords (tokensFrom at stop s) ≡ []
+unfolding Reads tokenWords
+read-end s at stop e m = let g = rw e at m in rw g

@@ -3,3 +3,4 @@ pub mod TokenWords
 pub mod Bases
 pub mod Decimals
 pub mod Lexing
+pub mod Fitting
