@@ -7,3 +7,5 @@ pub mod PartLaws
 pub mod WordLaws
 pub mod LexLaws
 pub mod LaidLaws
+pub mod KindLaws
+pub mod TokensFit
