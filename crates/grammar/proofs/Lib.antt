@@ -5,7 +5,6 @@ pub mod RowLaws
 pub mod StepLaws
 pub mod TextLaws
 pub mod WordLaws
-pub mod FitLaws
 pub mod LateLaws
 pub mod PartLaws
 pub mod LineLaws

@@ -10,7 +10,6 @@ use Rattle.songcode.specs.Bytes.{Byte, placed}
 use Rattle.songcode.specs.Tokens.{tokens}
 use Rattle.songcode.specs.Tokens as songcode
 use Rattle.songcode.specs.PatternText.{barred, sideText}
-use Rattle.songcode.proofs.ListLaws.{Each}
 use Rattle.tokens.specs.TokenWords.{tokenWord, tokenWords}
 use Rattle.tokens.specs.Lexing.{Reads}
 use Rattle.tokens.specs.declared.lexing.Lexed.{Lexed}
@@ -19,23 +18,24 @@ use Rattle.text.specs.Spans.{part}
 use Rattle.text.proofs.WalkLaws.{part-length}
 use Rattle.grammar.specs.declared.kinds.Kind.{Kind}
 use Rattle.grammar.specs.declared.checks.Check.{Check}
-use Rattle.grammar.specs.Kinds.{kindsOf, wordKind, wordKinds, FitsWord}
+use Rattle.grammar.specs.Kinds.{kindsOf, wordKind, wordKinds}
 use Rattle.grammar.specs.Checks.{first, checkStep, checkRun, checkText, checkWords}
 use Rattle.grammar.specs.Verdicts.{unnamedFine}
-use Rattle.grammar.proofs.FitLaws.{tokens-fit}
+use Rattle.tokens.specs.Fitting.{AllFit}
+use Rattle.tokens.proofs.TokensFit.{tokens-fit}
 use Rattle.grammar.proofs.VerdictLaws.{unnamed-fine}
 use Rattle.grammar.proofs.WordLaws.{word-kind, words-kinds}
 
 -- A part of a good text: its tokens fit their words.
-pub part-fits : (s : List ℕ) (a e : ℕ) → a ≤ e → e ≤ length s → e ≤ 2 ^ 16 → Each FitsWord (tokens (placed a (part a e s)))
+pub part-fits : (s : List ℕ) (a e : ℕ) → a ≤ e → e ≤ length s → e ≤ 2 ^ 16 → AllFit (tokens (placed a (part a e s)))
 part-fits s a e p q r = let n = part-length s a e q in tokens-fit a (part a e s) (omega arith)
 
 -- The first token of a text, and what follows; a text without tokens.
-pub text-next : (c : Check) (bs rest : List Byte) (t : songcode.Token) (w : ℕ) → Each FitsWord (tokens bs) → tokens bs ≡ t ∷ tokens rest → w ≡ tokenWord t
+pub text-next : (c : Check) (bs rest : List Byte) (t : songcode.Token) (w : ℕ) → AllFit (tokens bs) → tokens bs ≡ t ∷ tokens rest → w ≡ tokenWord t
     → checkText c bs ≡ checkText (checkStep c (wordKind w)) rest
-unfolding checkRun kindsOf Each
+unfolding checkRun kindsOf AllFit
 text-next c bs rest t w f e h =
-    let g : Each FitsWord (t ∷ tokens rest) = rw e at f in
+    let g : AllFit (t ∷ tokens rest) = rw e at f in
     ap (λ (ts : List songcode.Token). checkRun c (kindsOf ts)) e
     ∙ ap (λ (k : Kind). checkRun (checkStep c k) (kindsOf (tokens rest))) (sym (ap wordKind h ∙ word-kind t (g .0)))
 
@@ -57,7 +57,7 @@ module _ (c : Check) (s : List ℕ) (at to : ℕ) (p : at ≤ to) (q : to ≤ le
   line-over {l} h e = let t : Reads s at to End = rw e at h in text-over c (placed at (part at to s)) t
 
 -- Where a part of a table holds the words of a line's tokens, the check of the words is that of the line.
-pub words-check : (c : Check) (ws : List ℕ) (from to : ℕ) (bs : List Byte) → Each FitsWord (tokens bs) → part from to ws ≡ tokenWords (tokens bs)
+pub words-check : (c : Check) (ws : List ℕ) (from to : ℕ) (bs : List Byte) → AllFit (tokens bs) → part from to ws ≡ tokenWords (tokens bs)
     → checkWords c ws from to ≡ checkText c bs
 words-check c ws from to bs f e = ap (checkRun c) (ap wordKinds e ∙ words-kinds (tokens bs) f)
 

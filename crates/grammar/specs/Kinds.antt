@@ -5,7 +5,6 @@ use lib.Dec.{eqb, ltb}
 use lib.ListN.{length}
 use Rattle.songcode.specs.Lists.{if_then_else_}
 use Rattle.songcode.specs.Song.{chord, again, silence}
-use Rattle.songcode.specs.Tables.{offset}
 use Rattle.songcode.specs.Tokens.{Token, sound, remover, reference, semicolon, colon, lineEnd, opens, closes, wrong}
 use Rattle.grammar.specs.declared.kinds.Kind.{Kind}
 use Rattle.grammar.specs.declared.kinds.Kind.the-variants.{Sound, Remover, Reference, Semicolon, Colon, LineEnd, Opens, Closes, Wrong}
@@ -49,17 +48,3 @@ unfoldable pub wordKinds : List ℕ → List Kind
 unfolding wordKind
 wordKinds [] = []
 wordKinds (w ∷ ws) = wordKind w ∷ wordKinds ws
-
--- A token whose word holds all of it: base chords are 0 to 33, an extension has at most 31 bytes below place 65,536, a count at most four digits.
-unfoldable pub FitsWord : Token → Type 0
-FitsWord (sound (chord c)) = (c .base ≤ 33) × (offset (c .extension) < 2 ^ 16) × (length (c .extension) ≤ 31)
-FitsWord (sound again) = Unit {0}
-FitsWord (sound silence) = Unit {0}
-FitsWord remover = Unit {0}
-FitsWord (reference n) = n ≤ 9999
-FitsWord semicolon = Unit {0}
-FitsWord colon = Unit {0}
-FitsWord lineEnd = Unit {0}
-FitsWord opens = Unit {0}
-FitsWord (closes n) = n ≤ 9999
-FitsWord wrong = Unit {0}
