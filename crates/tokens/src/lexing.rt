@@ -12,8 +12,11 @@ ghost use Rattle.tokens.specs.Lexing.{isPlain, plainLength, tokensFrom, 
 
 // The words of the signs.
 const SEMICOLON: u32 = 4026531840;
+
 const COLON: u32 = 3959422976;
+
 const LINE_END: u32 = 3892314112;
+
 const OPENS: u32 = 3825205248;
 
 // A token's word and the place where the next may begin; or no token is left.

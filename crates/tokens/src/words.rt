@@ -15,9 +15,13 @@ ghost use Rattle.tokens.specs.TokenWords.{tokenWord};
 
 // What a kind weighs in a word, and the words of the three signs and of a wrong word.
 const KIND: usize = 67108864;
+
 const SILENCE: u32 = 4227858432;
+
 const AGAIN: u32 = 4160749568;
+
 const REMOVER: u32 = 4093640704;
+
 const WRONG: u32 = 3623878656;
 
 // The word is this one byte.

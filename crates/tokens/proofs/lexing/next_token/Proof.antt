@@ -164,8 +164,7 @@ returns-5 c =
     let passed = blanks-passed s (i .at) (i .stop) f (c .before .before .before .before .before .before .before .before .before .before .front-blanks .ensures .0) in
     let k = c .before .before .before .plain-len .result in
     let p = c .before .before .before .plain-len .ensures in
-    let m = part-length s (a + 1) (i .stop) (omega arith) in
-    (
+    let m = part-length s (a + 1) (i .stop) (omega arith) in (
       closingToken (repeatIn (placed 0 (part (a + 1) (a + 1 + k) s))),
       omega arith,
       omega arith,
@@ -190,8 +189,7 @@ returns-6 c =
     let k = c .before .before .plain-len .result in
     let p = c .before .before .plain-len .ensures in
     let m = part-length s (a + 1) (i .stop) (omega arith) in
-    let b = plain-byte (getD s a 0) (blanks-over s (i .at) (i .stop) f (c .before .before .before .before .before .before .before .before .before .front-blanks .ensures .0) (omega arith) (omega arith)) (c .before .before .before .before .before .before .if2 .left) (c .before .before .before .before .before .if3 .left) (c .before .before .before .before .if4 .left) (c .before .if5 .left) in
-    (
+    let b = plain-byte (getD s a 0) (blanks-over s (i .at) (i .stop) f (c .before .before .before .before .before .before .before .before .before .front-blanks .ensures .0) (omega arith) (omega arith)) (c .before .before .before .before .before .before .if2 .left) (c .before .before .before .before .before .if3 .left) (c .before .before .before .before .if4 .left) (c .before .if5 .left) in (
       wordToken (placed a (part a (a + 1 + k) s)),
       omega arith,
       omega arith,
