@@ -12,6 +12,8 @@ pub mod SectionLaws
 pub mod CutLaws
 pub mod SoundLaws
 pub mod PutInLaws
+pub mod WrittenWords
+pub mod WalkedItems
 pub mod Meaning
 pub mod SectionMeaning
 pub mod Walkables
