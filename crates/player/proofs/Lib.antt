@@ -7,10 +7,13 @@ pub mod WalkLaws
 pub mod ContentLaws
 pub mod ShortLaws
 pub mod WindowLaws
+pub mod TallyLaws
 pub mod SectionLaws
 pub mod CutLaws
 pub mod SoundLaws
 pub mod PutInLaws
+pub mod WrittenWords
+pub mod WalkedItems
 pub mod Meaning
 pub mod SectionMeaning
 pub mod Walkables

@@ -197,3 +197,20 @@ pub fine-play : (xs : List (List ℕ)) (g : Page) → Fine (g .pen) → Fine (pl
 unfolding play measureOf
 fine-play [] g f = f
 fine-play (x ∷ xs) g f = fine-play xs (measureOf x g) (fine-by (g .pen .todo) x g f)
+
+-- The pen at the beginning of a measure.
+pub not-none : {n : ℕ} → (n ≡ 0 → ⊥) → 1 ≤ n
+not-none {n} h = some n h
+  where
+    some : (n : ℕ) → (n ≡ 0 → ⊥) → 1 ≤ n
+    some zero h = absurd (h refl)
+    some (suc n) h = omega arith
+
+pub fine-begun : (p r : Pen) (todo skip : ℕ) → r ≡ record { base = p .base; todo = todo; skip = skip; left = p .left; m = p .m; b = p .b } → Fine p → Fine r
+fine-begun p r todo skip e f = rw e (record { few = f .few; fits = f .fits })
+
+pub inked-from : (x : List ℕ) (p r q : Pen) (bs bs' : List ℕ) → p ≡ r → _≡_ {A = Ink} (record { pen = q; bs = bs' }) (inked x (record { pen = p; bs = bs })) → _≡_ {A = Ink} (record { pen = q; bs = bs' }) (inked x (record { pen = r; bs = bs }))
+inked-from x p r q bs bs' e k = rw e at k
+
+abbrev pub page : Pen → List ℕ → List ℕ → Page
+page p ms bs = record { pen = p; ms = ms; bs = bs }

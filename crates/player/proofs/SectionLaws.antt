@@ -16,13 +16,10 @@ use Rattle.player.specs.declared.pens.Pen.{Pen}
 use Rattle.settings.specs.declared.cuts.Cut.{Cut}
 use Rattle.player.specs.Page.{Page, Fine, play}
 use Rattle.player.specs.Windows.{window, firstBeat, lastBeat, keptOf, wholeOf, sectionRow, flat, heads}
-use Rattle.player.proofs.PageLaws.{fine-play}
+use Rattle.player.proofs.PageLaws.{page, fine-play}
 use Rattle.player.proofs.ContentLaws.{Done, played, sets-append}
 use Rattle.player.proofs.ShortLaws.{Short, total-short, total-few}
 use Rattle.player.proofs.WindowLaws.{total-window, window-none, window-large, total-take-le, length-flat, length-heads, flat-append, heads-append}
-
-abbrev page : Pen → List ℕ → List ℕ → Page
-page p ms bs = record { pen = p; ms = ms; bs = bs }
 
 abbrev pen-at : ℕ → ℕ → ℕ → ℕ → ℕ → ℕ → Pen
 pen-at base todo s l m b = record { base = base; todo = todo; skip = s; left = l; m = m; b = b }
@@ -162,3 +159,10 @@ tail-fits base b f k lead row tail x y z e h =
   where
     sum-fits : (base b v w z p q r n m t : ℕ) → b ≡ v + w → p ≤ 32 * n → q ≤ 32 * m → r ≤ 32 * t → v ≤ p → w ≤ z → z ≤ q → base + 32 * (n + m + t) ≤ 2097120 → base + b + r ≤ 2097120
     sum-fits base b v w z p q r n m t e a c d f g i h = omega arith
+
+-- The pens of a section's texts.
+pub played-from : (row : List (List ℕ)) (p r q : Pen) (ms ms' bs bs' : List ℕ) → p ≡ r → page q ms' bs' ≡ play row (page p ms bs) → page q ms' bs' ≡ play row (page r ms bs)
+played-from row p r q ms ms' bs bs' e k = rw e at k
+
+pub fine-pen : (p : Pen) (base todo s l m b : ℕ) → p ≡ pen-at base todo s l m b → m ≤ b → base + b + l ≤ 2097120 → Fine p
+fine-pen p base todo s l m b e h k = rw e (record { few = h; fits = k })

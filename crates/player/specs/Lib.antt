@@ -5,3 +5,4 @@ pub mod Walks
 pub mod Windows
 pub mod Examples
 pub mod Texts
+pub mod Tallies

@@ -1,10 +1,12 @@
 // Plays a pattern that stands as token words in a buffer into lent tables of measures and beats, in a section's N.
+mod counts;
 mod leaves;
 mod measures;
 mod pens;
 mod sections;
 mod walks;
 
+pub use counts::count;
 pub use leaves::Definitions;
 pub use leaves::Stretch;
 pub use pens::Pen;

@@ -92,6 +92,21 @@ pub fn positions(
     q
 }
 
+// A measure fewer to be looked at, and so many beats to be passed over.
+fn begun(p: Pen, skip: usize) -> Pen
+    requires { ⌜ 1 ≤ p .todo ⌝ }
+    ensures { λ r. ⌜ r ≡ record { base = p .base; todo = p .todo - 1; skip = skip; left = p .left; m = p .m; b = p .b } ⌝ }
+{
+    Pen {
+        base: p.base,
+        todo: p.todo - 1,
+        skip,
+        left: p.left,
+        m: p.m,
+        b: p.b,
+    }
+}
+
 // A measure whose positions were seen, if one is still to be looked at. One that is passed over as a whole costs nothing for its beats.
 pub fn sounded(
     words: &[u32],
@@ -112,33 +127,10 @@ pub fn sounded(
     }
     let beats = share * seen.sounding;
     if beats <= p.skip {
-        return Pen {
-            base: p.base,
-            todo: p.todo - 1,
-            skip: p.skip - beats,
-            left: p.left,
-            m: p.m,
-            b: p.b,
-        };
+        return begun(p, p.skip - beats);
     }
     let from = p.b;
-    let q = positions(
-        words,
-        to,
-        at,
-        seen.stop,
-        share,
-        last,
-        Pen {
-            base: p.base,
-            todo: p.todo - 1,
-            skip: p.skip,
-            left: p.left,
-            m: p.m,
-            b: p.b,
-        },
-        bs,
-    );
+    let q = positions(words, to, at, seen.stop, share, last, begun(p, p.skip), bs);
     close(from, q, ms)
 }
 

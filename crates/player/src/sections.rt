@@ -114,6 +114,21 @@ pub fn planned(
     }
 }
 
+// The pen for a whole text, behind so many measures and beats.
+fn whole(base: usize, m: usize, b: usize) -> Pen
+    requires { ⌜ base + b ≤ 2097120 ⌝ }
+    ensures { λ p. ⌜ p ≡ record { base = base; todo = 65536; skip = 0; left = 2097120 - base - b; m = m; b = b } ⌝ }
+{
+    Pen {
+        base,
+        todo: 65536,
+        skip: 0,
+        left: 2097120 - base - b,
+        m,
+        b,
+    }
+}
+
 // The lead-in, the pattern r times less the two cuts, and the tail, on one page. Each text may be an empty stretch.
 pub fn play_section(
     words: &[u32],
@@ -136,23 +151,7 @@ pub fn play_section(
     ensures beats { λ c. ⌜ now (bs .exit) ≡ sets (now (bs .entry)) 0 (flat (sectionRow front back r (rowOf d n (now (words .entry)) lead) (rowOf d n (now (words .entry)) pattern) (rowOf d n (now (words .entry)) tail))) ⌝ }
 {
     let plan = planned(words, d, n, pattern, r, front, back);
-    let a = rounds(
-        words,
-        d,
-        n,
-        lead,
-        1,
-        Pen {
-            base,
-            todo: 65536,
-            skip: 0,
-            left: 2097120 - base,
-            m: 0,
-            b: 0,
-        },
-        ms,
-        bs,
-    );
+    let a = rounds(words, d, n, lead, 1, whole(base, 0, 0), ms, bs);
     let b = rounds(
         words,
         d,
@@ -170,23 +169,7 @@ pub fn play_section(
         ms,
         bs,
     );
-    let c = rounds(
-        words,
-        d,
-        n,
-        tail,
-        1,
-        Pen {
-            base,
-            todo: 65536,
-            skip: 0,
-            left: 2097120 - base - b.b,
-            m: b.m,
-            b: b.b,
-        },
-        ms,
-        bs,
-    );
+    let c = rounds(words, d, n, tail, 1, whole(base, b.m, b.b), ms, bs);
     Counts {
         measures: c.m,
         beats: c.b,
