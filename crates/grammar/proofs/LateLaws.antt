@@ -1,0 +1,103 @@
+-- A `$n` stands alone only as the first token, with none behind it.
+use Prim.Native.Nat.{ℕ}
+use mathlib.Core.Path.{_≡_, refl, sym, ap, _∙_}
+use mathlib.Core.List.{List, [], _∷_}
+use mathlib.Core.Bool.{Bool, true, false}
+use native.Mathlib.Omega.{arith}
+use lib.Dec.{eqb, leb}
+use Rattle.songcode.specs.Lists.{if_then_else_, isSome}
+use Rattle.songcode.specs.Tokens.{Token, sound, remover, reference, semicolon, colon, lineEnd, opens, closes, wrong}
+use Rattle.songcode.specs.PatternText.{wholeReference, loopsDeep}
+use Rattle.text.proofs.TestLaws.{by-cases}
+use Rattle.grammar.specs.declared.kinds.Kind.{Kind}
+use Rattle.grammar.specs.declared.kinds.Kind.the-variants.{Sound, Remover, Reference, Semicolon, Colon, LineEnd, Opens, Closes, Wrong}
+use Rattle.grammar.specs.declared.checks.Place.{Place}
+use Rattle.grammar.specs.declared.checks.Place.the-variants.{Fresh, Wants, Joins, Sounds, Removed, Alone, Full, Ended, Bad}
+use Rattle.grammar.specs.declared.checks.Check.{Check}
+use Rattle.grammar.specs.Kinds.{kindOf, kindsOf}
+use Rattle.grammar.specs.Checks.{check, first, spoiled, opened, closed, atFresh, atWants, atJoins, atFull, atSounds, atRemoved, atEnded, atPlace, checkStep, checkRun}
+use Rattle.grammar.specs.Verdicts.{isAlone}
+
+-- Places where something stands before the item at hand, or the item is no `$n`.
+unfoldable isLate : Place → Bool
+isLate Fresh = false
+isLate Alone = false
+isLate Wants = true
+isLate Joins = true
+isLate Sounds = true
+isLate Removed = true
+isLate Full = true
+isLate Ended = true
+isLate Bad = true
+
+abbrev Late : Check → Type 0
+Late c = isLate (c .place) ≡ true
+
+of-kind : (P : Kind → Type 0) → P Sound → P Remover → P Reference → P Semicolon → P Colon → P LineEnd → P Opens → P Closes → P Wrong → (k : Kind) → P k
+of-kind P s r n c d e o z w Sound = s
+of-kind P s r n c d e o z w Remover = r
+of-kind P s r n c d e o z w Reference = n
+of-kind P s r n c d e o z w Semicolon = c
+of-kind P s r n c d e o z w Colon = d
+of-kind P s r n c d e o z w LineEnd = e
+of-kind P s r n c d e o z w Opens = o
+of-kind P s r n c d e o z w Closes = z
+of-kind P s r n c d e o z w Wrong = w
+
+late-opened : (c : Check) → Late (opened c)
+unfolding opened if_then_else_ isLate
+late-opened c = by-cases (leb loopsDeep (c .loops)) (λ t. simp t) (λ t. simp t)
+
+late-closed : (c : Check) → Late (closed c)
+unfolding closed if_then_else_ isLate
+late-closed c = by-cases (eqb (c .loops) 0) (λ t. simp t) (λ t. simp t)
+
+full-late : (c : Check) (k : Kind) → Late (atFull c k)
+unfolding atFull isLate
+full-late c = of-kind (λ k. Late (atFull c k)) refl refl refl refl refl refl refl (late-closed c) refl
+
+place-late : (p : Place) → isLate p ≡ true → (c : Check) (k : Kind) → Late (atPlace p c k)
+unfolding atPlace atWants atJoins atSounds atRemoved atEnded isLate
+place-late Wants h c = of-kind (λ k. Late (atWants c k)) refl refl refl refl refl refl (late-opened c) refl refl
+place-late Joins h c = of-kind (λ k. Late (atJoins c k)) refl refl refl refl refl refl (late-opened c) refl refl
+place-late Sounds h c = of-kind (λ k. Late (atSounds c k)) refl refl refl refl refl refl refl (late-closed c) refl
+place-late Removed h c = of-kind (λ k. Late (atRemoved c k)) refl refl refl refl refl refl refl (late-closed c) refl
+place-late Full h c = full-late c
+place-late Ended h c = of-kind (λ k. Late (atEnded c k)) refl refl refl refl refl refl (late-opened c) refl refl
+place-late Bad h c = λ k. refl
+place-late Fresh h c = let z : _≡_ {A = ℕ} 0 1 = cc in absurd (omega arith)
+place-late Alone h c = let z : _≡_ {A = ℕ} 0 1 = cc in absurd (omega arith)
+
+late-run : (c : Check) (ks : List Kind) → Late c → Late (checkRun c ks)
+unfolding checkRun checkStep
+late-run c [] h = h
+late-run c (k ∷ ks) h = late-run (checkStep c k) ks (place-late (c .place) h c k)
+
+not-alone : (p : Place) → isLate p ≡ true → isAlone p ≡ false
+unfolding isAlone isLate
+not-alone Wants h = refl
+not-alone Joins h = refl
+not-alone Sounds h = refl
+not-alone Removed h = refl
+not-alone Full h = refl
+not-alone Ended h = refl
+not-alone Bad h = refl
+not-alone Fresh h = refl
+not-alone Alone h = sym h
+
+late-is-not-alone : (c : Check) (ks : List Kind) → Late c → isAlone (checkRun c ks .place) ≡ false
+late-is-not-alone c ks h = not-alone (checkRun c ks .place) (late-run c ks h)
+
+pub alone-is-whole : (ts : List Token) → isAlone (checkRun first (kindsOf ts) .place) ≡ isSome (wholeReference ts)
+unfolding checkRun checkStep kindsOf kindOf wholeReference isSome isAlone isLate
+alone-is-whole [] = refl
+alone-is-whole (reference n ∷ []) = refl
+alone-is-whole (reference n ∷ t ∷ ts) = late-is-not-alone (checkStep (check Alone 0 true) (kindOf t)) (kindsOf ts) (full-late (check Alone 0 true) (kindOf t))
+alone-is-whole (sound s ∷ ts) = late-is-not-alone (check Sounds 0 false) (kindsOf ts) refl
+alone-is-whole (opens ∷ ts) = late-is-not-alone (opened first) (kindsOf ts) (late-opened first)
+alone-is-whole (remover ∷ ts) = late-is-not-alone spoiled (kindsOf ts) refl
+alone-is-whole (semicolon ∷ ts) = late-is-not-alone spoiled (kindsOf ts) refl
+alone-is-whole (colon ∷ ts) = late-is-not-alone spoiled (kindsOf ts) refl
+alone-is-whole (lineEnd ∷ ts) = late-is-not-alone spoiled (kindsOf ts) refl
+alone-is-whole (closes n ∷ ts) = late-is-not-alone spoiled (kindsOf ts) refl
+alone-is-whole (wrong ∷ ts) = late-is-not-alone spoiled (kindsOf ts) refl

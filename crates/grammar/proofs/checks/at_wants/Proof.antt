@@ -1,0 +1,161 @@
+use Rattle.grammar.proofs.ArmLaws.{by-kind}
+use Rattle.grammar.specs.Checks.{atWants}
+use Rattle.grammar.specs.declared.kinds.Kind.{Kind}
+use borrow.Author.Needs.{needs}
+use Rattle.grammar.proofs.checks.at_wants.Statement.{statement}
+use Rattle.grammar.proofs.checks.at_wants.Tie as tie
+use Rattle.grammar.proofs.checks.at_wants.Reads as reads
+use Rattle.grammar.proofs.checks.at_wants.Lts as lts
+use Rattle.grammar.proofs.checks.move_to.Reads as move-to-reads
+use Rattle.grammar.proofs.checks.open_loop.Reads as open-loop-reads
+use Rattle.grammar.proofs.checks.refer_to.Reads as refer-to-reads
+use Rattle.grammar.proofs.checks.spoil.Reads as spoil-reads
+
+-- src/checks.rt:104:35
+enum-told : tie.Need-enum-told
+enum-told c = search needs
+
+-- src/checks.rt:104:24
+move-to-requires : tie.Need-move-to-requires
+move-to-requires c κs = search needs
+
+-- src/checks.rt:105:40
+enum-told-2 : tie.Need-enum-told-2
+enum-told-2 c = search needs
+
+-- src/checks.rt:105:28
+refer-to-requires : tie.Need-refer-to-requires
+refer-to-requires c κs = search needs
+
+-- src/checks.rt:106:24
+enum-told-3 : tie.Need-enum-told-3
+enum-told-3 c = search needs
+
+-- src/checks.rt:106:24
+open-loop-requires : tie.Need-open-loop-requires
+open-loop-requires c κs = search needs
+
+-- src/checks.rt:107:26
+enum-told-4 : tie.Need-enum-told-4
+enum-told-4 c = search needs
+
+-- src/checks.rt:107:26
+spoil-requires : tie.Need-spoil-requires
+spoil-requires c κs = search needs
+
+-- src/checks.rt:108:28
+enum-told-5 : tie.Need-enum-told-5
+enum-told-5 c = search needs
+
+-- src/checks.rt:108:28
+spoil-requires-2 : tie.Need-spoil-requires-2
+spoil-requires-2 c κs = search needs
+
+-- src/checks.rt:109:24
+enum-told-6 : tie.Need-enum-told-6
+enum-told-6 c = search needs
+
+-- src/checks.rt:109:24
+spoil-requires-3 : tie.Need-spoil-requires-3
+spoil-requires-3 c κs = search needs
+
+-- src/checks.rt:110:26
+enum-told-7 : tie.Need-enum-told-7
+enum-told-7 c = search needs
+
+-- src/checks.rt:110:26
+spoil-requires-4 : tie.Need-spoil-requires-4
+spoil-requires-4 c κs = search needs
+
+-- src/checks.rt:111:25
+enum-told-8 : tie.Need-enum-told-8
+enum-told-8 c = search needs
+
+-- src/checks.rt:111:25
+spoil-requires-5 : tie.Need-spoil-requires-5
+spoil-requires-5 c κs = search needs
+
+-- src/checks.rt:112:24
+enum-told-9 : tie.Need-enum-told-9
+enum-told-9 c = search needs
+
+-- src/checks.rt:112:24
+spoil-requires-6 : tie.Need-spoil-requires-6
+spoil-requires-6 c κs = search needs
+
+-- src/checks.rt:100:1
+returns : tie.Need-returns
+unfolding atWants
+returns c = let q = c .before .before .before .args in by-kind (λ (k : Kind). atWants (q .c) k) (c .before .enum-told .given .1) (c .move-to .ensures)
+
+-- src/checks.rt:100:1
+returns-2 : tie.Need-returns-2
+unfolding atWants
+returns-2 c = let q = c .before .before .before .args in by-kind (λ (k : Kind). atWants (q .c) k) (c .before .enum-told2 .given .1) (c .refer-to .ensures)
+
+-- src/checks.rt:100:1
+returns-3 : tie.Need-returns-3
+unfolding atWants
+returns-3 c = let q = c .before .before .before .args in by-kind (λ (k : Kind). atWants (q .c) k) (c .before .enum-told3 .given .1) (c .open-loop .ensures)
+
+-- src/checks.rt:100:1
+returns-4 : tie.Need-returns-4
+unfolding atWants
+returns-4 c = let q = c .before .before .before .args in by-kind (λ (k : Kind). atWants (q .c) k) (c .before .enum-told4 .given .1) (c .spoil .ensures)
+
+-- src/checks.rt:100:1
+returns-5 : tie.Need-returns-5
+unfolding atWants
+returns-5 c = let q = c .before .before .before .args in by-kind (λ (k : Kind). atWants (q .c) k) (c .before .enum-told5 .given .1) (c .spoil2 .ensures)
+
+-- src/checks.rt:100:1
+returns-6 : tie.Need-returns-6
+unfolding atWants
+returns-6 c = let q = c .before .before .before .args in by-kind (λ (k : Kind). atWants (q .c) k) (c .before .enum-told6 .given .1) (c .spoil3 .ensures)
+
+-- src/checks.rt:100:1
+returns-7 : tie.Need-returns-7
+unfolding atWants
+returns-7 c = let q = c .before .before .before .args in by-kind (λ (k : Kind). atWants (q .c) k) (c .before .enum-told7 .given .1) (c .spoil4 .ensures)
+
+-- src/checks.rt:100:1
+returns-8 : tie.Need-returns-8
+unfolding atWants
+returns-8 c = let q = c .before .before .before .args in by-kind (λ (k : Kind). atWants (q .c) k) (c .before .enum-told8 .given .1) (c .spoil5 .ensures)
+
+-- src/checks.rt:100:1
+returns-9 : tie.Need-returns-9
+unfolding atWants
+returns-9 c = let q = c .before .before .before .args in by-kind (λ (k : Kind). atWants (q .c) k) (c .before .enum-told9 .given .1) (c .spoil6 .ensures)
+
+pub at-wants-spec : {M : Type 1} → statement M
+at-wants-spec =
+    tie.close
+    (tie.spec
+    enum-told
+    move-to-requires
+    enum-told-2
+    refer-to-requires
+    enum-told-3
+    open-loop-requires
+    enum-told-4
+    spoil-requires
+    enum-told-5
+    spoil-requires-2
+    enum-told-6
+    spoil-requires-3
+    enum-told-7
+    spoil-requires-4
+    enum-told-8
+    spoil-requires-5
+    enum-told-9
+    spoil-requires-6
+    returns
+    returns-2
+    returns-3
+    returns-4
+    returns-5
+    returns-6
+    returns-7
+    returns-8
+    returns-9)

@@ -1,0 +1,5 @@
+-- The check of pattern text, in the shape of the code.
+pub mod Kinds
+pub mod Checks
+pub mod States
+pub mod Verdicts
