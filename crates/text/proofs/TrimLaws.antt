@@ -72,7 +72,7 @@ dropLast-nil : dropLast isBlank [] ≡ []
 unfolding dropLast left
 dropLast-nil = refl
 
-dropLast-placed : (at : ℕ) (bs : List ℕ) → dropLast isBlank (placed at bs) ≡ placed at (take (solidLength bs) bs)
+pub dropLast-placed : (at : ℕ) (bs : List ℕ) → dropLast isBlank (placed at bs) ≡ placed at (take (solidLength bs) bs)
 unfolding placed solidLength
 dropLast-placed at [] = dropLast-nil
 dropLast-placed at (b ∷ bs) =

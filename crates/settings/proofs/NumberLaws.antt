@@ -1,0 +1,82 @@
+-- Numbers: the same wherever their digits stand, and in their range.
+use Prim.Native.Nat.{ℕ, suc, _+_, _*_, _-_, _≤_}
+use Prim.Native.Char.{code}
+use mathlib.Core.Path.{_≡_, refl, sym, ap, _∙_}
+use mathlib.Core.List.{List, [], _∷_}
+use mathlib.Core.Bool.{Bool, true, false, _&&_, not}
+use mathlib.Core.Option.{Option, none, some}
+use native.Mathlib.Omega.{arith}
+use borrow.Author.Tests.{leb-true}
+use lib.Dec.{leb}
+use lib.ListN.{drop}
+use Rattle.songcode.specs.Lists.{if_then_else_, any}
+use Rattle.songcode.specs.Bytes.{Byte, placed, is, isByte}
+use Rattle.songcode.specs.Numbers.{isDigit, digits, isDecimal, valueFrom, numberIn, countIn, repeatIn}
+use Rattle.songcode.specs.Sections.{behindFirst}
+use Rattle.songcode.specs.Lyrics.{countBehind}
+use Rattle.songcode.proofs.ListLaws.{both-pass}
+use Rattle.text.proofs.TestLaws.{by-cases}
+use Rattle.settings.proofs.PlaceLaws.{Placeless, anywhere}
+
+digits-anywhere : (a b : ℕ) (w : List ℕ) → digits (placed a w) ≡ digits (placed b w)
+unfolding digits placed isDigit
+digits-anywhere a b [] = refl
+digits-anywhere a b (x ∷ w) = rw (digits-anywhere (suc a) (suc b) w)
+
+decimal-anywhere : (a b : ℕ) (w : List ℕ) → isDecimal (placed a w) ≡ isDecimal (placed b w)
+unfolding isDecimal placed isDigit
+decimal-anywhere a b [] = refl
+decimal-anywhere a b (x ∷ []) = refl
+decimal-anywhere a b (x ∷ y ∷ w) = rw (digits-anywhere (suc (suc a)) (suc (suc b)) w)
+
+value-anywhere : (v a b : ℕ) (w : List ℕ) → valueFrom v (placed a w) ≡ valueFrom v (placed b w)
+unfolding valueFrom placed
+value-anywhere v a b [] = refl
+value-anywhere v a b (x ∷ w) = value-anywhere (v * 10 + (x - code "0")) (suc a) (suc b) w
+
+pub numberIn-placeless : (low high : ℕ) → Placeless (numberIn low high)
+unfolding numberIn
+numberIn-placeless low high a w = rw (decimal-anywhere a 0 w, value-anywhere 0 a 0 w)
+
+pub countIn-placeless : Placeless countIn
+unfolding countIn
+countIn-placeless a w = numberIn-placeless 1 9999 a w
+
+pub repeatIn-placeless : Placeless repeatIn
+unfolding repeatIn
+repeatIn-placeless a w = numberIn-placeless 2 9999 a w
+
+-- A number that is read is in its range.
+pub numberIn-range : (low high : ℕ) (bs : List Byte) {n : ℕ} → numberIn low high bs ≡ some n → (low ≤ n) × (n ≤ high)
+unfolding numberIn if_then_else_
+numberIn-range low high bs {n} h =
+    by-cases
+    (isDecimal bs && leb low (valueFrom 0 bs) && leb (valueFrom 0 bs) high)
+    (λ t.
+      let p = both-pass (isDecimal bs && leb low (valueFrom 0 bs)) (leb (valueFrom 0 bs) high) t in
+      let q = both-pass (isDecimal bs) (leb low (valueFrom 0 bs)) (p .0) in
+      let k : valueFrom 0 bs ≡ n = some-same (rw t at h) in
+      let x = leb-true low (valueFrom 0 bs) (q .1) in
+      let y = leb-true (valueFrom 0 bs) high (p .1) in
+      (omega arith, omega arith))
+    (λ t. let z : none ≡ some n = rw t at h in none-some z)
+  where
+    some-same : {x y : ℕ} → some x ≡ some y → x ≡ y
+    some-same e = cc
+    none-some : {X : Type 0} → none ≡ some n → X
+    none-some e = let z : _≡_ {A = ℕ} 0 1 = cc in absurd (omega arith)
+
+pub countIn-range : (bs : List Byte) {n : ℕ} → countIn bs ≡ some n → (1 ≤ n) × (n ≤ 9999)
+unfolding countIn
+countIn-range bs h = numberIn-range 1 9999 bs h
+
+-- The number behind a first byte.
+pub count-behind-first : (a : ℕ) (w : List ℕ) → countIn (behindFirst (placed a w)) ≡ countIn (placed 0 (drop 1 w))
+unfolding behindFirst placed
+count-behind-first a [] = refl
+count-behind-first a (x ∷ w) = countIn-placeless (suc a) w
+
+pub countBehind-placeless : Placeless countBehind
+unfolding countBehind placed isByte
+countBehind-placeless a [] = refl
+countBehind-placeless a (x ∷ w) = rw (anywhere countIn countIn-placeless (suc a) 1 w)

@@ -1,0 +1,37 @@
+// The names of modifiers.
+use super::parts::same_text;
+ghost use mathlib.Core.Path.{_≡_};
+ghost use Rattle.songcode.specs.Bytes.{placed};
+ghost use Rattle.songcode.specs.Modifiers.{modifierNamed};
+ghost use Rattle.settings.specs.Names.{modifierIs};
+
+pub enum ModifierName {
+    Repeat,
+    CutStart,
+    CutEnd,
+    Before,
+    After,
+    Unknown,
+}
+
+pub fn modifier_named(w: &[u8]) -> ModifierName
+    ensures { λ r. ⌜ r ≡ modifierIs (modifierNamed (placed 0 (now (w .entry)))) ⌝ }
+{
+    if same_text(b"repeat", w) {
+        return ModifierName::Repeat;
+    }
+    if same_text(b"cutStart", w) {
+        return ModifierName::CutStart;
+    }
+    if same_text(b"cutEnd", w) {
+        return ModifierName::CutEnd;
+    }
+    if same_text(b"before", w) {
+        return ModifierName::Before;
+    }
+    if same_text(b"after", w) {
+        ModifierName::After
+    } else {
+        ModifierName::Unknown
+    }
+}
