@@ -1,0 +1,2 @@
+-- The laws of the walk.
+pub mod RankLaws

@@ -1,0 +1,2 @@
+-- Stage 2 as a walk over the lines of a text.
+pub mod Ranks

@@ -1,0 +1,1 @@
+// Stage 2 of the reading, line by line.
