@@ -1,1 +1,10 @@
 // Stage 2 of the reading, line by line.
+mod states;
+
+pub use states::Carried;
+pub use states::Heads;
+pub use states::Judged;
+pub use states::Part;
+pub use states::Pending;
+pub use states::Place;
+pub use states::State;
