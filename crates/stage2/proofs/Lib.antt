@@ -1,3 +1,6 @@
 -- The laws of the walk.
 pub mod RankLaws
 pub mod BlockWalk
+pub mod SeenLaws
+pub mod MetadataWalk
+pub mod DefinitionWalk

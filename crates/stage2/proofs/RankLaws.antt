@@ -27,10 +27,23 @@ unfolding least
 least-append [] ys = let h = least-le ys in omega arith
 least-append (x ∷ xs) ys = let h = least-append xs ys in omega arith
 
-pub least-if : (t : Bool) (number line : ℕ) → ranked number line ≤ none → least (complainIf t number line) ≡ onlyIf t (ranked number line)
+pub least-if : (t : Bool) (number line : ℕ) → least (complainIf t number line) ≡ min none (onlyIf t (ranked number line))
 unfolding least complainIf when onlyIf if_then_else_
-least-if true number line h = omega arith
-least-if false number line h = refl
+least-if true number line = omega arith
+least-if false number line = refl
+
+-- Several complaints at once: each group splits into its first part and its rest.
+pub min-assoc : (a b c : ℕ) → min (min a b) c ≡ min a (min b c)
+min-assoc a b c = omega arith
+
+pub min-swap : (a b c d : ℕ) → min (min a b) (min c d) ≡ min (min a c) (min b d)
+min-swap a b c d = omega arith
+
+pub min-both : {x y : ℕ} (a b c d : ℕ) → x ≡ min a b → y ≡ min c d → min x y ≡ min (min a c) (min b d)
+min-both a b c d p q = rw (p, q) (min-swap a b c d)
+
+pub least-both : (a b c d : List Complaint) → min (least (a ++ b)) (least (c ++ d)) ≡ min (min (least a) (least c)) (min (least b) (least d))
+least-both a b c d = min-both (least a) (least b) (least c) (least d) (least-append a b) (least-append c d)
 
 module _ (c d : Complaint) where
   goes-first : Small c → Small d → goesFirst c d ≡ true → rank c ≤ rank d
