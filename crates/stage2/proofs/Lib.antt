@@ -4,3 +4,5 @@ pub mod BlockWalk
 pub mod SeenLaws
 pub mod MetadataWalk
 pub mod DefinitionWalk
+pub mod PatternWalk
+pub mod SectionWalk
