@@ -6,3 +6,4 @@ pub mod MetadataWalk
 pub mod DefinitionWalk
 pub mod PatternWalk
 pub mod SectionWalk
+pub mod TextWalk
