@@ -7,3 +7,5 @@ pub mod DefinitionWalk
 pub mod PatternWalk
 pub mod SectionWalk
 pub mod TextWalk
+pub mod SmallFaults
+pub mod SmallLines
