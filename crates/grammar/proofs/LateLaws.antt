@@ -15,7 +15,8 @@ use Rattle.grammar.specs.declared.checks.Place.{Place}
 use Rattle.grammar.specs.declared.checks.Place.the-variants.{Fresh, Wants, Joins, Sounds, Removed, Alone, Full, Ended, Bad}
 use Rattle.grammar.specs.declared.checks.Check.{Check}
 use Rattle.grammar.specs.Kinds.{kindOf, kindsOf}
-use Rattle.grammar.specs.Checks.{check, first, spoiled, opened, closed, atFresh, atWants, atJoins, atFull, atSounds, atRemoved, atEnded, atPlace, checkStep, checkRun}
+use Rattle.grammar.specs.Places.{afterWants, afterJoins, afterEnded, afterFull, afterSounds, afterRemoved, nextPlace}
+use Rattle.grammar.specs.Checks.{check, first, spoiled, opened, closed, isBad, arrived, checkStep, checkRun}
 use Rattle.grammar.specs.Verdicts.{isAlone}
 
 -- Places where something stands before the item at hand, or the item is no `$n`.
@@ -52,26 +53,35 @@ late-closed : (c : Check) → Late (closed c)
 unfolding closed if_then_else_ isLate
 late-closed c = by-cases (eqb (c .loops) 0) (λ t. simp t) (λ t. simp t)
 
-full-late : (c : Check) (k : Kind) → Late (atFull c k)
-unfolding atFull isLate
-full-late c = of-kind (λ k. Late (atFull c k)) refl refl refl refl refl refl refl (late-closed c) refl
+late-arrived : (c : Check) (p : Place) → isLate p ≡ true → (k : Kind) → Late (arrived c p k)
+unfolding arrived
+late-arrived c p h = of-kind (λ k. Late (arrived c p k)) h h h h h h (late-opened c) (late-closed c) h
 
-place-late : (p : Place) → isLate p ≡ true → (c : Check) (k : Kind) → Late (atPlace p c k)
-unfolding atPlace atWants atJoins atSounds atRemoved atEnded isLate
-place-late Wants h c = of-kind (λ k. Late (atWants c k)) refl refl refl refl refl refl (late-opened c) refl refl
-place-late Joins h c = of-kind (λ k. Late (atJoins c k)) refl refl refl refl refl refl (late-opened c) refl refl
-place-late Sounds h c = of-kind (λ k. Late (atSounds c k)) refl refl refl refl refl refl refl (late-closed c) refl
-place-late Removed h c = of-kind (λ k. Late (atRemoved c k)) refl refl refl refl refl refl refl (late-closed c) refl
-place-late Full h c = full-late c
-place-late Ended h c = of-kind (λ k. Late (atEnded c k)) refl refl refl refl refl refl (late-opened c) refl refl
-place-late Bad h c = λ k. refl
-place-late Fresh h c = let z : _≡_ {A = ℕ} 0 1 = cc in absurd (omega arith)
-place-late Alone h c = let z : _≡_ {A = ℕ} 0 1 = cc in absurd (omega arith)
+-- A step that leads to a late place, or nowhere, leads to a late check.
+late-step : (c : Check) (k : Kind) → isLate (nextPlace (c .place) k) ≡ true → Late (checkStep c k)
+unfolding checkStep if_then_else_ isLate
+late-step c k h = by-cases (isBad (nextPlace (c .place) k)) (λ t. simp t) (λ t. simp t (late-arrived c (nextPlace (c .place) k) h k))
+
+full-late : (k : Kind) → isLate (afterFull k) ≡ true
+unfolding afterFull isLate
+full-late = of-kind (λ k. isLate (afterFull k) ≡ true) refl refl refl refl refl refl refl refl refl
+
+place-late : (p : Place) → isLate p ≡ true → (k : Kind) → isLate (nextPlace p k) ≡ true
+unfolding nextPlace isLate
+place-late Wants h = of-kind (λ k. isLate (afterWants k) ≡ true) refl refl refl refl refl refl refl refl refl
+place-late Joins h = of-kind (λ k. isLate (afterJoins k) ≡ true) refl refl refl refl refl refl refl refl refl
+place-late Sounds h = of-kind (λ k. isLate (afterSounds k) ≡ true) refl refl refl refl refl refl refl refl refl
+place-late Removed h = of-kind (λ k. isLate (afterRemoved k) ≡ true) refl refl refl refl refl refl refl refl refl
+place-late Full h = full-late
+place-late Ended h = of-kind (λ k. isLate (afterEnded k) ≡ true) refl refl refl refl refl refl refl refl refl
+place-late Bad h = λ k. refl
+place-late Fresh h = let z : _≡_ {A = ℕ} 0 1 = cc in absurd (omega arith)
+place-late Alone h = let z : _≡_ {A = ℕ} 0 1 = cc in absurd (omega arith)
 
 late-run : (c : Check) (ks : List Kind) → Late c → Late (checkRun c ks)
 unfolding checkRun checkStep
 late-run c [] h = h
-late-run c (k ∷ ks) h = late-run (checkStep c k) ks (place-late (c .place) h c k)
+late-run c (k ∷ ks) h = late-run (checkStep c k) ks (late-step c k (place-late (c .place) h k))
 
 not-alone : (p : Place) → isLate p ≡ true → isAlone p ≡ false
 unfolding isAlone isLate
@@ -89,10 +99,10 @@ late-is-not-alone : (c : Check) (ks : List Kind) → Late c → isAlone (checkRu
 late-is-not-alone c ks h = not-alone (checkRun c ks .place) (late-run c ks h)
 
 pub alone-is-whole : (ts : List Token) → isAlone (checkRun first (kindsOf ts) .place) ≡ isSome (wholeReference ts)
-unfolding checkRun checkStep kindsOf kindOf wholeReference isSome isAlone isLate
+unfolding checkRun checkStep nextPlace kindsOf kindOf wholeReference isSome isAlone isLate
 alone-is-whole [] = refl
 alone-is-whole (reference n ∷ []) = refl
-alone-is-whole (reference n ∷ t ∷ ts) = late-is-not-alone (checkStep (check Alone 0 true) (kindOf t)) (kindsOf ts) (full-late (check Alone 0 true) (kindOf t))
+alone-is-whole (reference n ∷ t ∷ ts) = late-is-not-alone (checkStep (check Alone 0 true) (kindOf t)) (kindsOf ts) (late-step (check Alone 0 true) (kindOf t) (full-late (kindOf t)))
 alone-is-whole (sound s ∷ ts) = late-is-not-alone (check Sounds 0 false) (kindsOf ts) refl
 alone-is-whole (opens ∷ ts) = late-is-not-alone (opened first) (kindsOf ts) (late-opened first)
 alone-is-whole (remover ∷ ts) = late-is-not-alone spoiled (kindsOf ts) refl

@@ -17,7 +17,7 @@ use Rattle.grammar.specs.declared.kinds.Kind.the-variants.{Opens, Closes
 use Rattle.grammar.specs.declared.checks.Place.{Place}
 use Rattle.grammar.specs.declared.checks.Place.the-variants.{Wants, Full, Bad}
 use Rattle.grammar.specs.declared.checks.Check.{Check}
-use Rattle.grammar.specs.Checks.{check, spoiled, opened, closed, atPlace, checkStep}
+use Rattle.grammar.specs.Checks.{check, spoiled, opened, closed, checkStep}
 use Rattle.grammar.specs.States.{depthBegun, depthRows, referencesBegun, referencesRows, within, checkRows, checkItem}
 
 -- Up to the limit a check is itself, and past it spoiled.
@@ -47,11 +47,11 @@ closes-one p n b = let e : suc n - 1 ≡ n = omega arith in simp (ne-eqb (suc n)
 -- What a step does to a check, it does to it within the limit: a check that is spoiled stays so.
 module _ (d : ℕ) (c : Check) (k : Kind) where
   pub step-within : (e : Check) → e ≡ checkStep c k → within d e ≡ checkStep (within d c) k
-  unfolding checkStep atPlace
+  unfolding checkStep
   step-within e h = by-limit d (λ l. rw (within-limit d c l, within-limit d e l) h) (λ l. rw (past-limit d c l, past-limit d e l) refl)
 
   pub spoiled-within : spoiled ≡ checkStep c k → spoiled ≡ checkStep (within d c) k
-  unfolding checkStep atPlace
+  unfolding checkStep
   spoiled-within h = by-limit d (λ l. rw (within-limit d c l) h) (λ l. rw (past-limit d c l) refl)
 
 -- Two checks that a step leads to the same.
@@ -61,7 +61,7 @@ alike-within d c e k h = by-limit d (λ l. rw (within-limit d c l, within-limit 
 -- One more loop is open: the depth is at least their number.
 module _ (d n : ℕ) (b : Bool) (p : Place) (low : n ≤ d) where
   pub opened-within : opened (check p n b) ≡ checkStep (check p n b) Opens → within (max (suc n) d) (check Wants (suc n) b) ≡ checkStep (within d (check p n b)) Opens
-  unfolding checkStep atPlace
+  unfolding checkStep
   opened-within h =
       by-limit
       (suc n)

@@ -10,10 +10,11 @@ use Rattle.songcode.specs.Lists.{if_then_else_}
 use Rattle.songcode.specs.Song.{chord, again, silence}
 use Rattle.songcode.specs.Tables.{offset}
 use Rattle.songcode.specs.Tokens.{Token, sound, remover, reference, semicolon, colon, lineEnd, opens, closes, wrong}
-use Rattle.tokens.specs.TokenWords.{tokenWord, chordWord}
+use Rattle.songcode.proofs.ListLaws.{Each}
+use Rattle.tokens.specs.TokenWords.{tokenWord, chordWord, tokenWords}
 use Rattle.grammar.specs.declared.kinds.Kind.{Kind}
 use Rattle.grammar.specs.declared.kinds.Kind.the-variants.{Sound}
-use Rattle.grammar.specs.Kinds.{kindOf, signKind, wordKind, FitsWord}
+use Rattle.grammar.specs.Kinds.{kindOf, kindsOf, signKind, wordKind, wordKinds, FitsWord}
 
 base-sounds : (n : ℕ) → n ≤ 33 → signKind n ≡ Sound
 unfolding signKind if_then_else_
@@ -34,3 +35,8 @@ word-kind lineEnd h = refl
 word-kind opens h = refl
 word-kind (closes n) h = let d : (56 * 2 ^ 26 + n) / 2 ^ 26 ≡ 56 = omega arith in ap signKind d
 word-kind wrong h = refl
+
+pub words-kinds : (ts : List Token) → Each FitsWord ts → wordKinds (tokenWords ts) ≡ kindsOf ts
+unfolding wordKinds tokenWords kindsOf Each
+words-kinds [] h = refl
+words-kinds (t ∷ ts) h = rw (word-kind t (h .0), words-kinds ts (h .1)) refl

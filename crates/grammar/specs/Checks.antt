@@ -8,12 +8,14 @@ use Rattle.songcode.specs.Bytes.{Byte}
 use Rattle.songcode.specs.Lines.{Line}
 use Rattle.songcode.specs.Tokens.{tokens, tokensOf}
 use Rattle.songcode.specs.PatternText.{loopsDeep}
+use Rattle.text.specs.Spans.{part}
 use Rattle.grammar.specs.declared.kinds.Kind.{Kind}
 use Rattle.grammar.specs.declared.kinds.Kind.the-variants.{Sound, Remover, Reference, Semicolon, Colon, LineEnd, Opens, Closes, Wrong}
 use Rattle.grammar.specs.declared.checks.Place.{Place}
 use Rattle.grammar.specs.declared.checks.Place.the-variants.{Fresh, Wants, Joins, Sounds, Removed, Alone, Full, Ended, Bad}
 use Rattle.grammar.specs.declared.checks.Check.{Check}
-use Rattle.grammar.specs.Kinds.{kindsOf}
+use Rattle.grammar.specs.Places.{nextPlace}
+use Rattle.grammar.specs.Kinds.{kindsOf, wordKinds}
 
 abbrev pub check : Place → ℕ → Bool → Check
 check p n b = record { place = p; loops = n; named = b }
@@ -40,106 +42,34 @@ unfoldable pub closed : Check → Check
 unfolding if_then_else_
 closed c = if eqb (c .loops) 0 then spoiled else check Full (c .loops - 1) (c .named)
 
-unfoldable pub atWants : Check → Kind → Check
-unfolding opened
-atWants c Sound = moved c Sounds
-atWants c Reference = referred c Full
-atWants c Opens = opened c
-atWants c Remover = spoiled
-atWants c Semicolon = spoiled
-atWants c Colon = spoiled
-atWants c LineEnd = spoiled
-atWants c Closes = spoiled
-atWants c Wrong = spoiled
+unfoldable pub isBad : Place → Bool
+isBad Bad = true
+isBad Fresh = false
+isBad Wants = false
+isBad Joins = false
+isBad Sounds = false
+isBad Removed = false
+isBad Alone = false
+isBad Full = false
+isBad Ended = false
 
-unfoldable pub atFresh : Check → Kind → Check
-unfolding opened
-atFresh c Sound = moved c Sounds
-atFresh c Reference = referred c Alone
-atFresh c Opens = opened c
-atFresh c Remover = spoiled
-atFresh c Semicolon = spoiled
-atFresh c Colon = spoiled
-atFresh c LineEnd = spoiled
-atFresh c Closes = spoiled
-atFresh c Wrong = spoiled
-
-unfoldable pub atJoins : Check → Kind → Check
-unfolding opened
-atJoins c Sound = moved c Sounds
-atJoins c Reference = referred c Full
-atJoins c Opens = opened c
-atJoins c LineEnd = moved c Wants
-atJoins c Remover = spoiled
-atJoins c Semicolon = spoiled
-atJoins c Colon = spoiled
-atJoins c Closes = spoiled
-atJoins c Wrong = spoiled
-
-unfoldable pub atFull : Check → Kind → Check
-unfolding closed
-atFull c Semicolon = moved c Wants
-atFull c Colon = moved c Joins
-atFull c LineEnd = moved c Ended
-atFull c Closes = closed c
-atFull c Sound = spoiled
-atFull c Remover = spoiled
-atFull c Reference = spoiled
-atFull c Opens = spoiled
-atFull c Wrong = spoiled
-
-unfoldable pub atSounds : Check → Kind → Check
-unfolding atFull
-atSounds c Sound = moved c Sounds
-atSounds c Remover = moved c Removed
-atSounds c Semicolon = atFull c Semicolon
-atSounds c Colon = atFull c Colon
-atSounds c LineEnd = atFull c LineEnd
-atSounds c Closes = atFull c Closes
-atSounds c Reference = spoiled
-atSounds c Opens = spoiled
-atSounds c Wrong = spoiled
-
-unfoldable pub atRemoved : Check → Kind → Check
-unfolding atFull
-atRemoved c Remover = moved c Removed
-atRemoved c Semicolon = atFull c Semicolon
-atRemoved c Colon = atFull c Colon
-atRemoved c LineEnd = atFull c LineEnd
-atRemoved c Closes = atFull c Closes
-atRemoved c Sound = spoiled
-atRemoved c Reference = spoiled
-atRemoved c Opens = spoiled
-atRemoved c Wrong = spoiled
-
-unfoldable pub atEnded : Check → Kind → Check
-unfolding opened
-atEnded c Sound = moved c Sounds
-atEnded c Reference = referred c Full
-atEnded c Opens = opened c
-atEnded c Colon = moved c Joins
-atEnded c Remover = spoiled
-atEnded c Semicolon = spoiled
-atEnded c LineEnd = spoiled
-atEnded c Closes = spoiled
-atEnded c Wrong = spoiled
-
-unfoldable pub atPlace : Place → Check → Kind → Check
-unfolding atFresh atWants atJoins atSounds atRemoved atFull atEnded
-atPlace Fresh c k = atFresh c k
-atPlace Wants c k = atWants c k
-atPlace Joins c k = atJoins c k
-atPlace Sounds c k = atSounds c k
-atPlace Removed c k = atRemoved c k
-atPlace Alone c k = atFull c k
-atPlace Full c k = atFull c k
-atPlace Ended c k = atEnded c k
-atPlace Bad c k = spoiled
+-- The check at its new place, with the loops and the `$n` counted.
+unfoldable pub arrived : Check → Place → Kind → Check
+unfolding opened closed
+arrived c p Opens = opened c
+arrived c p Closes = closed c
+arrived c p Reference = referred c p
+arrived c p Sound = moved c p
+arrived c p Remover = moved c p
+arrived c p Semicolon = moved c p
+arrived c p Colon = moved c p
+arrived c p LineEnd = moved c p
+arrived c p Wrong = moved c p
 
 -- The check behind one more token, and behind several.
 unfoldable pub checkStep : Check → Kind → Check
-unfolding atPlace
-checkStep c k = atPlace (c .place) c k
+unfolding if_then_else_ isBad arrived nextPlace
+checkStep c k = if isBad (nextPlace (c .place) k) then spoiled else arrived c (nextPlace (c .place) k) k
 
 unfoldable pub checkRun : Check → List Kind → Check
 unfolding checkStep
@@ -152,3 +82,7 @@ checkText c bs = checkRun c (kindsOf (tokens bs))
 
 abbrev pub checkLines : Line → List Line → Check
 checkLines l ls = checkRun first (kindsOf (tokensOf l ls))
+
+-- The check behind the words of a part of a table.
+abbrev pub checkWords : Check → List ℕ → ℕ → ℕ → Check
+checkWords c words from to = checkRun c (wordKinds (part from to words))

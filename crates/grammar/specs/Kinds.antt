@@ -45,6 +45,11 @@ unfoldable pub wordKind : ℕ → Kind
 unfolding signKind
 wordKind w = signKind (w / 2 ^ 26)
 
+unfoldable pub wordKinds : List ℕ → List Kind
+unfolding wordKind
+wordKinds [] = []
+wordKinds (w ∷ ws) = wordKind w ∷ wordKinds ws
+
 -- A token whose word holds all of it: base chords are 0 to 33, an extension has at most 31 bytes below place 65,536, a count at most four digits.
 unfoldable pub FitsWord : Token → Type 0
 FitsWord (sound (chord c)) = (c .base ≤ 33) × (offset (c .extension) < 2 ^ 16) × (length (c .extension) ≤ 31)

@@ -1,7 +1,8 @@
 // The check of a pattern text: where the reading stands, and one function for each place that says what a token leads to.
 use super::Kind;
 ghost use mathlib.Core.Path.{_≡_};
-ghost use Rattle.grammar.specs.Checks.{first, spoiled, moved, referred, opened, closed, atFresh, atWants, atJoins, atFull, atSounds, atRemoved, atEnded, checkStep};
+ghost use Rattle.grammar.specs.Checks.{first, spoiled, moved, referred, opened, closed, arrived, isBad, checkStep};
+ghost use Rattle.grammar.specs.Places.{afterWants, afterFresh, afterJoins, afterEnded, afterFull, afterSounds, afterRemoved, nextPlace};
 
 // "No loop in a loop": so many loops are open at once.
 pub const LOOPS_DEEP: usize = 1;
@@ -96,122 +97,172 @@ fn close_loop(c: Check) -> Check
     }
 }
 
-// Where an item is to come.
-fn at_wants(c: Check, kind: Kind) -> Check
-    ensures { λ r. ⌜ r ≡ atWants c kind ⌝ }
+// Where an item is to come: a measure, a `$n` or a loop begins.
+fn after_wants(kind: Kind) -> Place
+    ensures { λ r. ⌜ r ≡ afterWants kind ⌝ }
 {
     match kind {
-        Kind::Sound => move_to(c, Place::Sounds),
-        Kind::Reference => refer_to(c, Place::Full),
-        Kind::Opens => open_loop(c),
-        Kind::Remover => spoil(),
-        Kind::Semicolon => spoil(),
-        Kind::Colon => spoil(),
-        Kind::LineEnd => spoil(),
-        Kind::Closes => spoil(),
-        Kind::Wrong => spoil(),
+        Kind::Sound => Place::Sounds,
+        Kind::Reference => Place::Full,
+        Kind::Opens => Place::Wants,
+        Kind::Remover => Place::Bad,
+        Kind::Semicolon => Place::Bad,
+        Kind::Colon => Place::Bad,
+        Kind::LineEnd => Place::Bad,
+        Kind::Closes => Place::Bad,
+        Kind::Wrong => Place::Bad,
     }
 }
 
 // The same at the very beginning, where a `$n` may be the whole text.
-fn at_fresh(c: Check, kind: Kind) -> Check
-    ensures { λ r. ⌜ r ≡ atFresh c kind ⌝ }
+fn after_fresh(kind: Kind) -> Place
+    ensures { λ r. ⌜ r ≡ afterFresh kind ⌝ }
 {
     match kind {
-        Kind::Sound => move_to(c, Place::Sounds),
-        Kind::Reference => refer_to(c, Place::Alone),
-        Kind::Opens => open_loop(c),
-        Kind::Remover => spoil(),
-        Kind::Semicolon => spoil(),
-        Kind::Colon => spoil(),
-        Kind::LineEnd => spoil(),
-        Kind::Closes => spoil(),
-        Kind::Wrong => spoil(),
+        Kind::Reference => Place::Alone,
+        Kind::Sound => after_wants(kind),
+        Kind::Remover => after_wants(kind),
+        Kind::Semicolon => after_wants(kind),
+        Kind::Colon => after_wants(kind),
+        Kind::LineEnd => after_wants(kind),
+        Kind::Opens => after_wants(kind),
+        Kind::Closes => after_wants(kind),
+        Kind::Wrong => after_wants(kind),
     }
 }
 
 // The same behind a `:`, with which one line end counts.
-fn at_joins(c: Check, kind: Kind) -> Check
-    ensures { λ r. ⌜ r ≡ atJoins c kind ⌝ }
+fn after_joins(kind: Kind) -> Place
+    ensures { λ r. ⌜ r ≡ afterJoins kind ⌝ }
 {
     match kind {
-        Kind::Sound => move_to(c, Place::Sounds),
-        Kind::Reference => refer_to(c, Place::Full),
-        Kind::Opens => open_loop(c),
-        Kind::LineEnd => move_to(c, Place::Wants),
-        Kind::Remover => spoil(),
-        Kind::Semicolon => spoil(),
-        Kind::Colon => spoil(),
-        Kind::Closes => spoil(),
-        Kind::Wrong => spoil(),
+        Kind::LineEnd => Place::Wants,
+        Kind::Sound => after_wants(kind),
+        Kind::Remover => after_wants(kind),
+        Kind::Reference => after_wants(kind),
+        Kind::Semicolon => after_wants(kind),
+        Kind::Colon => after_wants(kind),
+        Kind::Opens => after_wants(kind),
+        Kind::Closes => after_wants(kind),
+        Kind::Wrong => after_wants(kind),
+    }
+}
+
+// The same behind an item and a line end, which counts with a `:` behind it.
+fn after_ended(kind: Kind) -> Place
+    ensures { λ r. ⌜ r ≡ afterEnded kind ⌝ }
+{
+    match kind {
+        Kind::Colon => Place::Joins,
+        Kind::Sound => after_wants(kind),
+        Kind::Remover => after_wants(kind),
+        Kind::Reference => after_wants(kind),
+        Kind::Semicolon => after_wants(kind),
+        Kind::LineEnd => after_wants(kind),
+        Kind::Opens => after_wants(kind),
+        Kind::Closes => after_wants(kind),
+        Kind::Wrong => after_wants(kind),
     }
 }
 
 // Behind an item that nothing may be added to: a separator, or the end of the loop around it.
-fn at_full(c: Check, kind: Kind) -> Check
-    ensures { λ r. ⌜ r ≡ atFull c kind ⌝ }
+fn after_full(kind: Kind) -> Place
+    ensures { λ r. ⌜ r ≡ afterFull kind ⌝ }
 {
     match kind {
-        Kind::Semicolon => move_to(c, Place::Wants),
-        Kind::Colon => move_to(c, Place::Joins),
-        Kind::LineEnd => move_to(c, Place::Ended),
-        Kind::Closes => close_loop(c),
-        Kind::Sound => spoil(),
-        Kind::Remover => spoil(),
-        Kind::Reference => spoil(),
-        Kind::Opens => spoil(),
-        Kind::Wrong => spoil(),
+        Kind::Semicolon => Place::Wants,
+        Kind::Colon => Place::Joins,
+        Kind::LineEnd => Place::Ended,
+        Kind::Closes => Place::Full,
+        Kind::Sound => Place::Bad,
+        Kind::Remover => Place::Bad,
+        Kind::Reference => Place::Bad,
+        Kind::Opens => Place::Bad,
+        Kind::Wrong => Place::Bad,
     }
 }
 
-// In a measure, "one or more positions".
-fn at_sounds(c: Check, kind: Kind) -> Check
-    ensures { λ r. ⌜ r ≡ atSounds c kind ⌝ }
+// The same in a measure, "one or more positions".
+fn after_sounds(kind: Kind) -> Place
+    ensures { λ r. ⌜ r ≡ afterSounds kind ⌝ }
 {
     match kind {
-        Kind::Sound => move_to(c, Place::Sounds),
-        Kind::Remover => move_to(c, Place::Removed),
-        Kind::Semicolon => at_full(c, kind),
-        Kind::Colon => at_full(c, kind),
-        Kind::LineEnd => at_full(c, kind),
-        Kind::Closes => at_full(c, kind),
-        Kind::Reference => spoil(),
-        Kind::Opens => spoil(),
-        Kind::Wrong => spoil(),
+        Kind::Sound => Place::Sounds,
+        Kind::Remover => Place::Removed,
+        Kind::Reference => after_full(kind),
+        Kind::Semicolon => after_full(kind),
+        Kind::Colon => after_full(kind),
+        Kind::LineEnd => after_full(kind),
+        Kind::Opens => after_full(kind),
+        Kind::Closes => after_full(kind),
+        Kind::Wrong => after_full(kind),
     }
 }
 
-// "Removers stand only at the end."
-fn at_removed(c: Check, kind: Kind) -> Check
-    ensures { λ r. ⌜ r ≡ atRemoved c kind ⌝ }
+// The same in a measure with removers, which "stand only at the end".
+fn after_removed(kind: Kind) -> Place
+    ensures { λ r. ⌜ r ≡ afterRemoved kind ⌝ }
 {
     match kind {
-        Kind::Remover => move_to(c, Place::Removed),
-        Kind::Semicolon => at_full(c, kind),
-        Kind::Colon => at_full(c, kind),
-        Kind::LineEnd => at_full(c, kind),
-        Kind::Closes => at_full(c, kind),
-        Kind::Sound => spoil(),
-        Kind::Reference => spoil(),
-        Kind::Opens => spoil(),
-        Kind::Wrong => spoil(),
+        Kind::Remover => Place::Removed,
+        Kind::Sound => after_full(kind),
+        Kind::Reference => after_full(kind),
+        Kind::Semicolon => after_full(kind),
+        Kind::Colon => after_full(kind),
+        Kind::LineEnd => after_full(kind),
+        Kind::Opens => after_full(kind),
+        Kind::Closes => after_full(kind),
+        Kind::Wrong => after_full(kind),
     }
 }
 
-// Behind an item and a line end: the next item, or a `:` with which the line end counts.
-fn at_ended(c: Check, kind: Kind) -> Check
-    ensures { λ r. ⌜ r ≡ atEnded c kind ⌝ }
+// Where a token leads to.
+fn next_place(place: Place, kind: Kind) -> Place
+    ensures { λ r. ⌜ r ≡ nextPlace place kind ⌝ }
+{
+    match place {
+        Place::Fresh => after_fresh(kind),
+        Place::Wants => after_wants(kind),
+        Place::Joins => after_joins(kind),
+        Place::Sounds => after_sounds(kind),
+        Place::Removed => after_removed(kind),
+        Place::Alone => after_full(kind),
+        Place::Full => after_full(kind),
+        Place::Ended => after_ended(kind),
+        Place::Bad => Place::Bad,
+    }
+}
+
+fn is_bad(place: Place) -> bool
+    ensures { λ r. ⌜ r ≡ isBad place ⌝ }
+{
+    match place {
+        Place::Fresh => false,
+        Place::Wants => false,
+        Place::Joins => false,
+        Place::Sounds => false,
+        Place::Removed => false,
+        Place::Alone => false,
+        Place::Full => false,
+        Place::Ended => false,
+        Place::Bad => true,
+    }
+}
+
+// The check at its new place, with the loops and the `$n` counted.
+fn arrive(c: Check, place: Place, kind: Kind) -> Check
+    ensures { λ r. ⌜ r ≡ arrived c place kind ⌝ }
 {
     match kind {
-        Kind::Sound => move_to(c, Place::Sounds),
-        Kind::Reference => refer_to(c, Place::Full),
         Kind::Opens => open_loop(c),
-        Kind::Colon => move_to(c, Place::Joins),
-        Kind::Remover => spoil(),
-        Kind::Semicolon => spoil(),
-        Kind::LineEnd => spoil(),
-        Kind::Closes => spoil(),
-        Kind::Wrong => spoil(),
+        Kind::Closes => close_loop(c),
+        Kind::Reference => refer_to(c, place),
+        Kind::Sound => move_to(c, place),
+        Kind::Remover => move_to(c, place),
+        Kind::Semicolon => move_to(c, place),
+        Kind::Colon => move_to(c, place),
+        Kind::LineEnd => move_to(c, place),
+        Kind::Wrong => move_to(c, place),
     }
 }
 
@@ -219,16 +270,10 @@ fn at_ended(c: Check, kind: Kind) -> Check
 pub fn step_kind(c: Check, kind: Kind) -> Check
     ensures { λ r. ⌜ r ≡ checkStep c kind ⌝ }
 {
-    let place = c.place;
-    match place {
-        Place::Fresh => at_fresh(c, kind),
-        Place::Wants => at_wants(c, kind),
-        Place::Joins => at_joins(c, kind),
-        Place::Sounds => at_sounds(c, kind),
-        Place::Removed => at_removed(c, kind),
-        Place::Alone => at_full(c, kind),
-        Place::Full => at_full(c, kind),
-        Place::Ended => at_ended(c, kind),
-        Place::Bad => spoil(),
+    let from = c.place;
+    let place = next_place(from, kind);
+    if is_bad(place) {
+        return spoil();
     }
+    arrive(c, place, kind)
 }

@@ -1,6 +1,8 @@
 // Pattern text against the rules: a small state by value, stepped by the words of its tokens.
 mod checks;
 mod kinds;
+mod sides;
+mod verdicts;
 
 pub use checks::Check;
 pub use checks::LOOPS_DEEP;
@@ -9,13 +11,40 @@ pub use checks::start;
 pub use checks::step_kind;
 pub use kinds::Kind;
 pub use kinds::kind_of;
+pub use verdicts::definition_fine;
+pub use verdicts::section_fine;
+pub use verdicts::unnamed_fine;
 ghost use mathlib.Core.Path.{_≡_};
+ghost use Prim.Native.Nat.{_≤_};
+ghost use lib.ListN.{length};
+ghost use Rattle.grammar.specs.declared.kinds.Kind.the-variants.{LineEnd};
 ghost use Rattle.grammar.specs.Kinds.{wordKind};
-ghost use Rattle.grammar.specs.Checks.{checkStep};
+ghost use Rattle.grammar.specs.Checks.{checkStep, checkWords};
 
 // The check behind one more token, given by its word.
 pub fn step_check(c: Check, word: u32) -> Check
     ensures { λ r. ⌜ r ≡ checkStep c (wordKind word) ⌝ }
 {
     step_kind(c, kind_of(word))
+}
+
+// The check where a line ends and another one follows.
+pub fn line_between(c: Check) -> Check
+    ensures { λ r. ⌜ r ≡ checkStep c LineEnd ⌝ }
+{
+    step_kind(c, Kind::LineEnd)
+}
+
+// The check behind the tokens whose words stand in a part of a table.
+pub fn check_words(words: &[u32], from: usize, to: usize, c: Check) -> Check
+    requires { ⌜ (from ≤ to) × (to ≤ length (now words)) ⌝ }
+    ensures { λ r. ⌜ r ≡ checkWords c (now (words .entry)) from to ⌝ }
+{
+    let mut check = c;
+    let mut i = from;
+    while i < to {
+        check = step_check(check, words[i]);
+        i += 1;
+    }
+    check
 }

@@ -1,1 +1,4 @@
+-- What the contracts on words and tokens say, over the definitions of songcode.
 pub mod TokenWords
+pub mod Bases
+pub mod Decimals

@@ -1,0 +1,101 @@
+-- Where a token leads to, from each place of the check.
+use Rattle.grammar.specs.declared.kinds.Kind.{Kind}
+use Rattle.grammar.specs.declared.kinds.Kind.the-variants.{Sound, Remover, Reference, Semicolon, Colon, LineEnd, Opens, Closes, Wrong}
+use Rattle.grammar.specs.declared.checks.Place.{Place}
+use Rattle.grammar.specs.declared.checks.Place.the-variants.{Fresh, Wants, Joins, Sounds, Removed, Alone, Full, Ended, Bad}
+
+-- Where an item is to come; so it is at the beginning, behind a `:`, and behind a line end.
+unfoldable pub afterWants : Kind → Place
+afterWants Sound = Sounds
+afterWants Reference = Full
+afterWants Opens = Wants
+afterWants Remover = Bad
+afterWants Semicolon = Bad
+afterWants Colon = Bad
+afterWants LineEnd = Bad
+afterWants Closes = Bad
+afterWants Wrong = Bad
+
+unfoldable pub afterFresh : Kind → Place
+unfolding afterWants
+afterFresh Reference = Alone
+afterFresh Sound = afterWants Sound
+afterFresh Remover = afterWants Remover
+afterFresh Semicolon = afterWants Semicolon
+afterFresh Colon = afterWants Colon
+afterFresh LineEnd = afterWants LineEnd
+afterFresh Opens = afterWants Opens
+afterFresh Closes = afterWants Closes
+afterFresh Wrong = afterWants Wrong
+
+unfoldable pub afterJoins : Kind → Place
+unfolding afterWants
+afterJoins LineEnd = Wants
+afterJoins Sound = afterWants Sound
+afterJoins Remover = afterWants Remover
+afterJoins Reference = afterWants Reference
+afterJoins Semicolon = afterWants Semicolon
+afterJoins Colon = afterWants Colon
+afterJoins Opens = afterWants Opens
+afterJoins Closes = afterWants Closes
+afterJoins Wrong = afterWants Wrong
+
+unfoldable pub afterEnded : Kind → Place
+unfolding afterWants
+afterEnded Colon = Joins
+afterEnded Sound = afterWants Sound
+afterEnded Remover = afterWants Remover
+afterEnded Reference = afterWants Reference
+afterEnded Semicolon = afterWants Semicolon
+afterEnded LineEnd = afterWants LineEnd
+afterEnded Opens = afterWants Opens
+afterEnded Closes = afterWants Closes
+afterEnded Wrong = afterWants Wrong
+
+-- Where an item is there: a loop or `$n`, a measure, a measure with removers.
+unfoldable pub afterFull : Kind → Place
+afterFull Semicolon = Wants
+afterFull Colon = Joins
+afterFull LineEnd = Ended
+afterFull Closes = Full
+afterFull Sound = Bad
+afterFull Remover = Bad
+afterFull Reference = Bad
+afterFull Opens = Bad
+afterFull Wrong = Bad
+
+unfoldable pub afterSounds : Kind → Place
+unfolding afterFull
+afterSounds Sound = Sounds
+afterSounds Remover = Removed
+afterSounds Reference = afterFull Reference
+afterSounds Semicolon = afterFull Semicolon
+afterSounds Colon = afterFull Colon
+afterSounds LineEnd = afterFull LineEnd
+afterSounds Opens = afterFull Opens
+afterSounds Closes = afterFull Closes
+afterSounds Wrong = afterFull Wrong
+
+unfoldable pub afterRemoved : Kind → Place
+unfolding afterFull
+afterRemoved Remover = Removed
+afterRemoved Sound = afterFull Sound
+afterRemoved Reference = afterFull Reference
+afterRemoved Semicolon = afterFull Semicolon
+afterRemoved Colon = afterFull Colon
+afterRemoved LineEnd = afterFull LineEnd
+afterRemoved Opens = afterFull Opens
+afterRemoved Closes = afterFull Closes
+afterRemoved Wrong = afterFull Wrong
+
+unfoldable pub nextPlace : Place → Kind → Place
+unfolding afterFresh afterWants afterJoins afterSounds afterRemoved afterFull afterEnded
+nextPlace Fresh k = afterFresh k
+nextPlace Wants k = afterWants k
+nextPlace Joins k = afterJoins k
+nextPlace Sounds k = afterSounds k
+nextPlace Removed k = afterRemoved k
+nextPlace Alone k = afterFull k
+nextPlace Full k = afterFull k
+nextPlace Ended k = afterEnded k
+nextPlace Bad k = Bad

@@ -1,0 +1,5 @@
+-- Laws under the proofs of this crate's functions, and those that the crates above cite.
+pub mod FitLaws
+pub mod RowLaws
+pub mod BaseLaws
+pub mod DecimalLaws

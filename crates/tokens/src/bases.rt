@@ -1,0 +1,127 @@
+// Base chords: seven rows of spellings, and the longest that stands at the front of a word.
+use text::byte_at;
+ghost use mathlib.Core.Path.{_≡_};
+ghost use mathlib.Core.Option.{none};
+ghost use Prim.Native.Nat.{_<_};
+ghost use Rattle.songcode.specs.Bytes.{placed};
+ghost use Rattle.songcode.specs.Chords.{bases, longestFrom, isBase};
+ghost use Rattle.tokens.specs.Bases.{baseOf, unpadded, three, fitted, firstOf, rowOf};
+
+// The rows by letter; a short spelling ends with zeros, a short row with empty spellings.
+const ROWS: [[[u8; 3]; 6]; 7] = [
+    [*b"A\0\0", *b"A#\0", *b"Ab\0", *b"Am\0", *b"A#m", *b"Abm"],
+    [
+        *b"B\0\0",
+        *b"Bb\0",
+        *b"Bm\0",
+        *b"Bbm",
+        *b"\0\0\0",
+        *b"\0\0\0",
+    ],
+    [
+        *b"C\0\0",
+        *b"C#\0",
+        *b"Cm\0",
+        *b"C#m",
+        *b"\0\0\0",
+        *b"\0\0\0",
+    ],
+    [*b"D\0\0", *b"Db\0", *b"D#\0", *b"Dm\0", *b"Dbm", *b"D#m"],
+    [
+        *b"E\0\0",
+        *b"Eb\0",
+        *b"Em\0",
+        *b"Ebm",
+        *b"\0\0\0",
+        *b"\0\0\0",
+    ],
+    [
+        *b"F\0\0",
+        *b"F#\0",
+        *b"Fm\0",
+        *b"F#m",
+        *b"\0\0\0",
+        *b"\0\0\0",
+    ],
+    [*b"G\0\0", *b"Gb\0", *b"G#\0", *b"Gm\0", *b"Gbm", *b"G#m"],
+];
+
+// The number of the first base chord of each row.
+const FIRSTS: [usize; 7] = [0, 6, 10, 14, 20, 24, 28];
+
+// A base chord: its number and how many bytes spell it; length 0 where there is none.
+pub struct Base {
+    pub number: usize,
+    pub length: usize,
+}
+
+// The length of a spelling that stands at the front of a word, else 0.
+fn fit(name: [u8; 3], w: &[u8]) -> usize
+    ensures { λ r. ⌜ r ≡ fitted 0 (unpadded (three name)) (now (w .entry)) ⌝ }
+{
+    let mut k = 0;
+    while k < 3 {
+        if name[k] == 0 {
+            return k;
+        }
+        if byte_at(w, k) != name[k] {
+            return 0;
+        }
+        k += 1;
+    }
+    k
+}
+
+// The longest of a row that fits.
+fn longest_in(row: usize, w: &[u8]) -> Base
+    requires { ⌜ row < 7 ⌝ }
+    ensures { λ r. ⌜ r ≡ baseOf (longestFrom (firstOf row) (rowOf row) (now (w .entry)) none) ⌝ }
+{
+    let mut best = Base {
+        number: 0,
+        length: 0,
+    };
+    let mut j = 0;
+    while j < 6 {
+        let l = fit(ROWS[row][j], w);
+        if best.length < l {
+            best = Base {
+                number: FIRSTS[row] + j,
+                length: l,
+            };
+        }
+        j += 1;
+    }
+    best
+}
+
+// The longest base chord at the front of a word, looked up in the row of its letter.
+pub fn longest_base(w: &[u8]) -> Base
+    ensures { λ r. ⌜ r ≡ baseOf (longestFrom 0 bases (now (w .entry)) none) ⌝ }
+{
+    let b = byte_at(w, 0);
+    if b < 65 {
+        return Base {
+            number: 0,
+            length: 0,
+        };
+    }
+    if 71 < b {
+        return Base {
+            number: 0,
+            length: 0,
+        };
+    }
+    longest_in((b - 65) as usize, w)
+}
+
+// The word is a base chord exactly.
+pub fn is_base(w: &[u8]) -> bool
+    ensures { λ r. ⌜ r ≡ isBase (placed 0 (now (w .entry))) ⌝ }
+{
+    let b = longest_base(w);
+    if b.length == 0 {
+        return false;
+    }
+    b.length == w.len()
+}
