@@ -1,15 +1,14 @@
 -- The kind of a line or block by its first bytes, of which one past the end is a zero.
 use Prim.Native.Nat.{ℕ}
-use mathlib.Core.Path.{_≡_, refl, ap}
+use mathlib.Core.Path.{_≡_, refl}
 use mathlib.Core.List.{List, [], _∷_}
-use mathlib.Core.Bool.{Bool, true, false, _&&_}
+use mathlib.Core.Bool.{_&&_}
 use lib.Dec.{eqb}
 use lib.ListN.{getD}
 use Rattle.songcode.specs.Lists.{if_then_else_}
-use Rattle.songcode.specs.Bytes.{Byte, placed, values, is, isByte, isLetter, same}
+use Rattle.songcode.specs.Bytes.{placed, isByte, isLetter}
 use Rattle.songcode.specs.Sections.{Kind, keyLine, modifierLine, patternLine, kindOf}
 use Rattle.songcode.specs.SongText.{BlockKind, metadata, definition, section, kindOfText}
-use Rattle.songcode.proofs.ByteLaws.{values-placed}
 use Rattle.text.proofs.TestLaws.{by-cases}
 use Rattle.settings.specs.Kinds.{letter}
 

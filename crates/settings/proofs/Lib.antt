@@ -7,3 +7,8 @@ pub mod PhraseLaws
 pub mod LyricLaws
 pub mod StyleLaws
 pub mod NumberLaws
+pub mod ValueLaws
+pub mod WordLaws
+pub mod CutLaws
+pub mod ReadLaws
+pub mod OfLineLaws

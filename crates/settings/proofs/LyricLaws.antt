@@ -1,23 +1,20 @@
 -- The last word of a text, and the marks around it.
-use Prim.Native.Nat.{ℕ, zero, suc, _+_, _-_, _<_, _≤_}
-use mathlib.Core.Path.{_≡_, refl, sym, ap, _∙_}
+use Prim.Native.Nat.{ℕ, suc, _+_, _-_, _<_, _≤_}
+use mathlib.Core.Path.{_≡_, refl, _∙_}
 use mathlib.Core.List.{List, [], _∷_, _++_, reverse, reverse-cons, reverse-append}
-use mathlib.Core.Bool.{Bool, true, false, _&&_, not}
+use mathlib.Core.Bool.{true, false, _&&_}
 use native.Mathlib.Omega.{arith}
-use native.Mathlib.Nat.{add-zero}
-use borrow.Author.Tests.{le-leb, lt-leb, leb-true, leb-false}
-use lib.Dec.{eqb, leb}
-use lib.ListN.{length, getD, take, drop, length-drop, length-take, length-reverse, List·getD-append}
+use borrow.Author.Tests.{leb-true, leb-false}
+use lib.Dec.{leb}
+use lib.ListN.{length, getD, drop, length-drop, length-reverse, List·getD-append}
 use lib.Seq.{take-suc, getD-drop, getD-at, length-take-le}
 use Rattle.songcode.specs.Lists.{if_then_else_, left}
-use Rattle.songcode.specs.Bytes.{Byte, placed, values, begins, notBlank, isBlank}
-use Rattle.songcode.specs.Lyrics.{bracketed, between}
+use Rattle.songcode.specs.Bytes.{placed, begins, notBlank, isBlank}
+use Rattle.songcode.specs.Lyrics.{bracketed}
 use Rattle.songcode.proofs.ByteLaws.{values-placed, length-placed, placed-append}
-use Rattle.songcode.proofs.ListLaws.{both-pass}
 use Rattle.text.specs.Spans.{blank, part}
 use Rattle.text.proofs.TestLaws.{by-cases}
-use Rattle.settings.proofs.PartLaws.{part-back, part-front}
-use Rattle.settings.proofs.PlaceLaws.{take-placed, drop-placed, values-reverse}
+use Rattle.settings.proofs.PlaceLaws.{values-reverse}
 
 -- The last byte of a part, and the part without it.
 part-last : (s : List ℕ) (a z : ℕ) → a < z → z ≤ length s → part a z s ≡ part a (z - 1) s ++ (getD s (z - 1) 0 ∷ [])

@@ -1,16 +1,16 @@
 -- Numbers: the same wherever their digits stand, and in their range.
 use Prim.Native.Nat.{ℕ, suc, _+_, _*_, _-_, _≤_}
 use Prim.Native.Char.{code}
-use mathlib.Core.Path.{_≡_, refl, sym, ap, _∙_}
+use mathlib.Core.Path.{_≡_, refl}
 use mathlib.Core.List.{List, [], _∷_}
-use mathlib.Core.Bool.{Bool, true, false, _&&_, not}
-use mathlib.Core.Option.{Option, none, some}
+use mathlib.Core.Bool.{_&&_}
+use mathlib.Core.Option.{none, some}
 use native.Mathlib.Omega.{arith}
 use borrow.Author.Tests.{leb-true}
 use lib.Dec.{leb}
-use lib.ListN.{drop}
-use Rattle.songcode.specs.Lists.{if_then_else_, any}
-use Rattle.songcode.specs.Bytes.{Byte, placed, is, isByte}
+use lib.ListN.{length, drop}
+use Rattle.songcode.specs.Lists.{if_then_else_}
+use Rattle.songcode.specs.Bytes.{Byte, placed, isByte}
 use Rattle.songcode.specs.Numbers.{isDigit, digits, isDecimal, valueFrom, numberIn, countIn, repeatIn}
 use Rattle.songcode.specs.Sections.{behindFirst}
 use Rattle.songcode.specs.Lyrics.{countBehind}
@@ -53,16 +53,17 @@ numberIn-range low high bs {n} h =
     by-cases
     (isDecimal bs && leb low (valueFrom 0 bs) && leb (valueFrom 0 bs) high)
     (λ t.
-      let p = both-pass (isDecimal bs && leb low (valueFrom 0 bs)) (leb (valueFrom 0 bs) high) t in
-      let q = both-pass (isDecimal bs) (leb low (valueFrom 0 bs)) (p .0) in
-      let k : valueFrom 0 bs ≡ n = some-same (rw t at h) in
-      let x = leb-true low (valueFrom 0 bs) (q .1) in
-      let y = leb-true (valueFrom 0 bs) high (p .1) in
-      (omega arith, omega arith))
+    let p = both-pass (isDecimal bs && leb low (valueFrom 0 bs)) (leb (valueFrom 0 bs) high) t in
+    let q = both-pass (isDecimal bs) (leb low (valueFrom 0 bs)) (p .0) in
+    let k : valueFrom 0 bs ≡ n = some-same (rw t at h) in
+    let x = leb-true low (valueFrom 0 bs) (q .1) in
+    let y = leb-true (valueFrom 0 bs) high (p .1) in
+    (omega arith, omega arith))
     (λ t. let z : none ≡ some n = rw t at h in none-some z)
   where
     some-same : {x y : ℕ} → some x ≡ some y → x ≡ y
     some-same e = cc
+
     none-some : {X : Type 0} → none ≡ some n → X
     none-some e = let z : _≡_ {A = ℕ} 0 1 = cc in absurd (omega arith)
 
@@ -75,6 +76,11 @@ pub count-behind-first : (a : ℕ) (w : List ℕ) → countIn (behindFirst (plac
 unfolding behindFirst placed
 count-behind-first a [] = refl
 count-behind-first a (x ∷ w) = countIn-placeless (suc a) w
+
+pub count-nothing : (a : ℕ) (w : List ℕ) → length w ≡ 0 → countIn (behindFirst (placed a w)) ≡ none
+unfolding behindFirst placed countIn numberIn isDecimal if_then_else_
+count-nothing a [] h = refl
+count-nothing a (x ∷ w) h = let z : ⊥ = omega arith in absurd z
 
 pub countBehind-placeless : Placeless countBehind
 unfolding countBehind placed isByte

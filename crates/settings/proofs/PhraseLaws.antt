@@ -1,16 +1,16 @@
 -- The characters of a text, byte by byte.
 use Prim.Native.Nat.{ℕ, suc, _+_, _<_, _≤_}
-use mathlib.Core.Path.{_≡_, refl, sym, ap, _∙_}
-use mathlib.Core.List.{List, [], _∷_}
-use mathlib.Core.Bool.{Bool, true, false, _&&_, not}
+use mathlib.Core.Path.{_≡_, sym, ap, _∙_}
+use mathlib.Core.List.{List}
+use mathlib.Core.Bool.{true, false, _&&_}
 use native.Mathlib.Omega.{arith}
 use native.Mathlib.Numerals.{add-one}
 use borrow.Author.Tests.{le-leb}
-use lib.Dec.{eqb, leb}
+use lib.Dec.{leb}
 use lib.ListN.{length, getD, take, drop, drop-of-length-le}
 use lib.Seq.{drop-cons}
 use Rattle.songcode.specs.Lists.{if_then_else_}
-use Rattle.songcode.specs.Bytes.{placed, isByte}
+use Rattle.songcode.specs.Bytes.{placed}
 use Rattle.songcode.specs.Characters.{isTail, characters}
 use Rattle.settings.specs.Parts.{lengthBefore}
 use Rattle.settings.specs.Phrases.{nameCharacters}

@@ -1,8 +1,8 @@
 -- What is said of a text's values alone is the same wherever the text stands.
-use Prim.Native.Nat.{ℕ, zero, suc, _+_, _≤_}
+use Prim.Native.Nat.{ℕ, zero, suc, _+_}
 use mathlib.Core.Path.{_≡_, refl, sym, ap, _∙_}
-use mathlib.Core.List.{List, [], _∷_, _++_, reverse, reverse-cons}
-use mathlib.Core.Bool.{Bool, true, false, not}
+use mathlib.Core.List.{List, [], _∷_, reverse, reverse-cons}
+use mathlib.Core.Bool.{Bool, not}
 use native.Mathlib.Omega.{arith}
 use native.Mathlib.Nat.{add-zero}
 use lib.Dec.{eqb}
@@ -16,7 +16,7 @@ use Rattle.songcode.specs.Lines.{Line}
 use Rattle.songcode.specs.Sections.{headerFaults}
 use Rattle.songcode.proofs.ByteLaws.{values-append}
 use Rattle.text.proofs.TestLaws.{by-cases}
-use Rattle.settings.specs.Parts.{passing, lengthBefore}
+use Rattle.settings.specs.Parts.{passing}
 use Rattle.settings.specs.Phrases.{nameCharacters, isHeader}
 use Rattle.settings.proofs.PartLaws.{OfValues, taken-placed, left-placed}
 

@@ -1,21 +1,19 @@
 -- The style of a text by its marks, and what lies between them as a part of the text.
-use Prim.Native.Nat.{ℕ, suc, _+_, _-_, _<_, _≤_}
-use mathlib.Core.Path.{_≡_, refl, sym, ap, _∙_}
+use Prim.Native.Nat.{ℕ, _+_, _-_, _<_, _≤_}
+use mathlib.Core.Path.{_≡_, sym, _∙_}
 use mathlib.Core.List.{List, [], _∷_, reverse}
-use mathlib.Core.Bool.{Bool, true, false, _&&_, and-true, and-false}
+use mathlib.Core.Bool.{true, false, _&&_, and-true, and-false}
 use native.Mathlib.Omega.{arith}
 use borrow.Author.Tests.{le-leb, lt-leb, leb-true}
 use lib.Dec.{leb}
-use lib.ListN.{length, getD, take, drop, length-drop, length-reverse}
+use lib.ListN.{length, getD, drop, length-drop, length-reverse}
 use lib.Seq.{length-take-le}
 use Rattle.songcode.specs.Lists.{if_then_else_}
 use Rattle.songcode.specs.Bytes.{Byte, placed, ascii, begins}
-use Rattle.songcode.specs.Lyrics.{Styled, bracketed, between, styled}
+use Rattle.songcode.specs.Lyrics.{bracketed, between, styled}
 use Rattle.songcode.proofs.ByteLaws.{length-placed}
 use Rattle.songcode.proofs.ListLaws.{both-pass}
 use Rattle.text.specs.Spans.{part}
-use Rattle.text.proofs.TestLaws.{by-cases}
-use Rattle.settings.specs.LyricParts.{styledFrom}
 use Rattle.settings.proofs.PartLaws.{part-back, part-front}
 use Rattle.settings.proofs.PlaceLaws.{Placeless, take-placed, drop-placed}
 use Rattle.settings.proofs.LyricLaws.{bracketed-values, begins-three, getD-reverse}

@@ -1,9 +1,16 @@
-// The names of keys.
+// The names of keys, and their settings.
+use super::parts::length_before;
 use super::parts::same_text;
+use super::phrases::is_phrase;
+use tokens::Number;
+use tokens::is_base;
+use tokens::number_in;
 ghost use mathlib.Core.Path.{_≡_};
 ghost use Rattle.songcode.specs.Bytes.{placed};
-ghost use Rattle.songcode.specs.Keys.{keyNamed};
+ghost use Rattle.songcode.specs.Keys.{keyNamed, bpmIn, timeIn};
 ghost use Rattle.settings.specs.Names.{keyIs};
+ghost use Rattle.settings.specs.KeySettings.{isNumber, isSettingOf};
+ghost use Rattle.tokens.specs.Decimals.{numberOf};
 
 pub enum KeyName {
     Name,
@@ -45,5 +52,49 @@ pub fn key_named(w: &[u8]) -> KeyName
         KeyName::End
     } else {
         KeyName::Unknown
+    }
+}
+
+// A bpm is 0 to 400.
+pub fn bpm_in(w: &[u8]) -> Number
+    ensures { λ r. ⌜ r ≡ numberOf (bpmIn (placed 0 (now (w .entry)))) ⌝ }
+{
+    number_in(0, 400, w)
+}
+
+// A time is `n/4`, n from 1 to 32.
+pub fn time_in(w: &[u8]) -> Number
+    ensures { λ r. ⌜ r ≡ numberOf (timeIn (placed 0 (now (w .entry)))) ⌝ }
+{
+    let q = length_before(b'/', w);
+    if !same_text(b"/4", &w[q..]) {
+        return Number::Not;
+    }
+    number_in(1, 32, &w[..q])
+}
+
+fn is_number(n: Number) -> bool
+    ensures { λ r. ⌜ r ≡ isNumber n ⌝ }
+{
+    match n {
+        Number::Is(_) => true,
+        Number::Not => false,
+    }
+}
+
+// The text is a setting of the key; an unknown key has none.
+pub fn is_setting(k: KeyName, w: &[u8]) -> bool
+    ensures { λ r. ⌜ r ≡ isSettingOf k (placed 0 (now (w .entry))) ⌝ }
+{
+    match k {
+        KeyName::Name => is_phrase(w),
+        KeyName::Artist => is_phrase(w),
+        KeyName::Original => is_base(w),
+        KeyName::Capo => is_number(number_in(1, 20, w)),
+        KeyName::Bpm => is_number(bpm_in(w)),
+        KeyName::Time => is_number(time_in(w)),
+        KeyName::Warning => is_phrase(w),
+        KeyName::End => is_phrase(w),
+        KeyName::Unknown => false,
     }
 }

@@ -1,10 +1,14 @@
-// The kinds of lines and blocks.
+// The kinds of lines and blocks, and the head of a definition.
 use super::parts::same_text;
 use text::byte_at;
+use tokens::Number;
+use tokens::number_in;
 ghost use mathlib.Core.Path.{_≡_};
 ghost use Rattle.songcode.specs.Bytes.{placed, is};
-ghost use Rattle.songcode.specs.Sections.{kindOf};
+ghost use Rattle.songcode.specs.Sections.{kindOf, behindFirst};
+ghost use Rattle.songcode.specs.Numbers.{countIn};
 ghost use Rattle.songcode.specs.SongText.{kindOfText};
+ghost use Rattle.tokens.specs.Decimals.{numberOf};
 ghost use Rattle.settings.specs.Kinds.{letter, kindIs, blockKindIs};
 
 // A line between the header and the `--`.
@@ -70,4 +74,14 @@ pub fn is_dashes(w: &[u8]) -> bool
     ensures { λ r. ⌜ r ≡ is "--" (placed 0 (now (w .entry))) ⌝ }
 {
     same_text(b"--", w)
+}
+
+// The number of a definition, behind the `$` of its head.
+pub fn head_in(w: &[u8]) -> Number
+    ensures { λ r. ⌜ r ≡ numberOf (countIn (behindFirst (placed 0 (now (w .entry))))) ⌝ }
+{
+    if w.len() == 0 {
+        return Number::Not;
+    }
+    number_in(1, 9999, &w[1..])
 }

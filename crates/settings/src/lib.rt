@@ -1,4 +1,5 @@
 // What a line of a chart is and says: its kind, its name and its setting, its header, its cut, its count and style.
+mod cuts;
 mod keys;
 mod kinds;
 mod lyrics;
@@ -6,17 +7,29 @@ mod modifiers;
 mod parts;
 mod phrases;
 
+pub use cuts::Beats;
+pub use cuts::Cut;
+pub use cuts::CutRead;
+pub use cuts::Measures;
+pub use cuts::cut_in;
 pub use keys::KeyName;
+pub use keys::bpm_in;
+pub use keys::is_setting;
 pub use keys::key_named;
+pub use keys::time_in;
 pub use kinds::BlockKind;
 pub use kinds::Kind;
 pub use kinds::block_kind;
+pub use kinds::head_in;
 pub use kinds::is_dashes;
 pub use kinds::kind_of;
 pub use lyrics::Styled;
+pub use lyrics::Words;
+pub use lyrics::lyric_words;
 pub use lyrics::style_of;
 pub use modifiers::ModifierName;
 pub use modifiers::modifier_named;
+pub use modifiers::repeat_in;
 pub use parts::name_end;
 pub use parts::same_text;
 pub use parts::setting_start;

@@ -1,14 +1,25 @@
-// Lyric lines: where the last word begins, and the style of a text.
+// Lyric lines: their counts, their texts without them, and the styles of these.
+use text::byte_at;
 use text::is_blank;
+use text::solid_len;
+use tokens::Number;
+use tokens::number_in;
 ghost use mathlib.Core.Path.{_≡_};
 ghost use mathlib.Core.List.{[], _∷_, reverse};
 ghost use Prim.Native.Nat.{_≤_};
 ghost use lib.ListN.{length};
 ghost use Rattle.songcode.specs.Lists.{left};
 ghost use Rattle.songcode.specs.Bytes.{placed, begins, notBlank};
-ghost use Rattle.songcode.specs.Lyrics.{bracketed, styled};
+ghost use Rattle.songcode.specs.Lyrics.{bracketed, countBehind, styled, wordsOf};
 ghost use Rattle.text.specs.Spans.{part};
-ghost use Rattle.settings.specs.LyricParts.{styledFrom};
+ghost use Rattle.settings.specs.LyricParts.{styledFrom, wordsFrom};
+ghost use Rattle.tokens.specs.Decimals.{numberOf};
+
+// Where a lyric line's text without its count ends, and the count; 0 where it has none.
+pub struct Words {
+    pub stop: usize,
+    pub count: usize,
+}
 
 // A text's style, and the places of its first byte and behind its last one without the marks.
 pub struct Styled {
@@ -30,6 +41,34 @@ fn word_start(s: &[u8], a: usize, e: usize) -> usize
         z -= 1;
     }
     z
+}
+
+// The count that a word is: a number behind `_`.
+fn count_behind(w: &[u8]) -> Number
+    ensures { λ r. ⌜ r ≡ numberOf (countBehind (placed 0 (now (w .entry)))) ⌝ }
+{
+    if byte_at(w, 0) != b'_' {
+        return Number::Not;
+    }
+    number_in(1, 9999, &w[1..])
+}
+
+// The text and the count of a lyric line: a count is its last word, with something before.
+pub fn lyric_words(s: &[u8], a: usize, e: usize) -> Words
+    requires { ⌜ (a ≤ e) × (e ≤ length (now s)) ⌝ }
+    ensures { λ r. ⌜ (wordsOf (placed a (part a e (now (s .entry)))) ≡ wordsFrom r a (now (s .entry))) × (a ≤ r .stop) × (r .stop ≤ e) × (r .count ≤ 9999) ⌝ }
+{
+    let k = word_start(s, a, e);
+    if k == a {
+        return Words { stop: e, count: 0 };
+    }
+    match count_behind(&s[k..e]) {
+        Number::Is(n) => Words {
+            stop: a + solid_len(&s[a..k]),
+            count: n,
+        },
+        Number::Not => Words { stop: e, count: 0 },
+    }
 }
 
 // The byte m three times.

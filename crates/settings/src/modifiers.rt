@@ -1,8 +1,12 @@
-// The names of modifiers.
+// The names of modifiers, and how often one repeats.
 use super::parts::same_text;
+use tokens::Number;
+use tokens::number_in;
 ghost use mathlib.Core.Path.{_≡_};
 ghost use Rattle.songcode.specs.Bytes.{placed};
 ghost use Rattle.songcode.specs.Modifiers.{modifierNamed};
+ghost use Rattle.songcode.specs.Numbers.{repeatIn};
+ghost use Rattle.tokens.specs.Decimals.{numberOf};
 ghost use Rattle.settings.specs.Names.{modifierIs};
 
 pub enum ModifierName {
@@ -34,4 +38,11 @@ pub fn modifier_named(w: &[u8]) -> ModifierName
     } else {
         ModifierName::Unknown
     }
+}
+
+// A repeat count is 2 to 9,999.
+pub fn repeat_in(w: &[u8]) -> Number
+    ensures { λ r. ⌜ r ≡ numberOf (repeatIn (placed 0 (now (w .entry)))) ⌝ }
+{
+    number_in(2, 9999, w)
 }

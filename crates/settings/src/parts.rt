@@ -1,5 +1,6 @@
 // Parts of a text: whether one is a quoted word, where a name ends, where a setting begins.
-use text::{front_blanks, is_blank};
+use text::front_blanks;
+use text::is_blank;
 ghost use mathlib.Core.Path.{_≡_};
 ghost use Prim.Native.Nat.{_≤_};
 ghost use lib.ListN.{length};

@@ -1,5 +1,5 @@
-use mathlib.Core.Path.{_≡_, refl, sym, ap, _∙_}
-use Rattle.songcode.specs.Bytes.{placed, ascii}
+use mathlib.Core.Path.{refl, sym}
+use Rattle.songcode.specs.Bytes.{ascii}
 use Rattle.settings.proofs.NameLaws.{is-by}
 use borrow.Author.Needs.{needs}
 use Rattle.settings.proofs.kinds.is_dashes.Statement.{statement}

@@ -1,7 +1,6 @@
 use borrow.Author.Tests.{le-leb, lt-leb}
 use native.Mathlib.Omega.{arith}
 use Rattle.songcode.specs.Bytes.{isLetter}
-use borrow.Author.Needs.{needs}
 use Rattle.settings.proofs.kinds.is_letter.Statement.{statement}
 use Rattle.settings.proofs.kinds.is_letter.Tie as tie
 use Rattle.settings.proofs.kinds.is_letter.Reads as reads

@@ -1,10 +1,8 @@
 use mathlib.Core.Bool.{and-true}
 use borrow.Author.Tests.{eq-eqb, ne-eqb}
 use lib.Dec.{eqb}
-use mathlib.Core.Bool.{Bool, true, false, _&&_}
-use mathlib.Core.Path.{_≡_, refl, sym, ap, _∙_}
+use mathlib.Core.Path.{sym}
 use Rattle.songcode.specs.Bytes.{begins}
-use borrow.Author.Needs.{needs}
 use Rattle.settings.proofs.lyrics.is_thrice.Statement.{statement}
 use Rattle.settings.proofs.lyrics.is_thrice.Tie as tie
 use Rattle.settings.proofs.lyrics.is_thrice.Reads as reads

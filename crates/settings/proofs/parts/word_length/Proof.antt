@@ -1,8 +1,7 @@
 use Prim.Native.Nat.{_≤_, _+_, _-_}
-use mathlib.Core.Path.{_≡_, refl, sym, ap, _∙_}
+use mathlib.Core.Path.{_≡_, sym, ap, _∙_}
 use native.Mathlib.Omega.{arith}
 use lib.ListN.{length, drop}
-use borrow.Author.Tests.{not-true, not-false}
 use mathlib.Core.Bool.{not}
 use Rattle.text.specs.Spans.{blank}
 use Rattle.settings.specs.Parts.{wordLength}

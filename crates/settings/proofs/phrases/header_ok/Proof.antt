@@ -1,4 +1,4 @@
-use mathlib.Core.Path.{_≡_, refl, sym, ap, _∙_}
+use mathlib.Core.Path.{sym}
 use lib.Seq.{length-take-le}
 use Rattle.settings.specs.Phrases.{isHeader}
 use Rattle.settings.proofs.PhraseLaws.{name-characters, range-none, range-some}

@@ -1,4 +1,3 @@
-use mathlib.Core.Path.{_≡_, refl, sym, ap, _∙_}
 use Rattle.songcode.specs.Keys.{isPhrase}
 use Rattle.settings.proofs.PhraseLaws.{range-none, range-some}
 use borrow.Author.Needs.{needs}
