@@ -9,3 +9,6 @@ pub mod SectionWalk
 pub mod TextWalk
 pub mod SmallFaults
 pub mod SmallLines
+pub mod MarkLaws
+pub mod StateLaws
+pub mod HeadLaws
