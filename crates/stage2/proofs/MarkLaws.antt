@@ -7,11 +7,11 @@ use mathlib.Core.Option.{Option}
 use mathlib.Core.Option as option
 use native.Mathlib.Omega.{arith}
 use native.Mathlib.Numerals.{add-one}
-use borrow.Author.Tests.{eq-eqb, ne-eqb, eqb-true, eqb-false, le-leb, lt-leb, leb-true, leb-false}
+use borrow.Author.Tests.{lt-ltb, eqb-true, eqb-false}
 use lib.Dec.{eqb, leb}
 use lib.ListN.{length, getD, set, length-set, getD-replicate}
 use lib.Seq.{getD-set-same, getD-set-other}
-use Rattle.songcode.specs.Lists.{if_then_else_, any, prepend, andThen, isSome, orElse}
+use Rattle.songcode.specs.Lists.{if_then_else_, any, prepend, andThen, orElse}
 use Rattle.songcode.specs.Lines.{Line}
 use Rattle.songcode.specs.Song.{KeyName, name, artist, original, capo, bpm, time, warning, end}
 use Rattle.songcode.specs.Keys.{keyPlace}
@@ -19,7 +19,6 @@ use Rattle.songcode.specs.Modifiers.{ModifierName, ofRepeat, ofCutStart, ofCutE
 use Rattle.songcode.specs.Complaints.{complainIf}
 use Rattle.songcode.specs.Sections.{kindOfLine, keyNameOf, modifierNameOf, keySaid, modifierSaid, twiceBy}
 use Rattle.songcode.proofs.LineAgree.{by-kind}
-use Rattle.tokens.specs.Decimals.{numberOf}
 use Rattle.text.proofs.TestLaws.{by-cases}
 use Rattle.stage2.specs.Ranks.{least, none}
 use Rattle.stage2.specs.States.{noMarks, again, marked}
@@ -71,10 +70,10 @@ pub none-agrees : Agrees noMarks []
 unfolding any
 none-agrees = (refl, λ k h. getD-replicate 8 k false false h)
 
-pub again-agrees : (number : ℕ) (o : Option ℕ) (marks : List Bool) (seen : List ℕ) (l : Line) → Below o → Agrees marks seen → again number (numberOf o) marks (l .number) ≡ least (twiceBy number o seen l)
-unfolding again twiceBy Below least numberOf
+pub again-agrees : (number : ℕ) (o : Option ℕ) (marks : List Bool) (seen : List ℕ) (l : Line) → Below o → Agrees marks seen → again number (orElse o 8) marks (l .number) ≡ least (twiceBy number o seen l)
+unfolding again twiceBy Below least orElse if_then_else_
 again-agrees number option.none marks seen l b h = refl
-again-agrees number (option.some k) marks seen l b h = rw (h .1 k b) refl
+again-agrees number (option.some k) marks seen l b h = rw (lt-ltb k 8 b, h .1 k b) refl
 
 put-agrees : (marks : List Bool) (seen : List ℕ) (j : ℕ) → j < 8 → Agrees marks seen → (k : ℕ) → k < 8 → getD (set marks j true) k false ≡ said k (j ∷ seen)
 unfolding any
@@ -84,7 +83,7 @@ put-agrees marks seen j b h k c =
     (λ e. let s = eqb-true j k e in rw (e, ← s, getD-set-same marks j true false (omega arith)) refl)
     (λ e. let n = eqb-false j k e in rw (e, getD-set-other marks j k true false (λ z. n (sym z))) (h .1 k c))
 
-pub marked-agrees : (o : Option ℕ) (marks : List Bool) (seen : List ℕ) → Below o → Agrees marks seen → Agrees (marked (numberOf o) marks) (prepend o seen)
-unfolding marked prepend Below numberOf
+pub marked-agrees : (o : Option ℕ) (marks : List Bool) (seen : List ℕ) → Below o → Agrees marks seen → Agrees (marked (orElse o 8) marks) (prepend o seen)
+unfolding marked prepend Below orElse if_then_else_
 marked-agrees option.none marks seen b h = h
-marked-agrees (option.some j) marks seen b h = (length-set marks j true ∙ h .0, put-agrees marks seen j b h)
+marked-agrees (option.some j) marks seen b h = rw (lt-ltb j 8 b) (length-set marks j true ∙ h .0, put-agrees marks seen j b h)

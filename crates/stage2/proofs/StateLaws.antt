@@ -21,7 +21,7 @@ use Rattle.stage2.specs.declared.states.State.{State}
 use Rattle.stage2.specs.declared.states.Judged.{Judged}
 use Rattle.stage2.specs.Ranks.{ranked, noSection, none, least, unless, onlyIf}
 use Rattle.stage2.specs.Walk.{Where, between, inMetadata, behindHead, inDefinition, inBody, inLyrics, Known, known, Walk, Step, walkAt, blockAt, pending, nothingPending, fineAt, closed, late, metadataNote, headNote, opens, patternBegun, patternMore, pendingAfter, orderNote, bodyNote, bodyStep, stepAt, stepped, finished, atFirst}
-use Rattle.stage2.specs.States.{partOf, partIs, noMarks, again, marked, headJudged, withHead, stateAt, blockState, carried, judged, fineFor, closing, keyJudged, opening, bodyJudged, bodyState, judgedAt, judge, ends}
+use Rattle.stage2.specs.States.{partOf, partIs, noMarks, again, marked, keyOf, modifierOf, headJudged, withHead, stateAt, blockState, carried, judged, fineFor, closing, keyJudged, opening, bodyJudged, bodyState, judgedAt, judge, ends}
 use Rattle.stage2.proofs.MarkLaws.{Agrees, none-agrees, again-agrees, marked-agrees, key-said-below, modifier-said-below}
 use Rattle.stage2.proofs.HeadLaws.{HeadsAgree, no-heads-agree, head-counts, head-agrees, with-head-agrees}
 
@@ -85,7 +85,7 @@ module _ (k : Known) (c : Carried) (h : Knows k c) (l : Line) where
   unfolding keyJudged metadataNote
   key-same = rw (again-agrees 4 (keySaid l) (c .metadata) (k .keys) l (key-said-below l) (h .metadata)) refl
 
-  key-known : (t : ℕ) → Knows (known t (prepend (keySaid l) (k .keys)) (k .sofar) (k .heads)) (carried t (marked (numberOf (keySaid l)) (c .metadata)) (c .heads))
+  key-known : (t : ℕ) → Knows (known t (prepend (keySaid l) (k .keys)) (k .sofar) (k .heads)) (carried t (marked (keyOf l) (c .metadata)) (c .heads))
   key-known t = record { turn = refl; metadata = marked-agrees (keySaid l) (c .metadata) (k .keys) (key-said-below l) (h .metadata); heads = h .heads }
 
   head-same : headJudged (numberOf (headIn l)) (c .heads) (l .number) ≡ headNote k l

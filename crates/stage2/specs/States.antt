@@ -4,7 +4,7 @@ use mathlib.Core.List.{List, [], _∷_, map}
 use mathlib.Core.Bool.{Bool, true, false, _||_, not}
 use lib.Dec.{eqb, leb, ltb}
 use lib.ListN.{getD, set, take}
-use Rattle.songcode.specs.Lists.{if_then_else_, isEmpty, any}
+use Rattle.songcode.specs.Lists.{if_then_else_, isEmpty, any, orElse}
 use Rattle.songcode.specs.Lines.{Line}
 use Rattle.songcode.specs.Complaints.{complainIf}
 use Rattle.songcode.specs.Sections as sections
@@ -42,18 +42,25 @@ partIs early = Early
 partIs inPattern = Pattern
 partIs behind = Behind
 
--- Eight marks for what was said; none yet.
+-- Eight marks for what was said; none yet. What is numbered 8 is nothing.
 abbrev pub noMarks : List Bool
 noMarks = false ∷ false ∷ false ∷ false ∷ false ∷ false ∷ false ∷ false ∷ []
 
 -- Complained of where the mark is there already; the mark is put.
-unfoldable pub again : ℕ → Number → List Bool → ℕ → ℕ
-again number Not marks line = none
-again number (Is k) marks line = least (complainIf (getD marks k false) number line)
+unfoldable pub again : ℕ → ℕ → List Bool → ℕ → ℕ
+unfolding if_then_else_
+again number k marks line = if ltb k 8 then least (complainIf (getD marks k false) number line) else none
 
-unfoldable pub marked : Number → List Bool → List Bool
-marked Not marks = marks
-marked (Is k) marks = set marks k true
+unfoldable pub marked : ℕ → List Bool → List Bool
+unfolding if_then_else_
+marked k marks = if ltb k 8 then set marks k true else marks
+
+-- What a line says, 8 for nothing.
+abbrev pub keyOf : Line → ℕ
+keyOf l = orElse (keySaid l) 8
+
+abbrev pub modifierOf : Line → ℕ
+modifierOf l = orElse (modifierSaid l) 8
 
 -- The numbers of the definitions so far.
 unfoldable pub hasHead : Heads → ℕ → Bool
@@ -101,10 +108,10 @@ closing c = min (c .pending .want) (min (c .pending .bare) (unless (fineFor (c .
 
 -- A line of metadata.
 unfoldable pub keyJudged : List Bool → Line → ℕ
-keyJudged marks l = min (again 4 (numberOf (keySaid l)) marks (l .number)) (least (metadataFault l))
+keyJudged marks l = min (again 4 (keyOf l) marks (l .number)) (least (metadataFault l))
 
 abbrev pub metadataState : ℕ → Carried → Line → State
-metadataState t k l = blockState Metadata (carried t (marked (numberOf (keySaid l)) (k .metadata)) (k .heads)) nothingPending
+metadataState t k l = blockState Metadata (carried t (marked (keyOf l) (k .metadata)) (k .heads)) nothingPending
 
 -- The first line of a block.
 abbrev pub headState : ℕ → Carried → Line → State
@@ -122,7 +129,7 @@ opening section k l = judged (min (late 2 (k .turn) l) (least (headerFaults l)))
 unfoldable pub bodyJudged : sections.Place → List Bool → List Bool → Line → ℕ
 bodyJudged p ks ms l =
     min
-    (min (min (orderNote p l) (again 4 (numberOf (keySaid l)) ks (l .number))) (again 8 (numberOf (modifierSaid l)) ms (l .number)))
+    (min (min (orderNote p l) (again 4 (keyOf l) ks (l .number))) (again 8 (modifierOf l) ms (l .number)))
     (least (faults l))
 
 unfoldable pub bodyState : sections.Place → State → Line → State
@@ -130,8 +137,8 @@ bodyState p c l =
     stateAt
     (Body (partIs (placeAfter p (kindOfLine l))))
     (c .carried)
-    (marked (numberOf (keySaid l)) (c .keys))
-    (marked (numberOf (modifierSaid l)) (c .modifiers))
+    (marked (keyOf l) (c .keys))
+    (marked (modifierOf l) (c .modifiers))
     (pendingAfter (kindOfLine l) p l (c .pending))
 
 abbrev pub lyricsState : State → ℕ → State
