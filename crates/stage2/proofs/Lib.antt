@@ -1,5 +1,6 @@
--- The laws of the walk.
+-- Laws of complaints as numbers.
 pub mod RankLaws
+-- The walk over the lines gives the least complaint of all blocks.
 pub mod BlockWalk
 pub mod SeenLaws
 pub mod MetadataWalk
@@ -9,6 +10,10 @@ pub mod SectionWalk
 pub mod TextWalk
 pub mod SmallFaults
 pub mod SmallLines
+-- The walk by value.
 pub mod MarkLaws
-pub mod StateLaws
 pub mod HeadLaws
+pub mod StateLaws
+pub mod NoteLaws
+-- What the functions return.
+pub mod SmallReturns

@@ -1,9 +1,10 @@
 -- The walk by value: what the code keeps in place of lists, and how it judges a line.
-use Prim.Native.Nat.{ℕ, _+_, min, max}
+use Prim.Native.Nat.{ℕ, _+_, _≤_, min, max}
+use mathlib.Core.Path.{_≡_}
 use mathlib.Core.List.{List, [], _∷_, map}
 use mathlib.Core.Bool.{Bool, true, false, _||_, not}
 use lib.Dec.{eqb, leb, ltb}
-use lib.ListN.{getD, set, take}
+use lib.ListN.{length, getD, set, take}
 use Rattle.songcode.specs.Lists.{if_then_else_, isEmpty, any, orElse}
 use Rattle.songcode.specs.Lines.{Line}
 use Rattle.songcode.specs.Complaints.{complainIf}
@@ -62,7 +63,10 @@ keyOf l = orElse (keySaid l) 8
 abbrev pub modifierOf : Line → ℕ
 modifierOf l = orElse (modifierSaid l) 8
 
--- The numbers of the definitions so far.
+-- The numbers of the definitions so far, which has room for 26.
+abbrev pub Fit : Heads → Type 0
+Fit h = (h .count ≤ 26) × (length (h .ids) ≡ 26)
+
 unfoldable pub hasHead : Heads → ℕ → Bool
 hasHead h x = any (λ y. eqb y x) (take (h .count) (h .ids))
 

@@ -1,6 +1,9 @@
 // Stage 2 of the reading, line by line.
+mod marks;
+mod notes;
 mod states;
 
+pub use notes::NONE;
 pub use states::Carried;
 pub use states::Heads;
 pub use states::Judged;
