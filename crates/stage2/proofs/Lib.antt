@@ -17,3 +17,4 @@ pub mod StateLaws
 pub mod NoteLaws
 -- What the functions return.
 pub mod SmallReturns
+pub mod NameReturns

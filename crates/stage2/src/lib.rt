@@ -1,5 +1,6 @@
 // Stage 2 of the reading, line by line.
 mod marks;
+mod names;
 mod notes;
 mod states;
 
