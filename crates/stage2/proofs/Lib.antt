@@ -18,3 +18,4 @@ pub mod NoteLaws
 -- What the functions return.
 pub mod SmallReturns
 pub mod NameReturns
+pub mod LineReturns

@@ -3,3 +3,4 @@ pub mod Ranks
 pub mod Walk
 pub mod States
 pub mod LineNotes
+pub mod BodyLines
