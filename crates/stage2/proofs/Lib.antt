@@ -19,3 +19,4 @@ pub mod NoteLaws
 pub mod SmallReturns
 pub mod NameReturns
 pub mod LineReturns
+pub mod BodyReturns

@@ -59,51 +59,51 @@ is-pattern patternLine e = refl
 
 module _ (l : Line) where
   -- What a line says, by its kind.
-  key-of : kindOfLine l ≡ keyLine → keyOf l ≡ keyNumber (keyIs (keyNameOf l))
+  pub key-of : kindOfLine l ≡ keyLine → keyOf l ≡ keyNumber (keyIs (keyNameOf l))
   unfolding keySaid
   key-of e = rw (e, keySaid) (sym (key-number (keyNameOf l)))
 
-  modifier-of : kindOfLine l ≡ modifierLine → modifierOf l ≡ modifierNumber (modifierIs (modifierNameOf l))
+  pub modifier-of : kindOfLine l ≡ modifierLine → modifierOf l ≡ modifierNumber (modifierIs (modifierNameOf l))
   unfolding modifierSaid
   modifier-of e = rw (e, modifierSaid) (sym (modifier-number (modifierNameOf l)))
 
-  modifier-no-key : kindOfLine l ≡ modifierLine → keyOf l ≡ 8
+  pub modifier-no-key : kindOfLine l ≡ modifierLine → keyOf l ≡ 8
   unfolding keySaid orElse
   modifier-no-key e = rw (e, keySaid)
 
-  pattern-no-key : kindOfLine l ≡ patternLine → keyOf l ≡ 8
+  pub pattern-no-key : kindOfLine l ≡ patternLine → keyOf l ≡ 8
   unfolding keySaid orElse
   pattern-no-key e = rw (e, keySaid)
 
-  key-no-modifier : kindOfLine l ≡ keyLine → modifierOf l ≡ 8
+  pub key-no-modifier : kindOfLine l ≡ keyLine → modifierOf l ≡ 8
   unfolding modifierSaid orElse
   key-no-modifier e = rw (e, modifierSaid)
 
-  pattern-no-modifier : kindOfLine l ≡ patternLine → modifierOf l ≡ 8
+  pub pattern-no-modifier : kindOfLine l ≡ patternLine → modifierOf l ≡ 8
   unfolding modifierSaid orElse
   pattern-no-modifier e = rw (e, modifierSaid)
 
   -- Its own faults.
-  key-in-metadata : kindOfLine l ≡ keyLine → least (metadataFault l) ≡ keyNote false (keyIs (keyNameOf l)) (settingOf l) (l .number)
+  pub key-in-metadata : kindOfLine l ≡ keyLine → least (metadataFault l) ≡ keyNote false (keyIs (keyNameOf l)) (settingOf l) (l .number)
   unfolding metadataFault keyFaults allowedBy
   key-in-metadata e = rw (e, metadataFault) (key-note false (keyNameOf l) l)
 
-  modifier-in-metadata : kindOfLine l ≡ modifierLine → least (metadataFault l) ≡ least (complainIf true 8 (l .number))
+  pub modifier-in-metadata : kindOfLine l ≡ modifierLine → least (metadataFault l) ≡ least (complainIf true 8 (l .number))
   unfolding metadataFault complainIf when
   modifier-in-metadata e = rw (e, metadataFault)
 
-  pattern-in-metadata : kindOfLine l ≡ patternLine → least (metadataFault l) ≡ least (complainIf true 8 (l .number))
+  pub pattern-in-metadata : kindOfLine l ≡ patternLine → least (metadataFault l) ≡ least (complainIf true 8 (l .number))
   unfolding metadataFault complainIf when
   pattern-in-metadata e = rw (e, metadataFault)
 
-  key-in-section : kindOfLine l ≡ keyLine → least (faults l) ≡ keyNote true (keyIs (keyNameOf l)) (settingOf l) (l .number)
+  pub key-in-section : kindOfLine l ≡ keyLine → least (faults l) ≡ keyNote true (keyIs (keyNameOf l)) (settingOf l) (l .number)
   unfolding faults keyFaults allowedBy
   key-in-section e = rw (e, faults) (key-note true (keyNameOf l) l)
 
-  modifier-in-section : kindOfLine l ≡ modifierLine → least (faults l) ≡ modifierNote (modifierIs (modifierNameOf l)) (settingOf l) (l .number)
+  pub modifier-in-section : kindOfLine l ≡ modifierLine → least (faults l) ≡ modifierNote (modifierIs (modifierNameOf l)) (settingOf l) (l .number)
   unfolding faults modifierFaults
   modifier-in-section e = rw (e, faults) (modifier-note (modifierNameOf l) l)
 
-  pattern-in-section : kindOfLine l ≡ patternLine → least (faults l) ≡ ranks.none
+  pub pattern-in-section : kindOfLine l ≡ patternLine → least (faults l) ≡ ranks.none
   unfolding faults least
   pattern-in-section e = rw (e, faults)
