@@ -20,3 +20,4 @@ pub mod SmallReturns
 pub mod NameReturns
 pub mod LineReturns
 pub mod BodyReturns
+pub mod MetadataReturns

@@ -1,5 +1,6 @@
 -- The lines between a section's header and its `--`, kind by kind, as the code judges them.
 use Prim.Native.Nat.{ℕ, min}
+use mathlib.Core.List.{List}
 use mathlib.Core.Bool.{Bool, true, false, not}
 use Rattle.songcode.specs.Lines.{Line}
 use Rattle.songcode.specs.Complaints.{complainIf}
@@ -54,6 +55,12 @@ afterPattern Keys = Pattern
 afterPattern Early = Pattern
 afterPattern Pattern = Pattern
 afterPattern Behind = Behind
+
+-- A key line of metadata.
+unfoldable pub keyAlone : List Bool → Line → ℕ
+keyAlone marks l =
+    let k = keyIs (keyNameOf l) in
+    min (again 4 (keyNumber k) marks (l .number)) (keyNote false k (settingOf l) (l .number))
 
 unfoldable pub onKey : Part → State → Line → Judged
 onKey p c l =

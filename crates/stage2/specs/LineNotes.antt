@@ -15,6 +15,8 @@ use Rattle.settings.specs.declared.keys.KeyName.the-variants as key
 use Rattle.settings.specs.declared.modifiers.ModifierName.{ModifierName}
 use Rattle.settings.specs.declared.modifiers.ModifierName.the-variants.{Repeat, CutStart, CutEnd, Before, After}
 use Rattle.settings.specs.declared.modifiers.ModifierName.the-variants as modifier
+use Rattle.settings.specs.declared.cuts.CutRead.{CutRead}
+use Rattle.settings.specs.declared.cuts.CutRead.the-variants as read
 use Rattle.stage2.specs.Ranks.{least}
 
 -- The places of the names, 8 for an unknown one.
@@ -52,6 +54,11 @@ allowedIn section key.Unknown = false
 unfoldable pub keyNote : Bool → KeyName → List Byte → ℕ → ℕ
 keyNote section k bs line =
     min (least (complainIf (not (allowedIn section k)) 4 line)) (least (complainIf (not (isSettingOf k bs)) 5 line))
+
+-- A cut was read.
+unfoldable pub isCut : CutRead → Bool
+isCut (read.Cut c) = true
+isCut read.Not = false
 
 -- The setting of a modifier, and what is given where it is malformed; an unknown modifier has none.
 unfoldable pub settingFine : ModifierName → List Byte → Bool

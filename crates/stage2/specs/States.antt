@@ -4,7 +4,7 @@ use mathlib.Core.Path.{_≡_}
 use mathlib.Core.List.{List, [], _∷_, map}
 use mathlib.Core.Bool.{Bool, true, false, _||_, not}
 use lib.Dec.{eqb, leb, ltb}
-use lib.ListN.{length, getD, set, take}
+use lib.ListN.{length, getD, set, take, replicate}
 use Rattle.songcode.specs.Lists.{if_then_else_, isEmpty, any, orElse}
 use Rattle.songcode.specs.Lines.{Line}
 use Rattle.songcode.specs.Complaints.{complainIf}
@@ -157,6 +157,10 @@ judgedAt Head c l = judged none (blockState Definition (c .carried) (patternBegu
 judgedAt Definition c l = judged none (blockState Definition (c .carried) (patternMore l (c .pending)))
 judgedAt (Body p) c l = if notDashes l then judged (bodyJudged (partOf p) (c .keys) (c .modifiers) l) (bodyState (partOf p) c l) else judged none (lyricsState c (ranked 8 (l .number)))
 judgedAt Lyrics c l = judged none (lyricsState c none)
+
+-- Before the first line.
+abbrev pub firstState : State
+firstState = blockState Between (carried 0 noMarks (record { count = 0; ids = replicate 26 0 })) nothingPending
 
 -- A blank line ends the block.
 unfoldable pub judge : State → Line → Judged

@@ -1,10 +1,16 @@
 // Stage 2 of the reading, line by line.
+mod blocks;
+mod lines;
 mod marks;
+mod modifiers;
 mod names;
 mod notes;
+mod parts;
+mod patterns;
 mod states;
+mod walk;
 
-pub use notes::NONE;
+pub use lines::Noted;
 pub use states::Carried;
 pub use states::Heads;
 pub use states::Judged;
@@ -12,3 +18,4 @@ pub use states::Part;
 pub use states::Pending;
 pub use states::Place;
 pub use states::State;
+pub use walk::stage_two;

@@ -1,14 +1,14 @@
-// The names and settings of key lines and modifier lines.
+// The names and settings of key lines.
 use super::notes::{complain_if, least_of};
-use settings::{KeyName, ModifierName, is_setting, key_named, modifier_named, name_end, setting_start};
+use settings::{KeyName, is_setting, key_named, name_end, setting_start};
 use text::Line;
 ghost use mathlib.Core.Path.{_≡_};
 ghost use Prim.Native.Nat.{_<_, _≤_};
 ghost use lib.ListN.{length};
-ghost use Rattle.songcode.specs.Sections.{keyNameOf, modifierNameOf, settingOf};
+ghost use Rattle.songcode.specs.Sections.{keyNameOf, settingOf};
 ghost use Rattle.text.specs.Spans.{lineText};
-ghost use Rattle.settings.specs.Names.{keyIs, modifierIs};
-ghost use Rattle.stage2.specs.LineNotes.{keyNumber, modifierNumber, allowedIn, keyNote, settingNumber};
+ghost use Rattle.settings.specs.Names.{keyIs};
+ghost use Rattle.stage2.specs.LineNotes.{keyNumber, allowedIn, keyNote};
 
 pub fn key_at(s: &[u8], l: Line) -> KeyName
     requires { ⌜ (l .start < l .stop) × (l .stop ≤ length (now s)) ⌝ }
@@ -17,15 +17,6 @@ pub fn key_at(s: &[u8], l: Line) -> KeyName
     let a = l.start + 1;
     let q = name_end(s, a, l.stop);
     key_named(&s[a..q])
-}
-
-pub fn modifier_at(s: &[u8], l: Line) -> ModifierName
-    requires { ⌜ (l .start < l .stop) × (l .stop ≤ length (now s)) ⌝ }
-    ensures { λ r. ⌜ r ≡ modifierIs (modifierNameOf (lineText (now (s .entry)) l)) ⌝ }
-{
-    let a = l.start + 1;
-    let q = name_end(s, a, l.stop);
-    modifier_named(&s[a..q])
 }
 
 // The place of a key's name, 8 for an unknown one.
@@ -42,19 +33,6 @@ pub fn key_number(k: KeyName) -> usize
         KeyName::Warning => 6,
         KeyName::End => 7,
         KeyName::Unknown => 8,
-    }
-}
-
-pub fn modifier_number(m: ModifierName) -> usize
-    ensures { λ r. ⌜ r ≡ modifierNumber m ⌝ }
-{
-    match m {
-        ModifierName::Repeat => 0,
-        ModifierName::CutStart => 1,
-        ModifierName::CutEnd => 2,
-        ModifierName::Before => 3,
-        ModifierName::After => 4,
-        ModifierName::Unknown => 8,
     }
 }
 
@@ -87,18 +65,4 @@ pub fn key_note(s: &[u8], l: Line, k: KeyName, section: bool) -> usize
     let good = is_setting(k, &s[q..e]);
     let five = complain_if(!good, 5, l.number);
     least_of(four, five)
-}
-
-// What is given where a modifier's setting is malformed; 8 for an unknown modifier.
-pub fn setting_number(m: ModifierName) -> usize
-    ensures { λ r. ⌜ r ≡ settingNumber m ⌝ }
-{
-    match m {
-        ModifierName::Repeat => 5,
-        ModifierName::CutStart => 5,
-        ModifierName::CutEnd => 5,
-        ModifierName::Before => 7,
-        ModifierName::After => 7,
-        ModifierName::Unknown => 8,
-    }
 }

@@ -1,10 +1,10 @@
 use Rattle.stage2.specs.LineNotes.{settingNumber}
 use mathlib.Core.Path.{refl}
 use borrow.Author.Needs.{needs}
-use Rattle.stage2.proofs.names.setting_number.Statement.{statement}
-use Rattle.stage2.proofs.names.setting_number.Tie as tie
-use Rattle.stage2.proofs.names.setting_number.Reads as reads
-use Rattle.stage2.proofs.names.setting_number.Lts as lts
+use Rattle.stage2.proofs.modifiers.setting_number.Statement.{statement}
+use Rattle.stage2.proofs.modifiers.setting_number.Tie as tie
+use Rattle.stage2.proofs.modifiers.setting_number.Reads as reads
+use Rattle.stage2.proofs.modifiers.setting_number.Lts as lts
 
 -- src/names.rt:97:33
 enum-told : tie.Need-enum-told

@@ -1,9 +1,9 @@
 use Rattle.stage2.proofs.NameReturns.{modifier-found}
 use borrow.Author.Needs.{needs}
-use Rattle.stage2.proofs.names.modifier_at.Statement.{statement}
-use Rattle.stage2.proofs.names.modifier_at.Tie as tie
-use Rattle.stage2.proofs.names.modifier_at.Reads as reads
-use Rattle.stage2.proofs.names.modifier_at.Lts as lts
+use Rattle.stage2.proofs.modifiers.modifier_at.Statement.{statement}
+use Rattle.stage2.proofs.modifiers.modifier_at.Tie as tie
+use Rattle.stage2.proofs.modifiers.modifier_at.Reads as reads
+use Rattle.stage2.proofs.modifiers.modifier_at.Lts as lts
 use Rattle.settings.proofs.modifier_named.Reads as modifier-named-reads
 use Rattle.settings.proofs.name_end.Reads as name-end-reads
 

@@ -1,10 +1,10 @@
 use Rattle.stage2.specs.LineNotes.{modifierNumber}
 use mathlib.Core.Path.{refl}
 use borrow.Author.Needs.{needs}
-use Rattle.stage2.proofs.names.modifier_number.Statement.{statement}
-use Rattle.stage2.proofs.names.modifier_number.Tie as tie
-use Rattle.stage2.proofs.names.modifier_number.Reads as reads
-use Rattle.stage2.proofs.names.modifier_number.Lts as lts
+use Rattle.stage2.proofs.modifiers.modifier_number.Statement.{statement}
+use Rattle.stage2.proofs.modifiers.modifier_number.Tie as tie
+use Rattle.stage2.proofs.modifiers.modifier_number.Reads as reads
+use Rattle.stage2.proofs.modifiers.modifier_number.Lts as lts
 
 -- src/names.rt:52:33
 enum-told : tie.Need-enum-told
