@@ -12,7 +12,7 @@ use lib.ListN.{length, drop}
 use Rattle.songcode.specs.Lists.{if_then_else_}
 use Rattle.songcode.specs.Bytes.{Byte, placed, values, is, isByte}
 use Rattle.songcode.specs.Numbers.{isDecimal, valueFrom, numberIn, countIn, repeatIn}
-use Rattle.songcode.specs.Chords.{Base, Chord, longestBase, chordBy, chordIn}
+use Rattle.songcode.specs.Chords.{Base, longestBase, chordBy, chordIn}
 use Rattle.songcode.specs.Tables.{offset}
 use Rattle.songcode.specs.Tokens.{Token, Class, blank, semi, double, bracket, closing, plain, class, chordToken, referenceToken, closingToken, dollarOr, wordToken, Lexed, word, lexedBy, lexed, tokens}
 use Rattle.songcode.proofs.ListLaws.{by-cases, both-pass, Each}

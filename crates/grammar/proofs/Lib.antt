@@ -8,4 +8,5 @@ pub mod WordLaws
 pub mod FitLaws
 pub mod LateLaws
 pub mod PartLaws
+pub mod LineLaws
 pub mod VerdictLaws

@@ -1,21 +1,21 @@
 -- What the check keeps of a row that grows, and of a check that loops too deep in loops spoil.
-use Prim.Native.Nat.{ℕ, zero, suc, _+_, _-_, _≤_, _<_, max}
-use mathlib.Core.Path.{_≡_, refl, sym, ap, _∙_}
+use Prim.Native.Nat.{ℕ, suc, _+_, _-_, _≤_, _<_, max}
+use mathlib.Core.Path.{_≡_, refl, sym, _∙_}
 use mathlib.Core.List.{List, [], _∷_, _++_, append-assoc, append-nil}
-use mathlib.Core.Bool.{Bool, true, false, not}
+use mathlib.Core.Bool.{Bool, true, not}
 use native.Mathlib.Numerals.{add-one}
 use native.Mathlib.Omega.{arith}
 use borrow.Author.Tests.{le-leb, lt-leb, leb-true, leb-false, ne-eqb}
-use lib.Dec.{leb, eqb}
+use lib.Dec.{leb}
 use lib.ListN.{length}
 use Rattle.songcode.specs.Lists.{if_then_else_, isEmpty}
-use Rattle.songcode.specs.Song.{Separator, Measure, Item, measure, loop, refer, Items}
+use Rattle.songcode.specs.Song.{Separator, Measure, Item, measure, loop, refer}
 use Rattle.songcode.specs.PatternText.{Begun, start, more, add, depthI, depth, loopsDeep, referencesI, references}
 use Rattle.text.proofs.TestLaws.{by-cases}
 use Rattle.grammar.specs.declared.kinds.Kind.{Kind}
 use Rattle.grammar.specs.declared.kinds.Kind.the-variants.{Opens, Closes}
 use Rattle.grammar.specs.declared.checks.Place.{Place}
-use Rattle.grammar.specs.declared.checks.Place.the-variants.{Wants, Full, Bad}
+use Rattle.grammar.specs.declared.checks.Place.the-variants.{Wants, Full}
 use Rattle.grammar.specs.declared.checks.Check.{Check}
 use Rattle.grammar.specs.Checks.{check, spoiled, opened, closed, checkStep}
 use Rattle.grammar.specs.States.{depthBegun, depthRows, referencesBegun, referencesRows, within, checkRows, checkItem}

@@ -1,20 +1,19 @@
 -- The check follows the reading: the check of the state behind a token is the step of the check before it.
 use Prim.Native.Nat.{ℕ, zero, suc}
-use mathlib.Core.Path.{_≡_, refl, sym, ap, _∙_}
+use mathlib.Core.Path.{_≡_, refl, ap, _∙_}
 use mathlib.Core.List.{List, [], _∷_}
-use mathlib.Core.Bool.{Bool, true, false}
-use lib.ListN.{length}
+use mathlib.Core.Bool.{Bool}
 use Rattle.songcode.specs.Song as song
-use Rattle.songcode.specs.Song.{nothing, aLineEnd, Separator, bySemicolon, byLineEnd, byColon, Item, Items, measure, loop, refer}
+use Rattle.songcode.specs.Song.{nothing, aLineEnd, Separator, bySemicolon, byLineEnd, byColon, Item, measure, loop, refer}
 use Rattle.songcode.specs.Tokens.{Token, sound, remover, reference, semicolon, colon, lineEnd, opens, closes, wrong}
 use Rattle.songcode.specs.PatternText.{depthI, referencesI, Begun, start, more, State, wants, has, ended, bad, add, lineBehind, begin, grown, withSound, withRemover, shut, step, run}
 use Rattle.grammar.specs.declared.kinds.Kind.{Kind}
 use Rattle.grammar.specs.declared.kinds.Kind.the-variants.{Sound, Remover, Reference, Semicolon, Colon, LineEnd, Opens, Closes, Wrong}
 use Rattle.grammar.specs.declared.checks.Place.{Place}
-use Rattle.grammar.specs.declared.checks.Place.the-variants.{Fresh, Wants, Joins, Sounds, Removed, Alone, Full, Ended, Bad}
+use Rattle.grammar.specs.declared.checks.Place.the-variants.{Fresh, Wants, Joins, Sounds, Removed, Alone, Full, Ended}
 use Rattle.grammar.specs.declared.checks.Check.{Check}
 use Rattle.grammar.specs.Kinds.{kindOf, kindsOf}
-use Rattle.grammar.specs.Checks.{check, first, spoiled, opened, closed, checkStep, checkRun}
+use Rattle.grammar.specs.Checks.{check, spoiled, opened, closed, checkStep, checkRun}
 use Rattle.grammar.specs.States.{placeBefore, placeBehind, placeInMeasure, checkRows, checkItem, checkOf}
 use Rattle.grammar.proofs.RowLaws.{step-within, spoiled-within, alike-within, separated, with-measure, with-reference, row-opened, row-closed, none-closed}
 

@@ -1,5 +1,5 @@
 -- A test of two: what the first one found decides, or leaves it to the second.
-use mathlib.Core.Path.{_≡_, refl, _∙_}
+use mathlib.Core.Path.{_≡_, refl}
 use mathlib.Core.Bool.{Bool, true, false, _||_, _&&_, not}
 use borrow.Author.Tests.{not-true, not-false}
 

@@ -1,24 +1,23 @@
 -- The verdict on the check of a text is whether the text is read.
-use Prim.Native.Nat.{ℕ, zero, suc, _+_, _≤_, _<_, max}
+use Prim.Native.Nat.{ℕ, suc, _+_, max}
 use mathlib.Core.Path.{_≡_, refl, sym, ap, _∙_}
-use mathlib.Core.List.{List, [], _∷_, _++_}
-use mathlib.Core.Bool.{Bool, true, false, _||_, _&&_, not}
+use mathlib.Core.List.{List, [], _∷_}
+use mathlib.Core.Bool.{Bool, true, false, _&&_, not}
 use mathlib.Core.Option.{Option, none, some}
 use native.Mathlib.Omega.{arith}
-use borrow.Author.Tests.{le-leb, lt-leb, leb-true, leb-false, ne-eqb}
-use lib.Dec.{leb, eqb}
+use borrow.Author.Tests.{le-leb, lt-leb, ne-eqb}
+use lib.Dec.{leb}
 use lib.ListN.{length}
 use Rattle.songcode.specs.Lists.{if_then_else_, isEmpty, isSome, andThen}
 use Rattle.songcode.specs.Lines.{Line}
-use Rattle.songcode.specs.Song.{Item, Items, Pattern, items}
-use Rattle.songcode.specs.Tokens.{Token, sound, remover, reference, semicolon, colon, lineEnd, opens, closes, wrong, tokens, tokensOf}
-use Rattle.songcode.specs.PatternText.{Begun, start, more, State, wants, has, ended, bad, add, run, done, itemsIn, depth, depthI, loopsDeep, references, noReference, kept, definitionText, wholeReference, patternBy, sectionText}
+use Rattle.songcode.specs.Song.{Item, Items, items}
+use Rattle.songcode.specs.Tokens.{Token, sound, remover, reference, semicolon, colon, lineEnd, opens, closes, wrong, tokensOf}
+use Rattle.songcode.specs.PatternText.{Begun, start, State, wants, has, ended, bad, add, run, done, itemsIn, depth, depthI, loopsDeep, references, noReference, kept, definitionText, wholeReference, patternBy, sectionText}
 use Rattle.text.proofs.TestLaws.{by-cases}
 use Rattle.grammar.specs.declared.checks.Place.{Place}
-use Rattle.grammar.specs.declared.checks.Place.the-variants.{Fresh, Wants, Joins, Sounds, Removed, Alone, Full, Ended, Bad}
 use Rattle.grammar.specs.declared.checks.Check.{Check}
-use Rattle.grammar.specs.Kinds.{kindOf, kindsOf}
-use Rattle.grammar.specs.Checks.{check, first, spoiled, checkRun, checkLines}
+use Rattle.grammar.specs.Kinds.{kindsOf}
+use Rattle.grammar.specs.Checks.{check, first, checkRun, checkLines}
 use Rattle.grammar.specs.States.{placeBefore, placeBehind, within, checkRows, checkItem, checkOf, depthBegun, depthRows, referencesBegun, referencesRows}
 use Rattle.grammar.specs.Verdicts.{isBehind, isAlone, definitionFine, unnamedFine, sectionFine}
 use Rattle.grammar.proofs.RowLaws.{within-limit, past-limit, by-limit, depth-added, references-added}

@@ -1,14 +1,14 @@
 -- What the check keeps of a reading of pattern text.
 use Prim.Native.Nat.{ℕ, zero, suc, _+_, max}
 use mathlib.Core.List.{List, [], _∷_, _++_}
-use mathlib.Core.Bool.{Bool, true, false, not}
+use mathlib.Core.Bool.{not}
 use lib.Dec.{leb}
 use lib.ListN.{length}
 use Rattle.songcode.specs.Lists.{if_then_else_, isEmpty}
 use Rattle.songcode.specs.Song.{nothing, aLineEnd, bySemicolon, byLineEnd, byColon, Item, measure, loop, refer}
 use Rattle.songcode.specs.PatternText.{Begun, start, more, State, wants, has, ended, bad, depthI, depth, loopsDeep, referencesI, references}
 use Rattle.grammar.specs.declared.checks.Place.{Place}
-use Rattle.grammar.specs.declared.checks.Place.the-variants.{Fresh, Wants, Joins, Sounds, Removed, Alone, Full, Ended, Bad}
+use Rattle.grammar.specs.declared.checks.Place.the-variants.{Fresh, Wants, Joins, Sounds, Removed, Alone, Full, Ended}
 use Rattle.grammar.specs.declared.checks.Check.{Check}
 use Rattle.grammar.specs.Checks.{check, spoiled}
 

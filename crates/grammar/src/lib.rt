@@ -11,15 +11,20 @@ pub use checks::start;
 pub use checks::step_kind;
 pub use kinds::Kind;
 pub use kinds::kind_of;
+pub use sides::side_fine;
+use tokens::Lexed;
+use tokens::next_token;
 pub use verdicts::definition_fine;
 pub use verdicts::section_fine;
 pub use verdicts::unnamed_fine;
 ghost use mathlib.Core.Path.{_≡_};
 ghost use Prim.Native.Nat.{_≤_};
 ghost use lib.ListN.{length};
+ghost use Rattle.songcode.specs.Bytes.{placed};
+ghost use Rattle.text.specs.Spans.{part};
 ghost use Rattle.grammar.specs.declared.kinds.Kind.the-variants.{LineEnd};
 ghost use Rattle.grammar.specs.Kinds.{wordKind};
-ghost use Rattle.grammar.specs.Checks.{checkStep, checkWords};
+ghost use Rattle.grammar.specs.Checks.{checkStep, checkText, checkWords};
 
 // The check behind one more token, given by its word.
 pub fn step_check(c: Check, word: u32) -> Check
@@ -47,4 +52,20 @@ pub fn check_words(words: &[u32], from: usize, to: usize, c: Check) -> Check
         i += 1;
     }
     check
+}
+
+// The check behind the tokens of a line.
+pub fn check_line(s: &[u8], from: usize, to: usize, c: Check) -> Check
+    requires { ⌜ (from ≤ to) × (to ≤ length (now s)) × (to ≤ 65536) ⌝ }
+    ensures { λ r. ⌜ r ≡ checkText c (placed from (part from to (now (s .entry)))) ⌝ }
+{
+    let mut check = c;
+    let mut at = from;
+    loop {
+        let Lexed::Token(word, next) = next_token(s, at, to) else {
+            return check;
+        };
+        check = step_check(check, word);
+        at = next;
+    }
 }

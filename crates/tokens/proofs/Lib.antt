@@ -3,3 +3,7 @@ pub mod FitLaws
 pub mod RowLaws
 pub mod BaseLaws
 pub mod DecimalLaws
+pub mod PartLaws
+pub mod WordLaws
+pub mod LexLaws
+pub mod LaidLaws

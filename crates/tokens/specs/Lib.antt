@@ -2,3 +2,5 @@
 pub mod TokenWords
 pub mod Bases
 pub mod Decimals
+pub mod Lexing
+pub mod Fitting

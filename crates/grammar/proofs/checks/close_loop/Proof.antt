@@ -1,5 +1,4 @@
 use borrow.Author.Tests.{eq-eqb, ne-eqb}
-use mathlib.Core.Path.{sym, _∙_}
 use Rattle.songcode.specs.Lists.{if_then_else_}
 use Rattle.grammar.specs.Checks.{closed}
 use borrow.Author.Needs.{needs}

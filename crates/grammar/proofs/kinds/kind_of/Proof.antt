@@ -1,7 +1,6 @@
 use borrow.Author.Tests.{lt-ltb, le-ltb, eq-eqb, ne-eqb}
 use Rattle.songcode.specs.Lists.{if_then_else_}
 use Rattle.grammar.specs.Kinds.{wordKind, signKind}
-use borrow.Author.Needs.{needs}
 use Rattle.grammar.proofs.kinds.kind_of.Statement.{statement}
 use Rattle.grammar.proofs.kinds.kind_of.Tie as tie
 use Rattle.grammar.proofs.kinds.kind_of.Reads as reads

@@ -1,5 +1,5 @@
 use Prim.Native.Nat.{_≤_, _-_}
-use mathlib.Core.Path.{_≡_, refl, sym, _∙_}
+use mathlib.Core.Path.{_≡_, sym, _∙_}
 use native.Mathlib.Omega.{arith}
 use Rattle.grammar.specs.Sides.{anyBarred}
 use Rattle.grammar.proofs.PartLaws.{barred-here, barred-further, barred-nowhere}
@@ -11,10 +11,10 @@ use Rattle.grammar.proofs.sides.has_barred.Lts as lts
 use Rattle.grammar.proofs.sides.is_barred.Reads as is-barred-reads
 
 abbrev Inv-loop : tie.InvT-loop
-Inv-loop s start stop i₀ i = (i ≤ stop) × (anyBarred s i stop ≡ anyBarred s start stop)
+Inv-loop s from to i₀ i = (i ≤ to) × (anyBarred s i to ≡ anyBarred s from to)
 
 abbrev μ-loop : tie.MeasureT-loop
-μ-loop s start stop i₀ i = stop - i
+μ-loop s from to i₀ i = to - i
 
 -- src/sides.rt:18:5
 loop-holds : tie.Need-loop-holds Inv-loop μ-loop
@@ -32,7 +32,7 @@ is-barred-requires c κs = search needs
 returns : tie.Need-returns Inv-loop μ-loop
 returns c =
     let l = c .before .before .before .before .loop in let q = c .before .before .before .before .before .before in
-    sym (sym (l .inv .1) ∙ barred-here (q .args .s .now) (l .i) (q .args .stop) (c .before .before .before .loop-test .taken) (q .pre .1) (sym (c .before .is-barred .ensures) ∙ c .if1 .taken))
+    sym (sym (l .inv .1) ∙ barred-here (q .args .s .now) (l .i) (q .args .to) (c .before .before .before .loop-test .taken) (q .pre .1) (sym (c .before .is-barred .ensures) ∙ c .if1 .taken))
 
 -- src/sides.rt:22:9
 add-i : tie.Need-add-i Inv-loop μ-loop
@@ -46,12 +46,12 @@ loop-less c = search needs
 loop-again : tie.Need-loop-again Inv-loop μ-loop
 loop-again c =
     let l = c .before .before .before .before .loop in let q = c .before .before .before .before .before .before in
-    (omega arith, sym (barred-further (q .args .s .now) (l .i) (q .args .stop) (c .before .before .before .loop-test .taken) (q .pre .1) (sym (c .before .is-barred .ensures) ∙ c .if1 .left)) ∙ l .inv .1)
+    (omega arith, sym (barred-further (q .args .s .now) (l .i) (q .args .to) (c .before .before .before .loop-test .taken) (q .pre .1) (sym (c .before .is-barred .ensures) ∙ c .if1 .left)) ∙ l .inv .1)
 
 -- src/sides.rt:13:1
 returns-2 : tie.Need-returns-2 Inv-loop μ-loop
 returns-2 c =
-    let l = c .before .loop in let q = c .before .before .before in sym (sym (l .inv .1) ∙ barred-nowhere (q .args .s .now) (l .i) (q .args .stop) (c .loop-test .left))
+    let l = c .before .loop in let q = c .before .before .before in sym (sym (l .inv .1) ∙ barred-nowhere (q .args .s .now) (l .i) (q .args .to) (c .loop-test .left))
 
 pub has-barred-spec : {M : Type 1} → statement M
 has-barred-spec =

@@ -1,7 +1,6 @@
 use Rattle.songcode.specs.Bytes.{isByte}
 use Rattle.songcode.specs.PatternText.{barred}
 use borrow.Author.Tests.{ne-eqb}
-use borrow.Author.Needs.{needs}
 use Rattle.grammar.proofs.sides.is_barred.Statement.{statement}
 use Rattle.grammar.proofs.sides.is_barred.Tie as tie
 use Rattle.grammar.proofs.sides.is_barred.Reads as reads

@@ -1,4 +1,3 @@
-use mathlib.Core.Path.{refl}
 use Rattle.grammar.proofs.TestLaws.{and-fails, and-passes, or-passes, or-fails}
 use Rattle.grammar.specs.Verdicts.{sectionFine}
 use borrow.Author.Needs.{needs}

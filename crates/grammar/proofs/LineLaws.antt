@@ -1,0 +1,71 @@
+-- The check of a line taken token by token, by the words of the tokens; and the verdict on a lead-in or tail.
+use Prim.Native.Nat.{ℕ, _^_, _<_, _≤_}
+use mathlib.Core.Path.{_≡_, refl, sym, ap, _∙_}
+use mathlib.Core.List.{List, [], _∷_}
+use mathlib.Core.Bool.{true, false}
+use native.Mathlib.Omega.{arith}
+use lib.ListN.{length}
+use Rattle.songcode.specs.Lists.{if_then_else_, isSome, any}
+use Rattle.songcode.specs.Bytes.{Byte, placed}
+use Rattle.songcode.specs.Tokens.{tokens}
+use Rattle.songcode.specs.Tokens as songcode
+use Rattle.songcode.specs.PatternText.{barred, sideText}
+use Rattle.songcode.proofs.ListLaws.{Each}
+use Rattle.tokens.specs.TokenWords.{tokenWord, tokenWords}
+use Rattle.tokens.specs.Lexing.{Reads}
+use Rattle.tokens.specs.declared.lexing.Lexed.{Lexed}
+use Rattle.tokens.specs.declared.lexing.Lexed.the-variants.{Token, End}
+use Rattle.text.specs.Spans.{part}
+use Rattle.text.proofs.WalkLaws.{part-length}
+use Rattle.grammar.specs.declared.kinds.Kind.{Kind}
+use Rattle.grammar.specs.declared.checks.Check.{Check}
+use Rattle.grammar.specs.Kinds.{kindsOf, wordKind, wordKinds, FitsWord}
+use Rattle.grammar.specs.Checks.{first, checkStep, checkRun, checkText, checkWords}
+use Rattle.grammar.specs.Verdicts.{unnamedFine}
+use Rattle.grammar.proofs.FitLaws.{tokens-fit}
+use Rattle.grammar.proofs.VerdictLaws.{unnamed-fine}
+use Rattle.grammar.proofs.WordLaws.{word-kind, words-kinds}
+
+-- A part of a good text: its tokens fit their words.
+pub part-fits : (s : List ℕ) (a e : ℕ) → a ≤ e → e ≤ length s → e ≤ 2 ^ 16 → Each FitsWord (tokens (placed a (part a e s)))
+part-fits s a e p q r = let n = part-length s a e q in tokens-fit a (part a e s) (omega arith)
+
+-- The first token of a text, and what follows; a text without tokens.
+pub text-next : (c : Check) (bs rest : List Byte) (t : songcode.Token) (w : ℕ) → Each FitsWord (tokens bs) → tokens bs ≡ t ∷ tokens rest → w ≡ tokenWord t
+    → checkText c bs ≡ checkText (checkStep c (wordKind w)) rest
+unfolding checkRun kindsOf Each
+text-next c bs rest t w f e h =
+    let g : Each FitsWord (t ∷ tokens rest) = rw e at f in
+    ap (λ (ts : List songcode.Token). checkRun c (kindsOf ts)) e
+    ∙ ap (λ (k : Kind). checkRun (checkStep c k) (kindsOf (tokens rest))) (sym (ap wordKind h ∙ word-kind t (g .0)))
+
+pub text-over : (c : Check) (bs : List Byte) → tokens bs ≡ [] → checkText c bs ≡ c
+unfolding checkRun kindsOf
+text-over c bs e = ap (λ (ts : List songcode.Token). checkRun c (kindsOf ts)) e
+
+-- What the code finds at a place of a line: a token, or the end.
+module _ (c : Check) (s : List ℕ) (at to : ℕ) (p : at ≤ to) (q : to ≤ length s) (r : to ≤ 2 ^ 16) where
+  pub line-token : {l : Lexed} {w n : ℕ} → Reads s at to l → l ≡ Token w n
+      → (at < n) × (n ≤ to) × (checkText c (placed at (part at to s)) ≡ checkText (checkStep c (wordKind w)) (placed n (part n to s)))
+  unfolding Reads
+  line-token {l} {w} {n} h e =
+      let t : Reads s at to (Token w n) = rw e at h in
+      (t .1, t .2, text-next c (placed at (part at to s)) (placed n (part n to s)) (t .0) w (part-fits s at to p q r) (t .4) (t .3))
+
+  pub line-over : {l : Lexed} → Reads s at to l → l ≡ End → checkText c (placed at (part at to s)) ≡ c
+  unfolding Reads
+  line-over {l} h e = let t : Reads s at to End = rw e at h in text-over c (placed at (part at to s)) t
+
+-- Where a part of a table holds the words of a line's tokens, the check of the words is that of the line.
+pub words-check : (c : Check) (ws : List ℕ) (from to : ℕ) (bs : List Byte) → Each FitsWord (tokens bs) → part from to ws ≡ tokenWords (tokens bs)
+    → checkWords c ws from to ≡ checkText c bs
+words-check c ws from to bs f e = ap (checkRun c) (ap wordKinds e ∙ words-kinds (tokens bs) f)
+
+-- Lead-ins and tails.
+pub side-barred : (bs : List Byte) → any barred bs ≡ true → isSome (sideText bs) ≡ false
+unfolding sideText isSome if_then_else_
+side-barred bs h = rw h refl
+
+pub side-fine : (bs : List Byte) → any barred bs ≡ false → isSome (sideText bs) ≡ unnamedFine (checkText first bs)
+unfolding sideText if_then_else_
+side-fine bs h = rw h (sym (unnamed-fine (tokens bs)))

@@ -1,0 +1,47 @@
+-- What the code finds of a line's tokens: plain bytes, the token at a place, and a table with new words laid into it.
+use Prim.Native.Nat.{ℕ, zero, suc, _+_, _<_, _≤_}
+use mathlib.Core.Path.{_≡_}
+use mathlib.Core.List.{List, [], _∷_, _++_}
+use mathlib.Core.Bool.{Bool, true, false}
+use lib.ListN.{length, take, drop}
+use Rattle.songcode.specs.Lists.{if_then_else_}
+use Rattle.songcode.specs.Bytes.{placed}
+use Rattle.songcode.specs.Tokens.{Class, blank, semi, double, bracket, closing, plain, class, tokens}
+use Rattle.songcode.specs.Tokens as songcode
+use Rattle.text.specs.Spans.{part}
+use Rattle.tokens.specs.declared.lexing.Lexed.{Lexed}
+use Rattle.tokens.specs.declared.lexing.Lexed.the-variants.{Token, End}
+use Rattle.tokens.specs.TokenWords.{tokenWord}
+
+unfoldable pub plainClass : Class → Bool
+plainClass blank = false
+plainClass semi = false
+plainClass double = false
+plainClass bracket = false
+plainClass closing = false
+plainClass plain = true
+
+-- A byte, wherever it stands, is plain.
+unfoldable pub isPlain : ℕ → Bool
+unfolding plainClass class
+isPlain b = plainClass (class (record { place = 0; value = b }))
+
+-- How many plain bytes stand in front.
+unfoldable pub plainLength : List ℕ → ℕ
+unfolding if_then_else_ isPlain
+plainLength [] = 0
+plainLength (b ∷ bs) = if isPlain b then suc (plainLength bs) else 0
+
+-- The tokens of the part of a text from one place up to another.
+abbrev pub tokensFrom : ℕ → ℕ → List ℕ → List songcode.Token
+tokensFrom at stop s = tokens (placed at (part at stop s))
+
+-- What the code finds at a place: the word of the first token and where the next may begin, or that no token is left.
+unfoldable pub Reads : List ℕ → ℕ → ℕ → Lexed → Type 0
+Reads s at stop (Token w n) =
+    (t : songcode.Token) × (at < n) × (n ≤ stop) × (w ≡ tokenWord t) × (tokensFrom at stop s ≡ t ∷ tokensFrom n stop s)
+Reads s at stop End = tokensFrom at stop s ≡ []
+
+-- A table with new words from a place on; before and behind them it keeps what it held.
+abbrev pub laid : ℕ → List ℕ → List ℕ → List ℕ
+laid n new held = take n held ++ (new ++ drop (n + length new) held)
