@@ -36,7 +36,7 @@ unfolding onlyIf if_then_else_
 no-section-le true = omega arith
 no-section-le false = omega arith
 
-by-blocks-le : (k : Known) (bs : List Block) → byBlocks k bs ≤ none
+pub by-blocks-le : (k : Known) (bs : List Block) → byBlocks k bs ≤ none
 unfolding byBlocks
 by-blocks-le k [] = no-section-le (ltb (k .turn) 2)
 by-blocks-le k (b ∷ bs) = let h = by-blocks-le (blockAfter k b) bs in omega arith

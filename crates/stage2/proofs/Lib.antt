@@ -21,3 +21,6 @@ pub mod NameReturns
 pub mod LineReturns
 pub mod BodyReturns
 pub mod MetadataReturns
+pub mod ModifierReturns
+pub mod BlockReturns
+pub mod WalkReturns

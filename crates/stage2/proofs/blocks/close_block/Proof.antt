@@ -1,3 +1,4 @@
+use Rattle.stage2.proofs.BlockReturns.{block-closed}
 use borrow.Author.Needs.{needs}
 use Rattle.stage2.proofs.blocks.close_block.Statement.{statement}
 use Rattle.stage2.proofs.blocks.close_block.Tie as tie
@@ -25,7 +26,7 @@ least-of-requires-2 c κs = search needs
 
 -- src/blocks.rt:149:1
 returns : tie.Need-returns
-returns c = search needs
+returns c = block-closed (c .before .before .before .before .before .before .args .c) (c .before .before .before .fine-for .result) (c .before .before .none-if .result) (c .before .least-of .result) (c .least-of2 .result) (c .before .before .before .fine-for .ensures) (c .before .before .none-if .ensures) (c .before .least-of .ensures) (c .least-of2 .ensures)
 
 pub close-block-spec : {M : Type 1} → statement M
 close-block-spec =

@@ -1,3 +1,5 @@
+use Rattle.stage2.proofs.BlockReturns.{in-metadata}
+use Rattle.text.specs.Spans.{lineText}
 use borrow.Author.Needs.{needs}
 use Rattle.stage2.proofs.blocks.in_metadata.Statement.{statement}
 use Rattle.stage2.proofs.blocks.in_metadata.Tie as tie
@@ -21,7 +23,9 @@ block-state-requires c κs = search needs
 
 -- src/blocks.rt:33:1
 returns : tie.Need-returns
-returns c = search needs
+returns c = let q = c .before .before .before .before .before .before .before .args in
+    let m = c .before .before .before .before .metadata-line in
+    in-metadata (q .k) (lineText (q .s .now) (q .l)) (q .turn) (m .result .note) (m .result .marks) (c .before .no-pending .result) (c .block-state .result) (m .ensures .0) (m .ensures .1) (c .before .no-pending .ensures) (c .block-state .ensures)
 
 pub in-metadata-spec : {M : Type 1} → statement M
 in-metadata-spec =

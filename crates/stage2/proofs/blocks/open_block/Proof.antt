@@ -1,3 +1,4 @@
+use Rattle.stage2.proofs.BlockReturns.{by-metadata, by-definition, by-section}
 use borrow.Author.Needs.{needs}
 use Rattle.stage2.proofs.blocks.open_block.Statement.{statement}
 use Rattle.stage2.proofs.blocks.open_block.Tie as tie
@@ -50,15 +51,18 @@ open-section-requires c κs = search needs
 
 -- src/blocks.rt:121:1
 returns : tie.Need-returns
-returns c = search needs
+returns c = let q = c .before .before .before .before .before .before .args in
+    by-metadata (q .k) (q .l .number) (q .s .now) (q .l .start) (q .l .stop) (c .before .before .before .block-kind .result) (c .open-metadata .result) (c .before .before .before .block-kind .ensures) (c .before .enum-told .given .1) (c .open-metadata .ensures)
 
 -- src/blocks.rt:121:1
 returns-2 : tie.Need-returns-2
-returns-2 c = search needs
+returns-2 c = let q = c .before .before .before .before .before .before .args in
+    by-definition (q .k) (q .l .number) (q .s .now) (q .l .start) (q .l .stop) (c .before .before .before .block-kind .result) (c .open-definition .result) (c .before .before .before .block-kind .ensures) (c .before .enum-told2 .given .1) (c .open-definition .ensures)
 
 -- src/blocks.rt:121:1
 returns-3 : tie.Need-returns-3
-returns-3 c = search needs
+returns-3 c = let q = c .before .before .before .before .before .before .args in
+    by-section (q .k) (q .l .number) (q .s .now) (q .l .start) (q .l .stop) (c .before .before .before .block-kind .result) (c .open-section .result) (c .before .before .before .block-kind .ensures) (c .before .enum-told3 .given .1) (c .open-section .ensures)
 
 pub open-block-spec : {M : Type 1} → statement M
 open-block-spec =

@@ -1,3 +1,5 @@
+use Rattle.stage2.proofs.BlockReturns.{opened-metadata}
+use Rattle.text.specs.Spans.{lineText}
 use borrow.Author.Needs.{needs}
 use Rattle.stage2.proofs.blocks.open_metadata.Statement.{statement}
 use Rattle.stage2.proofs.blocks.open_metadata.Tie as tie
@@ -26,7 +28,9 @@ least-of-requires c κs = search needs
 
 -- src/blocks.rt:53:1
 returns : tie.Need-returns
-returns c = search needs
+returns c = let q = c .before .before .before .before .before .before .before .args in
+    let t = c .before .before in
+    opened-metadata (q .k) (lineText (q .s .now) (q .l)) (t .before .before .complain-if .result) (t .before .most-of .result) (c .before .least-of .result) (t .in-metadata .result) (t .before .before .complain-if .ensures) (t .before .most-of .ensures) (t .in-metadata .ensures) (c .before .least-of .ensures)
 
 pub open-metadata-spec : {M : Type 1} → statement M
 open-metadata-spec =

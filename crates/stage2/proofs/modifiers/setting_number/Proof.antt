@@ -1,3 +1,4 @@
+use native.Mathlib.Omega.{arith}
 use Rattle.stage2.specs.LineNotes.{settingNumber}
 use mathlib.Core.Path.{refl}
 use borrow.Author.Needs.{needs}
@@ -33,32 +34,32 @@ enum-told-6 c = search needs
 -- src/names.rt:93:1
 returns : tie.Need-returns
 unfolding settingNumber
-returns c = rw (c .enum-told .given .1) refl
+returns c = (rw (c .enum-told .given .1) refl, omega arith)
 
 -- src/names.rt:93:1
 returns-2 : tie.Need-returns-2
 unfolding settingNumber
-returns-2 c = rw (c .enum-told2 .given .1) refl
+returns-2 c = (rw (c .enum-told2 .given .1) refl, omega arith)
 
 -- src/names.rt:93:1
 returns-3 : tie.Need-returns-3
 unfolding settingNumber
-returns-3 c = rw (c .enum-told3 .given .1) refl
+returns-3 c = (rw (c .enum-told3 .given .1) refl, omega arith)
 
 -- src/names.rt:93:1
 returns-4 : tie.Need-returns-4
 unfolding settingNumber
-returns-4 c = rw (c .enum-told4 .given .1) refl
+returns-4 c = (rw (c .enum-told4 .given .1) refl, omega arith)
 
 -- src/names.rt:93:1
 returns-5 : tie.Need-returns-5
 unfolding settingNumber
-returns-5 c = rw (c .enum-told5 .given .1) refl
+returns-5 c = (rw (c .enum-told5 .given .1) refl, omega arith)
 
 -- src/names.rt:93:1
 returns-6 : tie.Need-returns-6
 unfolding settingNumber
-returns-6 c = rw (c .enum-told6 .given .1) refl
+returns-6 c = (rw (c .enum-told6 .given .1) refl, omega arith)
 
 pub setting-number-spec : {M : Type 1} → statement M
 setting-number-spec =

@@ -1,3 +1,4 @@
+use mathlib.Core.Path.{refl}
 use borrow.Author.Needs.{needs}
 use Rattle.stage2.proofs.patterns.no_pending.Statement.{statement}
 use Rattle.stage2.proofs.patterns.no_pending.Tie as tie
@@ -11,7 +12,7 @@ start-requires c κs = search needs
 
 -- src/patterns.rt:13:1
 returns : tie.Need-returns
-returns c = search needs
+returns c = rw (c .start .ensures) refl
 
 pub no-pending-spec : {M : Type 1} → statement M
 no-pending-spec = tie.close (tie.spec start-requires returns)

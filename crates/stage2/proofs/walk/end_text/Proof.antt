@@ -1,3 +1,4 @@
+use Rattle.stage2.proofs.BlockReturns.{text-ended}
 use borrow.Author.Needs.{needs}
 use Rattle.stage2.proofs.walk.end_text.Statement.{statement}
 use Rattle.stage2.proofs.walk.end_text.Tie as tie
@@ -21,7 +22,7 @@ least-of-requires c κs = search needs
 
 -- src/walk.rt:61:1
 returns : tie.Need-returns
-returns c = search needs
+returns c = text-ended (c .before .before .before .before .before .args .c) (c .before .before .none-if .result) (c .before .close-block .result) (c .least-of .result) (c .before .before .none-if .ensures) (c .before .close-block .ensures) (c .least-of .ensures)
 
 pub end-text-spec : {M : Type 1} → statement M
 end-text-spec =

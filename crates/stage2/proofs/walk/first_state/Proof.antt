@@ -1,3 +1,4 @@
+use mathlib.Core.Path.{refl}
 use borrow.Author.Needs.{needs}
 use Rattle.stage2.proofs.walk.first_state.Statement.{statement}
 use Rattle.stage2.proofs.walk.first_state.Tie as tie
@@ -16,7 +17,7 @@ block-state-requires c κs = search needs
 
 -- src/walk.rt:44:1
 returns : tie.Need-returns
-returns c = search needs
+returns c = rw (c .block-state .ensures, c .before .no-pending .ensures) refl
 
 pub first-state-spec : {M : Type 1} → statement M
 first-state-spec = tie.close (tie.spec no-pending-requires block-state-requires returns)
