@@ -1,3 +1,8 @@
+use Rattle.stage2.proofs.BodyReturns.{body-key, body-modifier, body-pattern}
+use Rattle.stage2.proofs.LineReturns.{is-key, is-modifier, is-pattern}
+use Rattle.songcode.specs.Sections.{kindOfLine}
+use Rattle.text.specs.Spans.{lineText}
+use mathlib.Core.Path.{_≡_, refl, sym, ap, _∙_}
 use borrow.Author.Needs.{needs}
 use Rattle.stage2.proofs.lines.body_line.Statement.{statement}
 use Rattle.stage2.proofs.lines.body_line.Tie as tie
@@ -38,15 +43,24 @@ pattern-line-requires c κs = search needs
 
 -- src/lines.rt:148:1
 returns : tie.Need-returns
-returns c = search needs
+returns c = let t = c .before .before .before in
+    let q = t .before .before .args in
+    let l = lineText (q .s .now) (q .l) in
+    c .key-line .ensures ∙ body-key (q .p) (q .c) l (is-key (kindOfLine l) (sym (c .before .enum-told .given .1) ∙ t .line-kind .ensures))
 
 -- src/lines.rt:148:1
 returns-2 : tie.Need-returns-2
-returns-2 c = search needs
+returns-2 c = let t = c .before .before .before in
+    let q = t .before .before .args in
+    let l = lineText (q .s .now) (q .l) in
+    c .modifier-line .ensures ∙ body-modifier (q .p) (q .c) l (is-modifier (kindOfLine l) (sym (c .before .enum-told2 .given .1) ∙ t .line-kind .ensures))
 
 -- src/lines.rt:148:1
 returns-3 : tie.Need-returns-3
-returns-3 c = search needs
+returns-3 c = let t = c .before .before .before in
+    let q = t .before .before .args in
+    let l = lineText (q .s .now) (q .l) in
+    c .pattern-line .ensures ∙ body-pattern (q .p) (q .c) l (is-pattern (kindOfLine l) (sym (c .before .enum-told3 .given .1) ∙ t .line-kind .ensures))
 
 pub body-line-spec : {M : Type 1} → statement M
 body-line-spec =

@@ -1,3 +1,5 @@
+use Rattle.stage2.proofs.MetadataReturns.{pattern-judged}
+use Rattle.text.specs.Spans.{lineText}
 use borrow.Author.Needs.{needs}
 use Rattle.stage2.proofs.lines.pattern_line.Statement.{statement}
 use Rattle.stage2.proofs.lines.pattern_line.Tie as tie
@@ -26,7 +28,8 @@ after-pattern-requires c κs = search needs
 
 -- src/lines.rt:127:1
 returns : tie.Need-returns
-returns c = search needs
+returns c = let q = c .before .before .before .before .before .before .before .before .args in
+    pattern-judged (q .p) (q .c) (lineText (q .s .now) (q .l)) (c .before .before .before .before .before .complain-if .result) (c .before .before .before .before .before .before .past-pattern .result) (c .before .before .before .before .pattern-pending .result) (c .after-pattern .result) (c .before .before .before .before .before .before .past-pattern .ensures) (c .before .before .before .before .before .complain-if .ensures) (c .before .before .before .before .pattern-pending .ensures) (c .after-pattern .ensures)
 
 pub pattern-line-spec : {M : Type 1} → statement M
 pattern-line-spec =

@@ -1,3 +1,5 @@
+use Rattle.stage2.proofs.ModifierReturns.{modifier-noted}
+use Rattle.text.specs.Spans.{lineText}
 use borrow.Author.Needs.{needs}
 use Rattle.stage2.proofs.modifiers.modifier_note.Statement.{statement}
 use Rattle.stage2.proofs.modifiers.modifier_note.Tie as tie
@@ -21,7 +23,8 @@ complain-if-requires c κs = search needs
 
 -- src/modifiers.rt:78:1
 returns : tie.Need-returns
-returns c = search needs
+returns c = let q = c .before .before .before .before .args in
+    modifier-noted (lineText (q .s .now) (q .l)) (q .m) (c .before .before .setting-fine .result) (c .before .setting-number .result) (c .complain-if .result) (c .before .before .setting-fine .ensures) (c .before .setting-number .ensures .0) (c .complain-if .ensures)
 
 pub modifier-note-spec : {M : Type 1} → statement M
 modifier-note-spec =

@@ -1,3 +1,4 @@
+use Rattle.stage2.proofs.ModifierReturns.{repeat-fine, cut-start-fine, cut-end-fine, before-fine, after-fine, unknown-fine}
 use borrow.Author.Needs.{needs}
 use Rattle.stage2.proofs.modifiers.setting_fine.Statement.{statement}
 use Rattle.stage2.proofs.modifiers.setting_fine.Tie as tie
@@ -112,27 +113,39 @@ enum-told-6 c = search needs
 
 -- src/modifiers.rt:61:1
 returns : tie.Need-returns
-returns c = search needs
+returns c = let q = c .before .before .before .before .before .before .before .before .args in
+    let t = c .before .before .before .before .before in
+    repeat-fine (q .l .number) (q .s .now) (q .l .start) (q .l .stop) (t .setting-start .result) (q .m) (t .setting-start .ensures .0) (c .is-number .result) (c .before .repeat-in .result) (c .before .before .before .enum-told .given .1) (c .before .repeat-in .ensures) (c .is-number .ensures)
 
 -- src/modifiers.rt:61:1
 returns-2 : tie.Need-returns-2
-returns-2 c = search needs
+returns-2 c = let q = c .before .before .before .before .before .before .before .before .args in
+    let t = c .before .before .before .before .before in
+    cut-start-fine (q .l .number) (q .s .now) (q .l .start) (q .l .stop) (t .setting-start .result) (q .m) (t .setting-start .ensures .0) (c .is-cut .result) (c .before .cut-in .result) (c .before .before .before .enum-told2 .given .1) (c .before .cut-in .ensures .0) (c .is-cut .ensures)
 
 -- src/modifiers.rt:61:1
 returns-3 : tie.Need-returns-3
-returns-3 c = search needs
+returns-3 c = let q = c .before .before .before .before .before .before .before .before .args in
+    let t = c .before .before .before .before .before in
+    cut-end-fine (q .l .number) (q .s .now) (q .l .start) (q .l .stop) (t .setting-start .result) (q .m) (t .setting-start .ensures .0) (c .is-cut2 .result) (c .before .cut-in2 .result) (c .before .before .before .enum-told3 .given .1) (c .before .cut-in2 .ensures .0) (c .is-cut2 .ensures)
 
 -- src/modifiers.rt:61:1
 returns-4 : tie.Need-returns-4
-returns-4 c = search needs
+returns-4 c = let q = c .before .before .before .before .before .before .args in
+    let t = c .before .before .before in
+    before-fine (q .l .number) (q .s .now) (q .l .start) (q .l .stop) (t .setting-start .result) (q .m) (t .setting-start .ensures .0) (c .side-fine .result) (c .before .enum-told4 .given .1) (c .side-fine .ensures)
 
 -- src/modifiers.rt:61:1
 returns-5 : tie.Need-returns-5
-returns-5 c = search needs
+returns-5 c = let q = c .before .before .before .before .before .before .args in
+    let t = c .before .before .before in
+    after-fine (q .l .number) (q .s .now) (q .l .start) (q .l .stop) (t .setting-start .result) (q .m) (t .setting-start .ensures .0) (c .side-fine2 .result) (c .before .enum-told5 .given .1) (c .side-fine2 .ensures)
 
 -- src/modifiers.rt:61:1
 returns-6 : tie.Need-returns-6
-returns-6 c = search needs
+returns-6 c = let q = c .before .before .before .before .before .args in
+    let t = c .before .before in
+    unknown-fine (q .l .number) (q .s .now) (q .l .start) (q .l .stop) (t .setting-start .result) (q .m) (t .setting-start .ensures .0) (c .enum-told6 .given .1)
 
 pub setting-fine-spec : {M : Type 1} → statement M
 setting-fine-spec =

@@ -1,3 +1,4 @@
+use mathlib.Core.Path.{_≡_, refl, sym, ap, _∙_}
 use borrow.Author.Needs.{needs}
 use Rattle.stage2.proofs.patterns.first_line.Statement.{statement}
 use Rattle.stage2.proofs.patterns.first_line.Tie as tie
@@ -21,7 +22,7 @@ rank-requires c κs = search needs
 
 -- src/patterns.rt:27:1
 returns : tie.Need-returns
-returns c = search needs
+returns c = rw (c .rank .ensures, c .before .check-line .ensures, c .before .before .start .ensures) refl
 
 pub first-line-spec : {M : Type 1} → statement M
 first-line-spec = tie.close (tie.spec start-requires check-line-requires rank-requires returns)

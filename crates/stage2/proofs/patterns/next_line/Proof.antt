@@ -1,3 +1,4 @@
+use mathlib.Core.Path.{_≡_, refl, sym, ap, _∙_}
 use borrow.Author.Needs.{needs}
 use Rattle.stage2.proofs.patterns.next_line.Statement.{statement}
 use Rattle.stage2.proofs.patterns.next_line.Tie as tie
@@ -16,7 +17,7 @@ check-line-requires c κs = search needs
 
 -- src/patterns.rt:42:1
 returns : tie.Need-returns
-returns c = search needs
+returns c = rw (c .check-line .ensures, c .before .line-between .ensures) refl
 
 pub next-line-spec : {M : Type 1} → statement M
 next-line-spec = tie.close (tie.spec line-between-requires check-line-requires returns)

@@ -1,3 +1,6 @@
+use Rattle.stage2.specs.States.{partOf}
+use Rattle.stage2.specs.Walk.{patternPending}
+use mathlib.Core.Path.{_≡_, refl, sym, ap, _∙_}
 use borrow.Author.Needs.{needs}
 use Rattle.stage2.proofs.patterns.pattern_pending.Statement.{statement}
 use Rattle.stage2.proofs.patterns.pattern_pending.Tie as tie
@@ -36,19 +39,23 @@ enum-told-4 c = search needs
 
 -- src/patterns.rt:57:1
 returns : tie.Need-returns
-returns c = search needs
+unfolding patternPending partOf
+returns c = rw (c .before .enum-told .given .1) (c .first-line .ensures)
 
 -- src/patterns.rt:57:1
 returns-2 : tie.Need-returns-2
-returns-2 c = search needs
+unfolding patternPending partOf
+returns-2 c = rw (c .before .enum-told2 .given .1) (c .first-line2 .ensures)
 
 -- src/patterns.rt:57:1
 returns-3 : tie.Need-returns-3
-returns-3 c = search needs
+unfolding patternPending partOf
+returns-3 c = rw (c .before .enum-told3 .given .1) (c .next-line .ensures)
 
 -- src/patterns.rt:57:1
 returns-4 : tie.Need-returns-4
-returns-4 c = search needs
+unfolding patternPending partOf
+returns-4 c = rw (c .enum-told4 .given .1) refl
 
 pub pattern-pending-spec : {M : Type 1} → statement M
 pattern-pending-spec =

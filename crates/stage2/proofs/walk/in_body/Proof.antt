@@ -1,3 +1,4 @@
+use Rattle.stage2.proofs.WalkReturns.{at-dashes, at-body}
 use borrow.Author.Needs.{needs}
 use Rattle.stage2.proofs.walk.in_body.Statement.{statement}
 use Rattle.stage2.proofs.walk.in_body.Tie as tie
@@ -34,7 +35,9 @@ lyrics-state-requires c κs = search needs
 
 -- src/walk.rt:53:9
 returns : tie.Need-returns
-returns c = search needs
+returns c = let t = c .before .before .before in
+    let q = t .before .before .before .args in
+    at-dashes (q .c) (q .p) (q .l .number) (q .s .now) (q .l .start) (q .l .stop) (t .is-dashes .result) (t .is-dashes .ensures) (c .before .rank .result) (c .lyrics-state .result) (c .before .before .if1 .taken) (c .before .rank .ensures) (c .lyrics-state .ensures)
 
 -- src/walk.rt:55:5
 body-line-requires : tie.Need-body-line-requires
@@ -42,7 +45,9 @@ body-line-requires c κs = search needs
 
 -- src/walk.rt:44:1
 returns-2 : tie.Need-returns-2
-returns-2 c = search needs
+returns-2 c = let t = c .before .before in
+    let q = t .before .before .before .args in
+    at-body (q .c) (q .p) (q .l .number) (q .s .now) (q .l .start) (q .l .stop) (t .is-dashes .result) (t .is-dashes .ensures) (c .body-line .result) (c .before .if1 .left) (c .body-line .ensures)
 
 pub in-body-spec : {M : Type 1} → statement M
 in-body-spec =

@@ -1,3 +1,4 @@
+use Rattle.stage2.proofs.WalkReturns.{line-full, line-blank}
 use borrow.Author.Needs.{needs}
 use Rattle.stage2.proofs.walk.judge_line.Statement.{statement}
 use Rattle.stage2.proofs.walk.judge_line.Tie as tie
@@ -14,7 +15,8 @@ in-place-requires c κs = search needs
 
 -- src/walk.rt:91:9
 returns : tie.Need-returns
-returns c = search needs
+returns c = let e = c .before .before .before .before in
+    line-full (e .args .c) (e .args .s .now) (e .args .l) (e .pre .1) (c .in-place .result) (c .before .if1 .taken) (c .in-place .ensures)
 
 -- src/walk.rt:93:9
 close-block-requires : tie.Need-close-block-requires
@@ -30,7 +32,8 @@ block-state-requires c κs = search needs
 
 -- src/walk.rt:86:1
 returns-2 : tie.Need-returns-2
-returns-2 c = search needs
+returns-2 c = let e = c .before .before .before .before .before .before .before in
+    line-blank (e .args .c) (e .args .s .now) (e .args .l) (e .pre .1) (c .before .before .before .close-block .result) (c .before .no-pending .result) (c .block-state .result) (e .pre .0) (c .before .before .before .before .if1 .left) (c .before .before .before .close-block .ensures) (c .before .no-pending .ensures) (c .block-state .ensures)
 
 pub judge-line-spec : {M : Type 1} → statement M
 judge-line-spec =
