@@ -73,7 +73,7 @@ pub fn time_in(w: &[u8]) -> Number
     number_in(1, 32, &w[..q])
 }
 
-fn is_number(n: Number) -> bool
+pub fn is_number(n: Number) -> bool
     ensures { λ r. ⌜ r ≡ isNumber n ⌝ }
 {
     match n {

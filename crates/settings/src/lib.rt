@@ -14,6 +14,7 @@ pub use cuts::Measures;
 pub use cuts::cut_in;
 pub use keys::KeyName;
 pub use keys::bpm_in;
+pub use keys::is_number;
 pub use keys::is_setting;
 pub use keys::key_named;
 pub use keys::time_in;

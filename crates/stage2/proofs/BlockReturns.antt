@@ -1,0 +1,119 @@
+-- The returns of the functions on blocks' beginnings and ends.
+use Prim.Native.Nat.{ℕ, _+_, min, max, _≤_}
+use mathlib.Core.Path.{_≡_, refl, sym, ap, _∙_}
+use mathlib.Core.List.{List}
+use mathlib.Core.Bool.{Bool, true, false, not}
+use native.Mathlib.Omega.{arith}
+use borrow.Author.Tests.{le-leb, lt-leb, lt-ltb, le-ltb, leb-true, leb-false}
+use lib.Dec.{leb, ltb}
+use Rattle.songcode.specs.Lists.{if_then_else_}
+use Rattle.songcode.specs.Bytes.{placed}
+use Rattle.songcode.specs.Lines.{Line}
+use Rattle.songcode.specs.Numbers.{countIn}
+use Rattle.songcode.specs.Complaints.{complainIf}
+use Rattle.songcode.specs.Sections.{behindFirst, headerFaults}
+use Rattle.songcode.specs.SongText as songtext
+use Rattle.songcode.specs.SongText.{metadata, definition, section, kindOfText, headIn}
+use Rattle.songcode.proofs.ChoiceLaws.{zero-is-not-one}
+use Rattle.tokens.specs.Decimals.{numberOf}
+use Rattle.tokens.specs.declared.numbers.Number.{Number}
+use Rattle.text.specs.Spans.{part}
+use Rattle.text.proofs.TestLaws.{by-cases}
+use Rattle.settings.specs.Kinds.{blockKindIs}
+use Rattle.settings.specs.Phrases.{isHeader}
+use Rattle.settings.specs.declared.kinds.BlockKind.{BlockKind}
+use Rattle.settings.specs.declared.kinds.BlockKind.the-variants.{Metadata, Definition, Section}
+use Rattle.settings.proofs.PlaceLaws.{isHeader-placeless, header-faults}
+use Rattle.settings.proofs.ValueLaws.{kindOfText-placeless}
+use Rattle.settings.proofs.OfLineLaws.{lineFrom, head-of-line}
+use Rattle.grammar.specs.Checks.{first}
+use Rattle.grammar.specs.declared.checks.Check.{Check}
+use Rattle.stage2.specs.declared.states.Part.the-variants.{Keys}
+use Rattle.stage2.specs.declared.states.Place.the-variants as place
+use Rattle.stage2.specs.declared.states.Heads.{Heads}
+use Rattle.stage2.specs.declared.states.Carried.{Carried}
+use Rattle.stage2.specs.declared.states.Pending.{Pending}
+use Rattle.stage2.specs.declared.states.State.{State}
+use Rattle.stage2.specs.declared.states.Judged.{Judged}
+use Rattle.stage2.specs.Ranks.{ranked, none, noSection, least, unless, onlyIf}
+use Rattle.stage2.specs.Walk.{pending, nothingPending, late}
+use Rattle.stage2.specs.States.{marked, keyOf, headJudged, withHead, blockState, carried, judged, fineFor, closing, keyJudged, metadataState, opening, ends}
+
+pub block-closed : (c : State) (fine : Bool) (seven x r : ℕ) → fine ≡ fineFor (c .place) (c .pending .check) → seven ≡ unless fine (c .pending .bad) → x ≡ min (c .pending .bare) seven → r ≡ min (c .pending .want) x → r ≡ closing c
+unfolding closing
+block-closed c fine seven x r a b d e = rw (← a, ← b, ← d) e
+
+unless-late : (t : ℕ) (x : ℕ) → unless (leb 2 t) x ≡ onlyIf (ltb t 2) x
+unfolding unless onlyIf if_then_else_
+unless-late t x =
+    by-cases (leb 2 t)
+    (λ e. rw (e, le-ltb t 2 (leb-true 2 t e)) refl)
+    (λ e. rw (e, lt-ltb t 2 (leb-false 2 t e)) refl)
+
+pub text-ended : (c : State) (nine end r : ℕ) → nine ≡ unless (leb 2 (c .carried .turn)) noSection → end ≡ closing c → r ≡ min end nine → r ≡ ends c
+unfolding ends
+text-ended c nine end r a b d = rw (← b, ← unless-late (c .carried .turn) noSection, ← a) d
+
+module _ (k : Carried) (l : Line) where
+  pub in-metadata : (turn note : ℕ) (m : List Bool) (q : Pending) (c : State) → note ≡ keyJudged (k .metadata) l → m ≡ marked (keyOf l) (k .metadata) → q ≡ nothingPending → c ≡ blockState place.Metadata (carried turn m (k .heads)) q
+      → judged note c ≡ judged (keyJudged (k .metadata) l) (metadataState turn k l)
+  in-metadata turn note m q c a b d e = rw (a, e, b, d) refl
+
+  pub opened-metadata : (behind turn note : ℕ) (j : Judged) → behind ≡ least (complainIf (ltb 0 (k .turn)) 3 (l .number)) → turn ≡ max (k .turn) 0 → j ≡ judged (keyJudged (k .metadata) l) (metadataState turn k l) → note ≡ min behind (j .note)
+      → judged note (j .state) ≡ opening metadata k l
+  unfolding opening late
+  opened-metadata behind turn note j a b d e = rw (e, d, a, b) refl
+
+module _ (k : Carried) (n : ℕ) (s : List ℕ) (a e : ℕ) where
+  pub opened-definition : (behind six turn note : ℕ) (head : Number) (heads : Heads) (q : Pending) (c : State) → behind ≡ least (complainIf (ltb 1 (k .turn)) 3 n) → head ≡ numberOf (countIn (behindFirst (placed 0 (part a e s)))) → six ≡ headJudged head (k .heads) n
+      → note ≡ min behind six → heads ≡ withHead head (k .heads) → turn ≡ max (k .turn) 1 → q ≡ nothingPending → c ≡ blockState place.Head (carried turn (k .metadata) heads) q
+      → judged note c ≡ opening definition k (lineFrom n s a e)
+  unfolding opening late
+  opened-definition behind six turn note head heads q c x h y z w t r v =
+      let same : head ≡ numberOf (headIn (lineFrom n s a e)) = h ∙ ap numberOf (sym (head-of-line n s a e)) in
+      rw (z, v, x, y, w, t, r, same) refl
+
+  pub opened-section : (behind eight turn note want : ℕ) (good : Bool) (check : Check) (c : State) → behind ≡ least (complainIf (ltb 2 (k .turn)) 3 n) → good ≡ isHeader (placed 0 (part a e s)) → eight ≡ least (complainIf (not good) 8 n)
+      → note ≡ min behind eight → turn ≡ max (k .turn) 2 → want ≡ ranked 8 n → check ≡ first → c ≡ blockState (place.Body Keys) (carried turn (k .metadata) (k .heads)) (pending want none none check)
+      → judged note c ≡ opening section k (lineFrom n s a e)
+  unfolding opening late
+  opened-section behind eight turn note want good check c x h y z t w r v =
+      let same : good ≡ isHeader (placed a (part a e s)) = h ∙ sym (isHeader-placeless a (part a e s)) in
+      rw (z, v, x, y, t, w, r, same, header-faults (lineFrom n s a e)) refl
+
+  -- By the kind of the block.
+  is-metadata : (b : songtext.BlockKind) → Metadata ≡ blockKindIs b → b ≡ metadata
+  unfolding blockKindIs
+  is-metadata metadata h = refl
+  is-metadata definition h = zero-is-not-one (cc)
+  is-metadata section h = zero-is-not-one (cc)
+
+  is-definition : (b : songtext.BlockKind) → Definition ≡ blockKindIs b → b ≡ definition
+  unfolding blockKindIs
+  is-definition metadata h = zero-is-not-one (cc)
+  is-definition definition h = refl
+  is-definition section h = zero-is-not-one (cc)
+
+  is-section : (b : songtext.BlockKind) → Section ≡ blockKindIs b → b ≡ section
+  unfolding blockKindIs
+  is-section metadata h = zero-is-not-one (cc)
+  is-section definition h = zero-is-not-one (cc)
+  is-section section h = refl
+
+  abbrev kind : songtext.BlockKind
+  kind = kindOfText (placed a (part a e s))
+
+  found : (b r : BlockKind) → r ≡ blockKindIs (kindOfText (placed 0 (part a e s))) → r ≡ b → b ≡ blockKindIs kind
+  found b r h g = sym g ∙ (h ∙ ap blockKindIs (sym (kindOfText-placeless a (part a e s))))
+
+  abbrev Opens : Judged → Type 0
+  Opens j = j ≡ opening kind k (lineFrom n s a e)
+
+  pub by-metadata : (r : BlockKind) (j : Judged) → r ≡ blockKindIs (kindOfText (placed 0 (part a e s))) → r ≡ Metadata → j ≡ opening metadata k (lineFrom n s a e) → Opens j
+  by-metadata r j h g z = rw (is-metadata kind (found Metadata r h g)) z
+
+  pub by-definition : (r : BlockKind) (j : Judged) → r ≡ blockKindIs (kindOfText (placed 0 (part a e s))) → r ≡ Definition → j ≡ opening definition k (lineFrom n s a e) → Opens j
+  by-definition r j h g z = rw (is-definition kind (found Definition r h g)) z
+
+  pub by-section : (r : BlockKind) (j : Judged) → r ≡ blockKindIs (kindOfText (placed 0 (part a e s))) → r ≡ Section → j ≡ opening section k (lineFrom n s a e) → Opens j
+  by-section r j h g z = rw (is-section kind (found Section r h g)) z

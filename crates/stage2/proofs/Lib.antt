@@ -1,0 +1,26 @@
+-- Laws of complaints as numbers.
+pub mod RankLaws
+-- The walk over the lines gives the least complaint of all blocks.
+pub mod BlockWalk
+pub mod SeenLaws
+pub mod MetadataWalk
+pub mod DefinitionWalk
+pub mod PatternWalk
+pub mod SectionWalk
+pub mod TextWalk
+pub mod SmallFaults
+pub mod SmallLines
+-- The walk by value.
+pub mod MarkLaws
+pub mod HeadLaws
+pub mod StateLaws
+pub mod NoteLaws
+-- What the functions return.
+pub mod SmallReturns
+pub mod NameReturns
+pub mod LineReturns
+pub mod BodyReturns
+pub mod MetadataReturns
+pub mod ModifierReturns
+pub mod BlockReturns
+pub mod WalkReturns

@@ -1,0 +1,121 @@
+-- A section's pattern along the walk: what is pending of it says, at each line, what the lines to come make of it.
+use Prim.Native.Nat.{ℕ, min}
+use mathlib.Core.Path.{_≡_, refl, sym, ap, _∙_}
+use mathlib.Core.List.{List, [], _∷_}
+use mathlib.Core.Bool.{Bool, true, false, not}
+use native.Mathlib.Omega.{arith}
+use Rattle.songcode.specs.Lists.{if_then_else_, taken, left, isSome}
+use Rattle.songcode.specs.Lines.{Line}
+use Rattle.songcode.specs.PatternText.{sectionText}
+use Rattle.songcode.specs.Sections.{Kind, keyLine, modifierLine, patternLine, kindOfLine, isPatternLine, notPatternLine, Place, amongKeys, early, inPattern, behind, placeAfter, patternRun, patternFaults}
+use Rattle.grammar.specs.Checks.{first, checkText}
+use Rattle.grammar.specs.Verdicts.{sectionFine}
+use Rattle.grammar.proofs.VerdictLaws.{section-fine}
+use Rattle.stage2.specs.declared.states.Pending.{Pending}
+use Rattle.stage2.specs.Ranks.{ranked, none, least, unless, onlyIf}
+use Rattle.stage2.specs.Walk.{pendingAfter, patternPending}
+use Rattle.stage2.proofs.RankLaws.{least-if}
+use Rattle.stage2.proofs.BlockWalk.{unless-none}
+use Rattle.stage2.proofs.SeenLaws.{checkOn, check-lines-on}
+use Rattle.stage2.proofs.DefinitionWalk.{only-unless}
+
+-- The pattern's run to come, where one is wanted.
+unfoldable pub wanted : ℕ → List Line → ℕ
+wanted w [] = w
+wanted w (l ∷ ls) = unless (sectionFine (checkOn (checkText first (l .text)) ls)) (ranked 7 (l .number))
+
+-- What the pattern is complained of, with these lines to come.
+unfoldable pub patternLeft : Place → Pending → List Line → ℕ
+patternLeft amongKeys q ls = wanted (q .want) (patternRun ls)
+patternLeft early q ls = wanted (q .want) (patternRun ls)
+patternLeft inPattern q ls = unless (sectionFine (checkOn (q .check) (taken isPatternLine ls))) (q .bad)
+patternLeft behind q ls = unless (sectionFine (q .check)) (q .bad)
+
+-- Before the pattern nothing is said of its text; from its first line on none is wanted.
+unfoldable pub Fits : Place → Pending → Type 0
+Fits amongKeys q = q .bad ≡ none
+Fits early q = q .bad ≡ none
+Fits inPattern q = q .want ≡ none
+Fits behind q = q .want ≡ none
+
+not-yet : (q : Pending) → q .bad ≡ none → min (q .want) (unless (sectionFine (q .check)) (q .bad)) ≡ min none (q .want)
+not-yet q h = let u = unless-none (sectionFine (q .check)) in rw h (omega arith)
+
+pub at-end : (p : Place) (q : Pending) → Fits p q → min (q .want) (unless (sectionFine (q .check)) (q .bad)) ≡ min none (patternLeft p q [])
+unfolding Fits patternLeft patternRun taken left wanted checkOn
+at-end amongKeys q h = not-yet q h
+at-end early q h = not-yet q h
+at-end inPattern q h = omega arith
+at-end behind q h = omega arith
+
+module _ (l : Line) where
+  key-line : kindOfLine l ≡ keyLine → isPatternLine l ≡ false
+  unfolding isPatternLine
+  key-line e = rw (e, isPatternLine)
+
+  modifier-line : kindOfLine l ≡ modifierLine → isPatternLine l ≡ false
+  unfolding isPatternLine
+  modifier-line e = rw (e, isPatternLine)
+
+  pattern-line : kindOfLine l ≡ patternLine → isPatternLine l ≡ true
+  unfolding isPatternLine
+  pattern-line e = rw (e, isPatternLine)
+
+  module _ (ls : List Line) where
+    other-run : isPatternLine l ≡ false → patternRun (l ∷ ls) ≡ patternRun ls
+    unfolding patternRun left notPatternLine if_then_else_
+    other-run e = rw e
+
+    first-run : isPatternLine l ≡ true → patternRun (l ∷ ls) ≡ l ∷ taken isPatternLine ls
+    unfolding patternRun taken left notPatternLine if_then_else_
+    first-run e = rw (e, e)
+
+    one-more : isPatternLine l ≡ true → taken isPatternLine (l ∷ ls) ≡ l ∷ taken isPatternLine ls
+    unfolding taken if_then_else_
+    one-more e = rw e
+
+    no-more : isPatternLine l ≡ false → taken isPatternLine (l ∷ ls) ≡ []
+    unfolding taken if_then_else_
+    no-more e = rw e
+
+    -- One line more, by its kind.
+    pattern-by : (p : Place) (q : Pending) (k : Kind) → kindOfLine l ≡ k → patternLeft p q (l ∷ ls) ≡ patternLeft (placeAfter p k) (pendingAfter k p l q) ls
+    unfolding patternLeft placeAfter pendingAfter patternPending wanted checkOn
+    pattern-by amongKeys q keyLine e = rw (other-run (key-line e)) refl
+    pattern-by amongKeys q modifierLine e = rw (other-run (modifier-line e)) refl
+    pattern-by amongKeys q patternLine e = rw (first-run (pattern-line e)) refl
+    pattern-by early q keyLine e = rw (other-run (key-line e)) refl
+    pattern-by early q modifierLine e = rw (other-run (modifier-line e)) refl
+    pattern-by early q patternLine e = rw (first-run (pattern-line e)) refl
+    pattern-by inPattern q keyLine e = rw (no-more (key-line e)) refl
+    pattern-by inPattern q modifierLine e = rw (no-more (modifier-line e)) refl
+    pattern-by inPattern q patternLine e = rw (one-more (pattern-line e)) refl
+    pattern-by behind q keyLine e = refl
+    pattern-by behind q modifierLine e = refl
+    pattern-by behind q patternLine e = refl
+
+    pub pattern-next : (p : Place) (q : Pending) → patternLeft p q (l ∷ ls) ≡ patternLeft (placeAfter p (kindOfLine l)) (pendingAfter (kindOfLine l) p l q) ls
+    pattern-next p q = pattern-by p q (kindOfLine l) refl
+
+pub fits-next : (l : Line) (p : Place) (k : Kind) (q : Pending) → Fits p q → Fits (placeAfter p k) (pendingAfter k p l q)
+unfolding Fits placeAfter pendingAfter patternPending
+fits-next l amongKeys keyLine q h = h
+fits-next l amongKeys modifierLine q h = h
+fits-next l amongKeys patternLine q h = refl
+fits-next l early keyLine q h = h
+fits-next l early modifierLine q h = h
+fits-next l early patternLine q h = refl
+fits-next l inPattern keyLine q h = h
+fits-next l inPattern modifierLine q h = h
+fits-next l inPattern patternLine q h = h
+fits-next l behind keyLine q h = h
+fits-next l behind modifierLine q h = h
+fits-next l behind patternLine q h = h
+
+-- What the run is complained of.
+pub run-faults : (header : ℕ) (run : List Line) → least (patternFaults header run) ≡ min none (wanted (ranked 8 header) run)
+unfolding patternFaults wanted least
+run-faults header [] = omega arith
+run-faults header (l ∷ ls) =
+    let fine : sectionFine (checkOn (checkText first (l .text)) ls) ≡ isSome (sectionText l ls) = ap sectionFine (sym (check-lines-on l ls)) ∙ section-fine l ls in
+    rw fine (least-if (not (isSome (sectionText l ls))) 7 (l .number) ∙ ap (min none) (only-unless (isSome (sectionText l ls)) (ranked 7 (l .number))))

@@ -1,0 +1,136 @@
+-- The walk by value keeps step with the walk in songcode's words.
+use Prim.Native.Nat.{ℕ, suc, min, max, _≤_}
+use mathlib.Core.Path.{_≡_, refl, sym, ap, subst, _∙_}
+use mathlib.Core.List.{List, [], _∷_}
+use mathlib.Core.Bool.{Bool, true, false}
+use lib.Dec.{ltb}
+use lib.ListN.{replicate}
+use Rattle.songcode.specs.Lists.{if_then_else_, isEmpty, prepend}
+use Rattle.songcode.specs.Lines.{Line}
+use Rattle.songcode.specs.Sections as sections
+use Rattle.songcode.specs.Sections.{kindOfLine, amongKeys, early, inPattern, behind, placeAfter, keySaid, modifierSaid, faults, headerFaults, notDashes}
+use Rattle.songcode.specs.SongText.{BlockKind, metadata, definition, section, kindOfText, metadataFault, headIn}
+use Rattle.grammar.specs.declared.checks.Check.{Check}
+use Rattle.tokens.specs.Decimals.{numberOf}
+use Rattle.text.proofs.TestLaws.{by-cases}
+use Rattle.stage2.specs.declared.states.Place.{Place}
+use Rattle.stage2.specs.declared.states.Place.the-variants.{Between, Metadata, Head, Definition, Body, Lyrics}
+use Rattle.stage2.specs.declared.states.Carried.{Carried}
+use Rattle.stage2.specs.declared.states.Pending.{Pending}
+use Rattle.stage2.specs.declared.states.State.{State}
+use Rattle.stage2.specs.declared.states.Judged.{Judged}
+use Rattle.stage2.specs.Ranks.{ranked, noSection, none, least, unless, onlyIf}
+use Rattle.stage2.specs.Walk.{Where, between, inMetadata, behindHead, inDefinition, inBody, inLyrics, Known, known, Walk, Step, walkAt, blockAt, pending, nothingPending, fineAt, closed, late, metadataNote, headNote, opens, patternBegun, patternMore, pendingAfter, orderNote, bodyNote, bodyStep, stepAt, stepped, finished, atFirst}
+use Rattle.stage2.specs.States.{partOf, partIs, noMarks, again, marked, keyOf, modifierOf, headJudged, withHead, stateAt, blockState, carried, judged, fineFor, closing, keyJudged, opening, bodyJudged, bodyState, judgedAt, judge, ends}
+use Rattle.stage2.proofs.MarkLaws.{Agrees, none-agrees, again-agrees, marked-agrees, key-said-below, modifier-said-below}
+use Rattle.stage2.proofs.HeadLaws.{HeadsAgree, no-heads-agree, head-counts, head-agrees, with-head-agrees}
+
+unfoldable pub placeIs : Where → Place
+placeIs between = Between
+placeIs inMetadata = Metadata
+placeIs behindHead = Head
+placeIs inDefinition = Definition
+placeIs (inBody p) = Body (partIs p)
+placeIs inLyrics = Lyrics
+
+part-is : (p : sections.Place) → partOf (partIs p) ≡ p
+unfolding partOf partIs
+part-is amongKeys = refl
+part-is early = refl
+part-is inPattern = refl
+part-is behind = refl
+
+pub record Knows (k : Known) (c : Carried) : Type 0 where
+  pub turn : c .turn ≡ k .turn
+  pub metadata : Agrees (c .metadata) (k .keys)
+  pub heads : HeadsAgree (c .heads) (k .sofar) (k .heads)
+
+pub record Stands (w : Walk) (c : State) : Type 0 where
+  pub place : c .place ≡ placeIs (w .place)
+  pub carried : Knows (w .known) (c .carried)
+  pub keys : Agrees (c .keys) (w .keys)
+  pub modifiers : Agrees (c .modifiers) (w .modifiers)
+  pub pending : c .pending ≡ w .pending
+
+abbrev Follows : Step → Judged → Type 0
+Follows t j = (j .note ≡ t .note) × Stands (t .walk) (j .state)
+
+-- A block begins, or none is open.
+opened : (p : Where) (k : Known) (c : Carried) (q : Pending) → Knows k c → Stands (blockAt p k q) (blockState (placeIs p) c q)
+opened p k c q h = record { place = refl; carried = h; keys = none-agrees; modifiers = none-agrees; pending = refl }
+
+pub starts : Stands atFirst (blockState Between (carried 0 noMarks (record { count = 0; ids = replicate 26 0 })) nothingPending)
+unfolding placeIs
+starts = opened between (known 0 [] 0 []) (carried 0 noMarks (record { count = 0; ids = replicate 26 0 })) nothingPending (record { turn = refl; metadata = none-agrees; heads = no-heads-agree })
+
+fine-same : (p : Where) (c : Check) → fineFor (placeIs p) c ≡ fineAt p c
+unfolding fineFor fineAt placeIs
+fine-same between c = refl
+fine-same inMetadata c = refl
+fine-same behindHead c = refl
+fine-same inDefinition c = refl
+fine-same (inBody p) c = refl
+fine-same inLyrics c = refl
+
+closing-same : (w : Walk) (c : State) → Stands w c → closing c ≡ closed (w .place) (w .pending)
+unfolding closing closed
+closing-same w c h = rw (h .place, h .pending, fine-same (w .place) (w .pending .check)) refl
+
+pub ends-same : (w : Walk) (c : State) → Stands w c → ends c ≡ finished w
+unfolding ends finished
+ends-same w c h = rw (closing-same w c h, h .carried .turn) refl
+
+module _ (k : Known) (c : Carried) (h : Knows k c) (l : Line) where
+  key-same : keyJudged (c .metadata) l ≡ metadataNote (k .keys) l
+  unfolding keyJudged metadataNote
+  key-same = rw (again-agrees 4 (keySaid l) (c .metadata) (k .keys) l (key-said-below l) (h .metadata)) refl
+
+  key-known : (t : ℕ) → Knows (known t (prepend (keySaid l) (k .keys)) (k .sofar) (k .heads)) (carried t (marked (keyOf l) (c .metadata)) (c .heads))
+  key-known t = record { turn = refl; metadata = marked-agrees (keySaid l) (c .metadata) (k .keys) (key-said-below l) (h .metadata); heads = h .heads }
+
+  head-same : headJudged (numberOf (headIn l)) (c .heads) (l .number) ≡ headNote k l
+  unfolding headNote
+  head-same = head-agrees (c .heads) (k .sofar) (k .heads) (h .heads) (headIn l) l (head-counts l)
+
+  opening-by : (b : BlockKind) → Follows (opens b k l) (opening b c l)
+  unfolding opens opening placeIs partIs
+  opening-by metadata = rw (h .turn) (ap (min (late 0 (k .turn) l)) key-same, opened inMetadata _ _ nothingPending (key-known (max (k .turn) 0)))
+  opening-by definition = rw (h .turn) (ap (min (late 1 (k .turn) l)) head-same, opened behindHead _ _ nothingPending (record { turn = refl; metadata = h .metadata; heads = with-head-agrees (c .heads) (k .sofar) (k .heads) (h .heads) (headIn l) (head-counts l) }))
+  opening-by section = rw (h .turn) (refl, opened (inBody amongKeys) _ _ _ (record { turn = refl; metadata = h .metadata; heads = h .heads }))
+
+module _ (w : Walk) (c : State) (h : Stands w c) (l : Line) where
+  body-same : (p : sections.Place) → bodyJudged p (c .keys) (c .modifiers) l ≡ bodyNote p (w .keys) (w .modifiers) l
+  unfolding bodyJudged bodyNote
+  body-same p =
+      rw (again-agrees 4 (keySaid l) (c .keys) (w .keys) l (key-said-below l) (h .keys), again-agrees 8 (modifierSaid l) (c .modifiers) (w .modifiers) l (modifier-said-below l) (h .modifiers)) refl
+
+  in-body : (p : sections.Place) → Follows (bodyStep p w l) (judged (bodyJudged p (c .keys) (c .modifiers) l) (bodyState p c l))
+  unfolding bodyStep bodyState placeIs
+  in-body p = (body-same p, record {
+    place = refl;
+    carried = h .carried;
+    keys = marked-agrees (keySaid l) (c .keys) (w .keys) (key-said-below l) (h .keys);
+    modifiers = marked-agrees (modifierSaid l) (c .modifiers) (w .modifiers) (modifier-said-below l) (h .modifiers);
+    pending = rw (h .pending) refl;
+  })
+
+  by-place : (p : Where) → Follows (stepAt p w l) (judgedAt (placeIs p) c l)
+  unfolding stepAt judgedAt placeIs if_then_else_
+  by-place between = opening-by (w .known) (c .carried) (h .carried) l (kindOfText (l .text))
+  by-place inMetadata = rw (h .carried .turn) (key-same (w .known) (c .carried) (h .carried) l, opened inMetadata _ _ nothingPending (key-known (w .known) (c .carried) (h .carried) l (w .known .turn)))
+  by-place behindHead = rw (h .pending) (refl, opened inDefinition _ _ _ (h .carried))
+  by-place inDefinition = rw (h .pending) (refl, opened inDefinition _ _ _ (h .carried))
+  by-place (inBody p) =
+      rw (part-is p)
+      (by-cases (notDashes l) (λ e. rw e (in-body p))
+      (λ e. rw (e, h .pending) (refl, record { place = refl; carried = h .carried; keys = h .keys; modifiers = h .modifiers; pending = refl })))
+  by-place inLyrics = rw (h .pending) (refl, record { place = refl; carried = h .carried; keys = h .keys; modifiers = h .modifiers; pending = refl })
+
+  -- One line more.
+  pub keeps-step : (judge c l .note ≡ stepped w l .note) × Stands (stepped w l .walk) (judge c l .state)
+  unfolding judge stepped if_then_else_ placeIs
+  keeps-step =
+      by-cases
+      (isEmpty (l .text))
+      (λ e. rw e (closing-same w c h, opened between _ _ nothingPending (h .carried)))
+      (λ e. rw e (subst (λ (p : Place). Follows (stepAt (w .place) w l) (judgedAt p c l)) (sym (h .place)) (by-place (w .place))))

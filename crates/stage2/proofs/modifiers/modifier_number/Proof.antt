@@ -1,0 +1,78 @@
+use Rattle.stage2.specs.LineNotes.{modifierNumber}
+use mathlib.Core.Path.{refl}
+use borrow.Author.Needs.{needs}
+use Rattle.stage2.proofs.modifiers.modifier_number.Statement.{statement}
+use Rattle.stage2.proofs.modifiers.modifier_number.Tie as tie
+use Rattle.stage2.proofs.modifiers.modifier_number.Reads as reads
+use Rattle.stage2.proofs.modifiers.modifier_number.Lts as lts
+
+-- src/names.rt:52:33
+enum-told : tie.Need-enum-told
+enum-told c = search needs
+
+-- src/names.rt:53:35
+enum-told-2 : tie.Need-enum-told-2
+enum-told-2 c = search needs
+
+-- src/names.rt:54:33
+enum-told-3 : tie.Need-enum-told-3
+enum-told-3 c = search needs
+
+-- src/names.rt:55:33
+enum-told-4 : tie.Need-enum-told-4
+enum-told-4 c = search needs
+
+-- src/names.rt:56:32
+enum-told-5 : tie.Need-enum-told-5
+enum-told-5 c = search needs
+
+-- src/names.rt:57:34
+enum-told-6 : tie.Need-enum-told-6
+enum-told-6 c = search needs
+
+-- src/names.rt:48:1
+returns : tie.Need-returns
+unfolding modifierNumber
+returns c = rw (c .enum-told .given .1) refl
+
+-- src/names.rt:48:1
+returns-2 : tie.Need-returns-2
+unfolding modifierNumber
+returns-2 c = rw (c .enum-told2 .given .1) refl
+
+-- src/names.rt:48:1
+returns-3 : tie.Need-returns-3
+unfolding modifierNumber
+returns-3 c = rw (c .enum-told3 .given .1) refl
+
+-- src/names.rt:48:1
+returns-4 : tie.Need-returns-4
+unfolding modifierNumber
+returns-4 c = rw (c .enum-told4 .given .1) refl
+
+-- src/names.rt:48:1
+returns-5 : tie.Need-returns-5
+unfolding modifierNumber
+returns-5 c = rw (c .enum-told5 .given .1) refl
+
+-- src/names.rt:48:1
+returns-6 : tie.Need-returns-6
+unfolding modifierNumber
+returns-6 c = rw (c .enum-told6 .given .1) refl
+
+pub modifier-number-spec : {M : Type 1} → statement M
+modifier-number-spec =
+    tie.close
+    (tie.spec
+    enum-told
+    enum-told-2
+    enum-told-3
+    enum-told-4
+    enum-told-5
+    enum-told-6
+    returns
+    returns-2
+    returns-3
+    returns-4
+    returns-5
+    returns-6)

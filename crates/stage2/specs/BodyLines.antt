@@ -1,0 +1,83 @@
+-- The lines between a section's header and its `--`, kind by kind, as the code judges them.
+use Prim.Native.Nat.{ℕ, min}
+use mathlib.Core.List.{List}
+use mathlib.Core.Bool.{Bool, true, false, not}
+use Rattle.songcode.specs.Lines.{Line}
+use Rattle.songcode.specs.Complaints.{complainIf}
+use Rattle.songcode.specs.Sections.{keyNameOf, modifierNameOf, settingOf}
+use Rattle.settings.specs.Names.{keyIs, modifierIs}
+use Rattle.settings.specs.declared.keys.KeyName.{KeyName}
+use Rattle.settings.specs.declared.modifiers.ModifierName.{ModifierName}
+use Rattle.stage2.specs.declared.states.Part.{Part}
+use Rattle.stage2.specs.declared.states.Part.the-variants.{Keys, Early, Pattern, Behind}
+use Rattle.stage2.specs.declared.states.Place.the-variants.{Body}
+use Rattle.stage2.specs.declared.states.State.{State}
+use Rattle.stage2.specs.declared.states.Judged.{Judged}
+use Rattle.stage2.specs.Ranks.{least}
+use Rattle.stage2.specs.Walk.{patternPending}
+use Rattle.stage2.specs.States.{partOf, again, marked, stateAt, judged}
+use Rattle.stage2.specs.LineNotes.{keyNumber, modifierNumber, keyNote, modifierNote}
+
+-- What is out of place where: a key anywhere but among keys, a modifier before the pattern, a pattern line past its run.
+unfoldable pub pastKeys : Part → Bool
+pastKeys Keys = false
+pastKeys Early = true
+pastKeys Pattern = true
+pastKeys Behind = true
+
+unfoldable pub beforePattern : Part → Bool
+beforePattern Keys = true
+beforePattern Early = true
+beforePattern Pattern = false
+beforePattern Behind = false
+
+unfoldable pub pastPattern : Part → Bool
+pastPattern Keys = false
+pastPattern Early = false
+pastPattern Pattern = false
+pastPattern Behind = true
+
+-- Where the next line stands.
+unfoldable pub afterKey : Part → Part
+afterKey Keys = Keys
+afterKey Early = Early
+afterKey Pattern = Behind
+afterKey Behind = Behind
+
+unfoldable pub afterModifier : Part → Part
+afterModifier Keys = Early
+afterModifier Early = Early
+afterModifier Pattern = Behind
+afterModifier Behind = Behind
+
+unfoldable pub afterPattern : Part → Part
+afterPattern Keys = Pattern
+afterPattern Early = Pattern
+afterPattern Pattern = Pattern
+afterPattern Behind = Behind
+
+-- A key line of metadata.
+unfoldable pub keyAlone : List Bool → Line → ℕ
+keyAlone marks l =
+    let k = keyIs (keyNameOf l) in
+    min (again 4 (keyNumber k) marks (l .number)) (keyNote false k (settingOf l) (l .number))
+
+unfoldable pub onKey : Part → State → Line → Judged
+onKey p c l =
+    let k = keyIs (keyNameOf l) in
+    judged
+    (min (min (least (complainIf (pastKeys p) 4 (l .number))) (again 4 (keyNumber k) (c .keys) (l .number))) (keyNote true k (settingOf l) (l .number)))
+    (stateAt (Body (afterKey p)) (c .carried) (marked (keyNumber k) (c .keys)) (c .modifiers) (c .pending))
+
+unfoldable pub onModifier : Part → State → Line → Judged
+onModifier p c l =
+    let m = modifierIs (modifierNameOf l) in
+    judged
+    (min (min (least (complainIf (beforePattern p) 8 (l .number))) (again 8 (modifierNumber m) (c .modifiers) (l .number))) (modifierNote m (settingOf l) (l .number)))
+    (stateAt (Body (afterModifier p)) (c .carried) (c .keys) (marked (modifierNumber m) (c .modifiers)) (c .pending))
+
+unfoldable pub onPattern : Part → State → Line → Judged
+onPattern p c l =
+    judged
+    (least (complainIf (pastPattern p) 8 (l .number)))
+    (stateAt (Body (afterPattern p)) (c .carried) (c .keys) (c .modifiers) (patternPending (partOf p) l (c .pending)))

@@ -1,0 +1,158 @@
+// Where blocks begin and end.
+use super::lines::metadata_line;
+use super::marks::{head_note, put_head};
+use super::notes::{NONE, complain_if, least_of, most_of, none_if, rank};
+use super::patterns::no_pending;
+use super::states::{Carried, Judged, Part, Pending, Place, State};
+use grammar::{Check, definition_fine, section_fine, start};
+use settings::{BlockKind, block_kind, head_in, header_ok};
+use text::Line;
+ghost use mathlib.Core.Path.{_≡_};
+ghost use Prim.Native.Nat.{_<_, _≤_};
+ghost use lib.ListN.{length};
+ghost use Rattle.songcode.specs.SongText.{metadata, definition, section, kindOfText};
+ghost use Rattle.text.specs.Spans.{lineText};
+ghost use Rattle.stage2.specs.States.{Fit, blockState, metadataState, keyJudged, judged, opening, fineFor, closing};
+
+// A block that begins, or the gap between two, with what is pending against it.
+pub fn block_state(place: Place, carried: Carried, pending: Pending) -> State
+    ensures { λ r. ⌜ r ≡ blockState place carried pending ⌝ }
+{
+    let keys = [false; 8];
+    let modifiers = [false; 8];
+    State {
+        place,
+        carried,
+        keys,
+        modifiers,
+        pending,
+    }
+}
+
+// A line of metadata, in a block of this turn.
+pub fn in_metadata(s: &[u8], k: Carried, turn: usize, l: Line) -> Judged
+    requires { ⌜ (l .start < l .stop) × (l .stop ≤ length (now s)) × (l .number ≤ 65537) ⌝ }
+    ensures { λ r. ⌜ r ≡ judged (keyJudged (k .metadata) (lineText (now (s .entry)) l)) (metadataState turn k (lineText (now (s .entry)) l)) ⌝ }
+{
+    let marks = k.metadata;
+    let noted = metadata_line(s, marks, l);
+    let metadata = noted.marks;
+    let heads = k.heads;
+    let carried = Carried {
+        turn,
+        metadata,
+        heads,
+    };
+    let state = block_state(Place::Metadata, carried, no_pending());
+    Judged {
+        note: noted.note,
+        state,
+    }
+}
+
+fn open_metadata(s: &[u8], k: Carried, l: Line) -> Judged
+    requires { ⌜ (l .start < l .stop) × (l .stop ≤ length (now s)) × (l .number ≤ 65537) ⌝ }
+    ensures { λ r. ⌜ r ≡ opening metadata k (lineText (now (s .entry)) l) ⌝ }
+{
+    let late = complain_if(0 < k.turn, 3, l.number);
+    let turn = most_of(k.turn, 0);
+    let j = in_metadata(s, k, turn, l);
+    let note = least_of(late, j.note);
+    let state = j.state;
+    Judged { note, state }
+}
+
+// A definition's head.
+fn open_definition(s: &[u8], k: Carried, l: Line) -> Judged
+    requires { ⌜ (l .start < l .stop) × (l .stop ≤ length (now s)) × (l .number ≤ 65537) × Fit (k .heads) ⌝ }
+    ensures { λ r. ⌜ r ≡ opening definition k (lineText (now (s .entry)) l) ⌝ }
+{
+    let late = complain_if(1 < k.turn, 3, l.number);
+    let a = l.start;
+    let e = l.stop;
+    let head = head_in(&s[a..e]);
+    let before = k.heads;
+    let six = head_note(head, before, l.number);
+    let note = least_of(late, six);
+    let heads = put_head(head, before);
+    let turn = most_of(k.turn, 1);
+    let metadata = k.metadata;
+    let carried = Carried {
+        turn,
+        metadata,
+        heads,
+    };
+    let state = block_state(Place::Head, carried, no_pending());
+    Judged { note, state }
+}
+
+// A section's header: that it has no pattern line is pending.
+fn open_section(s: &[u8], k: Carried, l: Line) -> Judged
+    requires { ⌜ (l .start < l .stop) × (l .stop ≤ length (now s)) × (l .number ≤ 65537) ⌝ }
+    ensures { λ r. ⌜ r ≡ opening section k (lineText (now (s .entry)) l) ⌝ }
+{
+    let late = complain_if(2 < k.turn, 3, l.number);
+    let a = l.start;
+    let e = l.stop;
+    let good = header_ok(&s[a..e]);
+    let eight = complain_if(!good, 8, l.number);
+    let note = least_of(late, eight);
+    let turn = most_of(k.turn, 2);
+    let metadata = k.metadata;
+    let heads = k.heads;
+    let carried = Carried {
+        turn,
+        metadata,
+        heads,
+    };
+    let want = rank(8, l.number);
+    let check = start();
+    let pending = Pending {
+        want,
+        bare: NONE,
+        bad: NONE,
+        check,
+    };
+    let state = block_state(Place::Body(Part::Keys), carried, pending);
+    Judged { note, state }
+}
+
+// The first line of a block.
+pub fn open_block(s: &[u8], k: Carried, l: Line) -> Judged
+    requires { ⌜ (l .start < l .stop) × (l .stop ≤ length (now s)) × (l .number ≤ 65537) × Fit (k .heads) ⌝ }
+    ensures { λ r. ⌜ r ≡ opening (kindOfText (lineText (now (s .entry)) l .text)) k (lineText (now (s .entry)) l) ⌝ }
+{
+    let a = l.start;
+    let e = l.stop;
+    let kind = block_kind(&s[a..e]);
+    match kind {
+        BlockKind::Metadata => open_metadata(s, k, l),
+        BlockKind::Definition => open_definition(s, k, l),
+        BlockKind::Section => open_section(s, k, l),
+    }
+}
+
+fn fine_for(place: Place, check: Check) -> bool
+    ensures { λ r. ⌜ r ≡ fineFor place check ⌝ }
+{
+    match place {
+        Place::Between => section_fine(check),
+        Place::Metadata => section_fine(check),
+        Place::Head => definition_fine(check),
+        Place::Definition => definition_fine(check),
+        Place::Body(_) => section_fine(check),
+        Place::Lyrics => section_fine(check),
+    }
+}
+
+// What is pending against the block that ends here.
+pub fn close_block(c: State) -> usize
+    ensures { λ r. ⌜ r ≡ closing c ⌝ }
+{
+    let place = c.place;
+    let q = c.pending;
+    let check = q.check;
+    let fine = fine_for(place, check);
+    let seven = none_if(fine, q.bad);
+    least_of(q.want, least_of(q.bare, seven))
+}
