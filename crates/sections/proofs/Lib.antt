@@ -1,0 +1,4 @@
+-- Laws of the definitions that the proofs of the functions cite, and that callers use.
+pub mod ListLaws
+pub mod RunLaws
+pub mod TestLaws

@@ -1,0 +1,2 @@
+-- What the contracts on the blocks of a chart say, over the definitions of songcode.
+pub mod Runs
