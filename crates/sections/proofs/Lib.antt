@@ -2,3 +2,4 @@
 pub mod ListLaws
 pub mod RunLaws
 pub mod TestLaws
+pub mod SlotLaws

@@ -31,11 +31,15 @@ unfolding inBody
 body-full w h e = rw (empty-by 0 w, ne-eqb _ _ h, e)
 
 -- A kind that was read.
+pub pattern-kind : (k : sections.Kind) {r : Kind} → r ≡ kindIs k → r ≡ kind.Pattern → k ≡ sections.patternLine
+unfolding kindIs
+pattern-kind sections.keyLine e h = let z : _≡_ {A = ℕ} 0 1 = cc in absurd (omega arith)
+pattern-kind sections.modifierLine e h = let z : _≡_ {A = ℕ} 0 1 = cc in absurd (omega arith)
+pattern-kind sections.patternLine e h = refl
+
 pub pattern-read : (k : sections.Kind) {r : Kind} → r ≡ kindIs k → r ≡ kind.Pattern → true ≡ isPatternKind k
-unfolding kindIs isPatternKind
-pattern-read sections.keyLine e h = let z : _≡_ {A = ℕ} 0 1 = cc in absurd (omega arith)
-pattern-read sections.modifierLine e h = let z : _≡_ {A = ℕ} 0 1 = cc in absurd (omega arith)
-pattern-read sections.patternLine e h = refl
+unfolding isPatternKind
+pattern-read k e h = rw (pattern-kind k e h)
 
 pub key-read : (k : sections.Kind) {r : Kind} → r ≡ kindIs k → r ≡ kind.Key → k ≡ sections.keyLine
 unfolding kindIs

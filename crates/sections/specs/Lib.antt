@@ -1,2 +1,3 @@
 -- What the contracts on the blocks of a chart say, over the definitions of songcode.
 pub mod Runs
+pub mod Slots

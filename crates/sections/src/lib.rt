@@ -1,6 +1,10 @@
 // The blocks of a chart: where they begin and end, and what each says, as numbers and places.
 mod runs;
+mod slots;
 
 pub use runs::Run;
 pub use runs::Test;
 pub use runs::run_of;
+pub use slots::Said;
+pub use slots::find;
+pub use slots::slot_of;
