@@ -3,3 +3,4 @@ pub mod ListLaws
 pub mod RunLaws
 pub mod TestLaws
 pub mod SlotLaws
+pub mod ValueLaws

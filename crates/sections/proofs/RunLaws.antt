@@ -92,7 +92,7 @@ module _ (s : List ℕ) (t : Test) (n at : ℕ) where
   walked-over k i h = let e = lines-over s (n + k) i h in (rw e, rw e)
 
   -- No line more passes: the run is the longest.
-  pub longest : (k i : ℕ) → at ≤ i → i ≤ length s → n + k ≤ i + 1 → Walked s t n at k i
+  pub longest : (k i : ℕ) → at ≤ i → i ≤ length s → at + k ≤ i → Walked s t n at k i
       → (taken (passing t) (textLines s (n + k) i) ≡ []) × (left (passing t) (textLines s (n + k) i) ≡ textLines s (n + k) i)
       → Longest s t n at (record { number = n; at = at; lines = k; next = i })
   unfolding linesOf linesBehind

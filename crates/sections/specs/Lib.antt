@@ -1,3 +1,4 @@
 -- What the contracts on the blocks of a chart say, over the definitions of songcode.
 pub mod Runs
 pub mod Slots
+pub mod Values

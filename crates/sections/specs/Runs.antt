@@ -59,6 +59,6 @@ pub record Longest (s : List ℕ) (t : Test) (n at : ℕ) (r : Run) : Type 0 whe
   pub place : r .at ≡ at
   pub onward : at ≤ r .next
   pub inside : r .next ≤ length s
-  pub counted : n + r .lines ≤ r .next + 1
+  pub counted : at + r .lines ≤ r .next
   pub lines : linesOf s r ≡ taken (passing t) (textLines s n at)
   pub behind : linesBehind s r ≡ left (passing t) (textLines s n at)

@@ -1,6 +1,7 @@
 // The blocks of a chart: where they begin and end, and what each says, as numbers and places.
 mod runs;
 mod slots;
+mod values;
 
 pub use runs::Run;
 pub use runs::Test;
@@ -8,3 +9,9 @@ pub use runs::run_of;
 pub use slots::Said;
 pub use slots::find;
 pub use slots::slot_of;
+pub use values::Keys;
+pub use values::Modifiers;
+pub use values::bpm_said;
+pub use values::keys_of;
+pub use values::modifiers_of;
+pub use values::time_said;

@@ -13,7 +13,7 @@ use Rattle.sections.proofs.runs.passes.Reads as passes-reads
 use Rattle.text.proofs.line_at.Reads as line-at-reads
 
 abbrev Inv-loop : tie.InvT-loop
-Inv-loop s test number at lines₀ next₀ lines next = (at ≤ next) × (next ≤ length s) × (number + lines ≤ next + 1) × Walked s test number at lines next
+Inv-loop s test number at lines₀ next₀ lines next = (at ≤ next) × (next ≤ length s) × (at + lines ≤ next) × Walked s test number at lines next
 
 abbrev μ-loop : tie.MeasureT-loop
 μ-loop s test number at lines₀ next₀ lines next = length s - next
