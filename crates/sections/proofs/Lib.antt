@@ -4,3 +4,5 @@ pub mod RunLaws
 pub mod TestLaws
 pub mod SlotLaws
 pub mod ValueLaws
+pub mod PartLaws
+pub mod BlockLaws

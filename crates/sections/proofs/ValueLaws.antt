@@ -26,7 +26,7 @@ use Rattle.sections.specs.declared.slots.Said.{Said}
 use Rattle.sections.specs.Slots.{Setting, settingAt}
 use Rattle.sections.specs.Values.{numberOr, cutSaid}
 
-number-or : (o : Option ℕ) (d : ℕ) → numberOr (numberOf o) d ≡ orElse o d
+pub number-or : (o : Option ℕ) (d : ℕ) → numberOr (numberOf o) d ≡ orElse o d
 unfolding numberOr numberOf orElse
 number-or none d = refl
 number-or (some n) d = refl

@@ -2,3 +2,4 @@
 pub mod Runs
 pub mod Slots
 pub mod Values
+pub mod BlockParts

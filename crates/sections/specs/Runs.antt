@@ -23,9 +23,7 @@ unfolding isEmpty is
 inBody bs = not (isEmpty bs) && not (is "--" bs)
 
 unfoldable pub isPatternKind : Kind → Bool
-isPatternKind keyLine = false
-isPatternKind modifierLine = false
-isPatternKind patternLine = true
+isPatternKind k = elim k [ keyLine ↦ false | modifierLine ↦ false | patternLine ↦ true ]
 
 unfoldable pub isPatternText : List Byte → Bool
 unfolding kindOf isPatternKind

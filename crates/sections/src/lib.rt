@@ -1,4 +1,5 @@
 // The blocks of a chart: where they begin and end, and what each says, as numbers and places.
+mod blocks;
 mod runs;
 mod slots;
 mod values;
@@ -15,3 +16,7 @@ pub use values::bpm_said;
 pub use values::keys_of;
 pub use values::modifiers_of;
 pub use values::time_said;
+pub use blocks::DefinitionRead;
+pub use blocks::SectionRead;
+pub use blocks::read_definition;
+pub use blocks::read_section;

@@ -31,7 +31,7 @@ pub struct Modifiers {
     pub after: Said,
 }
 
-fn number_or(n: Number, other: usize) -> usize
+pub fn number_or(n: Number, other: usize) -> usize
     ensures { λ r. ⌜ r ≡ numberOr n other ⌝ }
 {
     match n {
