@@ -6,3 +6,4 @@ pub mod SlotLaws
 pub mod ValueLaws
 pub mod PartLaws
 pub mod BlockLaws
+pub mod NextLaws

@@ -12,8 +12,8 @@ use Rattle.songcode.specs.Bytes.{placed}
 use Rattle.songcode.specs.Sections.{kindOf}
 use Rattle.songcode.specs.Lines as songcode
 use Rattle.text.specs.declared.lines.Line.{Line}
-use Rattle.text.specs.Spans.{part, spansFrom, lineText, Found}
-use Rattle.text.proofs.WalkLaws.{spans-found, spans-over}
+use Rattle.text.specs.Spans.{part, lineAt, spansFrom, lineText, Found}
+use Rattle.text.proofs.WalkLaws.{spans-next, spans-found, spans-over}
 use Rattle.settings.proofs.PlaceLaws.{Placeless}
 use Rattle.settings.proofs.ValueLaws.{kindOf-placeless, is-placeless}
 use Rattle.sections.specs.declared.runs.Run.{Run}
@@ -48,6 +48,10 @@ passes-placeless Pattern a w = rw (inBody-placeless a w, isPatternText-placeless
 pub lines-found : {s : List ℕ} {n at : ℕ} {l : Line} → Found s n at l → at < length s → textLines s n at ≡ lineText s l ∷ textLines s (n + 1) (l .next)
 unfolding textLines
 lines-found {s} f h = ap (map (lineText s)) (spans-found f h)
+
+pub lines-next : (s : List ℕ) (n at : ℕ) → at < length s → textLines s n at ≡ lineText s (lineAt s n at) ∷ textLines s (n + 1) (lineAt s n at .next)
+unfolding textLines
+lines-next s n at h = ap (map (lineText s)) (spans-next s n at h)
 
 pub lines-over : (s : List ℕ) (n at : ℕ) → length s ≤ at → textLines s n at ≡ []
 unfolding textLines

@@ -1,5 +1,5 @@
 -- Blocks as places in the text: the parts of a section's block and of a definition's, and where the next block begins.
-use Prim.Native.Nat.{ℕ, _+_, _≤_}
+use Prim.Native.Nat.{ℕ, _+_, _<_, _≤_}
 use mathlib.Core.Path.{_≡_}
 use mathlib.Core.List.{List, [], _∷_}
 use lib.ListN.{length}
@@ -11,6 +11,7 @@ use Rattle.text.specs.Spans.{lineAt, lineText}
 use Rattle.sections.specs.declared.runs.Run.{Run}
 use Rattle.sections.specs.declared.runs.Test.the-variants.{Empty, Full}
 use Rattle.sections.specs.declared.blocks.Parts.{Parts}
+use Rattle.sections.specs.declared.blocks.Place.{Place}
 use Rattle.sections.specs.declared.blocks.SectionRead.{SectionRead}
 use Rattle.sections.specs.declared.blocks.DefinitionRead.{DefinitionRead}
 use Rattle.sections.specs.Runs.{textLines, passing, linesOf, linesBehind}
@@ -90,3 +91,12 @@ pub record DefinitionAt (s : List ℕ) (n at : ℕ) (r : DefinitionRead) : Type 
   pub pattern : linesOf s (r .pattern) ≡ blockAt s n at .others
   pub past : linesBehind s (r .pattern) ≡ linesPast s n at
   pub onward : at + 1 ≤ r .pattern .next
+
+-- The next block from a line on, if there is one: it begins at the place that is answered, which is else the end of the text.
+pub record NextAt (s : List ℕ) (n at : ℕ) (r : Place) : Type 0 where
+  pub number : 1 ≤ r .number
+  pub counted : r .number ≤ r .at + 1
+  pub onward : at ≤ r .at
+  pub inside : r .at ≤ length s
+  pub over : length s ≤ r .at → blocks (textLines s n at) ≡ []
+  pub there : r .at < length s → blocks (textLines s n at) ≡ blockAt s (r .number) (r .at) ∷ blocks (linesPast s (r .number) (r .at))

@@ -7,12 +7,22 @@ use super::values::Modifiers;
 use super::values::keys_of;
 use super::values::modifiers_of;
 use super::values::number_or;
+use settings::BlockKind;
+use settings::block_kind;
 use settings::head_in;
 use text::line_at;
 ghost use mathlib.Core.Path.{_≡_};
 ghost use Prim.Native.Nat.{_+_, _≤_, _<_};
 ghost use lib.ListN.{length};
-ghost use Rattle.sections.specs.BlockParts.{LyricsAt, PartsAt, SectionAt, DefinitionAt};
+ghost use Rattle.songcode.specs.SongText.{blockKind};
+ghost use Rattle.settings.specs.Kinds.{blockKindIs};
+ghost use Rattle.sections.specs.BlockParts.{blockAt, NextAt, LyricsAt, PartsAt, SectionAt, DefinitionAt};
+
+// A line's number and place.
+pub struct Place {
+    pub number: usize,
+    pub at: usize,
+}
 
 // The lines of a section before its pattern, of its pattern, behind it, and of its lyrics; the next block stands behind these.
 pub struct Parts {
@@ -36,6 +46,29 @@ pub struct DefinitionRead {
     pub head: usize,
     pub id: usize,
     pub pattern: Run,
+}
+
+// Where the next block begins, from a line on; the end of the text where there is none.
+pub fn next_block(s: &[u8], number: usize, at: usize) -> Place
+    requires { ⌜ (1 ≤ number) × (number ≤ at + 1) × (at ≤ length (now s)) ⌝ }
+    ensures { λ r. ⌜ NextAt (now (s .entry)) number at r ⌝ }
+{
+    let blank = run_of(s, Test::Empty, number, at);
+    Place {
+        number: number + blank.lines,
+        at: blank.next,
+    }
+}
+
+// The kind of the block whose first line begins at a place.
+pub fn kind_at(s: &[u8], number: usize, at: usize) -> BlockKind
+    requires { ⌜ at ≤ length (now s) ⌝ }
+    ensures { λ r. ⌜ r ≡ blockKindIs (blockKind (blockAt (now (s .entry)) number at)) ⌝ }
+{
+    let first = line_at(s, number, at);
+    let a = first.start;
+    let e = first.stop;
+    block_kind(&s[a..e])
 }
 
 // The lyric lines of a block, from its `--` on.
