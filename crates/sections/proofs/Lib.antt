@@ -7,3 +7,4 @@ pub mod ValueLaws
 pub mod PartLaws
 pub mod BlockLaws
 pub mod NextLaws
+pub mod SaidLaws
