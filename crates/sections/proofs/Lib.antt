@@ -8,3 +8,5 @@ pub mod PartLaws
 pub mod BlockLaws
 pub mod NextLaws
 pub mod SaidLaws
+pub mod TellLaws
+pub mod OrderLaws
