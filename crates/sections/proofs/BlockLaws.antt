@@ -62,7 +62,7 @@ module _ (s : List ℕ) (n at : ℕ) (rest : Run) (r : Longest s Full n at rest)
       let g : n + 1 + (k - 1) ≡ rest .number + k = omega (arith, r .number) in
       let start : textLines s (rest .number) (rest .at) ≡ textLines s n at = rw (r .number, r .place) refl in
       let whole : taken (passing Full) (textLines s n at) ≡ lineText s l ∷ take (k - 1) (textLines s (n + 1) (l .next)) =
-          sym (r .lines) ∙ ap (take k) start ∙ ap (λ (m : ℕ). take m (textLines s n at)) e ∙ rw (lines-found f (omega arith)) in
+      sym (r .lines) ∙ ap (take k) start ∙ ap (λ (m : ℕ). take m (textLines s n at)) e ∙ rw (lines-found f (omega arith)) in
       record {
         onward = c;
         placed = record { number = omega arith; counted = omega arith; inside = omega arith; behind = omega arith; ends = omega arith };

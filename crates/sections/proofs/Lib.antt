@@ -10,3 +10,4 @@ pub mod NextLaws
 pub mod SaidLaws
 pub mod TellLaws
 pub mod OrderLaws
+pub mod SectionLaws

@@ -91,8 +91,8 @@ module _ (k : KeyName) where
       (λ e. rw (yes-pattern l (is-key l e), keys-early ls (in-order amongKeys l ls keyLine e h .1)))
       (λ e. nil-is-not-cons (sym (in-order amongKeys l ls modifierLine e h .0)))
       (λ e.
-        let none-later = pattern-passed l ls e ∙ none-from-pattern ls (in-order amongKeys l ls patternLine e h .1) in
-        rw (not-pattern l (is-pattern l e)) (sym none-later))
+      let none-later = pattern-passed l ls e ∙ none-from-pattern ls (in-order amongKeys l ls patternLine e h .1) in
+      rw (not-pattern l (is-pattern l e)) (sym none-later))
 
 module _ (m : ModifierName) where
   pattern-no-modifier : (l : Line) (ls : List Line) → kindOfLine l ≡ patternLine → settingAmong (8 + modifierPlace m) (l ∷ ls) ≡ settingAmong (8 + modifierPlace m) ls

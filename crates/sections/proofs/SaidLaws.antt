@@ -66,11 +66,11 @@ module _ (l : Line) where
       by-kind
       (kindOfLine l)
       (λ e. by-option (keyNameOf l)
-        (λ n. let z = slot-of-kind keyLine none (modifierNameOf l) e n refl in f (rw (e, keyIn, n)) (omega arith))
-        (λ j n. g j (rw (e, keyIn, n)) (slot-of-kind keyLine (some j) (modifierNameOf l) e n refl)))
+      (λ n. let z = slot-of-kind keyLine none (modifierNameOf l) e n refl in f (rw (e, keyIn, n)) (omega arith))
+      (λ j n. g j (rw (e, keyIn, n)) (slot-of-kind keyLine (some j) (modifierNameOf l) e n refl)))
       (λ e. by-option (modifierNameOf l)
-        (λ n. let z = slot-of-kind modifierLine (keyNameOf l) none e refl n in f (rw (e, keyIn)) (omega arith))
-        (λ m n. let z = slot-of-kind modifierLine (keyNameOf l) (some m) e refl n in f (rw (e, keyIn)) (omega arith)))
+      (λ n. let z = slot-of-kind modifierLine (keyNameOf l) none e refl n in f (rw (e, keyIn)) (omega arith))
+      (λ m n. let z = slot-of-kind modifierLine (keyNameOf l) (some m) e refl n in f (rw (e, keyIn)) (omega arith)))
       (λ e. let z = slot-of-kind patternLine (keyNameOf l) (modifierNameOf l) e refl refl in f (rw (e, keyIn)) (omega arith))
 
   unfaulted : {m : ModifierName} → kindOfLine l ≡ modifierLine → modifierNameOf l ≡ some m → faults l ≡ [] → isSome (modifierIn m (l .number) (settingOf l)) ≡ true
@@ -87,11 +87,11 @@ module _ (l : Line) where
       by-kind
       (kindOfLine l)
       (λ e. by-option (keyNameOf l)
-        (λ n. let z = slot-of-kind keyLine none (modifierNameOf l) e n refl in f (rw (e, modifierOn)) (λ m h. let b = modifier-below m in omega arith))
-        (λ j n. let z = slot-of-kind keyLine (some j) (modifierNameOf l) e n refl in f (rw (e, modifierOn)) (λ m h. let b = key-below j in omega arith)))
+      (λ n. let z = slot-of-kind keyLine none (modifierNameOf l) e n refl in f (rw (e, modifierOn)) (λ m h. let b = modifier-below m in omega arith))
+      (λ j n. let z = slot-of-kind keyLine (some j) (modifierNameOf l) e n refl in f (rw (e, modifierOn)) (λ m h. let b = key-below j in omega arith)))
       (λ e. by-option (modifierNameOf l)
-        (λ n. let z = slot-of-kind modifierLine (keyNameOf l) none e refl n in f (rw (e, modifierOn, n)) (λ m h. let b = modifier-below m in omega arith))
-        (λ m n. g m (rw (e, modifierOn, n)) (slot-of-kind modifierLine (keyNameOf l) (some m) e refl n) (unfaulted e n)))
+      (λ n. let z = slot-of-kind modifierLine (keyNameOf l) none e refl n in f (rw (e, modifierOn, n)) (λ m h. let b = modifier-below m in omega arith))
+      (λ m n. g m (rw (e, modifierOn, n)) (slot-of-kind modifierLine (keyNameOf l) (some m) e refl n) (unfaulted e n)))
       (λ e. let z = slot-of-kind patternLine (keyNameOf l) (modifierNameOf l) e refl refl in f (rw (e, modifierOn)) (λ m h. let b = modifier-below m in omega arith))
 
   pub slot-pattern-line : kindOfLine l ≡ patternLine → slotOf l ≡ 13
@@ -159,10 +159,10 @@ module _ {B : Type 0} (m : ModifierName) (g : Modifier → Option B) (said : Set
       l
       (λ e h. rw (e, ne-eqb (slotOf l) (8 + modifierPlace m) (h m)) rest)
       (λ j e h there.
-        let y = isSome-some (modifierIn j (l .number) (settingOf l)) (there (split .0)) in
-        let x : Setting = record { line = l .number; text = settingOf l } in
-        let told : (b : Bool) → eqb (modifierPlace j) (modifierPlace m) ≡ b → Told b (g (y .0)) (said x) = λ b t. subst (λ (b : Bool). Told b (g (y .0)) (said x)) t (tells j (l .number) (settingOf l) (y .0) (y .1)) in
-        by-cases
-        (eqb (modifierPlace j) (modifierPlace m))
-        (λ t. said-here l ls (e ∙ y .1) h (ap (λ (k : ℕ). 8 + k) (eqb-true (modifierPlace j) (modifierPlace m) t)) (told true t .1) (told true t .2))
-        (λ t. let differ = eqb-false (modifierPlace j) (modifierPlace m) t in not-here l ls (e ∙ y .1) h (λ z. differ (omega arith)) (told false t) rest))
+      let y = isSome-some (modifierIn j (l .number) (settingOf l)) (there (split .0)) in
+      let x : Setting = record { line = l .number; text = settingOf l } in
+      let told : (b : Bool) → eqb (modifierPlace j) (modifierPlace m) ≡ b → Told b (g (y .0)) (said x) = λ b t. subst (λ (b : Bool). Told b (g (y .0)) (said x)) t (tells j (l .number) (settingOf l) (y .0) (y .1)) in
+      by-cases
+      (eqb (modifierPlace j) (modifierPlace m))
+      (λ t. said-here l ls (e ∙ y .1) h (ap (λ (k : ℕ). 8 + k) (eqb-true (modifierPlace j) (modifierPlace m) t)) (told true t .1) (told true t .2))
+      (λ t. let differ = eqb-false (modifierPlace j) (modifierPlace m) t in not-here l ls (e ∙ y .1) h (λ z. differ (omega arith)) (told false t) rest))

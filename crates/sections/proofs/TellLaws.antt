@@ -9,11 +9,11 @@ use lib.Dec.{eqb}
 use Rattle.songcode.specs.Lists.{andThen}
 use Rattle.songcode.specs.Bytes.{Byte}
 use Rattle.songcode.specs.Numbers.{repeatIn}
-use Rattle.songcode.specs.Song.{Items, Cut, Modifier, repeated, cutStart, cutEnd, before, after}
+use Rattle.songcode.specs.Song.{repeated, cutStart, cutEnd, before, after}
 use Rattle.songcode.specs.Modifiers.{ofRepeat, ofCutStart, ofCutEnd, ofBefore, ofAfter, modifierPlace, modifierIn, cutIn}
 use Rattle.songcode.specs.PatternText.{sideText}
-use Rattle.songcode.specs.Playing.{Side, repeatSaid, cutStartSaid, cutEndSaid, beforeSaid, afterSaid}
-use Rattle.sections.specs.Slots.{Setting}
+use Rattle.songcode.specs.Playing.{repeatSaid, cutStartSaid, cutEndSaid, beforeSaid, afterSaid}
+use Rattle.sections.specs.SectionSays.{sideOn, sideSaid}
 use Rattle.sections.proofs.SaidLaws.{Told, Tells}
 
 -- What a reading gives that is read further into one value.
@@ -21,15 +21,6 @@ then-some : {A C : Type 0} (o : Option A) (h : A → C) {y : C} → andThen o (�
 unfolding andThen
 then-some none h e = let z : _≡_ {A = ℕ} 0 1 = cc in absurd (omega arith)
 then-some (some k) h e = (k, refl, cc)
-
--- A lead-in or tail of a setting: its line and its items.
-unfoldable pub sideOn : ℕ → Option Items → Option Side
-unfolding andThen
-sideOn n o = andThen o (λ r. some (record { line = n; items = r }))
-
-unfoldable pub sideSaid : Setting → Option Side
-unfolding sideOn sideText
-sideSaid x = sideOn (x .line) (sideText (x .text))
 
 pub repeat-tells : Tells ofRepeat repeatSaid (λ x. repeatIn (x .text))
 unfolding modifierIn modifierPlace Told repeatSaid

@@ -3,3 +3,4 @@ pub mod Runs
 pub mod Slots
 pub mod Values
 pub mod BlockParts
+pub mod SectionSays

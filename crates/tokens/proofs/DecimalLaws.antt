@@ -114,6 +114,7 @@ module _ (low high : ℕ) (bs : List Byte) where
       choice : (t : Bool) → numberOf (if t then some n else none) ≡ (if t then Is n else Not)
       choice true = refl
       choice false = refl
+
       go : (o : Option ℕ) → numberIn 0 9999 bs ≡ o → Is n ≡ numberOf o → numberOf (numberIn low high bs) ≡ (if leb low n && leb n high then Is n else Not)
       go none f e = let z : _≡_ {A = ℕ} 0 1 = cc in absurd (omega arith)
       go (some m) f e =

@@ -10,11 +10,39 @@ ghost use Rattle.tokens.specs.Bases.{baseOf, unpadded, three, fitted, fi
 // The rows by letter; a short spelling ends with zeros, a short row with empty spellings.
 const ROWS: [[[u8; 3]; 6]; 7] = [
     [*b"A\0\0", *b"A#\0", *b"Ab\0", *b"Am\0", *b"A#m", *b"Abm"],
-    [*b"B\0\0", *b"Bb\0", *b"Bm\0", *b"Bbm", *b"\0\0\0", *b"\0\0\0"],
-    [*b"C\0\0", *b"C#\0", *b"Cm\0", *b"C#m", *b"\0\0\0", *b"\0\0\0"],
+    [
+        *b"B\0\0",
+        *b"Bb\0",
+        *b"Bm\0",
+        *b"Bbm",
+        *b"\0\0\0",
+        *b"\0\0\0",
+    ],
+    [
+        *b"C\0\0",
+        *b"C#\0",
+        *b"Cm\0",
+        *b"C#m",
+        *b"\0\0\0",
+        *b"\0\0\0",
+    ],
     [*b"D\0\0", *b"Db\0", *b"D#\0", *b"Dm\0", *b"Dbm", *b"D#m"],
-    [*b"E\0\0", *b"Eb\0", *b"Em\0", *b"Ebm", *b"\0\0\0", *b"\0\0\0"],
-    [*b"F\0\0", *b"F#\0", *b"Fm\0", *b"F#m", *b"\0\0\0", *b"\0\0\0"],
+    [
+        *b"E\0\0",
+        *b"Eb\0",
+        *b"Em\0",
+        *b"Ebm",
+        *b"\0\0\0",
+        *b"\0\0\0",
+    ],
+    [
+        *b"F\0\0",
+        *b"F#\0",
+        *b"Fm\0",
+        *b"F#m",
+        *b"\0\0\0",
+        *b"\0\0\0",
+    ],
     [*b"G\0\0", *b"Gb\0", *b"G#\0", *b"Gm\0", *b"Gbm", *b"G#m"],
 ];
 
@@ -49,12 +77,18 @@ fn longest_in(row: usize, w: &[u8]) -> Base
     requires { ⌜ row < 7 ⌝ }
     ensures { λ r. ⌜ r ≡ baseOf (longestFrom (firstOf row) (rowOf row) (now (w .entry)) none) ⌝ }
 {
-    let mut best = Base { number: 0, length: 0 };
+    let mut best = Base {
+        number: 0,
+        length: 0,
+    };
     let mut j = 0;
     while j < 6 {
         let l = fit(ROWS[row][j], w);
         if best.length < l {
-            best = Base { number: FIRSTS[row] + j, length: l };
+            best = Base {
+                number: FIRSTS[row] + j,
+                length: l,
+            };
         }
         j += 1;
     }
@@ -67,10 +101,16 @@ pub fn longest_base(w: &[u8]) -> Base
 {
     let b = byte_at(w, 0);
     if b < 65 {
-        return Base { number: 0, length: 0 };
+        return Base {
+            number: 0,
+            length: 0,
+        };
     }
     if 71 < b {
-        return Base { number: 0, length: 0 };
+        return Base {
+            number: 0,
+            length: 0,
+        };
     }
     longest_in((b - 65) as usize, w)
 }

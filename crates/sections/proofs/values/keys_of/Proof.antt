@@ -28,11 +28,11 @@ bpm-said-requires c κs = search needs
 -- src/values.rt:92:1
 returns : tie.Need-returns
 returns c = record {
-      time = c .before .before .time-said .ensures .0 ∙ ap timeSaid (c .before .before .before .find .ensures .0);
-      bpm = c .bpm-said .ensures .0 ∙ ap bpmSaid (c .before .find2 .ensures .0);
-      time-fits = c .before .before .time-said .ensures .1;
-      bpm-fits = c .bpm-said .ensures .1;
-    }
+  time = c .before .before .time-said .ensures .0 ∙ ap timeSaid (c .before .before .before .find .ensures .0);
+  bpm = c .bpm-said .ensures .0 ∙ ap bpmSaid (c .before .find2 .ensures .0);
+  time-fits = c .before .before .time-said .ensures .1;
+  bpm-fits = c .bpm-said .ensures .1;
+}
 
 pub keys-of-spec : {M : Type 1} → statement M
 keys-of-spec =
