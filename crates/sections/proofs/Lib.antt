@@ -1,0 +1,13 @@
+-- Laws of the definitions that the proofs of the functions cite, and that callers use.
+pub mod ListLaws
+pub mod RunLaws
+pub mod TestLaws
+pub mod SlotLaws
+pub mod ValueLaws
+pub mod PartLaws
+pub mod BlockLaws
+pub mod NextLaws
+pub mod SaidLaws
+pub mod TellLaws
+pub mod OrderLaws
+pub mod SectionLaws

@@ -1,0 +1,81 @@
+-- A section without fault is read as songcode reads it; so is every definition.
+use Prim.Native.Nat.{ℕ, _+_}
+use mathlib.Core.Path.{_≡_, refl, sym, ap, _∙_}
+use mathlib.Core.List.{List, [], _∷_, _++_, map}
+use mathlib.Core.Option.{Option}
+use Rattle.songcode.specs.Lists.{gather, collect, andThen, orElse}
+use Rattle.songcode.specs.Bytes.{Byte}
+use Rattle.songcode.specs.Lines.{Line, Block}
+use Rattle.songcode.specs.Song as song
+use Rattle.songcode.specs.Song.{Cut}
+use Rattle.songcode.specs.Keys.{keyPlace, timeIn, bpmIn}
+use Rattle.songcode.specs.Numbers.{repeatIn}
+use Rattle.songcode.specs.Modifiers.{ModifierName, ofRepeat, ofCutStart, ofCutEnd, ofBefore, ofAfter, modifierPlace, cutIn}
+use Rattle.songcode.specs.Sections.{keyIn, modifierOn, body, ending, headerFaults, amongKeys, order, twice, keySaid, modifierSaid, faults, patternRun, patternFaults, lyricFaults, sectionFaults, patternIn, lyricLine, lyricsIn, sectionIn}
+use Rattle.songcode.specs.SongText.{definitionItems, definitionIn}
+use Rattle.songcode.specs.Playing as playing
+use Rattle.songcode.specs.Playing.{timeAmong, bpmAmong, saidBy, repeats, Side, repeatSaid, cutStartSaid, cutEndSaid, beforeSaid, afterSaid}
+use Rattle.songcode.proofs.ListLaws.{append-is-nil}
+use Rattle.text.specs.Spans.{lineOf}
+use Rattle.settings.specs.Cuts.{cutIs}
+use Rattle.sections.specs.declared.blocks.SectionRead.{SectionRead}
+use Rattle.sections.specs.declared.blocks.DefinitionRead.{DefinitionRead}
+use Rattle.sections.specs.Runs.{linesOf}
+use Rattle.sections.specs.Slots.{Setting, settingAmong, settingAt}
+use Rattle.sections.specs.Values as values
+use Rattle.sections.specs.BlockParts.{blockAt, earlyLines, lateLines, behindDashes, SectionAt, DefinitionAt}
+use Rattle.sections.specs.SectionSays.{sideSaid, SectionSays}
+use Rattle.sections.proofs.SaidLaws.{key-among, Tells, modifier-among}
+use Rattle.sections.proofs.TellLaws.{repeat-tells, cut-start-tells, cut-end-tells, before-tells, after-tells}
+use Rattle.sections.proofs.OrderLaws.{keys-early, modifiers-late}
+
+-- A block without fault: its lines stand in order, and none of them is faulted.
+clean-order : (b : Block) → sectionFaults b ≡ [] → (order amongKeys (body b) ≡ []) × (gather faults (body b) ≡ [])
+unfolding sectionFaults
+clean-order b h =
+    let v = append-is-nil _ (lyricFaults (ending b)) h .0 in
+    let w = append-is-nil _ (patternFaults (b .first .number) (patternRun (body b))) v .0 in
+    let g = append-is-nil _ (gather faults (body b)) w in
+    let m = append-is-nil _ (twice 8 modifierSaid [] (body b)) (g .0) .0 in
+    let k = append-is-nil _ (twice 4 keySaid [] (body b)) m .0 in
+    (append-is-nil (headerFaults (b .first)) (order amongKeys (body b)) k .1, g .1)
+
+module _ (ls : List Line) (ordered : order amongKeys ls ≡ []) (clean : gather faults ls ≡ []) where
+  key-said : (f : List Byte → Option ℕ) (k : song.KeyName) → andThen (settingAmong (keyPlace k) (earlyLines ls)) (λ x. f (x .text)) ≡ andThen (playing.settingOf k (collect keyIn ls)) f
+  key-said f k = ap (λ (o : Option Setting). andThen o (λ x. f (x .text))) (keys-early k ls ordered) ∙ sym (key-among f k ls)
+
+  modifier-said : {B : Type 0} (m : ModifierName) (g : song.Modifier → Option B) (said : Setting → Option B) → Tells m g said
+      → andThen (settingAmong (8 + modifierPlace m) (lateLines ls)) said ≡ saidBy g (collect modifierOn ls)
+  modifier-said m g said tells = ap (λ (o : Option Setting). andThen o said) (modifiers-late m ls ordered) ∙ sym (modifier-among m g said tells ls clean)
+
+first-number : (s : List ℕ) (n at : ℕ) → blockAt s n at .first .number ≡ n
+unfolding blockAt lineOf
+first-number s n at = refl
+
+lyrics-said : (ls : List Line) → map lyricLine (behindDashes ls) ≡ lyricsIn ls
+unfolding behindDashes lyricsIn
+lyrics-said [] = refl
+lyrics-said (d ∷ ls) = refl
+
+pub section-says : (s : List ℕ) (n at : ℕ) (r : SectionRead) → SectionAt s n at r → sectionFaults (blockAt s n at) ≡ [] → SectionSays s (sectionIn (blockAt s n at)) r
+unfolding sectionIn timeAmong bpmAmong repeats values.timeSaid values.bpmSaid values.repeatSaid values.cutSaid keyPlace modifierPlace
+section-says s n at r w h =
+    let ls = body (blockAt s n at) in
+    let o = clean-order (blockAt s n at) h in
+    record {
+      header = w .header ∙ sym (first-number s n at);
+      time = w .keys .time ∙ ap (λ (x : Option ℕ). orElse x 0) (key-said ls (o .0) (o .1) timeIn song.time);
+      bpm = w .keys .bpm ∙ ap (λ (x : Option ℕ). orElse x 511) (key-said ls (o .0) (o .1) bpmIn song.bpm);
+      repeat = w .modifiers .repeat ∙ ap (λ (x : Option ℕ). orElse x 1) (modifier-said ls (o .0) (o .1) ofRepeat repeatSaid (λ x. repeatIn (x .text)) repeat-tells);
+      front = w .modifiers .front ∙ ap cutIs (modifier-said ls (o .0) (o .1) ofCutStart cutStartSaid (λ x. cutIn (x .text)) cut-start-tells);
+      back = w .modifiers .back ∙ ap cutIs (modifier-said ls (o .0) (o .1) ofCutEnd cutEndSaid (λ x. cutIn (x .text)) cut-end-tells);
+      before = ap (λ (x : Option Setting). andThen x sideSaid) (w .modifiers .before) ∙ modifier-said ls (o .0) (o .1) ofBefore beforeSaid sideSaid before-tells;
+      after = ap (λ (x : Option Setting). andThen x sideSaid) (w .modifiers .after) ∙ modifier-said ls (o .0) (o .1) ofAfter afterSaid sideSaid after-tells;
+      pattern = ap (λ (x : List Line). orElse (patternIn x) (song.named 0)) (w .pattern);
+      lyrics = ap (map lyricLine) (w .lyrics) ∙ lyrics-said (ending (blockAt s n at));
+    }
+
+pub definition-says : (s : List ℕ) (n at : ℕ) (r : DefinitionRead) → DefinitionAt s n at r
+    → definitionIn (blockAt s n at) ≡ record { head = r .head; id = r .id; items = definitionItems (linesOf s (r .pattern)) }
+unfolding definitionIn
+definition-says s n at r w = rw (w .head, w .id, w .pattern) (rw (first-number s n at) refl)

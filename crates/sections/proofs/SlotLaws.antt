@@ -1,0 +1,111 @@
+-- The number of the setting that a line says, and the first setting among lines, line by line.
+use Prim.Native.Nat.{ℕ, zero, suc, _+_, _-_, _<_, _≤_}
+use mathlib.Core.Path.{_≡_, refl, sym, ap, _∙_}
+use mathlib.Core.List.{List, [], _∷_}
+use mathlib.Core.Option.{Option, none, some}
+use native.Mathlib.Omega.{arith}
+use borrow.Author.Tests.{eq-eqb, ne-eqb}
+use lib.ListN.{length, take}
+use Rattle.songcode.specs.Lists.{if_then_else_}
+use Rattle.songcode.specs.Bytes.{placed}
+use Rattle.songcode.specs.Song as song
+use Rattle.songcode.specs.Keys.{nameIn, settingIn, keyNamed, keyPlace}
+use Rattle.songcode.specs.Modifiers as modifiers
+use Rattle.songcode.specs.Modifiers.{modifierNamed, modifierPlace}
+use Rattle.songcode.specs.Sections.{kindOf, keyLine, modifierLine, patternLine, kindOfLine, keyNameOf, modifierNameOf, settingOf}
+use Rattle.text.specs.declared.lines.Line.{Line}
+use Rattle.text.specs.Spans.{part, lineText, Found}
+use Rattle.settings.specs.declared.keys.KeyName.{KeyName}
+use Rattle.settings.specs.declared.modifiers.ModifierName.{ModifierName}
+use Rattle.settings.specs.Names.{keyIs, modifierIs}
+use Rattle.settings.proofs.ValueLaws.{kindOf-placeless}
+use Rattle.settings.proofs.OfLineLaws.{lineFrom, key-name-of-line, modifier-name-of-line, setting-of-line}
+use Rattle.sections.specs.Runs.{textLines}
+use Rattle.sections.specs.Slots.{keyNumber, modifierNumber, slotBy, slotOf, Setting, settingAmong, settingAt}
+use Rattle.sections.proofs.RunLaws.{lines-found, lines-over}
+
+-- Names that were read have the numbers of the names that they are.
+key-number : (o : Option song.KeyName) (m : Option modifiers.ModifierName) → keyNumber (keyIs o) ≡ slotBy keyLine o m
+unfolding keyNumber keyIs slotBy keyPlace
+key-number none m = refl
+key-number (some song.name) m = refl
+key-number (some song.artist) m = refl
+key-number (some song.original) m = refl
+key-number (some song.capo) m = refl
+key-number (some song.bpm) m = refl
+key-number (some song.time) m = refl
+key-number (some song.warning) m = refl
+key-number (some song.end) m = refl
+
+modifier-number : (k : Option song.KeyName) (o : Option modifiers.ModifierName) → modifierNumber (modifierIs o) ≡ slotBy modifierLine k o
+unfolding modifierNumber modifierIs slotBy modifierPlace
+modifier-number k none = refl
+modifier-number k (some modifiers.ofRepeat) = refl
+modifier-number k (some modifiers.ofCutStart) = refl
+modifier-number k (some modifiers.ofCutEnd) = refl
+modifier-number k (some modifiers.ofBefore) = refl
+modifier-number k (some modifiers.ofAfter) = refl
+
+module _ (n : ℕ) (s : List ℕ) (a e : ℕ) where
+  kind-of-line : kindOfLine (lineFrom n s a e) ≡ kindOf (placed 0 (part a e s))
+  unfolding kindOfLine
+  kind-of-line = kindOf-placeless a (part a e s)
+
+  pub slot-blank : a ≡ e → slotOf (lineFrom n s a e) ≡ 13
+  unfolding slotOf slotBy kindOfLine kindOf placed
+  slot-blank h = let z : e - a ≡ 0 = omega arith in rw z
+
+  pub slot-pattern : kindOf (placed 0 (part a e s)) ≡ patternLine → slotOf (lineFrom n s a e) ≡ 13
+  unfolding slotOf slotBy
+  slot-pattern h = rw (kind-of-line, h)
+
+  module _ (q : ℕ) (name : nameIn (placed (a + 1) (part (a + 1) e s)) ≡ placed (a + 1) (part (a + 1) q s)) where
+    pub slot-key : {k : KeyName} {r : ℕ} → kindOf (placed 0 (part a e s)) ≡ keyLine → k ≡ keyIs (keyNamed (placed 0 (part (a + 1) q s))) → r ≡ keyNumber k → r ≡ slotOf (lineFrom n s a e)
+    unfolding slotOf
+    slot-key h i j =
+        j ∙ ap keyNumber i ∙ key-number (keyNamed (placed 0 (part (a + 1) q s))) (modifierNameOf (lineFrom n s a e))
+        ∙ rw (kind-of-line, h, key-name-of-line n s a e q name)
+
+    pub slot-modifier : {m : ModifierName} {r : ℕ} → kindOf (placed 0 (part a e s)) ≡ modifierLine → m ≡ modifierIs (modifierNamed (placed 0 (part (a + 1) q s))) → r ≡ modifierNumber m
+        → r ≡ slotOf (lineFrom n s a e)
+    unfolding slotOf
+    slot-modifier h i j =
+        j ∙ ap modifierNumber i ∙ modifier-number (keyNameOf (lineFrom n s a e)) (modifierNamed (placed 0 (part (a + 1) q s)))
+        ∙ rw (kind-of-line, h, modifier-name-of-line n s a e q name)
+
+-- The setting at no line is none.
+pub nothing-said : (s : List ℕ) → settingAt s (record { line = 0; start = 0; stop = 0 }) ≡ none
+unfolding settingAt if_then_else_
+nothing-said s = refl
+
+module _ (slot : ℕ) (s : List ℕ) (n at left : ℕ) where
+  pub found-none : left ≡ 0 → settingAmong slot (take left (textLines s n at)) ≡ none
+  unfolding settingAmong
+  found-none e = rw e
+
+  pub found-over : length s ≤ at → settingAmong slot (take left (textLines s n at)) ≡ none
+  unfolding settingAmong
+  found-over h = rw (lines-over s n at h) (nil left)
+    where
+      nil : (k : ℕ) → settingAmong slot (take k []) ≡ none
+      nil zero = refl
+      nil (suc k) = refl
+
+  module _ {l : Line} (f : Found s n at l) (h : at < length s) (some-left : left ≡ 0 → ⊥) where
+    here : take left (textLines s n at) ≡ lineFrom n s (l .start) (l .stop) ∷ take (left - 1) (textLines s (n + 1) (l .next))
+    here =
+        let e : left ≡ suc (left - 1) = omega arith in
+        ap (λ (k : ℕ). take k (textLines s n at)) e ∙ rw (lines-found f h, f .number)
+
+    pub found-more : {r : ℕ} → r ≡ slotOf (lineFrom n s (l .start) (l .stop)) → (r ≡ slot → ⊥)
+        → settingAmong slot (take left (textLines s n at)) ≡ settingAmong slot (take (left - 1) (textLines s (n + 1) (l .next)))
+    unfolding settingAmong if_then_else_
+    found-more e ne = rw (here, ← e, ne-eqb _ _ ne)
+
+    pub found-here : {r : ℕ} (q : ℕ) → r ≡ slotOf (lineFrom n s (l .start) (l .stop)) → r ≡ slot → 1 ≤ n
+        → settingIn (placed (l .start + 1) (part (l .start + 1) (l .stop) s)) ≡ placed q (part q (l .stop) s)
+        → settingAt s (record { line = n; start = q; stop = l .stop }) ≡ settingAmong slot (take left (textLines s n at))
+    unfolding settingAmong settingAt if_then_else_
+    found-here q e i one setting =
+        let z = ne-eqb n 0 (λ (j : n ≡ 0). let w : ⊥ = omega arith in w) in
+        rw (here, ← e, eq-eqb _ _ i, z, setting-of-line n s (l .start) (l .stop) q setting)

@@ -1,0 +1,6 @@
+-- What the contracts on the blocks of a chart say, over the definitions of songcode.
+pub mod Runs
+pub mod Slots
+pub mod Values
+pub mod BlockParts
+pub mod SectionSays

@@ -1,0 +1,35 @@
+-- What is read of a section is what songcode says of it.
+use Prim.Native.Nat.{ℕ}
+use mathlib.Core.Path.{_≡_}
+use mathlib.Core.List.{List, map}
+use mathlib.Core.Option.{Option, some}
+use Rattle.songcode.specs.Lists.{andThen, orElse}
+use Rattle.songcode.specs.Song.{Items, named, Section}
+use Rattle.songcode.specs.PatternText.{sideText}
+use Rattle.songcode.specs.Sections.{patternIn, lyricLine}
+use Rattle.songcode.specs.Playing.{timeAmong, bpmAmong, saidBy, repeats, cutStartSaid, cutEndSaid, Side, beforeSaid, afterSaid}
+use Rattle.settings.specs.Cuts.{cutIs}
+use Rattle.sections.specs.declared.blocks.SectionRead.{SectionRead}
+use Rattle.sections.specs.Runs.{linesOf}
+use Rattle.sections.specs.Slots.{Setting, settingAt}
+
+-- A lead-in or tail of a setting: its line and its items.
+unfoldable pub sideOn : ℕ → Option Items → Option Side
+unfolding andThen
+sideOn n o = andThen o (λ r. some (record { line = n; items = r }))
+
+unfoldable pub sideSaid : Setting → Option Side
+unfolding sideOn sideText
+sideSaid x = sideOn (x .line) (sideText (x .text))
+
+pub record SectionSays (s : List ℕ) (x : Section) (r : SectionRead) : Type 0 where
+  pub header : r .header ≡ x .header
+  pub time : r .keys .time ≡ orElse (timeAmong (x .keys)) 0
+  pub bpm : r .keys .bpm ≡ orElse (bpmAmong (x .keys)) 511
+  pub repeat : r .modifiers .repeat ≡ repeats (x .modifiers)
+  pub front : r .modifiers .front ≡ cutIs (saidBy cutStartSaid (x .modifiers))
+  pub back : r .modifiers .back ≡ cutIs (saidBy cutEndSaid (x .modifiers))
+  pub before : andThen (settingAt s (r .modifiers .before)) sideSaid ≡ saidBy beforeSaid (x .modifiers)
+  pub after : andThen (settingAt s (r .modifiers .after)) sideSaid ≡ saidBy afterSaid (x .modifiers)
+  pub pattern : orElse (patternIn (linesOf s (r .pattern))) (named 0) ≡ x .pattern
+  pub lyrics : map lyricLine (linesOf s (r .lyrics)) ≡ x .lyrics

@@ -1,0 +1,142 @@
+// Blocks: the parts of a section and of a definition, and where the next block begins.
+use super::runs::Run;
+use super::runs::Test;
+use super::runs::run_of;
+use super::values::Keys;
+use super::values::Modifiers;
+use super::values::keys_of;
+use super::values::modifiers_of;
+use super::values::number_or;
+use settings::BlockKind;
+use settings::block_kind;
+use settings::head_in;
+use text::line_at;
+ghost use mathlib.Core.Path.{_≡_};
+ghost use Prim.Native.Nat.{_+_, _≤_, _<_};
+ghost use lib.ListN.{length};
+ghost use Rattle.songcode.specs.SongText.{blockKind};
+ghost use Rattle.settings.specs.Kinds.{blockKindIs};
+ghost use Rattle.sections.specs.BlockParts.{blockAt, NextAt, LyricsAt, PartsAt, SectionAt, DefinitionAt};
+
+// A line's number and place.
+pub struct Place {
+    pub number: usize,
+    pub at: usize,
+}
+
+// The lines of a section before its pattern, of its pattern, behind it, and of its lyrics; the next block stands behind these.
+pub struct Parts {
+    pub early: Run,
+    pub pattern: Run,
+    pub late: Run,
+    pub lyrics: Run,
+}
+
+// What a section says: the number of its header, its keys and modifiers, and the lines of its pattern and lyrics.
+pub struct SectionRead {
+    pub header: usize,
+    pub keys: Keys,
+    pub modifiers: Modifiers,
+    pub pattern: Run,
+    pub lyrics: Run,
+}
+
+// What a definition says: the number of its head's line, its own number (0 where it has none), and the lines of its pattern.
+pub struct DefinitionRead {
+    pub head: usize,
+    pub id: usize,
+    pub pattern: Run,
+}
+
+// Where the next block begins, from a line on; the end of the text where there is none.
+pub fn next_block(s: &[u8], number: usize, at: usize) -> Place
+    requires { ⌜ (1 ≤ number) × (number ≤ at + 1) × (at ≤ length (now s)) ⌝ }
+    ensures { λ r. ⌜ NextAt (now (s .entry)) number at r ⌝ }
+{
+    let blank = run_of(s, Test::Empty, number, at);
+    Place {
+        number: number + blank.lines,
+        at: blank.next,
+    }
+}
+
+// The kind of the block whose first line begins at a place.
+pub fn kind_at(s: &[u8], number: usize, at: usize) -> BlockKind
+    requires { ⌜ at ≤ length (now s) ⌝ }
+    ensures { λ r. ⌜ r ≡ blockKindIs (blockKind (blockAt (now (s .entry)) number at)) ⌝ }
+{
+    let first = line_at(s, number, at);
+    let a = first.start;
+    let e = first.stop;
+    block_kind(&s[a..e])
+}
+
+// The lyric lines of a block, from its `--` on.
+fn lyrics_from(s: &[u8], number: usize, at: usize) -> Run
+    requires { ⌜ (1 ≤ number) × (number ≤ at + 1) × (at ≤ length (now s)) ⌝ }
+    ensures { λ r. ⌜ LyricsAt (now (s .entry)) number at r ⌝ }
+{
+    let rest = run_of(s, Test::Full, number, at);
+    if rest.lines == 0 {
+        return rest;
+    }
+    let dashes = line_at(s, number, at);
+    Run {
+        number: number + 1,
+        at: dashes.next,
+        lines: rest.lines - 1,
+        next: rest.next,
+    }
+}
+
+// The parts of the section whose header begins at a place.
+fn section_parts(s: &[u8], number: usize, at: usize) -> Parts
+    requires { ⌜ (1 ≤ number) × (number ≤ at + 1) × (at < length (now s)) ⌝ }
+    ensures { λ r. ⌜ PartsAt (now (s .entry)) number at r ⌝ }
+{
+    let header = line_at(s, number, at);
+    let early = run_of(s, Test::Early, number + 1, header.next);
+    let pattern = run_of(s, Test::Pattern, early.number + early.lines, early.next);
+    let late = run_of(s, Test::Body, pattern.number + pattern.lines, pattern.next);
+    let lyrics = lyrics_from(s, late.number + late.lines, late.next);
+    Parts {
+        early,
+        pattern,
+        late,
+        lyrics,
+    }
+}
+
+// The section whose header begins at a place.
+pub fn read_section(s: &[u8], number: usize, at: usize) -> SectionRead
+    requires { ⌜ (1 ≤ number) × (number ≤ at + 1) × (at < length (now s)) ⌝ }
+    ensures { λ r. ⌜ SectionAt (now (s .entry)) number at r ⌝ }
+{
+    let parts = section_parts(s, number, at);
+    let early = parts.early;
+    let late = parts.late;
+    let pattern = parts.pattern;
+    let lyrics = parts.lyrics;
+    SectionRead {
+        header: number,
+        keys: keys_of(s, early),
+        modifiers: modifiers_of(s, late),
+        pattern,
+        lyrics,
+    }
+}
+
+// The definition whose head begins at a place.
+pub fn read_definition(s: &[u8], number: usize, at: usize) -> DefinitionRead
+    requires { ⌜ (1 ≤ number) × (number ≤ at + 1) × (at < length (now s)) ⌝ }
+    ensures { λ r. ⌜ DefinitionAt (now (s .entry)) number at r ⌝ }
+{
+    let head = line_at(s, number, at);
+    let a = head.start;
+    let e = head.stop;
+    DefinitionRead {
+        head: number,
+        id: number_or(head_in(&s[a..e]), 0),
+        pattern: run_of(s, Test::Full, number + 1, head.next),
+    }
+}

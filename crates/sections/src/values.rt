@@ -1,0 +1,114 @@
+// What settings say: the time and bpm among keys; repeats, cuts, lead-in and tail among modifiers.
+use super::runs::Run;
+use super::slots::Said;
+use super::slots::find;
+use settings::CutRead;
+use settings::bpm_in;
+use settings::cut_in;
+use settings::repeat_in;
+use settings::time_in;
+use tokens::Number;
+ghost use mathlib.Core.Path.{_≡_};
+ghost use Prim.Native.Nat.{_+_, _≤_};
+ghost use lib.ListN.{length};
+ghost use Rattle.settings.specs.Cuts.{CutFits};
+ghost use Rattle.sections.specs.Runs.{linesOf};
+ghost use Rattle.sections.specs.Slots.{settingAt};
+ghost use Rattle.sections.specs.Values.{numberOr, timeSaid, bpmSaid, repeatSaid, cutSaid, KeysAre, ModifiersAre};
+
+// A time of 0 and a bpm of 511 are none.
+pub struct Keys {
+    pub time: usize,
+    pub bpm: usize,
+}
+
+// How often, the cuts at the front and at the back, lead-in and tail. A repeat of 1 and a cut that is `Not` are none; so are a lead-in and a tail on line 0.
+pub struct Modifiers {
+    pub repeat: usize,
+    pub front: CutRead,
+    pub back: CutRead,
+    pub before: Said,
+    pub after: Said,
+}
+
+pub fn number_or(n: Number, other: usize) -> usize
+    ensures { λ r. ⌜ r ≡ numberOr n other ⌝ }
+{
+    match n {
+        Number::Is(k) => k,
+        Number::Not => other,
+    }
+}
+
+pub fn time_said(s: &[u8], said: Said) -> usize
+    requires { ⌜ (said .start ≤ said .stop) × (said .stop ≤ length (now s)) ⌝ }
+    ensures { λ r. ⌜ (r ≡ timeSaid (settingAt (now (s .entry)) said)) × (r ≤ 32) ⌝ }
+{
+    if said.line == 0 {
+        return 0;
+    }
+    let a = said.start;
+    let e = said.stop;
+    number_or(time_in(&s[a..e]), 0)
+}
+
+pub fn bpm_said(s: &[u8], said: Said) -> usize
+    requires { ⌜ (said .start ≤ said .stop) × (said .stop ≤ length (now s)) ⌝ }
+    ensures { λ r. ⌜ (r ≡ bpmSaid (settingAt (now (s .entry)) said)) × (r ≤ 511) ⌝ }
+{
+    if said.line == 0 {
+        return 511;
+    }
+    let a = said.start;
+    let e = said.stop;
+    number_or(bpm_in(&s[a..e]), 511)
+}
+
+fn repeat_said(s: &[u8], said: Said) -> usize
+    requires { ⌜ (said .start ≤ said .stop) × (said .stop ≤ length (now s)) ⌝ }
+    ensures { λ r. ⌜ (r ≡ repeatSaid (settingAt (now (s .entry)) said)) × (1 ≤ r) × (r ≤ 9999) ⌝ }
+{
+    if said.line == 0 {
+        return 1;
+    }
+    let a = said.start;
+    let e = said.stop;
+    number_or(repeat_in(&s[a..e]), 1)
+}
+
+fn cut_said(s: &[u8], said: Said) -> CutRead
+    requires { ⌜ (said .start ≤ said .stop) × (said .stop ≤ length (now s)) ⌝ }
+    ensures { λ r. ⌜ (r ≡ cutSaid (settingAt (now (s .entry)) said)) × CutFits r ⌝ }
+{
+    if said.line == 0 {
+        return CutRead::Not;
+    }
+    let a = said.start;
+    let e = said.stop;
+    cut_in(&s[a..e])
+}
+
+// What the keys say among the lines of a run.
+pub fn keys_of(s: &[u8], run: Run) -> Keys
+    requires { ⌜ (1 ≤ run .number) × (run .number ≤ run .at + 1) × (run .at ≤ length (now s)) ⌝ }
+    ensures { λ r. ⌜ KeysAre (linesOf (now (s .entry)) run) r ⌝ }
+{
+    Keys {
+        time: time_said(s, find(s, 5, run)),
+        bpm: bpm_said(s, find(s, 4, run)),
+    }
+}
+
+// What the modifiers say among the lines of a run.
+pub fn modifiers_of(s: &[u8], run: Run) -> Modifiers
+    requires { ⌜ (1 ≤ run .number) × (run .number ≤ run .at + 1) × (run .at ≤ length (now s)) ⌝ }
+    ensures { λ r. ⌜ ModifiersAre (now (s .entry)) (linesOf (now (s .entry)) run) r ⌝ }
+{
+    Modifiers {
+        repeat: repeat_said(s, find(s, 8, run)),
+        front: cut_said(s, find(s, 9, run)),
+        back: cut_said(s, find(s, 10, run)),
+        before: find(s, 11, run),
+        after: find(s, 12, run),
+    }
+}
