@@ -1,0 +1,63 @@
+-- The walk run on token words of written patterns: what it plays is what the definitions of songcode play.
+use Prim.Native.Nat.{ℕ, _*_, _+_}
+use mathlib.Core.List.{List, [], _∷_, _++_, map}
+use mathlib.Core.Option.{Option, none, some}
+use mathlib.Core.Path.{_≡_, refl}
+use lib.ListN.{length}
+use Rattle.songcode.specs.Lists.{times}
+use Rattle.songcode.specs.Chords.{Chord}
+use Rattle.songcode.specs.Song.{Sound, chord, again, silence, Sounds, only, also, Measure, bySemicolon, byLineEnd, Item, measure, loop, refer, Items, one, next, Cut, Measures, Beats}
+use Rattle.songcode.specs.WrittenPattern.{writeItems}
+use Rattle.songcode.specs.Playing.{measuresOf, cutFront, cutBack}
+use Rattle.songcode.specs.Tables.{beatWord}
+use Rattle.songcode.specs.References.{putIn}
+use Rattle.tokens.specs.TokenWords.{tokenWords}
+use Rattle.player.specs.declared.leaves.Definitions.{Definitions}
+use Rattle.player.specs.Walks.{rowOf}
+use Rattle.player.specs.Windows.{keptOf, heads}
+
+abbrev plain : ℕ → Sound
+plain n = chord (record { base = n; extension = [] })
+
+abbrev alone : Sound → Item
+alone s = measure (record { sounds = only s; removers = 0 })
+
+-- `A D;[% _ =;E]2;$7` with a removed position, where `$7` is `%;F`.
+abbrev pattern : Items
+pattern =
+    next
+    (next (one (measure (record { sounds = also (only (plain 0)) (plain 14); removers = 0 }))) bySemicolon
+    (loop (next (one (measure (record { sounds = also (only again) silence; removers = 2 }))) byLineEnd (alone (plain 20))) 2)) bySemicolon
+    (refer 7)
+
+abbrev definition : Items
+definition = next (one (alone again)) bySemicolon (alone (plain 24))
+
+abbrev words : List ℕ
+words = tokenWords (writeItems definition []) ++ tokenWords (writeItems pattern [])
+
+abbrev definitions : Definitions
+definitions = record { count = 1; ids = 7 ∷ []; from = 0 ∷ []; to = 3 ∷ [] }
+
+abbrev put : ℕ → Option Items
+put n = some definition
+
+walked : rowOf definitions 4 words (record { from = 3; to = length words }) ≡ map (map beatWord) (measuresOf 4 none (putIn put pattern))
+unfolding rowOf tokenWords writeItems measuresOf beatWord putIn
+walked = refl
+
+-- `A;G` cut at the front by 1-2, at the back by -7 and by -8.
+abbrev two : List (List ℕ)
+two = (1 ∷ 2 ∷ 3 ∷ 4 ∷ []) ∷ (5 ∷ 6 ∷ 7 ∷ 8 ∷ []) ∷ []
+
+front : keptOf (record { whole = record { 0 = 1 }; further = record { 0 = 2 } }) (record { whole = record { 0 = 0 }; further = record { 0 = 0 } }) two ≡ (7 ∷ 8 ∷ []) ∷ []
+unfolding keptOf
+front = refl
+
+back : keptOf (record { whole = record { 0 = 0 }; further = record { 0 = 0 } }) (record { whole = record { 0 = 0 }; further = record { 0 = 7 } }) two ≡ (1 ∷ []) ∷ []
+unfolding keptOf
+back = refl
+
+gone : keptOf (record { whole = record { 0 = 0 }; further = record { 0 = 0 } }) (record { whole = record { 0 = 0 }; further = record { 0 = 8 } }) two ≡ []
+unfolding keptOf
+gone = refl

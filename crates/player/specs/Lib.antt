@@ -1,0 +1,6 @@
+-- What the contracts of the player say.
+pub mod Signs
+pub mod Page
+pub mod Walks
+pub mod Windows
+pub mod Examples

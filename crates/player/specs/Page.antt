@@ -1,0 +1,61 @@
+-- What the pen and the two tables become: left folds over beats and over measures.
+use Prim.Native.Nat.{ℕ, zero, suc, _+_, _-_, _*_, _^_, _≤_}
+use mathlib.Core.List.{List, [], _∷_, _++_}
+use mathlib.Core.Bool.{Bool, true, false}
+use lib.ListN.{set}
+use lib.Dec.{eqb}
+use Rattle.songcode.specs.Tables.{measureWord}
+use Rattle.player.specs.declared.pens.Pen.{Pen}
+
+-- The pen and the table of beats.
+pub record Ink : Type 0 where
+  pub pen : Pen
+  pub bs : List ℕ
+
+-- The pen and both tables.
+pub record Page : Type 0 where
+  pub pen : Pen
+  pub ms : List ℕ
+  pub bs : List ℕ
+
+-- No more measures than beats, and no more beats than 65,535 measures of 32.
+pub record Fine (p : Pen) : Type 0 where
+  pub few : p .m ≤ p .b
+  pub fits : p .base + p .b + p .left ≤ 2097120
+
+-- A beat: passed over, written, or past the end.
+unfoldable pub beatBy : ℕ → ℕ → ℕ → Ink → Ink
+beatBy (suc s) l w g = record { pen = record { base = g .pen .base; todo = g .pen .todo; skip = s; left = g .pen .left; m = g .pen .m; b = g .pen .b }; bs = g .bs }
+beatBy zero zero w g = g
+beatBy zero (suc l) w g = record { pen = record { base = g .pen .base; todo = g .pen .todo; skip = g .pen .skip; left = l; m = g .pen .m; b = g .pen .b + 1 }; bs = set (g .bs) (g .pen .b) w }
+
+unfoldable pub beatOf : ℕ → Ink → Ink
+beatOf w g = beatBy (g .pen .skip) (g .pen .left) w g
+
+unfoldable pub inked : List ℕ → Ink → Ink
+inked [] g = g
+inked (w ∷ x) g = inked x (beatOf w g)
+
+-- A measure of which beats were written gets its word.
+unfoldable pub closeBy : Bool → ℕ → Page → Page
+unfolding measureWord
+closeBy true from g = g
+closeBy false from g = record { pen = record { base = g .pen .base; todo = g .pen .todo; skip = g .pen .skip; left = g .pen .left; m = g .pen .m + 1; b = g .pen .b }; ms = set (g .ms) (g .pen .m) (measureWord (g .pen .base + from) (g .pen .b - from)); bs = g .bs }
+
+unfoldable pub closed : ℕ → Page → Page
+closed from g = closeBy (eqb from (g .pen .b)) from g
+
+unfoldable pub onPage : Ink → List ℕ → Page
+onPage i ms = record { pen = i .pen; ms = ms; bs = i .bs }
+
+-- A measure, if any is still to be looked at.
+unfoldable pub measureBy : ℕ → List ℕ → Page → Page
+measureBy zero x g = g
+measureBy (suc t) x g = closed (g .pen .b) (onPage (inked x (record { pen = record { base = g .pen .base; todo = t; skip = g .pen .skip; left = g .pen .left; m = g .pen .m; b = g .pen .b }; bs = g .bs })) (g .ms))
+
+unfoldable pub measureOf : List ℕ → Page → Page
+measureOf x g = measureBy (g .pen .todo) x g
+
+unfoldable pub play : List (List ℕ) → Page → Page
+play [] g = g
+play (x ∷ xs) g = play xs (measureOf x g)

@@ -1,0 +1,18 @@
+// Plays a pattern that stands as token words in a buffer into lent tables of measures and beats, in a section's N.
+mod leaves;
+mod measures;
+mod pens;
+mod sections;
+mod walks;
+
+pub use leaves::Definitions;
+pub use leaves::Stretch;
+pub use pens::Pen;
+pub use sections::Beats;
+pub use sections::Counts;
+pub use sections::Cut;
+pub use sections::Measures;
+pub use sections::Plan;
+pub use sections::play_section;
+pub use sections::planned;
+pub use sections::tally;

@@ -1,0 +1,117 @@
+// One measure of the text: its positions are looked at once, then sounded, each for its share of N.
+use super::leaves::chord_after;
+use super::leaves::is_position;
+use super::leaves::kind;
+use super::leaves::share_of;
+use super::leaves::sounds;
+use super::leaves::voice;
+use super::leaves::word_at;
+use super::pens::Pen;
+use super::pens::close;
+use super::pens::lasting;
+ghost use mathlib.Core.Path.{_≡_};
+ghost use Prim.Native.Nat.{ℕ, _+_, _-_, _*_, _≤_, _<_};
+ghost use lib.ListN.{length};
+ghost use Rattle.player.specs.Signs.{partOf, partsOf, positionsAt, soundingOf, chordsOf};
+ghost use Rattle.player.specs.Page.{Page, Ink, Fine, inked, measureOf};
+ghost use Rattle.player.specs.Walks.{End, finish, oneOf};
+
+// Where a walk has come: the place, the last chord, the pen.
+pub struct Walk {
+    pub at: usize,
+    pub last: u32,
+    pub pen: Pen,
+}
+
+// The end of a measure's positions, how many of them sound, and the last chord behind them.
+pub struct Seen {
+    pub stop: usize,
+    pub sounding: usize,
+    pub last: u32,
+}
+
+pub fn look(words: &[u32], to: usize, at: usize, last: u32) -> Seen
+    requires { ⌜ last ≤ 4227858432 ⌝ }
+    ensures stop { λ r. ⌜ r .stop ≡ at + length (positionsAt (now (words .entry)) to at) ⌝ }
+    ensures sounding { λ r. ⌜ r .sounding ≡ soundingOf (positionsAt (now (words .entry)) to at) ⌝ }
+    ensures last { λ r. ⌜ (r .last ≡ chordsOf last (positionsAt (now (words .entry)) to at)) × (r .last ≤ 4227858432) ⌝ }
+{
+    let mut i = at;
+    let mut s = 0;
+    let mut l = last;
+    loop {
+        let w = word_at(words, to, i);
+        let k = kind(w);
+        if !is_position(k) {
+            return Seen {
+                stop: i,
+                sounding: s,
+                last: l,
+            };
+        }
+        s += sounds(k);
+        l = chord_after(l, w);
+        i += 1;
+    }
+}
+
+// One position; a remover has no beats.
+pub fn position(w: u32, share: usize, last: u32, p: Pen, bs: &mut [u32]) -> Pen
+    requires { ⌜ Fine p × (last ≤ 4227858432) ⌝ }
+    ensures { λ r. ⌜ _≡_ {A = Ink} (record { pen = r; bs = now (bs .exit) }) (inked (partOf share last w) (record { pen = p; bs = now (bs .entry) })) ⌝ }
+{
+    if kind(w) == 61 {
+        return p;
+    }
+    lasting(share, voice(last, w), p, bs)
+}
+
+// The positions from a place on and before another.
+pub fn positions(words: &[u32], to: usize, at: usize, stop: usize, share: usize, last: u32, p: Pen, bs: &mut [u32]) -> Pen
+    requires { ⌜ Fine p × (last ≤ 4227858432) × (stop ≡ at + length (positionsAt (now words) to at)) ⌝ }
+    ensures { λ r. ⌜ _≡_ {A = Ink} (record { pen = r; bs = now (bs .exit) }) (inked (partsOf share last (positionsAt (now (words .entry)) to at)) (record { pen = p; bs = now (bs .entry) })) ⌝ }
+{
+    let mut q = p;
+    let mut l = last;
+    let mut i = at;
+    while i < stop {
+        let w = word_at(words, to, i);
+        q = position(w, share, l, q, bs);
+        l = chord_after(l, w);
+        i += 1;
+    }
+    q
+}
+
+// A measure whose positions were seen, if one is still to be looked at. One that is passed over as a whole costs nothing for its beats.
+pub fn sounded(words: &[u32], to: usize, at: usize, share: usize, last: u32, seen: Seen, p: Pen, ms: &mut [u32], bs: &mut [u32]) -> Pen
+    requires { ⌜ Fine p × (last ≤ 4227858432) × (seen .stop ≡ at + length (positionsAt (now words) to at)) × (seen .sounding ≡ soundingOf (positionsAt (now words) to at)) × (share * seen .sounding ≤ 32) ⌝ }
+    ensures { λ r. ⌜ _≡_ {A = Page} (record { pen = r; ms = now (ms .exit); bs = now (bs .exit) }) (measureOf (partsOf share last (positionsAt (now (words .entry)) to at)) (record { pen = p; ms = now (ms .entry); bs = now (bs .entry) })) ⌝ }
+{
+    if p.todo == 0 {
+        return p;
+    }
+    let beats = share * seen.sounding;
+    if beats <= p.skip {
+        return Pen { base: p.base, todo: p.todo - 1, skip: p.skip - beats, left: p.left, m: p.m, b: p.b };
+    }
+    let from = p.b;
+    let q = positions(words, to, at, seen.stop, share, last, Pen { base: p.base, todo: p.todo - 1, skip: p.skip, left: p.left, m: p.m, b: p.b }, bs);
+    close(from, q, ms)
+}
+
+// One measure of the text.
+pub fn measure(words: &[u32], n: usize, to: usize, at: usize, last: u32, p: Pen, ms: &mut [u32], bs: &mut [u32]) -> Walk
+    requires { ⌜ Fine p × (last ≤ 4227858432) × (n ≤ 32) ⌝ }
+    ensures walk { λ r. ⌜ _≡_ {A = End} (record { at = r .at; last = r .last; page = record { pen = r .pen; ms = now (ms .exit); bs = now (bs .exit) } }) (finish (oneOf n (now (words .entry)) to at last) (record { pen = p; ms = now (ms .entry); bs = now (bs .entry) })) ⌝ }
+    ensures last { λ r. ⌜ r .last ≤ 4227858432 ⌝ }
+{
+    let seen = look(words, to, at, last);
+    let share = share_of(n, seen.stop - at);
+    let pen = sounded(words, to, at, share, last, seen, p, ms, bs);
+    Walk {
+        at: seen.stop,
+        last: seen.last,
+        pen,
+    }
+}

@@ -1,0 +1,96 @@
+// The walk along a row: measures, loops and references. Loops and references are the same walk one level down.
+use super::leaves::Definitions;
+use super::leaves::behind;
+use super::leaves::is_separator;
+use super::leaves::is_stop;
+use super::leaves::kind;
+use super::leaves::number;
+use super::leaves::passes;
+use super::leaves::stretch_of;
+use super::leaves::word_at;
+use super::measures::Walk;
+use super::measures::measure;
+use super::pens::Pen;
+ghost use mathlib.Core.Path.{_≡_};
+ghost use mathlib.Core.Bool.{false};
+ghost use Prim.Native.Nat.{ℕ, _+_, _-_, _*_, _≤_, _<_};
+ghost use Rattle.player.specs.Signs.{kindOf, numberOf, wordOf, isStop};
+ghost use Rattle.player.specs.Page.{Page, Fine};
+ghost use Rattle.player.specs.Walks.{End, finish, level, itemOf, loopOf, refOf};
+
+// Items up to the end of the text or a closing bracket.
+pub fn items(words: &[u32], d: Definitions, n: usize, to: usize, at: usize, last: u32, depth: usize, p: Pen, ms: &mut [u32], bs: &mut [u32]) -> Walk
+    requires { ⌜ Fine p × (last ≤ 4227858432) × (n ≤ 32) × (depth < 1000) ⌝ }
+    ensures walk { λ r. ⌜ _≡_ {A = End} (record { at = r .at; last = r .last; page = record { pen = r .pen; ms = now (ms .exit); bs = now (bs .exit) } }) (finish (level depth d n (now (words .entry)) to at last) (record { pen = p; ms = now (ms .entry); bs = now (bs .entry) })) ⌝ }
+    ensures last { λ r. ⌜ r .last ≤ 4227858432 ⌝ }
+{
+    let mut w = Walk { at, last, pen: p };
+    if depth == 0 {
+        return w;
+    }
+    loop {
+        let i = w.at;
+        if is_stop(kind(word_at(words, to, i))) {
+            return w;
+        }
+        w = item(words, d, n, to, i, w.last, depth - 1, w.pen, ms, bs);
+    }
+}
+
+// One item, or one separator.
+pub fn item(words: &[u32], d: Definitions, n: usize, to: usize, at: usize, last: u32, depth: usize, p: Pen, ms: &mut [u32], bs: &mut [u32]) -> Walk
+    requires { ⌜ Fine p × (last ≤ 4227858432) × (n ≤ 32) × (depth < 1000) × (at < to) ⌝ }
+    ensures walk { λ r. ⌜ _≡_ {A = End} (record { at = r .at; last = r .last; page = record { pen = r .pen; ms = now (ms .exit); bs = now (bs .exit) } }) (finish (itemOf (level depth d n (now (words .entry))) d n (now (words .entry)) to at last) (record { pen = p; ms = now (ms .entry); bs = now (bs .entry) })) ⌝ }
+    ensures last { λ r. ⌜ r .last ≤ 4227858432 ⌝ }
+{
+    let w = word_at(words, to, at);
+    let k = kind(w);
+    if k == 57 {
+        return loop_(words, d, n, to, at + 1, last, depth, p, ms, bs);
+    }
+    if k == 55 {
+        return jump(words, d, n, number(w), at, last, depth, p, ms, bs);
+    }
+    if is_separator(k) {
+        return Walk { at: at + 1, last, pen: p };
+    }
+    measure(words, n, to, at, last, p, ms, bs)
+}
+
+// A reference: the items of a definition, one level down; then back to behind the reference.
+pub fn jump(words: &[u32], d: Definitions, n: usize, x: u32, at: usize, last: u32, depth: usize, p: Pen, ms: &mut [u32], bs: &mut [u32]) -> Walk
+    requires { ⌜ Fine p × (last ≤ 4227858432) × (n ≤ 32) × (depth < 1000) × (at < 18446744073709551615) ⌝ }
+    ensures walk { λ r. ⌜ _≡_ {A = End} (record { at = r .at; last = r .last; page = record { pen = r .pen; ms = now (ms .exit); bs = now (bs .exit) } }) (finish (refOf (level depth d n (now (words .entry))) d x at last) (record { pen = p; ms = now (ms .entry); bs = now (bs .entry) })) ⌝ }
+    ensures last { λ r. ⌜ r .last ≤ 4227858432 ⌝ }
+{
+    let s = stretch_of(d, x);
+    let w = items(words, d, n, s.to, s.from, last, depth, p, ms, bs);
+    let pen = w.pen;
+    Walk {
+        at: at + 1,
+        last: w.last,
+        pen,
+    }
+}
+
+// The passes of a loop: the first finds its end and its count.
+pub fn loop_(words: &[u32], d: Definitions, n: usize, to: usize, at: usize, last: u32, depth: usize, p: Pen, ms: &mut [u32], bs: &mut [u32]) -> Walk
+    requires { ⌜ Fine p × (last ≤ 4227858432) × (n ≤ 32) × (depth < 1000) ⌝ }
+    ensures walk { λ r. ⌜ _≡_ {A = End} (record { at = r .at; last = r .last; page = record { pen = r .pen; ms = now (ms .exit); bs = now (bs .exit) } }) (finish (loopOf (level depth d n (now (words .entry))) (now (words .entry)) to at last) (record { pen = p; ms = now (ms .entry); bs = now (bs .entry) })) ⌝ }
+    ensures last { λ r. ⌜ r .last ≤ 4227858432 ⌝ }
+{
+    let w = items(words, d, n, to, at, last, depth, p, ms, bs);
+    let k = passes(words, to, w.at);
+    let end = behind(words, to, w.at);
+    let mut q = w.pen;
+    let mut i: usize = 0;
+    while i < k {
+        if q.todo == 0 {
+            return Walk { at: end, last: w.last, pen: q };
+        }
+        let v = items(words, d, n, to, at, last, depth, q, ms, bs);
+        q = v.pen;
+        i += 1;
+    }
+    Walk { at: end, last: w.last, pen: q }
+}
