@@ -134,7 +134,7 @@ done-cons x xs t g k h e p d =
       m = rw e (dm ∙ sym (o .0));
       b = rw e (db ∙ sym (o .1));
       ms = rw e (dms ∙ sym (o .2));
-      bs = rw e (dbs ∙ sym (o .3))
+      bs = rw e (dbs ∙ sym (o .3));
     }
 
 pub played : (row : List (List ℕ)) (g : Page) → Done g (play row g) row

@@ -29,6 +29,9 @@ take-same zero (suc b) (w ∷ x) h = let z : ⊥ = omega arith in absurd z
 take-same (suc a) zero (w ∷ x) h = let z : ⊥ = omega arith in absurd z
 take-same (suc a) (suc b) (w ∷ x) h = ap (λ ys. w ∷ ys) (take-same a b x (omega arith))
 
+abbrev pub zeros : Cut
+zeros = record { whole = record { measures = 0 }; further = record { beats = 0 } }
+
 module _ {A : Type 0} where
   -- n beats taken from the front; n beats kept at the front.
   abbrev lose : ℕ → List (List A) → List (List A)
@@ -115,9 +118,18 @@ module _ {A : Type 0} where
   turned-lose k [] = rw turned-nil turned-nil
   turned-lose k (x ∷ xs) =
       let e : length x + total xs - k - length x ≡ total xs - k = omega arith in
-      rw (turned-cons x xs, lose-append k (turned xs) (reverse x ∷ []), total-turned xs, turned-append (lose k (turned xs)) (keep (drop (k - total xs) (reverse x)) []), turned-keep (drop (k - total xs) (reverse x)), reverse-drop (k - total xs) x, turned-lose k xs, e,
+      rw (
+        turned-cons x xs,
+        lose-append k (turned xs) (reverse x ∷ []),
+        total-turned xs,
+        turned-append (lose k (turned xs)) (keep (drop (k - total xs) (reverse x)) []),
+        turned-keep (drop (k - total xs) (reverse x)),
+        reverse-drop (k - total xs) x,
+        turned-lose k xs,
+        e,
         ← keep-append (take (length x - (k - total xs)) x) [] (stay (total xs - k) xs),
-        take-same (length x - (k - total xs)) (length x + total xs - k) x (ends (length x) (total xs) k))
+        take-same (length x - (k - total xs)) (length x + total xs - k) x (ends (length x) (total xs) k),
+      )
 
   -- Beats of what was lost and kept.
   total-lose : (n : ℕ) (row : List (List A)) → total (lose n row) ≡ total row - n
@@ -182,3 +194,12 @@ module _ {A : Type 0} where
       let w = total-take-le (length row - m) row in
       let n : total r - (total (take m (turned r)) + b .further .beats) ≡ total (take (length row - m) row) - b .further .beats - s = rw (v, x, z, y) (left-over (total row) s (total (take (length row - m) row)) (b .further .beats) w) in
       rw (front-loses f row g) (back-stays b r (filled-lose s row g) ∙ ap (λ k. stay k r) n ∙ stay-lose s (total (take (length row - m) row) - b .further .beats - s) row)
+
+  -- A cut of nothing.
+  pub front-none : (row : List (List A)) → Filled row → cutFront zeros row ≡ row
+  unfolding cutFront dropMeasures
+  front-none row f = lose-zero row f
+
+  pub back-none : (row : List (List A)) → Filled row → cutBack zeros row ≡ row
+  unfolding cutBack
+  back-none row f = ap (λ r. turned r) (front-none (turned row) (filled-turned row f)) ∙ turned-turned row

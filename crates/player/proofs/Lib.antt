@@ -9,3 +9,8 @@ pub mod ShortLaws
 pub mod WindowLaws
 pub mod SectionLaws
 pub mod CutLaws
+pub mod SoundLaws
+pub mod PutInLaws
+pub mod Meaning
+pub mod SectionMeaning
+pub mod Walkables

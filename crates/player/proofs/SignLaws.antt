@@ -73,10 +73,13 @@ positions-more ws to at e =
     rw (add-one at) (ap positionsOf (drop-cons (take to ws) at 3623878656 (h .1)) ∙ one-of (getD (take to ws) at 3623878656) (drop (suc at) (take to ws)) e)
 
 -- Inside a measure the next word is a position.
-pub positions-next : (ws : List ℕ) (to at : ℕ) → 1 ≤ length (positionsAt ws to at) → positionsAt ws to at ≡ wordOf ws to at ∷ positionsAt ws to (at + 1)
-positions-next ws to at h = by-cases (isPosition (kindOf (wordOf ws to at)))
-    (λ e. positions-more ws to at e)
+pub position-there : (ws : List ℕ) (to at : ℕ) → 1 ≤ length (positionsAt ws to at) → isPosition (kindOf (wordOf ws to at)) ≡ true
+position-there ws to at h =
+    by-cases (isPosition (kindOf (wordOf ws to at))) (λ e. e)
     (λ e. let z : length (positionsAt ws to at) ≡ 0 = ap length (positions-none ws to at e) in absurd (omega arith))
+
+pub positions-next : (ws : List ℕ) (to at : ℕ) → 1 ≤ length (positionsAt ws to at) → positionsAt ws to at ≡ wordOf ws to at ∷ positionsAt ws to (at + 1)
+positions-next ws to at h = positions-more ws to at (position-there ws to at h)
 
 -- How many beats a measure has.
 pub lasting-length : (share v : ℕ) → length (lastingOf share v) ≡ share

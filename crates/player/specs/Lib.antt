@@ -4,3 +4,4 @@ pub mod Page
 pub mod Walks
 pub mod Windows
 pub mod Examples
+pub mod Texts

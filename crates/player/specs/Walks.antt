@@ -7,7 +7,7 @@ use lib.Dec.{eqb}
 use Rattle.songcode.specs.Lists.{if_then_else_, times}
 use Rattle.player.specs.declared.leaves.Definitions.{Definitions}
 use Rattle.player.specs.declared.leaves.Stretch.{Stretch}
-use Rattle.player.specs.Signs.{kindOf, numberOf, wordOf, isPosition, isSeparator, isStop, chordsOf, partsOf, positionsAt}
+use Rattle.player.specs.Signs.{kindOf, numberOf, wordOf, isPosition, isSeparator, isStop, chordsOf, partsOf, positionsAt, soundingOf}
 use Rattle.player.specs.Page.{Page, play}
 
 -- Where the definition of that number stands among the k from place i on; an empty stretch if it is not there.

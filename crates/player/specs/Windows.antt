@@ -1,6 +1,7 @@
 -- The two cuts as one window: beats passed over, beats kept.
 use Prim.Native.Nat.{ℕ, zero, suc, _+_, _-_, _*_}
 use mathlib.Core.List.{List, [], _∷_, _++_}
+use mathlib.Core.Option.{Option, none, some}
 use lib.ListN.{length, take, drop}
 use Rattle.songcode.specs.Lists.{times}
 use Rattle.songcode.specs.Song as Song
@@ -12,6 +13,12 @@ use Rattle.player.specs.declared.sections.Cut.{Cut}
 -- A cut of the description as the code's value.
 unfoldable pub cutOf : Song.Cut → Cut
 cutOf c = record { whole = record { 0 = c .whole .measures }; further = record { 0 = c .further .beats } }
+
+-- A cut that may be absent: then it takes nothing.
+unfoldable pub cutSaid : Option Song.Cut → Cut
+unfolding cutOf
+cutSaid none = record { whole = record { 0 = 0 }; further = record { 0 = 0 } }
+cutSaid (some c) = cutOf c
 
 module _ {A : Type 0} where
   -- What is left when s beats are passed over and n are kept; a measure with no beats left is gone.

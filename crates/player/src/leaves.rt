@@ -26,7 +26,11 @@ pub fn word_at(words: &[u32], to: usize, at: usize) -> u32
     if to <= at {
         return 3623878656;
     }
-    if at < words.len() { words[at] } else { 3623878656 }
+    if at < words.len() {
+        words[at]
+    } else {
+        3623878656
+    }
 }
 
 // The number above a word's 26 low bits, and the number in them.
@@ -105,7 +109,11 @@ pub fn passes(words: &[u32], to: usize, at: usize) -> usize
 pub fn behind(words: &[u32], to: usize, at: usize) -> usize
     ensures { λ r. ⌜ (r ≡ behindOf (now (words .entry)) to at) × (at ≤ r) ⌝ }
 {
-    if kind(word_at(words, to, at)) == 56 { at + 1 } else { at }
+    if kind(word_at(words, to, at)) == 56 {
+        at + 1
+    } else {
+        at
+    }
 }
 
 // The smaller of two numbers.

@@ -13,6 +13,6 @@ pub use sections::Counts;
 pub use sections::Cut;
 pub use sections::Measures;
 pub use sections::Plan;
-pub use sections::play_section;
 pub use sections::planned;
+pub use sections::play_section;
 pub use sections::tally;

@@ -67,7 +67,16 @@ pub fn position(w: u32, share: usize, last: u32, p: Pen, bs: &mut [u32]) -> Pen
 }
 
 // The positions from a place on and before another.
-pub fn positions(words: &[u32], to: usize, at: usize, stop: usize, share: usize, last: u32, p: Pen, bs: &mut [u32]) -> Pen
+pub fn positions(
+    words: &[u32],
+    to: usize,
+    at: usize,
+    stop: usize,
+    share: usize,
+    last: u32,
+    p: Pen,
+    bs: &mut [u32],
+) -> Pen
     requires { ⌜ Fine p × (last ≤ 4227858432) × (stop ≡ at + length (positionsAt (now words) to at)) ⌝ }
     ensures { λ r. ⌜ _≡_ {A = Ink} (record { pen = r; bs = now (bs .exit) }) (inked (partsOf share last (positionsAt (now (words .entry)) to at)) (record { pen = p; bs = now (bs .entry) })) ⌝ }
 {
@@ -84,7 +93,17 @@ pub fn positions(words: &[u32], to: usize, at: usize, stop: usize, share: usize,
 }
 
 // A measure whose positions were seen, if one is still to be looked at. One that is passed over as a whole costs nothing for its beats.
-pub fn sounded(words: &[u32], to: usize, at: usize, share: usize, last: u32, seen: Seen, p: Pen, ms: &mut [u32], bs: &mut [u32]) -> Pen
+pub fn sounded(
+    words: &[u32],
+    to: usize,
+    at: usize,
+    share: usize,
+    last: u32,
+    seen: Seen,
+    p: Pen,
+    ms: &mut [u32],
+    bs: &mut [u32],
+) -> Pen
     requires { ⌜ Fine p × (last ≤ 4227858432) × (seen .stop ≡ at + length (positionsAt (now words) to at)) × (seen .sounding ≡ soundingOf (positionsAt (now words) to at)) × (share * seen .sounding ≤ 32) ⌝ }
     ensures { λ r. ⌜ _≡_ {A = Page} (record { pen = r; ms = now (ms .exit); bs = now (bs .exit) }) (measureOf (partsOf share last (positionsAt (now (words .entry)) to at)) (record { pen = p; ms = now (ms .entry); bs = now (bs .entry) })) ⌝ }
 {
@@ -93,15 +112,47 @@ pub fn sounded(words: &[u32], to: usize, at: usize, share: usize, last: u32, see
     }
     let beats = share * seen.sounding;
     if beats <= p.skip {
-        return Pen { base: p.base, todo: p.todo - 1, skip: p.skip - beats, left: p.left, m: p.m, b: p.b };
+        return Pen {
+            base: p.base,
+            todo: p.todo - 1,
+            skip: p.skip - beats,
+            left: p.left,
+            m: p.m,
+            b: p.b,
+        };
     }
     let from = p.b;
-    let q = positions(words, to, at, seen.stop, share, last, Pen { base: p.base, todo: p.todo - 1, skip: p.skip, left: p.left, m: p.m, b: p.b }, bs);
+    let q = positions(
+        words,
+        to,
+        at,
+        seen.stop,
+        share,
+        last,
+        Pen {
+            base: p.base,
+            todo: p.todo - 1,
+            skip: p.skip,
+            left: p.left,
+            m: p.m,
+            b: p.b,
+        },
+        bs,
+    );
     close(from, q, ms)
 }
 
 // One measure of the text.
-pub fn measure(words: &[u32], n: usize, to: usize, at: usize, last: u32, p: Pen, ms: &mut [u32], bs: &mut [u32]) -> Walk
+pub fn measure(
+    words: &[u32],
+    n: usize,
+    to: usize,
+    at: usize,
+    last: u32,
+    p: Pen,
+    ms: &mut [u32],
+    bs: &mut [u32],
+) -> Walk
     requires { ⌜ Fine p × (last ≤ 4227858432) × (n ≤ 32) ⌝ }
     ensures walk { λ r. ⌜ _≡_ {A = End} (record { at = r .at; last = r .last; page = record { pen = r .pen; ms = now (ms .exit); bs = now (bs .exit) } }) (finish (oneOf n (now (words .entry)) to at last) (record { pen = p; ms = now (ms .entry); bs = now (bs .entry) })) ⌝ }
     ensures last { λ r. ⌜ r .last ≤ 4227858432 ⌝ }

@@ -31,13 +31,27 @@ pub fn beat(p: Pen, w: u32, bs: &mut [u32]) -> Pen
     ensures { λ r. ⌜ _≡_ {A = Ink} (record { pen = r; bs = now (bs .exit) }) (beatOf w (record { pen = p; bs = now (bs .entry) })) ⌝ }
 {
     if 0 < p.skip {
-        return Pen { base: p.base, todo: p.todo, skip: p.skip - 1, left: p.left, m: p.m, b: p.b };
+        return Pen {
+            base: p.base,
+            todo: p.todo,
+            skip: p.skip - 1,
+            left: p.left,
+            m: p.m,
+            b: p.b,
+        };
     }
     if p.left == 0 {
         return p;
     }
     store(bs, p.b, w);
-    Pen { base: p.base, todo: p.todo, skip: p.skip, left: p.left - 1, m: p.m, b: p.b + 1 }
+    Pen {
+        base: p.base,
+        todo: p.todo,
+        skip: p.skip,
+        left: p.left - 1,
+        m: p.m,
+        b: p.b + 1,
+    }
 }
 
 // A beat n times.
@@ -75,5 +89,12 @@ pub fn close(from: usize, p: Pen, ms: &mut [u32]) -> Pen
         return p;
     }
     store(ms, p.m, ((p.base + from) * 2048 + (p.b - from) * 32) as u32);
-    Pen { base: p.base, todo: p.todo, skip: p.skip, left: p.left, m: p.m + 1, b: p.b }
+    Pen {
+        base: p.base,
+        todo: p.todo,
+        skip: p.skip,
+        left: p.left,
+        m: p.m + 1,
+        b: p.b,
+    }
 }

@@ -38,7 +38,16 @@ pub struct Plan {
 }
 
 // A stretch, r times; nothing more is looked at once no measure is to be looked at.
-pub fn rounds(words: &[u32], d: Definitions, n: usize, s: Stretch, r: usize, p: Pen, ms: &mut [u32], bs: &mut [u32]) -> Pen
+pub fn rounds(
+    words: &[u32],
+    d: Definitions,
+    n: usize,
+    s: Stretch,
+    r: usize,
+    p: Pen,
+    ms: &mut [u32],
+    bs: &mut [u32],
+) -> Pen
     requires { ⌜ Fine p × (n ≤ 32) ⌝ }
     ensures { λ q. ⌜ _≡_ {A = Page} (record { pen = q; ms = now (ms .exit); bs = now (bs .exit) }) (play (times r (rowOf d n (now (words .entry)) s)) (record { pen = p; ms = now (ms .entry); bs = now (bs .entry) })) ⌝ }
 {
@@ -64,12 +73,39 @@ pub fn tally(words: &[u32], d: Definitions, n: usize, s: Stretch, r: usize, k: u
 {
     let mut ms = [0u32; 1];
     let mut bs = [0u32; 1];
-    let q = rounds(words, d, n, s, r, Pen { base: 0, todo: k, skip: 4294967295, left: 0, m: 0, b: 0 }, &mut ms, &mut bs);
-    Counts { measures: k - q.todo, beats: 4294967295 - q.skip }
+    let q = rounds(
+        words,
+        d,
+        n,
+        s,
+        r,
+        Pen {
+            base: 0,
+            todo: k,
+            skip: 4294967295,
+            left: 0,
+            m: 0,
+            b: 0,
+        },
+        &mut ms,
+        &mut bs,
+    );
+    Counts {
+        measures: k - q.todo,
+        beats: 4294967295 - q.skip,
+    }
 }
 
 // The two cuts as two numbers.
-pub fn planned(words: &[u32], d: Definitions, n: usize, s: Stretch, r: usize, front: Cut, back: Cut) -> Plan
+pub fn planned(
+    words: &[u32],
+    d: Definitions,
+    n: usize,
+    s: Stretch,
+    r: usize,
+    front: Cut,
+    back: Cut,
+) -> Plan
     requires { ⌜ (n ≤ 32) × (length (times r (rowOf d n (now words) s)) ≤ 65535) × (front .further .0 ≤ 9999) ⌝ }
     ensures todo { λ p. ⌜ p .todo ≡ length (times r (rowOf d n (now (words .entry)) s)) ⌝ }
     ensures skip { λ p. ⌜ p .skip ≡ firstBeat front (times r (rowOf d n (now (words .entry)) s)) ⌝ }
@@ -80,11 +116,28 @@ pub fn planned(words: &[u32], d: Definitions, n: usize, s: Stretch, r: usize, fr
     let e = tally(words, d, n, s, r, minus(all.measures, back.whole.0));
     let first = f.beats + front.further.0;
     let left = minus(minus(e.beats, back.further.0), first);
-    Plan { todo: all.measures, skip: first, left }
+    Plan {
+        todo: all.measures,
+        skip: first,
+        left,
+    }
 }
 
 // The lead-in, the pattern r times less the two cuts, and the tail, on one page. Each text may be an empty stretch.
-pub fn play_section(words: &[u32], d: Definitions, n: usize, lead: Stretch, pattern: Stretch, tail: Stretch, r: usize, front: Cut, back: Cut, base: usize, ms: &mut [u32], bs: &mut [u32]) -> Counts
+pub fn play_section(
+    words: &[u32],
+    d: Definitions,
+    n: usize,
+    lead: Stretch,
+    pattern: Stretch,
+    tail: Stretch,
+    r: usize,
+    front: Cut,
+    back: Cut,
+    base: usize,
+    ms: &mut [u32],
+    bs: &mut [u32],
+) -> Counts
     requires cuts { ⌜ (n ≤ 32) × (front .further .0 ≤ 9999) × (length (times r (rowOf d n (now words) pattern)) ≤ 65535) ⌝ }
     requires room { ⌜ base + 32 * (length (rowOf d n (now words) lead) + length (times r (rowOf d n (now words) pattern)) + length (rowOf d n (now words) tail)) ≤ 2097120 ⌝ }
     ensures counts { λ c. ⌜ (c .measures ≡ length (sectionRow front back r (rowOf d n (now (words .entry)) lead) (rowOf d n (now (words .entry)) pattern) (rowOf d n (now (words .entry)) tail))) × (c .beats ≡ total (sectionRow front back r (rowOf d n (now (words .entry)) lead) (rowOf d n (now (words .entry)) pattern) (rowOf d n (now (words .entry)) tail))) ⌝ }
@@ -92,8 +145,59 @@ pub fn play_section(words: &[u32], d: Definitions, n: usize, lead: Stretch, patt
     ensures beats { λ c. ⌜ now (bs .exit) ≡ sets (now (bs .entry)) 0 (flat (sectionRow front back r (rowOf d n (now (words .entry)) lead) (rowOf d n (now (words .entry)) pattern) (rowOf d n (now (words .entry)) tail))) ⌝ }
 {
     let plan = planned(words, d, n, pattern, r, front, back);
-    let a = rounds(words, d, n, lead, 1, Pen { base, todo: 65536, skip: 0, left: 2097120 - base, m: 0, b: 0 }, ms, bs);
-    let b = rounds(words, d, n, pattern, r, Pen { base, todo: plan.todo, skip: plan.skip, left: plan.left, m: a.m, b: a.b }, ms, bs);
-    let c = rounds(words, d, n, tail, 1, Pen { base, todo: 65536, skip: 0, left: 2097120 - base - b.b, m: b.m, b: b.b }, ms, bs);
-    Counts { measures: c.m, beats: c.b }
+    let a = rounds(
+        words,
+        d,
+        n,
+        lead,
+        1,
+        Pen {
+            base,
+            todo: 65536,
+            skip: 0,
+            left: 2097120 - base,
+            m: 0,
+            b: 0,
+        },
+        ms,
+        bs,
+    );
+    let b = rounds(
+        words,
+        d,
+        n,
+        pattern,
+        r,
+        Pen {
+            base,
+            todo: plan.todo,
+            skip: plan.skip,
+            left: plan.left,
+            m: a.m,
+            b: a.b,
+        },
+        ms,
+        bs,
+    );
+    let c = rounds(
+        words,
+        d,
+        n,
+        tail,
+        1,
+        Pen {
+            base,
+            todo: 65536,
+            skip: 0,
+            left: 2097120 - base - b.b,
+            m: b.m,
+            b: b.b,
+        },
+        ms,
+        bs,
+    );
+    Counts {
+        measures: c.m,
+        beats: c.b,
+    }
 }

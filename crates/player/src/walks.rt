@@ -19,7 +19,18 @@ ghost use Rattle.player.specs.Page.{Page, Fine};
 ghost use Rattle.player.specs.Walks.{End, finish, level, itemOf, loopOf, refOf};
 
 // Items up to the end of the text or a closing bracket.
-pub fn items(words: &[u32], d: Definitions, n: usize, to: usize, at: usize, last: u32, depth: usize, p: Pen, ms: &mut [u32], bs: &mut [u32]) -> Walk
+pub fn items(
+    words: &[u32],
+    d: Definitions,
+    n: usize,
+    to: usize,
+    at: usize,
+    last: u32,
+    depth: usize,
+    p: Pen,
+    ms: &mut [u32],
+    bs: &mut [u32],
+) -> Walk
     requires { ⌜ Fine p × (last ≤ 4227858432) × (n ≤ 32) × (depth < 1000) ⌝ }
     ensures walk { λ r. ⌜ _≡_ {A = End} (record { at = r .at; last = r .last; page = record { pen = r .pen; ms = now (ms .exit); bs = now (bs .exit) } }) (finish (level depth d n (now (words .entry)) to at last) (record { pen = p; ms = now (ms .entry); bs = now (bs .entry) })) ⌝ }
     ensures last { λ r. ⌜ r .last ≤ 4227858432 ⌝ }
@@ -38,7 +49,18 @@ pub fn items(words: &[u32], d: Definitions, n: usize, to: usize, at: usize, last
 }
 
 // One item, or one separator.
-pub fn item(words: &[u32], d: Definitions, n: usize, to: usize, at: usize, last: u32, depth: usize, p: Pen, ms: &mut [u32], bs: &mut [u32]) -> Walk
+pub fn item(
+    words: &[u32],
+    d: Definitions,
+    n: usize,
+    to: usize,
+    at: usize,
+    last: u32,
+    depth: usize,
+    p: Pen,
+    ms: &mut [u32],
+    bs: &mut [u32],
+) -> Walk
     requires { ⌜ Fine p × (last ≤ 4227858432) × (n ≤ 32) × (depth < 1000) × (at < to) ⌝ }
     ensures walk { λ r. ⌜ _≡_ {A = End} (record { at = r .at; last = r .last; page = record { pen = r .pen; ms = now (ms .exit); bs = now (bs .exit) } }) (finish (itemOf (level depth d n (now (words .entry))) d n (now (words .entry)) to at last) (record { pen = p; ms = now (ms .entry); bs = now (bs .entry) })) ⌝ }
     ensures last { λ r. ⌜ r .last ≤ 4227858432 ⌝ }
@@ -52,13 +74,28 @@ pub fn item(words: &[u32], d: Definitions, n: usize, to: usize, at: usize, last:
         return jump(words, d, n, number(w), at, last, depth, p, ms, bs);
     }
     if is_separator(k) {
-        return Walk { at: at + 1, last, pen: p };
+        return Walk {
+            at: at + 1,
+            last,
+            pen: p,
+        };
     }
     measure(words, n, to, at, last, p, ms, bs)
 }
 
 // A reference: the items of a definition, one level down; then back to behind the reference.
-pub fn jump(words: &[u32], d: Definitions, n: usize, x: u32, at: usize, last: u32, depth: usize, p: Pen, ms: &mut [u32], bs: &mut [u32]) -> Walk
+pub fn jump(
+    words: &[u32],
+    d: Definitions,
+    n: usize,
+    x: u32,
+    at: usize,
+    last: u32,
+    depth: usize,
+    p: Pen,
+    ms: &mut [u32],
+    bs: &mut [u32],
+) -> Walk
     requires { ⌜ Fine p × (last ≤ 4227858432) × (n ≤ 32) × (depth < 1000) × (at < 18446744073709551615) ⌝ }
     ensures walk { λ r. ⌜ _≡_ {A = End} (record { at = r .at; last = r .last; page = record { pen = r .pen; ms = now (ms .exit); bs = now (bs .exit) } }) (finish (refOf (level depth d n (now (words .entry))) d x at last) (record { pen = p; ms = now (ms .entry); bs = now (bs .entry) })) ⌝ }
     ensures last { λ r. ⌜ r .last ≤ 4227858432 ⌝ }
@@ -74,7 +111,18 @@ pub fn jump(words: &[u32], d: Definitions, n: usize, x: u32, at: usize, last: u3
 }
 
 // The passes of a loop: the first finds its end and its count.
-pub fn loop_(words: &[u32], d: Definitions, n: usize, to: usize, at: usize, last: u32, depth: usize, p: Pen, ms: &mut [u32], bs: &mut [u32]) -> Walk
+pub fn loop_(
+    words: &[u32],
+    d: Definitions,
+    n: usize,
+    to: usize,
+    at: usize,
+    last: u32,
+    depth: usize,
+    p: Pen,
+    ms: &mut [u32],
+    bs: &mut [u32],
+) -> Walk
     requires { ⌜ Fine p × (last ≤ 4227858432) × (n ≤ 32) × (depth < 1000) ⌝ }
     ensures walk { λ r. ⌜ _≡_ {A = End} (record { at = r .at; last = r .last; page = record { pen = r .pen; ms = now (ms .exit); bs = now (bs .exit) } }) (finish (loopOf (level depth d n (now (words .entry))) (now (words .entry)) to at last) (record { pen = p; ms = now (ms .entry); bs = now (bs .entry) })) ⌝ }
     ensures last { λ r. ⌜ r .last ≤ 4227858432 ⌝ }
@@ -86,11 +134,19 @@ pub fn loop_(words: &[u32], d: Definitions, n: usize, to: usize, at: usize, last
     let mut i: usize = 0;
     while i < k {
         if q.todo == 0 {
-            return Walk { at: end, last: w.last, pen: q };
+            return Walk {
+                at: end,
+                last: w.last,
+                pen: q,
+            };
         }
         let v = items(words, d, n, to, at, last, depth, q, ms, bs);
         q = v.pen;
         i += 1;
     }
-    Walk { at: end, last: w.last, pen: q }
+    Walk {
+        at: end,
+        last: w.last,
+        pen: q,
+    }
 }
