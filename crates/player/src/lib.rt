@@ -7,6 +7,11 @@ mod walks;
 
 pub use leaves::Definitions;
 pub use leaves::Stretch;
+pub use leaves::is_position;
+pub use leaves::kind;
+pub use leaves::least;
+pub use leaves::number;
+pub use leaves::word_at;
 pub use pens::Pen;
 pub use sections::Beats;
 pub use sections::Counts;
