@@ -2,3 +2,10 @@
 pub mod SizeLaws
 pub mod StepLaws
 pub mod PartLaws
+pub mod FitLaws
+pub mod TreeLaws
+pub mod ChordLaws
+pub mod MeterLaws
+pub mod CountLaws
+pub mod OutlineAgree
+pub mod SketchLaws

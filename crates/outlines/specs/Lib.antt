@@ -3,3 +3,4 @@ pub mod Sizes
 pub mod Readings
 pub mod Tables
 pub mod Faults
+pub mod Told
