@@ -9,3 +9,6 @@ pub mod MeterLaws
 pub mod CountLaws
 pub mod OutlineAgree
 pub mod SketchLaws
+pub mod FaultTrees
+pub mod DeepLaws
+pub mod FaultAgree

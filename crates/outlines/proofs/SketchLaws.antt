@@ -70,10 +70,15 @@ unfolding removed sounded
 removed-refers zero s = refl
 removed-refers (suc n) s = removed-refers n s
 
-one-of-both : (a b : ℕ) → leb 1 (max a b) ≡ (leb 1 a || leb 1 b)
-one-of-both a b = by-cases (leb 1 a)
-    (λ e. let h = leb-true 1 a e in rw (e, le-leb 1 (max a b) (omega arith)))
-    (λ e. let h = leb-false 1 a e in let m : max a b ≡ b = omega arith in rw (e, m))
+pub one-of-both : (k a b : ℕ) → leb k (max a b) ≡ (leb k a || leb k b)
+one-of-both k a b = by-cases (leb k a)
+    (λ e. let h = leb-true k a e in rw (e, le-leb k (max a b) (omega arith)))
+    (λ e. rw e (less k a b (leb-false k a e)))
+  where
+    less : (l x y : ℕ) → x < l → leb l (max x y) ≡ leb l y
+    less l x y h = by-cases (leb l y)
+        (λ e. let m = leb-true l y e in rw (e, le-leb l (max x y) (omega arith)))
+        (λ e. let m = leb-false l y e in rw (e, lt-leb l (max x y) (omega arith)))
 
 some-of-both : (xs ys : List ℕ) → not (isEmpty (xs ++ ys)) ≡ (not (isEmpty xs) || not (isEmpty ys))
 unfolding isEmpty
@@ -98,7 +103,7 @@ module _ (find : ℕ → Outline) where
         item-loops i (closed (after find r s))
         ∙ ap (λ b. b || leb 1 (depthI i)) (closed-loops (after find r s) ∙ items-loops r s)
         ∙ or-assoc (s .loops) (leb 1 (depth r)) (leb 1 (depthI i))
-        ∙ ap (λ b. s .loops || b) (sym (one-of-both (depth r) (depthI i)))
+        ∙ ap (λ b. s .loops || b) (sym (one-of-both 1 (depth r) (depthI i)))
 
   mutual
     unfolding after afterItem references referencesI isEmpty shut opened referred
