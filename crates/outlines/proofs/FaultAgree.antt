@@ -15,7 +15,7 @@ use Rattle.songcode.specs.Song.{Items, one, refer, Definition}
 use Rattle.songcode.specs.PatternText.{depth, depthI, loopsDeep, references, noReference}
 use Rattle.songcode.specs.References.{definitionOf, itemsOf, putInItem, putIn, itemsFault, referenceFault, depthFault, definitionReferences}
 use Rattle.songcode.specs.WrittenPattern.{writeItems}
-use Rattle.songcode.proofs.ListLaws.{by-cases, any-append, none-passes, Each, each-append}
+use Rattle.songcode.proofs.ListLaws.{by-cases, true-is-not-false, any-append, none-passes, Each, each-append}
 use Rattle.tokens.specs.TokenWords.{tokenWords}
 use Rattle.player.specs.declared.leaves.Stretch.{Stretch}
 use Rattle.player.specs.Texts.{ItemsFit, Stands}
@@ -62,11 +62,14 @@ given-first head (c ∷ cs) h = go (h .0) (given-first head cs (h .1))
     go (inl e) i = rw (e, i) (first-ten (has 10 cs) (has 11 cs) head)
     go (inr e) i = rw (e, i) (first-eleven (has 10 cs) (has 11 cs) head)
 
-refusal-given : (f : Faults) (t u : Bool) (head : ℕ) → f .missing ≡ t → f .deep ≡ u → refusal (faultNumber f) head ≡ given t u head
+refusal-ten : (f : Faults) (u : Bool) (head : ℕ) → f .missing ≡ true → refusal (faultNumber f) head ≡ given true u head
 unfolding refusal faultNumber given if_then_else_
-refusal-given f true u head e d = rw e
-refusal-given f false true head e d = rw (e, d)
-refusal-given f false false head e d = rw (e, d)
+refusal-ten f u head e = rw e
+
+refusal-other : (f : Faults) (u : Bool) (head : ℕ) → f .missing ≡ false → f .deep ≡ u → refusal (faultNumber f) head ≡ given false u head
+unfolding refusal faultNumber given if_then_else_
+refusal-other f true head e d = rw (e, d)
+refusal-other f false head e d = rw (e, d)
 
 -- One reference.
 no-reference : (r : Items) → not (noReference r) ≡ not (isEmpty (references r))
@@ -100,3 +103,121 @@ fault-either (some d) head = go (d .items)
     go : (o : Option Items) → Each (TenOrEleven head) (itemsFault o head)
     go none = (inr refl, tt)
     go (some r) = when-either (not (noReference r)) head
+
+fault-ten : (d : Option Definition) (m : Bool) (o : Outline) (head : ℕ) → Knows d m o → has 10 (referenceFault d head) ≡ m
+unfolding referenceFault itemsFault has any Knows
+fault-ten none m o head k = sym (k .0)
+fault-ten (some d) m o head k = go (d .items) ∙ sym (k .0)
+  where
+    go : (i : Option Items) → has 10 (itemsFault i head) ≡ false
+    go none = refl
+    go (some r) = when-ten (not (noReference r)) head
+
+items-eleven : (i : Option Items) (o : Outline) (head : ℕ) → KnowsItems i o → has 11 (itemsFault i head) ≡ (o .empty || o .refers)
+unfolding itemsFault has any KnowsItems vacant
+items-eleven none o head k = rw k
+items-eleven (some r) o head k = when-eleven (not (noReference r)) head ∙ no-reference r ∙ sym (rw (k .0 .filled) (k .0 .refers))
+
+fault-eleven : (d : Option Definition) (m : Bool) (o : Outline) (head : ℕ) → Knows d m o → m ≡ false → has 11 (referenceFault d head) ≡ (o .empty || o .refers)
+unfolding referenceFault Knows
+fault-eleven none m o head k e = true-is-not-false (k .0) e
+fault-eleven (some d) m o head k e = items-eleven (d .items) o head (k .1)
+
+-- All of them.
+has-append : (k : ℕ) (cs ds : List Complaint) → has k (cs ++ ds) ≡ (has k cs || has k ds)
+unfolding has
+has-append k cs ds = any-append (λ c. eqb (c .number) k) cs ds
+
+-- A found definition, put in.
+found-items : (i : Option Items) (o : Outline) (n : ℕ) → KnowsItems i o → (leb 1 (depth (orElse i (one (refer n)))) ≡ o .loops) × (depth (orElse i (one (refer n))) ≤ 1)
+unfolding KnowsItems orElse depth depthI vacant
+found-items none o n k = (rw k, omega arith)
+found-items (some r) o n k = (sym (k .0 .loops), k .1)
+
+found : (d : Option Definition) (m : Bool) (o : Outline) (n : ℕ) → Knows d m o → (leb 1 (depth (orElse (andThen d (λ e. e .items)) (one (refer n)))) ≡ o .loops) × (depth (orElse (andThen d (λ e. e .items)) (one (refer n))) ≤ 1)
+unfolding Knows andThen orElse depth depthI vacant
+found none m o n k = (rw (k .1), omega arith)
+found (some d) m o n k = found-items (d .items) o n (k .1)
+
+beyond-one : (k : ℕ) → not (leb k 1) ≡ leb 2 k
+beyond-one k = by-cases (leb k 1)
+    (λ e. let h = leb-true k 1 e in rw (e, lt-leb 2 k (omega arith)))
+    (λ e. let h = leb-false k 1 e in rw (e, le-leb 2 k (omega arith)))
+
+read-faults : (missing : ℕ → Bool) (find : ℕ → Outline) (r : Items) → ItemsFit r → allFaults missing find faultless (tokenWords (writeItems r [])) ≡ faultItems missing find r faultless
+unfolding tokenWords allFaults
+read-faults missing find r h = items-fault missing find r faultless [] h
+
+module _ (ds : List Definition) (missing : ℕ → Bool) (find : ℕ → Outline) (known : Known ds missing find) (head : ℕ) where
+  faultOf : ℕ → List Complaint
+  faultOf n = referenceFault (definitionOf n ds) head
+
+  knows : (n : ℕ) → Knows (definitionOf n ds) (missing n) (find n)
+  unfolding Known
+  knows n = known n
+
+  all-either : (ns : List ℕ) → Each (TenOrEleven head) (gather faultOf ns)
+  unfolding gather Each faultOf
+  all-either [] = tt
+  all-either (n ∷ ns) = each-append (TenOrEleven head) (faultOf n) (gather faultOf ns) (fault-either (definitionOf n ds) head) (all-either ns)
+
+  all-ten : (ns : List ℕ) → has 10 (gather faultOf ns) ≡ any missing ns
+  unfolding gather has any faultOf
+  all-ten [] = refl
+  all-ten (n ∷ ns) = has-append 10 (faultOf n) (gather faultOf ns) ∙ rw (fault-ten (definitionOf n ds) (missing n) (find n) head (knows n), all-ten ns)
+
+  all-eleven : (ns : List ℕ) → any missing ns ≡ false → has 11 (gather faultOf ns) ≡ any (flawed missing find) ns
+  unfolding gather has any faultOf
+  all-eleven [] e = refl
+  all-eleven (n ∷ ns) e =
+      let h = none-passes (missing n) (any missing ns) e in
+      has-append 11 (faultOf n) (gather faultOf ns) ∙ rw (fault-eleven (definitionOf n ds) (missing n) (find n) head (knows n) (h .0), all-eleven ns (h .1))
+
+  -- What a reference puts in is as deep as its outline tells.
+  put-right : (n : ℕ) → (leb 1 (depth (putInItem (itemsOf ds) (refer n))) ≡ looped missing find n) × (depth (putInItem (itemsOf ds) (refer n)) ≤ 1)
+  unfolding putInItem itemsOf andThen
+  put-right n = found (definitionOf n ds) (missing n) (find n) n (knows n)
+
+  -- The complaints of the definition.
+  complaints-either : (r : Items) → Each (TenOrEleven head) (definitionReferences ds (some r) head)
+  unfolding definitionReferences depthFault faultOf
+  complaints-either r = each-append (TenOrEleven head) (gather faultOf (references r)) (depthFault ds r head) (all-either (references r)) (when-either (not (leb (depth (putIn (itemsOf ds) r)) loopsDeep)) head)
+
+  complaints-ten : (r : Items) → has 10 (definitionReferences ds (some r) head) ≡ any missing (references r)
+  unfolding definitionReferences depthFault faultOf
+  complaints-ten r =
+      has-append 10 (gather faultOf (references r)) (depthFault ds r head)
+      ∙ rw (all-ten (references r), when-ten (not (leb (depth (putIn (itemsOf ds) r)) loopsDeep)) head) (or-false (any missing (references r)))
+
+  complaints-eleven : (r : Items) → depth r ≤ 1 → any missing (references r) ≡ false → has 11 (definitionReferences ds (some r) head) ≡ (any (flawed missing find) (references r) || deepItems missing find r)
+  unfolding definitionReferences depthFault faultOf loopsDeep
+  complaints-eleven r d e =
+      has-append 11 (gather faultOf (references r)) (depthFault ds r head)
+      ∙ rw (all-eleven (references r) e, when-eleven (not (leb (depth (putIn (itemsOf ds) r)) 1)) head)
+      (ap (λ b. any (flawed missing find) (references r) || b) (beyond-one (depth (putIn (itemsOf ds) r)) ∙ items-put-deep missing find (itemsOf ds) put-right r d))
+
+  start-missing : (r : Items) → faultItems missing find r faultless .missing ≡ any missing (references r)
+  unfolding faultless
+  start-missing r = items-missing missing find r faultless
+
+  start-deep : (r : Items) → depth r ≤ 1 → faultItems missing find r faultless .deep ≡ (any (flawed missing find) (references r) || deepItems missing find r)
+  unfolding faultless
+  start-deep r d = items-deep missing find r faultless d refl
+
+  items-given : (r : Items) → depth r ≤ 1 → refusal (faultNumber (faultItems missing find r faultless)) head ≡ earliest (definitionReferences ds (some r) head)
+  items-given r d =
+      let g = faultItems missing find r faultless in
+      let cs = definitionReferences ds (some r) head in
+      let e = given-first head cs (complaints-either r) in
+      by-cases (any missing (references r))
+      (λ t.
+      let a : earliest cs ≡ given true (has 11 cs) head = rw (complaints-ten r, t) at e in
+      refusal-ten g (has 11 cs) head (start-missing r ∙ t) ∙ sym a)
+      (λ t.
+      let a : earliest cs ≡ given false (any (flawed missing find) (references r) || deepItems missing find r) head = rw (complaints-ten r, t, complaints-eleven r d t) at e in
+      refusal-other g (any (flawed missing find) (references r) || deepItems missing find r) head (start-missing r ∙ t) (start-deep r d) ∙ sym a)
+
+  pub fault-given : (ws : List ℕ) (s : Stretch) (r : Items) → Stands ws s r → ItemsFit r → depth r ≤ 1
+      → refusal (faultIn missing find (drop (s .from) (take (s .to) ws))) head ≡ earliest (definitionReferences ds (some r) head)
+  unfolding faultIn Stands
+  fault-given ws s r p h d = rw (p, read-faults missing find r h) (items-given r d)

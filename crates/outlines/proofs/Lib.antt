@@ -12,3 +12,4 @@ pub mod SketchLaws
 pub mod FaultTrees
 pub mod DeepLaws
 pub mod FaultAgree
+pub mod KnownLaws
