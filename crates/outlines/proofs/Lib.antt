@@ -11,5 +11,6 @@ pub mod OutlineAgree
 pub mod SketchLaws
 pub mod FaultTrees
 pub mod DeepLaws
+pub mod GivenLaws
 pub mod FaultAgree
 pub mod KnownLaws
