@@ -1,0 +1,124 @@
+-- The fault of a definition's references is the one that the stage gives.
+use Prim.Native.Nat.{ℕ, zero, suc, _≤_, _<_}
+use mathlib.Core.Path.{_≡_, refl, sym, ap, _∙_}
+use mathlib.Core.Logic.{_⊎_, inl, inr}
+use mathlib.Core.List.{List, [], _∷_, _++_}
+use mathlib.Core.Bool.{Bool, true, false, _||_, _&&_, not}
+use mathlib.Core.Option.{Option, none, some}
+use native.Mathlib.Omega.{arith}
+use borrow.Author.Tests.{eq-eqb, le-ltb, leb-true, leb-false, le-leb, lt-leb}
+use lib.Dec.{eqb, leb, ltb}
+use lib.ListN.{take, drop}
+use Rattle.songcode.specs.Lists.{if_then_else_, any, isEmpty, when, gather, andThen, orElse}
+use Rattle.songcode.specs.Complaints.{Complaint, complaint, complainIf, goesFirst, earlier, earliest}
+use Rattle.songcode.specs.Song.{Items, one, refer, Definition}
+use Rattle.songcode.specs.PatternText.{depth, depthI, loopsDeep, references, noReference}
+use Rattle.songcode.specs.References.{definitionOf, itemsOf, putInItem, putIn, itemsFault, referenceFault, depthFault, definitionReferences}
+use Rattle.songcode.specs.WrittenPattern.{writeItems}
+use Rattle.songcode.proofs.ListLaws.{by-cases, true-is-not-false, any-append, none-passes, Each, each-append}
+use Rattle.tokens.specs.TokenWords.{tokenWords}
+use Rattle.player.specs.declared.leaves.Stretch.{Stretch}
+use Rattle.player.specs.Texts.{ItemsFit, Stands}
+use Rattle.outlines.specs.declared.readings.Outline.{Outline}
+use Rattle.outlines.specs.declared.faults.Faults.{Faults}
+use Rattle.outlines.specs.Tables.{vacant}
+use Rattle.outlines.specs.Faults.{allFaults, faultless, faultNumber, faultIn}
+use Rattle.outlines.specs.Told.{Sketches, KnowsItems, Knows, Known, refusal}
+use Rattle.outlines.proofs.ChordLaws.{or-false}
+use Rattle.outlines.proofs.GivenLaws.{has, given, TenOrEleven, refusal-ten, refusal-other, given-first, when-ten, when-eleven, when-either, fault-either, fault-ten, fault-eleven, has-append}
+use Rattle.outlines.proofs.FaultTrees.{faultItems, items-fault, items-missing}
+use Rattle.outlines.proofs.DeepLaws.{flawed, looped, deepItems, items-deep, items-put-deep}
+
+-- A found definition, put in.
+found-items : (i : Option Items) (o : Outline) (n : ℕ) → KnowsItems i o → (leb 1 (depth (orElse i (one (refer n)))) ≡ o .loops) × (depth (orElse i (one (refer n))) ≤ 1)
+unfolding KnowsItems orElse depth depthI vacant
+found-items none o n k = (rw k, omega arith)
+found-items (some r) o n k = (sym (k .0 .loops), k .1)
+
+found : (d : Option Definition) (m : Bool) (o : Outline) (n : ℕ) → Knows d m o → (leb 1 (depth (orElse (andThen d (λ e. e .items)) (one (refer n)))) ≡ o .loops) × (depth (orElse (andThen d (λ e. e .items)) (one (refer n))) ≤ 1)
+unfolding Knows andThen orElse depth depthI vacant
+found none m o n k = (rw (k .1), omega arith)
+found (some d) m o n k = found-items (d .items) o n (k .1)
+
+beyond-one : (k : ℕ) → not (leb k 1) ≡ leb 2 k
+beyond-one k = by-cases (leb k 1)
+    (λ e. let h = leb-true k 1 e in rw (e, lt-leb 2 k (omega arith)))
+    (λ e. let h = leb-false k 1 e in rw (e, le-leb 2 k (omega arith)))
+
+read-faults : (missing : ℕ → Bool) (find : ℕ → Outline) (r : Items) → ItemsFit r → allFaults missing find faultless (tokenWords (writeItems r [])) ≡ faultItems missing find r faultless
+unfolding tokenWords allFaults
+read-faults missing find r h = items-fault missing find r faultless [] h
+
+module _ (ds : List Definition) (missing : ℕ → Bool) (find : ℕ → Outline) (known : Known ds missing find) (head : ℕ) where
+  faultOf : ℕ → List Complaint
+  faultOf n = referenceFault (definitionOf n ds) head
+
+  knows : (n : ℕ) → Knows (definitionOf n ds) (missing n) (find n)
+  unfolding Known
+  knows n = known n
+
+  all-either : (ns : List ℕ) → Each (TenOrEleven head) (gather faultOf ns)
+  unfolding gather Each faultOf
+  all-either [] = tt
+  all-either (n ∷ ns) = each-append (TenOrEleven head) (faultOf n) (gather faultOf ns) (fault-either (definitionOf n ds) head) (all-either ns)
+
+  all-ten : (ns : List ℕ) → has 10 (gather faultOf ns) ≡ any missing ns
+  unfolding gather has any faultOf
+  all-ten [] = refl
+  all-ten (n ∷ ns) = has-append 10 (faultOf n) (gather faultOf ns) ∙ rw (fault-ten (definitionOf n ds) (missing n) (find n) head (knows n), all-ten ns)
+
+  all-eleven : (ns : List ℕ) → any missing ns ≡ false → has 11 (gather faultOf ns) ≡ any (flawed missing find) ns
+  unfolding gather has any faultOf
+  all-eleven [] e = refl
+  all-eleven (n ∷ ns) e =
+      let h = none-passes (missing n) (any missing ns) e in
+      has-append 11 (faultOf n) (gather faultOf ns) ∙ rw (fault-eleven (definitionOf n ds) (missing n) (find n) head (knows n) (h .0), all-eleven ns (h .1))
+
+  -- What a reference puts in is as deep as its outline tells.
+  put-right : (n : ℕ) → (leb 1 (depth (putInItem (itemsOf ds) (refer n))) ≡ looped missing find n) × (depth (putInItem (itemsOf ds) (refer n)) ≤ 1)
+  unfolding putInItem itemsOf andThen
+  put-right n = found (definitionOf n ds) (missing n) (find n) n (knows n)
+
+  -- The complaints of the definition.
+  complaints-either : (r : Items) → Each (TenOrEleven head) (definitionReferences ds (some r) head)
+  unfolding definitionReferences depthFault faultOf
+  complaints-either r = each-append (TenOrEleven head) (gather faultOf (references r)) (depthFault ds r head) (all-either (references r)) (when-either (not (leb (depth (putIn (itemsOf ds) r)) loopsDeep)) head)
+
+  complaints-ten : (r : Items) → has 10 (definitionReferences ds (some r) head) ≡ any missing (references r)
+  unfolding definitionReferences depthFault faultOf
+  complaints-ten r =
+      has-append 10 (gather faultOf (references r)) (depthFault ds r head)
+      ∙ rw (all-ten (references r), when-ten (not (leb (depth (putIn (itemsOf ds) r)) loopsDeep)) head) (or-false (any missing (references r)))
+
+  complaints-eleven : (r : Items) → depth r ≤ 1 → any missing (references r) ≡ false → has 11 (definitionReferences ds (some r) head) ≡ (any (flawed missing find) (references r) || deepItems missing find r)
+  unfolding definitionReferences depthFault faultOf loopsDeep
+  complaints-eleven r d e =
+      has-append 11 (gather faultOf (references r)) (depthFault ds r head)
+      ∙ rw (all-eleven (references r) e, when-eleven (not (leb (depth (putIn (itemsOf ds) r)) 1)) head)
+      (ap (λ b. any (flawed missing find) (references r) || b) (beyond-one (depth (putIn (itemsOf ds) r)) ∙ items-put-deep missing find (itemsOf ds) put-right r d))
+
+  start-missing : (r : Items) → faultItems missing find r faultless .missing ≡ any missing (references r)
+  unfolding faultless
+  start-missing r = items-missing missing find r faultless
+
+  start-deep : (r : Items) → depth r ≤ 1 → faultItems missing find r faultless .deep ≡ (any (flawed missing find) (references r) || deepItems missing find r)
+  unfolding faultless
+  start-deep r d = items-deep missing find r faultless d refl
+
+  items-given : (r : Items) → depth r ≤ 1 → refusal (faultNumber (faultItems missing find r faultless)) head ≡ earliest (definitionReferences ds (some r) head)
+  items-given r d =
+      let g = faultItems missing find r faultless in
+      let cs = definitionReferences ds (some r) head in
+      let e = given-first head cs (complaints-either r) in
+      by-cases (any missing (references r))
+      (λ t.
+      let a : earliest cs ≡ given true (has 11 cs) head = rw (complaints-ten r, t) at e in
+      refusal-ten g (has 11 cs) head (start-missing r ∙ t) ∙ sym a)
+      (λ t.
+      let a : earliest cs ≡ given false (any (flawed missing find) (references r) || deepItems missing find r) head = rw (complaints-ten r, t, complaints-eleven r d t) at e in
+      refusal-other g (any (flawed missing find) (references r) || deepItems missing find r) head (start-missing r ∙ t) (start-deep r d) ∙ sym a)
+
+  pub fault-given : (ws : List ℕ) (s : Stretch) (r : Items) → Stands ws s r → ItemsFit r → depth r ≤ 1
+      → refusal (faultIn missing find (drop (s .from) (take (s .to) ws))) head ≡ earliest (definitionReferences ds (some r) head)
+  unfolding faultIn Stands
+  fault-given ws s r p h d = rw (p, read-faults missing find r h) (items-given r d)

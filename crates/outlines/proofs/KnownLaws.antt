@@ -1,0 +1,71 @@
+-- The outlines of the definitions in order: none at first, then each by its own text. What they tell of a definition whose references are right.
+use Prim.Native.Nat.{ℕ, zero, suc, _+_, _-_, _<_, _≤_, min}
+use mathlib.Core.Path.{_≡_, refl, sym, ap, _∙_}
+use mathlib.Core.List.{List, [], _∷_}
+use mathlib.Core.Bool.{Bool, true, false, _&&_}
+use mathlib.Core.Option.{Option, none, some}
+use native.Mathlib.Omega.{arith}
+use borrow.Author.Tests.{eq-eqb}
+use lib.Dec.{eqb, leb}
+use lib.ListN.{take, drop}
+use Rattle.songcode.specs.Lists.{isSome, andThen, orElse}
+use Rattle.songcode.specs.Song.{Items, one, refer, Definition}
+use Rattle.songcode.specs.PatternText.{depth, references}
+use Rattle.songcode.specs.References.{definitionOf, itemsOf, putInItem, putIn}
+use Rattle.songcode.specs.Playing.{lastItem, lastItems}
+use Rattle.songcode.specs.Meter.{allFitItem, allFit, strayItem, stray, countItem, count}
+use Rattle.songcode.specs.Fits.{Refers, ReferAll}
+use Rattle.songcode.proofs.ListLaws.{Each}
+use Rattle.player.specs.declared.leaves.Stretch.{Stretch}
+use Rattle.player.specs.Texts.{ItemsFit, Stands}
+use Rattle.player.proofs.PutInLaws.{putIn-same}
+use Rattle.outlines.specs.declared.readings.Outline.{Outline}
+use Rattle.outlines.specs.Tables.{vacant}
+use Rattle.outlines.specs.Readings.{outlined}
+use Rattle.outlines.specs.Told.{Tells, Told, Sketches, KnowsItems, Knows, Known}
+use Rattle.outlines.proofs.OutlineAgree.{outline-tells}
+use Rattle.outlines.proofs.SketchLaws.{outline-sketches}
+
+-- References that are right are told of.
+found-told : (d : Option Definition) (e : Definition) (q : Items) (m : Bool) (o : Outline) → Knows d m o → d ≡ some e → e .items ≡ some q → references q ≡ [] → Tells o q
+unfolding Knows KnowsItems
+found-told d e q m o k f g p = tells (e .items) g (knows d f k)
+  where
+    knows : (c : Option Definition) → c ≡ some e → Knows c m o → KnowsItems (e .items) o
+    knows c h w = let z : Knows (some e) m o = rw h at w in z .1
+
+    tells : (i : Option Items) → i ≡ some q → KnowsItems i o → Tells o q
+    tells i h w = let z : KnowsItems (some q) o = rw h at w in z .2 p
+
+refer-told : (ds : List Definition) (missing : ℕ → Bool) (find : ℕ → Outline) → Known ds missing find → (n : ℕ) → Refers ds n → Told find (itemsOf ds) n
+unfolding Told Known putInItem itemsOf andThen orElse
+refer-told ds missing find known n w =
+    rw (w .found, w .filled) (found-told (definitionOf n ds) (w .definition) (w .items) (missing n) (find n) (known n) (w .found) (w .filled) (w .plain))
+
+refers-told : (ds : List Definition) (missing : ℕ → Bool) (find : ℕ → Outline) → Known ds missing find → (ns : List ℕ) → ReferAll ds ns → Each (Told find (itemsOf ds)) ns
+unfolding ReferAll Each
+refers-told ds missing find known [] w = tt
+refers-told ds missing find known (n ∷ ns) w = (refer-told ds missing find known n (w .0), refers-told ds missing find known ns (w .1))
+
+-- Stages 4 and 5: what the outline of a definition tells once its references are right.
+pub definition-told : (ds : List Definition) (missing : ℕ → Bool) (find : ℕ → Outline) → Known ds missing find → (ws : List ℕ) (s : Stretch) (r : Items) → Stands ws s r → ItemsFit r → depth r ≤ 1
+    → ReferAll ds (references r) → Tells (outlined find (drop (s .from) (take (s .to) ws))) (putIn (itemsOf ds) r)
+definition-told ds missing find known ws s r p h d w = outline-tells find (itemsOf ds) ws s r p h d (refers-told ds missing find known (references r) w)
+
+-- The outline of a definition's text is one that later references may find.
+none-told : (find : ℕ → Outline) (f : ℕ → Option Items) (ns : List ℕ) → ns ≡ [] → Each (Told find f) ns
+unfolding Each
+none-told find f [] e = tt
+none-told find f (n ∷ ns) e = let z : _≡_ {A = ℕ} 0 1 = cc in absurd (omega arith)
+
+pub items-known : (find : ℕ → Outline) (ws : List ℕ) (s : Stretch) (r : Items) → Stands ws s r → ItemsFit r → depth r ≤ 1 → KnowsItems (some r) (outlined find (drop (s .from) (take (s .to) ws)))
+unfolding KnowsItems
+items-known find ws s r p h d =
+    (outline-sketches find ws s r p h, d, λ e. plain e)
+  where
+    plain : references r ≡ [] → Tells (outlined find (drop (s .from) (take (s .to) ws))) r
+    plain e = let t = outline-tells find (λ n. none) ws s r p h d (none-told find (λ n. none) (references r) e) in rw (putIn-same (λ n. none) r e) at t
+
+pub empty-known : (find : ℕ → Outline) (ws : List ℕ) (s : Stretch) → drop (s .from) (take (s .to) ws) ≡ [] → KnowsItems none (outlined find (drop (s .from) (take (s .to) ws)))
+unfolding KnowsItems outlined vacant
+empty-known find ws s e = rw e refl

@@ -1,0 +1,6 @@
+-- What the contracts of the outlines say.
+pub mod Sizes
+pub mod Readings
+pub mod Tables
+pub mod Faults
+pub mod Told
