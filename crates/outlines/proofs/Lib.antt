@@ -14,3 +14,4 @@ pub mod DeepLaws
 pub mod GivenLaws
 pub mod FaultAgree
 pub mod KnownLaws
+pub mod TableLaws

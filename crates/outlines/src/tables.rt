@@ -4,6 +4,7 @@ use player::Definitions;
 use player::least;
 ghost use mathlib.Core.Path.{_≡_};
 ghost use Prim.Native.Nat.{ℕ, _≤_, min};
+ghost use Rattle.outlines.specs.Told.{Roomy};
 ghost use Rattle.outlines.specs.Tables.{placeOf, atPlace, lookUp, extended};
 
 // Of the first `count` definitions, at most 26.
@@ -76,7 +77,7 @@ pub fn outline_for(d: Definitions, o: Outlines, x: u32) -> Outline
 
 // Of no definition yet.
 pub fn no_outlines() -> Outlines
-    ensures { λ r. ⌜ r .count ≡ 0 ⌝ }
+    ensures { λ r. ⌜ (r .count ≡ 0) × Roomy r ⌝ }
 {
     Outlines {
         count: 0,
