@@ -106,13 +106,16 @@ module _ (w : Walk) (c : State) (h : Stands w c) (l : Line) where
 
   in-body : (p : sections.Place) → Follows (bodyStep p w l) (judged (bodyJudged p (c .keys) (c .modifiers) l) (bodyState p c l))
   unfolding bodyStep bodyState placeIs
-  in-body p = (body-same p, record {
-    place = refl;
-    carried = h .carried;
-    keys = marked-agrees (keySaid l) (c .keys) (w .keys) (key-said-below l) (h .keys);
-    modifiers = marked-agrees (modifierSaid l) (c .modifiers) (w .modifiers) (modifier-said-below l) (h .modifiers);
-    pending = rw (h .pending) refl;
-  })
+  in-body p = (
+    body-same p,
+    record {
+      place = refl;
+      carried = h .carried;
+      keys = marked-agrees (keySaid l) (c .keys) (w .keys) (key-said-below l) (h .keys);
+      modifiers = marked-agrees (modifierSaid l) (c .modifiers) (w .modifiers) (modifier-said-below l) (h .modifiers);
+      pending = rw (h .pending) refl;
+    },
+  )
 
   by-place : (p : Where) → Follows (stepAt p w l) (judgedAt (placeIs p) c l)
   unfolding stepAt judgedAt placeIs if_then_else_

@@ -1,5 +1,7 @@
 // What was said once: eight marks for keys or modifiers; the numbers of the definitions.
-use super::notes::{NONE, complain_if, least_of};
+use super::notes::NONE;
+use super::notes::complain_if;
+use super::notes::least_of;
 use super::states::Heads;
 use tokens::Number;
 ghost use mathlib.Core.Path.{_≡_};
@@ -11,7 +13,11 @@ pub fn again_note(number: usize, k: usize, marks: [bool; 8], line: usize) -> usi
     requires { ⌜ (number < 32) × (line ≤ 65537) ⌝ }
     ensures { λ r. ⌜ r ≡ again number k marks line ⌝ }
 {
-    if k < 8 { complain_if(marks[k], number, line) } else { NONE }
+    if k < 8 {
+        complain_if(marks[k], number, line)
+    } else {
+        NONE
+    }
 }
 
 pub fn put_mark(k: usize, marks: [bool; 8]) -> [bool; 8]

@@ -1,7 +1,14 @@
 // The names and settings of modifier lines.
 use super::notes::complain_if;
 use grammar::side_fine;
-use settings::{CutRead, ModifierName, cut_in, is_number, modifier_named, name_end, repeat_in, setting_start};
+use settings::CutRead;
+use settings::ModifierName;
+use settings::cut_in;
+use settings::is_number;
+use settings::modifier_named;
+use settings::name_end;
+use settings::repeat_in;
+use settings::setting_start;
 use text::Line;
 ghost use mathlib.Core.Path.{_≡_};
 ghost use Prim.Native.Nat.{_<_, _≤_};

@@ -1,6 +1,11 @@
 // The names and settings of key lines.
-use super::notes::{complain_if, least_of};
-use settings::{KeyName, is_setting, key_named, name_end, setting_start};
+use super::notes::complain_if;
+use super::notes::least_of;
+use settings::KeyName;
+use settings::is_setting;
+use settings::key_named;
+use settings::name_end;
+use settings::setting_start;
 use text::Line;
 ghost use mathlib.Core.Path.{_≡_};
 ghost use Prim.Native.Nat.{_<_, _≤_};

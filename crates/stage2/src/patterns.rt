@@ -1,7 +1,11 @@
 // What is pending of a pattern's text, line by line.
-use super::notes::{NONE, rank};
-use super::states::{Part, Pending};
-use grammar::{check_line, line_between, start};
+use super::notes::NONE;
+use super::notes::rank;
+use super::states::Part;
+use super::states::Pending;
+use grammar::check_line;
+use grammar::line_between;
+use grammar::start;
 use text::Line;
 ghost use mathlib.Core.Path.{_≡_};
 ghost use Prim.Native.Nat.{_<_, _≤_};
