@@ -1,17 +1,16 @@
 -- The returns of the functions on blocks' beginnings and ends.
-use Prim.Native.Nat.{ℕ, _+_, min, max, _≤_}
+use Prim.Native.Nat.{ℕ, min, max}
 use mathlib.Core.Path.{_≡_, refl, sym, ap, _∙_}
 use mathlib.Core.List.{List}
-use mathlib.Core.Bool.{Bool, true, false, not}
-use native.Mathlib.Omega.{arith}
-use borrow.Author.Tests.{le-leb, lt-leb, lt-ltb, le-ltb, leb-true, leb-false}
+use mathlib.Core.Bool.{Bool, not}
+use borrow.Author.Tests.{lt-ltb, le-ltb, leb-true, leb-false}
 use lib.Dec.{leb, ltb}
 use Rattle.songcode.specs.Lists.{if_then_else_}
 use Rattle.songcode.specs.Bytes.{placed}
 use Rattle.songcode.specs.Lines.{Line}
 use Rattle.songcode.specs.Numbers.{countIn}
 use Rattle.songcode.specs.Complaints.{complainIf}
-use Rattle.songcode.specs.Sections.{behindFirst, headerFaults}
+use Rattle.songcode.specs.Sections.{behindFirst}
 use Rattle.songcode.specs.SongText as songtext
 use Rattle.songcode.specs.SongText.{metadata, definition, section, kindOfText, headIn}
 use Rattle.songcode.proofs.ChoiceLaws.{zero-is-not-one}

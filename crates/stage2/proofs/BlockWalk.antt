@@ -10,7 +10,7 @@ use Rattle.songcode.specs.Lines.{Line, Block, Runs, shut, join, runs, blocks}
 use Rattle.grammar.specs.Checks.{first}
 use Rattle.grammar.specs.Verdicts.{sectionFine}
 use Rattle.stage2.specs.Ranks.{noSection, none, unless, onlyIf}
-use Rattle.stage2.specs.Walk.{Known, Walk, Step, step, known, between, nothingPending, gap, fineAt, closed, full, stepped, finished, walked, atFirst}
+use Rattle.stage2.specs.Walk.{Known, Walk, step, known, between, nothingPending, gap, fineAt, closed, full, stepped, finished, walked}
 
 -- A block's lines, up to its end, and what is known behind it.
 unfoldable pub inBlock : Walk → List Line → ℕ

@@ -1,13 +1,13 @@
 -- A line between a section's header and its `--` is judged kind by kind.
-use Prim.Native.Nat.{ℕ, min, _≤_}
-use mathlib.Core.Path.{_≡_, refl, sym, ap, _∙_}
-use mathlib.Core.List.{List, [], _∷_}
-use mathlib.Core.Bool.{Bool, true, false}
+use Prim.Native.Nat.{ℕ, min}
+use mathlib.Core.Path.{_≡_, refl, _∙_}
+use mathlib.Core.List.{List}
+use mathlib.Core.Bool.{Bool}
 use native.Mathlib.Omega.{arith}
 use Rattle.songcode.specs.Lists.{if_then_else_, when}
 use Rattle.songcode.specs.Lines.{Line}
 use Rattle.songcode.specs.Complaints.{Complaint, complainIf}
-use Rattle.songcode.specs.Sections.{keyLine, modifierLine, patternLine, kindOfLine, keyNameOf, modifierNameOf, settingOf, faults, misplaced, placeAfter}
+use Rattle.songcode.specs.Sections.{keyLine, modifierLine, patternLine, kindOfLine, keyNameOf, modifierNameOf, misplaced, placeAfter}
 use Rattle.settings.specs.Names.{keyIs, modifierIs}
 use Rattle.stage2.specs.declared.states.Part.{Part}
 use Rattle.stage2.specs.declared.states.Part.the-variants.{Keys, Early, Pattern, Behind}
@@ -15,8 +15,8 @@ use Rattle.stage2.specs.declared.states.State.{State}
 use Rattle.stage2.specs.declared.states.Judged.{Judged}
 use Rattle.stage2.specs.Ranks.{none, least}
 use Rattle.stage2.specs.Walk.{orderNote, pendingAfter}
-use Rattle.stage2.specs.States.{partOf, partIs, again, marked, keyOf, modifierOf, judged, bodyJudged, bodyState}
-use Rattle.stage2.specs.LineNotes.{keyNumber, modifierNumber, keyNote, modifierNote}
+use Rattle.stage2.specs.States.{partOf, partIs, again, marked, judged, bodyJudged, bodyState}
+use Rattle.stage2.specs.LineNotes.{keyNumber, modifierNumber}
 use Rattle.stage2.specs.BodyLines.{pastKeys, beforePattern, pastPattern, afterKey, afterModifier, afterPattern, onKey, onModifier, onPattern}
 use Rattle.stage2.proofs.RankLaws.{least-le}
 use Rattle.stage2.proofs.LineReturns.{key-of, modifier-of, modifier-no-key, pattern-no-key, key-no-modifier, pattern-no-modifier, key-in-section, modifier-in-section, pattern-in-section}
@@ -84,32 +84,39 @@ first-none cs a = let h = least-le cs in omega arith
 all-none : (cs : List Complaint) → min (min (min (least cs) none) none) none ≡ least cs
 all-none cs = let h = least-le cs in omega arith
 
-pub judged-same : {m n : ℕ} {c d : State} → m ≡ n → c ≡ d → judged m c ≡ judged n d
-judged-same p q = rw (p, q) refl
-
 module _ (p : Part) (c : State) (l : Line) where
   abbrev inBody : Judged
   inBody = judged (bodyJudged (partOf p) (c .keys) (c .modifiers) l) (bodyState (partOf p) c l)
 
-  pub body-key : kindOfLine l ≡ keyLine → onKey p c l ≡ inBody
+  on-key : kindOfLine l ≡ keyLine → onKey p c l ≡ inBody
   unfolding onKey bodyJudged bodyState pendingAfter
-  body-key e =
+  on-key e =
       let k = keyIs (keyNameOf l) in
       let out = complainIf (pastKeys p) 4 (l .number) in
       rw (e, order-key l e p, key-of l e, key-no-modifier l e, key-in-section l e, nothing-again 8 (c .modifiers) (l .number), nothing-marked (c .modifiers), place-key p, second-none out (again 4 (keyNumber k) (c .keys) (l .number)))
       refl
 
-  pub body-modifier : kindOfLine l ≡ modifierLine → onModifier p c l ≡ inBody
+  on-modifier : kindOfLine l ≡ modifierLine → onModifier p c l ≡ inBody
   unfolding onModifier bodyJudged bodyState pendingAfter
-  body-modifier e =
+  on-modifier e =
       let m = modifierIs (modifierNameOf l) in
       let out = complainIf (beforePattern p) 8 (l .number) in
       rw (e, order-modifier l e p, modifier-of l e, modifier-no-key l e, modifier-in-section l e, nothing-again 4 (c .keys) (l .number), nothing-marked (c .keys), place-modifier p, first-none out (again 8 (modifierNumber m) (c .modifiers) (l .number)))
       refl
 
-  pub body-pattern : kindOfLine l ≡ patternLine → onPattern p c l ≡ inBody
+  on-pattern : kindOfLine l ≡ patternLine → onPattern p c l ≡ inBody
   unfolding onPattern bodyJudged bodyState pendingAfter
-  body-pattern e =
+  on-pattern e =
       let out = complainIf (pastPattern p) 8 (l .number) in
       rw (e, order-pattern l e p, pattern-no-modifier l e, pattern-no-key l e, pattern-in-section l e, nothing-again 4 (c .keys) (l .number), nothing-again 8 (c .modifiers) (l .number), nothing-marked (c .keys), nothing-marked (c .modifiers), place-pattern p, all-none out)
       refl
+
+  -- What is judged by the kind is judged.
+  pub body-key : (j : Judged) → kindOfLine l ≡ keyLine → j ≡ onKey p c l → j ≡ inBody
+  body-key j e h = h ∙ on-key e
+
+  pub body-modifier : (j : Judged) → kindOfLine l ≡ modifierLine → j ≡ onModifier p c l → j ≡ inBody
+  body-modifier j e h = h ∙ on-modifier e
+
+  pub body-pattern : (j : Judged) → kindOfLine l ≡ patternLine → j ≡ onPattern p c l → j ≡ inBody
+  body-pattern j e h = h ∙ on-pattern e

@@ -1,17 +1,16 @@
 -- The heads that the code keeps agree with the numbers of the definitions so far.
-use Prim.Native.Nat.{ℕ, zero, suc, _+_, _<_, _≤_, min}
+use Prim.Native.Nat.{ℕ, suc, _+_, _<_, _≤_, min}
 use mathlib.Core.Path.{_≡_, refl, sym, ap, _∙_}
-use mathlib.Core.List.{List, [], _∷_, _++_}
+use mathlib.Core.List.{List, [], _∷_}
 use mathlib.Core.Bool.{Bool, true, false, _||_, _&&_, not}
 use mathlib.Core.Option.{Option, none, some}
 use native.Mathlib.Omega.{arith}
 use native.Mathlib.Numerals.{add-one}
-use borrow.Author.Tests.{eq-eqb, ne-eqb, le-leb, lt-leb, leb-true, leb-false}
+use borrow.Author.Tests.{ne-eqb, le-leb, leb-true, leb-false}
 use lib.Dec.{eqb, leb}
-use lib.ListN.{length, getD, set, take, length-set, replicate}
+use lib.ListN.{length, set, take, length-set, replicate}
 use lib.Seq.{take-suc, take-set-le, getD-set-same}
-use Rattle.songcode.specs.Lists.{if_then_else_, any, prepend, isSome, orElse, when}
-use Rattle.songcode.specs.Bytes.{Byte}
+use Rattle.songcode.specs.Lists.{if_then_else_, any, prepend, isSome, when}
 use Rattle.songcode.specs.Lines.{Line}
 use Rattle.songcode.specs.Numbers.{isDecimal, valueFrom, numberIn, countIn}
 use Rattle.songcode.specs.Complaints.{complainIf}
@@ -23,7 +22,6 @@ use Rattle.settings.specs.KeySettings.{isNumber}
 use Rattle.text.proofs.TestLaws.{by-cases}
 use Rattle.stage2.specs.declared.states.Heads.{Heads}
 use Rattle.stage2.specs.Ranks.{least}
-use Rattle.stage2.specs.Walk.{Known, headNote}
 use Rattle.stage2.specs.States.{hasHead, headAgain, headJudged, orZero, withHead}
 use Rattle.stage2.proofs.MarkLaws.{said}
 

@@ -8,6 +8,7 @@ pub mod DefinitionWalk
 pub mod PatternWalk
 pub mod SectionWalk
 pub mod TextWalk
+pub mod SmallLineFaults
 pub mod SmallFaults
 pub mod SmallLines
 -- The walk by value.

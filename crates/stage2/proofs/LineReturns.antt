@@ -1,17 +1,15 @@
 -- The returns of the functions on lines, kind by kind.
-use Prim.Native.Nat.{ℕ, _+_, min, _≤_}
+use Prim.Native.Nat.{ℕ}
 use mathlib.Core.Path.{_≡_, refl, sym, ap, _∙_}
-use mathlib.Core.List.{List, [], _∷_}
-use mathlib.Core.Bool.{Bool, true, false, not}
+use mathlib.Core.List.{List}
+use mathlib.Core.Bool.{true, false}
 use mathlib.Core.Option.{none}
-use native.Mathlib.Omega.{arith}
-use lib.Dec.{ltb}
-use Rattle.songcode.specs.Lists.{if_then_else_, when, orElse, isEmpty}
+use Rattle.songcode.specs.Lists.{when, orElse}
 use Rattle.songcode.specs.Bytes.{placed}
 use Rattle.songcode.specs.Lines.{Line}
-use Rattle.songcode.specs.Complaints.{complaint, complainIf}
+use Rattle.songcode.specs.Complaints.{complainIf}
 use Rattle.songcode.specs.Sections as sections
-use Rattle.songcode.specs.Sections.{keyLine, modifierLine, patternLine, kindOf, kindOfLine, keyNameOf, modifierNameOf, settingOf, keySaid, modifierSaid, keyFaults, modifierFaults, faults, misplaced, placeAfter}
+use Rattle.songcode.specs.Sections.{keyLine, modifierLine, patternLine, kindOf, kindOfLine, keyNameOf, modifierNameOf, settingOf, keySaid, modifierSaid, keyFaults, modifierFaults, faults}
 use Rattle.songcode.specs.SongText.{metadataFault}
 use Rattle.text.specs.Spans.{part}
 use Rattle.settings.specs.Kinds.{kindIs}
@@ -20,17 +18,10 @@ use Rattle.settings.specs.declared.kinds.Kind.{Kind}
 use Rattle.settings.specs.declared.kinds.Kind.the-variants.{Key, Modifier, Pattern}
 use Rattle.settings.proofs.ValueLaws.{kindOf-placeless}
 use Rattle.settings.proofs.OfLineLaws.{lineFrom}
-use Rattle.stage2.specs.declared.states.Part.{Part}
-use Rattle.stage2.specs.declared.states.Part.the-variants as part
-use Rattle.stage2.specs.declared.states.State.{State}
-use Rattle.stage2.specs.declared.states.Judged.{Judged}
 use Rattle.stage2.specs.Ranks.{least}
 use Rattle.stage2.specs.Ranks as ranks
-use Rattle.stage2.specs.Walk.{orderNote, pendingAfter, patternPending}
-use Rattle.stage2.specs.States.{partOf, partIs, again, marked, keyOf, modifierOf, judged, keyJudged, bodyJudged, bodyState}
+use Rattle.stage2.specs.States.{keyOf, modifierOf}
 use Rattle.stage2.specs.LineNotes.{keyNumber, modifierNumber, keyNote, modifierNote}
-use Rattle.stage2.specs.BodyLines.{pastKeys, beforePattern, pastPattern, afterKey, afterModifier, afterPattern, onKey, onModifier, onPattern}
-use Rattle.stage2.proofs.RankLaws.{least-le}
 use Rattle.stage2.proofs.NoteLaws.{allowedBy, key-note, key-number, modifier-note, modifier-number}
 use Rattle.songcode.proofs.ChoiceLaws.{zero-is-not-one}
 

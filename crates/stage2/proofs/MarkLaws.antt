@@ -1,14 +1,13 @@
 -- The marks that the code keeps agree with the lists of what was said.
-use Prim.Native.Nat.{ℕ, zero, suc, _+_, _<_, _≤_, min}
-use mathlib.Core.Path.{_≡_, refl, sym, ap, _∙_}
-use mathlib.Core.List.{List, [], _∷_, _++_}
-use mathlib.Core.Bool.{Bool, true, false, _||_, not}
+use Prim.Native.Nat.{ℕ, _<_}
+use mathlib.Core.Path.{_≡_, refl, sym, _∙_}
+use mathlib.Core.List.{List, [], _∷_}
+use mathlib.Core.Bool.{Bool, true, false}
 use mathlib.Core.Option.{Option}
 use mathlib.Core.Option as option
 use native.Mathlib.Omega.{arith}
-use native.Mathlib.Numerals.{add-one}
 use borrow.Author.Tests.{lt-ltb, eqb-true, eqb-false}
-use lib.Dec.{eqb, leb}
+use lib.Dec.{eqb}
 use lib.ListN.{length, getD, set, length-set, getD-replicate}
 use lib.Seq.{getD-set-same, getD-set-other}
 use Rattle.songcode.specs.Lists.{if_then_else_, any, prepend, andThen, orElse}
@@ -16,7 +15,6 @@ use Rattle.songcode.specs.Lines.{Line}
 use Rattle.songcode.specs.Song.{KeyName, name, artist, original, capo, bpm, time, warning, end}
 use Rattle.songcode.specs.Keys.{keyPlace}
 use Rattle.songcode.specs.Modifiers.{ModifierName, ofRepeat, ofCutStart, ofCutEnd, ofBefore, ofAfter, modifierPlace}
-use Rattle.songcode.specs.Complaints.{complainIf}
 use Rattle.songcode.specs.Sections.{kindOfLine, keyNameOf, modifierNameOf, keySaid, modifierSaid, twiceBy}
 use Rattle.songcode.proofs.LineAgree.{by-kind}
 use Rattle.text.proofs.TestLaws.{by-cases}

@@ -1,6 +1,6 @@
 -- The returns of the functions on metadata lines and key lines.
 use Prim.Native.Nat.{ℕ, min}
-use mathlib.Core.Path.{_≡_, refl, sym, ap, _∙_}
+use mathlib.Core.Path.{_≡_, refl, _∙_}
 use mathlib.Core.List.{List}
 use mathlib.Core.Bool.{Bool, true, false}
 use native.Mathlib.Omega.{arith}
@@ -9,7 +9,6 @@ use Rattle.songcode.specs.Lines.{Line}
 use Rattle.songcode.specs.Complaints.{complainIf}
 use Rattle.songcode.specs.Sections.{keyLine, modifierLine, patternLine, kindOfLine, keyNameOf, modifierNameOf, settingOf}
 use Rattle.songcode.specs.SongText.{metadataFault}
-use Rattle.settings.specs.Kinds.{kindIs}
 use Rattle.settings.specs.Names.{keyIs, modifierIs}
 use Rattle.settings.specs.declared.keys.KeyName.{KeyName}
 use Rattle.settings.specs.declared.modifiers.ModifierName.{ModifierName}

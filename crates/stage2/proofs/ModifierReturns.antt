@@ -1,8 +1,8 @@
 -- The returns of the functions on modifiers and on a pattern's text.
 use Prim.Native.Nat.{ℕ, _+_}
-use mathlib.Core.Path.{_≡_, refl, sym, ap, _∙_}
+use mathlib.Core.Path.{_≡_, refl, ap, _∙_}
 use mathlib.Core.List.{List}
-use mathlib.Core.Bool.{Bool, true, false, not}
+use mathlib.Core.Bool.{Bool, false, not}
 use mathlib.Core.Option.{Option, none, some}
 use Rattle.songcode.specs.Lists.{isSome}
 use Rattle.songcode.specs.Bytes.{placed}

@@ -1,6 +1,6 @@
 -- A line's own faults are what the code notes of its name and its setting.
-use Prim.Native.Nat.{ℕ, min, _+_, _*_}
-use mathlib.Core.Path.{_≡_, refl, sym, ap, _∙_}
+use Prim.Native.Nat.{ℕ, min}
+use mathlib.Core.Path.{_≡_, refl, sym}
 use mathlib.Core.List.{List, [], _∷_}
 use mathlib.Core.Bool.{Bool, true, false, not}
 use mathlib.Core.Option.{Option, none, some}
@@ -9,7 +9,6 @@ use Rattle.songcode.specs.Lists.{isSome, andThen, orElse, when}
 use Rattle.songcode.specs.Bytes.{Byte}
 use Rattle.songcode.specs.Lines.{Line}
 use Rattle.songcode.specs.Numbers.{repeatIn}
-use Rattle.songcode.specs.Song as song
 use Rattle.songcode.specs.Song.{KeyName, name, artist, original, capo, bpm, time, warning, end, repeated, cutStart, cutEnd, before, after}
 use Rattle.songcode.specs.Keys.{isSetting, ofSection, ofMetadata, keyPlace}
 use Rattle.songcode.specs.Modifiers.{ModifierName, ofRepeat, ofCutStart, ofCutEnd, ofBefore, ofAfter, modifierIn, settingRefusal, modifierPlace, cutIn}

@@ -2,7 +2,7 @@
 use Prim.Native.Nat.{ℕ, min}
 use mathlib.Core.Path.{_≡_, refl, sym, ap, _∙_}
 use mathlib.Core.List.{List, [], _∷_}
-use mathlib.Core.Bool.{Bool, true, false, not}
+use mathlib.Core.Bool.{true, false, not}
 use native.Mathlib.Omega.{arith}
 use Rattle.songcode.specs.Lists.{if_then_else_, taken, left, isSome}
 use Rattle.songcode.specs.Lines.{Line}
@@ -12,7 +12,7 @@ use Rattle.grammar.specs.Checks.{first, checkText}
 use Rattle.grammar.specs.Verdicts.{sectionFine}
 use Rattle.grammar.proofs.VerdictLaws.{section-fine}
 use Rattle.stage2.specs.declared.states.Pending.{Pending}
-use Rattle.stage2.specs.Ranks.{ranked, none, least, unless, onlyIf}
+use Rattle.stage2.specs.Ranks.{ranked, none, least, unless}
 use Rattle.stage2.specs.Walk.{pendingAfter, patternPending}
 use Rattle.stage2.proofs.RankLaws.{least-if}
 use Rattle.stage2.proofs.BlockWalk.{unless-none}

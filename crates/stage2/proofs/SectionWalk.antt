@@ -2,7 +2,7 @@
 use Prim.Native.Nat.{ℕ, _≤_, min, max}
 use mathlib.Core.Path.{_≡_, refl, sym, ap, _∙_}
 use mathlib.Core.List.{List, [], _∷_, _++_, map}
-use mathlib.Core.Bool.{Bool, true, false, not}
+use mathlib.Core.Bool.{true, false}
 use native.Mathlib.Omega.{arith}
 use Rattle.songcode.specs.Lists.{if_then_else_, taken, left, isEmpty, gather, prepend}
 use Rattle.songcode.specs.Lines.{Line, Block}
@@ -15,7 +15,7 @@ use Rattle.grammar.specs.declared.checks.Check.{Check}
 use Rattle.text.proofs.TestLaws.{by-cases}
 use Rattle.stage2.specs.declared.states.Pending.{Pending}
 use Rattle.stage2.specs.Ranks.{ranked, none, least, unless, onlyIf}
-use Rattle.stage2.specs.Walk.{Known, known, Walk, step, inBody, inLyrics, walkAt, pending, closed, fineAt, late, opens, pendingAfter, orderNote, bodyNote, bodyStep, lyricsWith, patternPending, stepAt}
+use Rattle.stage2.specs.Walk.{Known, known, inBody, inLyrics, walkAt, pending, closed, fineAt, late, opens, pendingAfter, orderNote, bodyNote, bodyStep, lyricsWith, patternPending, stepAt}
 use Rattle.stage2.proofs.RankLaws.{least-append, least-both, least-if, least-le, min-assoc, min-both}
 use Rattle.stage2.proofs.BlockWalk.{inBlock, afterBlock, blockNote, blockAfter}
 use Rattle.stage2.proofs.PatternWalk.{wanted, patternLeft, Fits, at-end, pattern-next, fits-next, run-faults}

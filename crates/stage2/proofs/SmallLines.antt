@@ -1,6 +1,6 @@
 -- The lines of a text of at most 65,536 bytes have small numbers, so its refusal is read off the walk.
-use Prim.Native.Nat.{ℕ, zero, suc, _+_, _-_, _<_, _≤_, min}
-use mathlib.Core.Path.{_≡_, refl, sym, ap, _∙_}
+use Prim.Native.Nat.{ℕ, zero, suc, _+_, _-_, _≤_}
+use mathlib.Core.Path.{_≡_, ap, _∙_}
 use mathlib.Core.List.{List, [], _∷_, map}
 use mathlib.Core.Bool.{Bool, true, false}
 use native.Mathlib.Omega.{arith}
@@ -16,11 +16,12 @@ use Rattle.text.specs.Refusals.{refusalOf}
 use Rattle.text.specs.Spans.{lineOf, spansFrom, spans, lineText}
 use Rattle.text.specs.declared.lines.Line.{Line}
 use Rattle.text.proofs.LineLaws.{blocks-spans}
-use Rattle.stage2.specs.Ranks.{noSection, least, onlyIf, refusalAt}
+use Rattle.stage2.specs.Ranks.{least, refusalAt}
 use Rattle.stage2.specs.Walk.{walked, atFirst}
 use Rattle.stage2.proofs.RankLaws.{or-no-section}
 use Rattle.stage2.proofs.TextWalk.{blockFaults, walked-least}
-use Rattle.stage2.proofs.SmallFaults.{Low, LowBlock, faults-small}
+use Rattle.stage2.proofs.SmallFaults.{faults-small}
+use Rattle.stage2.proofs.SmallLineFaults.{Low, LowBlock}
 
 -- A line has at least one byte, so numbers do not outrun places.
 numbers : (s : List ℕ) (n at k : ℕ) (bs : List ℕ) → n + length bs ≤ 131072 → Each Low (map (lineText s) (spansFrom n at k bs))

@@ -1,15 +1,13 @@
 -- The walk by value keeps step with the walk in songcode's words.
-use Prim.Native.Nat.{ℕ, suc, min, max, _≤_}
-use mathlib.Core.Path.{_≡_, refl, sym, ap, subst, _∙_}
-use mathlib.Core.List.{List, [], _∷_}
-use mathlib.Core.Bool.{Bool, true, false}
-use lib.Dec.{ltb}
+use Prim.Native.Nat.{ℕ, min, max}
+use mathlib.Core.Path.{_≡_, refl, sym, ap, subst}
+use mathlib.Core.List.{[]}
 use lib.ListN.{replicate}
 use Rattle.songcode.specs.Lists.{if_then_else_, isEmpty, prepend}
 use Rattle.songcode.specs.Lines.{Line}
 use Rattle.songcode.specs.Sections as sections
-use Rattle.songcode.specs.Sections.{kindOfLine, amongKeys, early, inPattern, behind, placeAfter, keySaid, modifierSaid, faults, headerFaults, notDashes}
-use Rattle.songcode.specs.SongText.{BlockKind, metadata, definition, section, kindOfText, metadataFault, headIn}
+use Rattle.songcode.specs.Sections.{amongKeys, early, inPattern, behind, keySaid, modifierSaid, notDashes}
+use Rattle.songcode.specs.SongText.{BlockKind, metadata, definition, section, kindOfText, headIn}
 use Rattle.grammar.specs.declared.checks.Check.{Check}
 use Rattle.tokens.specs.Decimals.{numberOf}
 use Rattle.text.proofs.TestLaws.{by-cases}
@@ -19,9 +17,9 @@ use Rattle.stage2.specs.declared.states.Carried.{Carried}
 use Rattle.stage2.specs.declared.states.Pending.{Pending}
 use Rattle.stage2.specs.declared.states.State.{State}
 use Rattle.stage2.specs.declared.states.Judged.{Judged}
-use Rattle.stage2.specs.Ranks.{ranked, noSection, none, least, unless, onlyIf}
-use Rattle.stage2.specs.Walk.{Where, between, inMetadata, behindHead, inDefinition, inBody, inLyrics, Known, known, Walk, Step, walkAt, blockAt, pending, nothingPending, fineAt, closed, late, metadataNote, headNote, opens, patternBegun, patternMore, pendingAfter, orderNote, bodyNote, bodyStep, stepAt, stepped, finished, atFirst}
-use Rattle.stage2.specs.States.{partOf, partIs, noMarks, again, marked, keyOf, modifierOf, headJudged, withHead, stateAt, blockState, carried, judged, fineFor, closing, keyJudged, opening, bodyJudged, bodyState, judgedAt, judge, ends}
+use Rattle.stage2.specs.Ranks.{none}
+use Rattle.stage2.specs.Walk.{Where, between, inMetadata, behindHead, inDefinition, inBody, inLyrics, Known, known, Walk, Step, blockAt, pending, nothingPending, fineAt, closed, late, metadataNote, headNote, opens, bodyNote, bodyStep, stepAt, stepped, finished, atFirst}
+use Rattle.stage2.specs.States.{partOf, partIs, noMarks, marked, keyOf, headJudged, blockState, carried, judged, fineFor, closing, keyJudged, opening, bodyJudged, bodyState, judgedAt, judge, ends}
 use Rattle.stage2.proofs.MarkLaws.{Agrees, none-agrees, again-agrees, marked-agrees, key-said-below, modifier-said-below}
 use Rattle.stage2.proofs.HeadLaws.{HeadsAgree, no-heads-agree, head-counts, head-agrees, with-head-agrees}
 

@@ -1,6 +1,6 @@
 -- The walk over all blocks gives the least of all complaints of stage 2.
-use Prim.Native.Nat.{ℕ, suc, min, max, _<_, _≤_}
-use mathlib.Core.Path.{_≡_, refl, sym, ap, _∙_}
+use Prim.Native.Nat.{ℕ, suc, min, max, _≤_}
+use mathlib.Core.Path.{_≡_, refl, ap, _∙_}
 use mathlib.Core.List.{List, [], _∷_, _++_, map}
 use mathlib.Core.Bool.{Bool, true, false, _||_, not}
 use native.Mathlib.Omega.{arith}
@@ -8,14 +8,14 @@ use borrow.Author.Tests.{lt-ltb, le-ltb, ltb-true, ltb-false}
 use lib.Dec.{leb, ltb}
 use Rattle.songcode.specs.Lists.{if_then_else_, isEmpty, isSome, gather, prepend}
 use Rattle.songcode.specs.Lines.{Line, Block, blocks}
-use Rattle.songcode.specs.Complaints.{Complaint, complaint, complainIf}
+use Rattle.songcode.specs.Complaints.{Complaint, complainIf}
 use Rattle.songcode.specs.Sections.{twice, twiceBy, keySaid, sectionFaults}
 use Rattle.songcode.specs.SongText.{BlockKind, metadata, definition, section, blockKind, turn, blockOrder, linesIf, metadataLines, metadataFault, metadataFaults, headIn, definitionIf, sectionIf, definitionBlocks, sectionBlocks, headsFaults, firstLine, definitionFaults, definitionsFaults}
 use Rattle.songcode.proofs.ListLaws.{gather-append}
 use Rattle.songcode.proofs.BlockKinds.{by-kind}
 use Rattle.text.proofs.TestLaws.{by-cases}
-use Rattle.stage2.specs.Ranks.{ranked, noSection, none, least, onlyIf}
-use Rattle.stage2.specs.Walk.{Known, known, gap, late, headNote, walked, atFirst}
+use Rattle.stage2.specs.Ranks.{noSection, none, least, onlyIf}
+use Rattle.stage2.specs.Walk.{Known, known, late, headNote, walked, atFirst}
 use Rattle.stage2.proofs.RankLaws.{least-append, least-both, min-assoc, min-swap, min-both}
 use Rattle.stage2.proofs.BlockWalk.{blockNote, blockAfter, byBlocks, walked-by-blocks}
 use Rattle.stage2.proofs.SeenLaws.{seenAfter, twice-append}

@@ -5,15 +5,14 @@ use mathlib.Core.List.{List, [], map}
 use mathlib.Core.Bool.{Bool, true, false, not}
 use native.Mathlib.Omega.{arith}
 use borrow.Author.Tests.{eq-eqb, ne-eqb}
-use lib.Dec.{eqb}
 use lib.ListN.{length, drop}
-use Rattle.songcode.specs.Lists.{if_then_else_, isEmpty}
+use Rattle.songcode.specs.Lists.{if_then_else_}
 use Rattle.songcode.specs.Bytes.{placed, is}
 use Rattle.songcode.specs.Lines as songcode
 use Rattle.songcode.specs.Lines.{blocks}
-use Rattle.songcode.specs.Sections.{keyLine, modifierLine, patternLine, kindOfLine, notDashes}
+use Rattle.songcode.specs.Sections.{notDashes}
 use Rattle.songcode.specs.Complaints.{earliest}
-use Rattle.songcode.specs.SongText.{kindOfText, textFaults}
+use Rattle.songcode.specs.SongText.{textFaults}
 use Rattle.songcode.specs.Answer.{blocksOf}
 use Rattle.text.specs.Refusals.{refusalOf}
 use Rattle.text.specs.Spans.{part, Found, spansFrom, spans, lineText}
@@ -24,12 +23,12 @@ use Rattle.settings.proofs.ValueLaws.{is-placeless}
 use Rattle.settings.proofs.OfLineLaws.{lineFrom}
 use Rattle.stage2.specs.declared.states.Part.{Part}
 use Rattle.stage2.specs.declared.states.Place.{Place}
-use Rattle.stage2.specs.declared.states.Place.the-variants.{Between, Metadata, Head, Definition, Body, Lyrics}
+use Rattle.stage2.specs.declared.states.Place.the-variants.{Between, Head, Definition, Body, Lyrics}
 use Rattle.stage2.specs.declared.states.Pending.{Pending}
 use Rattle.stage2.specs.declared.states.State.{State}
 use Rattle.stage2.specs.declared.states.Judged.{Judged}
 use Rattle.stage2.specs.Ranks.{ranked, none, refusalAt}
-use Rattle.stage2.specs.Walk.{Walk, known, gap, nothingPending, patternBegun, patternMore, stepped, finished, walked, atFirst}
+use Rattle.stage2.specs.Walk.{Walk, known, nothingPending, patternBegun, patternMore, stepped, walked, atFirst}
 use Rattle.stage2.specs.States.{Fit, partOf, blockState, judged, closing, bodyJudged, bodyState, lyricsState, judgedAt, judge, ends}
 use Rattle.stage2.proofs.BlockWalk.{by-blocks-le, walked-by-blocks}
 use Rattle.stage2.proofs.SmallLines.{stage-walked}

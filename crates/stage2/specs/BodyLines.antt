@@ -1,13 +1,11 @@
 -- The lines between a section's header and its `--`, kind by kind, as the code judges them.
 use Prim.Native.Nat.{ℕ, min}
 use mathlib.Core.List.{List}
-use mathlib.Core.Bool.{Bool, true, false, not}
+use mathlib.Core.Bool.{Bool, true, false}
 use Rattle.songcode.specs.Lines.{Line}
 use Rattle.songcode.specs.Complaints.{complainIf}
 use Rattle.songcode.specs.Sections.{keyNameOf, modifierNameOf, settingOf}
 use Rattle.settings.specs.Names.{keyIs, modifierIs}
-use Rattle.settings.specs.declared.keys.KeyName.{KeyName}
-use Rattle.settings.specs.declared.modifiers.ModifierName.{ModifierName}
 use Rattle.stage2.specs.declared.states.Part.{Part}
 use Rattle.stage2.specs.declared.states.Part.the-variants.{Keys, Early, Pattern, Behind}
 use Rattle.stage2.specs.declared.states.Place.the-variants.{Body}

@@ -1,7 +1,7 @@
 -- The walk by value: what the code keeps in place of lists, and how it judges a line.
 use Prim.Native.Nat.{ℕ, _+_, _≤_, min, max}
 use mathlib.Core.Path.{_≡_}
-use mathlib.Core.List.{List, [], _∷_, map}
+use mathlib.Core.List.{List, [], _∷_}
 use mathlib.Core.Bool.{Bool, true, false, _||_, not}
 use lib.Dec.{eqb, leb, ltb}
 use lib.ListN.{length, getD, set, take, replicate}
@@ -9,7 +9,7 @@ use Rattle.songcode.specs.Lists.{if_then_else_, isEmpty, any, orElse}
 use Rattle.songcode.specs.Lines.{Line}
 use Rattle.songcode.specs.Complaints.{complainIf}
 use Rattle.songcode.specs.Sections as sections
-use Rattle.songcode.specs.Sections.{keyLine, modifierLine, patternLine, kindOfLine, amongKeys, early, inPattern, behind, placeAfter, keySaid, modifierSaid, faults, headerFaults, notDashes}
+use Rattle.songcode.specs.Sections.{kindOfLine, amongKeys, early, inPattern, behind, placeAfter, keySaid, modifierSaid, faults, headerFaults, notDashes}
 use Rattle.songcode.specs.SongText.{BlockKind, metadata, definition, section, kindOfText, metadataFault, headIn}
 use Rattle.tokens.specs.Decimals.{numberOf}
 use Rattle.tokens.specs.declared.numbers.Number.{Number}

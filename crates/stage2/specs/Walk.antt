@@ -1,12 +1,11 @@
 -- Stage 2 as one walk over the lines, in songcode's words: what a line is complained of where it stands, and what is kept of it.
 use Prim.Native.Nat.{ℕ, suc, min, max}
 use mathlib.Core.List.{List, [], _∷_, map}
-use mathlib.Core.Bool.{Bool, true, false, _||_, not}
+use mathlib.Core.Bool.{Bool, _||_, not}
 use lib.Dec.{leb, ltb}
 use Rattle.songcode.specs.Lists.{if_then_else_, isEmpty, isSome, prepend}
-use Rattle.songcode.specs.Bytes.{Byte}
 use Rattle.songcode.specs.Lines.{Line}
-use Rattle.songcode.specs.Complaints.{Complaint, complaint, complainIf}
+use Rattle.songcode.specs.Complaints.{complaint, complainIf}
 use Rattle.songcode.specs.Sections.{Kind, keyLine, modifierLine, patternLine, kindOfLine, Place, amongKeys, early, inPattern, behind, misplaced, placeAfter, twiceBy, keySaid, modifierSaid, faults, headerFaults, notDashes}
 use Rattle.songcode.specs.SongText.{BlockKind, metadata, definition, section, kindOfText, metadataFault, headIn}
 use Rattle.grammar.specs.Checks.{first, checkStep, checkText}

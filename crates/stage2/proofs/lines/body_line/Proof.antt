@@ -46,21 +46,21 @@ returns : tie.Need-returns
 returns c = let t = c .before .before .before in
     let q = t .before .before .args in
     let l = lineText (q .s .now) (q .l) in
-    c .key-line .ensures ∙ body-key (q .p) (q .c) l (is-key (kindOfLine l) (sym (c .before .enum-told .given .1) ∙ t .line-kind .ensures))
+    body-key (q .p) (q .c) l (c .key-line .result) (is-key (kindOfLine l) (sym (c .before .enum-told .given .1) ∙ t .line-kind .ensures)) (c .key-line .ensures)
 
 -- src/lines.rt:148:1
 returns-2 : tie.Need-returns-2
 returns-2 c = let t = c .before .before .before in
     let q = t .before .before .args in
     let l = lineText (q .s .now) (q .l) in
-    c .modifier-line .ensures ∙ body-modifier (q .p) (q .c) l (is-modifier (kindOfLine l) (sym (c .before .enum-told2 .given .1) ∙ t .line-kind .ensures))
+    body-modifier (q .p) (q .c) l (c .modifier-line .result) (is-modifier (kindOfLine l) (sym (c .before .enum-told2 .given .1) ∙ t .line-kind .ensures)) (c .modifier-line .ensures)
 
 -- src/lines.rt:148:1
 returns-3 : tie.Need-returns-3
 returns-3 c = let t = c .before .before .before in
     let q = t .before .before .args in
     let l = lineText (q .s .now) (q .l) in
-    c .pattern-line .ensures ∙ body-pattern (q .p) (q .c) l (is-pattern (kindOfLine l) (sym (c .before .enum-told3 .given .1) ∙ t .line-kind .ensures))
+    body-pattern (q .p) (q .c) l (c .pattern-line .result) (is-pattern (kindOfLine l) (sym (c .before .enum-told3 .given .1) ∙ t .line-kind .ensures)) (c .pattern-line .ensures)
 
 pub body-line-spec : {M : Type 1} → statement M
 body-line-spec =
