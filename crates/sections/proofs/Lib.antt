@@ -11,3 +11,4 @@ pub mod SaidLaws
 pub mod TellLaws
 pub mod OrderLaws
 pub mod SectionLaws
+pub mod MeetLaws

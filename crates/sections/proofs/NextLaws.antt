@@ -69,6 +69,9 @@ module _ (s : List ℕ) (n at : ℕ) (blank : Run) (r : Longest s Empty n at bla
       let lines = behind ∙ lines-next s m (blank .next) h in
       sym (blocks-skip (textLines s n at)) ∙ ap blocks lines ∙ blocks-first l (textLines s (m + 1) (lineAt s m (blank .next) .next)) (subst (Stops (passing Empty)) lines (left-stops (passing Empty) (textLines s n at)))
 
+  same : blocks (textLines s n at) ≡ blocks (textLines s (n + blank .lines) (blank .next))
+  same = sym (blocks-skip (textLines s n at)) ∙ ap blocks behind
+
   pub next-is : NextAt s n at (record { number = n + blank .lines; at = blank .next })
   next-is =
       let a = r .onward in
@@ -79,7 +82,8 @@ module _ (s : List ℕ) (n at : ℕ) (blank : Run) (r : Longest s Empty n at bla
         counted = omega arith;
         onward = a;
         inside = b;
-        over = λ h. sym (blocks-skip (textLines s n at)) ∙ ap blocks behind ∙ blocks-over s (n + blank .lines) (blank .next) h;
+        same = same;
+        over = λ h. same ∙ blocks-over s (n + blank .lines) (blank .next) h;
         there = there;
       }
 

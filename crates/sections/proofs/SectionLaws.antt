@@ -30,15 +30,15 @@ use Rattle.sections.proofs.TellLaws.{repeat-tells, cut-start-tells, cut
 use Rattle.sections.proofs.OrderLaws.{keys-early, modifiers-late}
 
 -- A block without fault: its lines stand in order, and none of them is faulted.
-clean-order : (b : Block) → sectionFaults b ≡ [] → (order amongKeys (body b) ≡ []) × (gather faults (body b) ≡ [])
+pub clean-order : (b : Block) → sectionFaults b ≡ [] → (order amongKeys (body b) ≡ []) × (gather faults (body b) ≡ []) × (patternFaults (b .first .number) (patternRun (body b)) ≡ [])
 unfolding sectionFaults
 clean-order b h =
     let v = append-is-nil _ (lyricFaults (ending b)) h .0 in
-    let w = append-is-nil _ (patternFaults (b .first .number) (patternRun (body b))) v .0 in
-    let g = append-is-nil _ (gather faults (body b)) w in
+    let p = append-is-nil _ (patternFaults (b .first .number) (patternRun (body b))) v in
+    let g = append-is-nil _ (gather faults (body b)) (p .0) in
     let m = append-is-nil _ (twice 8 modifierSaid [] (body b)) (g .0) .0 in
     let k = append-is-nil _ (twice 4 keySaid [] (body b)) m .0 in
-    (append-is-nil (headerFaults (b .first)) (order amongKeys (body b)) k .1, g .1)
+    (append-is-nil (headerFaults (b .first)) (order amongKeys (body b)) k .1, g .1, p .1)
 
 module _ (ls : List Line) (ordered : order amongKeys ls ≡ []) (clean : gather faults ls ≡ []) where
   key-said : (f : List Byte → Option ℕ) (k : song.KeyName) → andThen (settingAmong (keyPlace k) (earlyLines ls)) (λ x. f (x .text)) ≡ andThen (playing.settingOf k (collect keyIn ls)) f

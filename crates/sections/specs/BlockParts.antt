@@ -98,5 +98,6 @@ pub record NextAt (s : List ℕ) (n at : ℕ) (r : Place) : Type 0 where
   pub counted : r .number ≤ r .at + 1
   pub onward : at ≤ r .at
   pub inside : r .at ≤ length s
+  pub same : blocks (textLines s n at) ≡ blocks (textLines s (r .number) (r .at))
   pub over : length s ≤ r .at → blocks (textLines s n at) ≡ []
   pub there : r .at < length s → blocks (textLines s n at) ≡ blockAt s (r .number) (r .at) ∷ blocks (linesPast s (r .number) (r .at))

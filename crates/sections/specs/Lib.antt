@@ -4,3 +4,4 @@ pub mod Slots
 pub mod Values
 pub mod BlockParts
 pub mod SectionSays
+pub mod Onward

@@ -3,6 +3,7 @@ mod blocks;
 mod runs;
 mod slots;
 mod values;
+mod walking;
 
 pub use blocks::DefinitionRead;
 pub use blocks::Place;
@@ -23,3 +24,5 @@ pub use values::bpm_said;
 pub use values::keys_of;
 pub use values::modifiers_of;
 pub use values::time_said;
+pub use walking::Met;
+pub use walking::meet;

@@ -4,33 +4,33 @@ use Rattle.player.specs.Walks.{rowOf}
 use Rattle.songcode.specs.Lists.{times}
 use native.Mathlib.Omega.{arith}
 use borrow.Author.Needs.{needs}
-use Rattle.player.proofs.sections.tally.Statement.{statement}
-use Rattle.player.proofs.sections.tally.Tie as tie
-use Rattle.player.proofs.sections.tally.Reads as reads
-use Rattle.player.proofs.sections.tally.Lts as lts
-use Rattle.player.proofs.sections.rounds.Reads as rounds-reads
+use Rattle.player.proofs.playing.tally.Statement.{statement}
+use Rattle.player.proofs.playing.tally.Tie as tie
+use Rattle.player.proofs.playing.tally.Reads as reads
+use Rattle.player.proofs.playing.tally.Lts as lts
+use Rattle.player.proofs.playing.rounds.Reads as rounds-reads
 
--- src/sections.rt:67:104
+-- src/playing.rt:67:104
 slice-aggregate-rounds : tie.Need-slice-aggregate-rounds
 slice-aggregate-rounds c = search needs
 
--- src/sections.rt:67:113
+-- src/playing.rt:67:113
 slice-aggregate-rounds-2 : tie.Need-slice-aggregate-rounds-2
 slice-aggregate-rounds-2 c = search needs
 
--- src/sections.rt:67:9
+-- src/playing.rt:67:9
 rounds-requires : tie.Need-rounds-requires
 rounds-requires c κs = search needs
 
--- src/sections.rt:68:24
+-- src/playing.rt:68:24
 sub-t15 : tie.Need-sub-t15
 sub-t15 c = let q = c .before .before .before .before .before .before .before in let a = q .args in let row = times (a .r) (rowOf (a .d) (a .n) (a .words .now) (a .s)) in let t = tallied row (a .k) _ _ _ _ _ (short-times (a .r) _ (short-row (a .d) (a .n) (a .words .now) (q .pre .0) (a .s))) (q .pre .1) (c .before .before .before .rounds .ensures) in omega (arith, t .0)
 
--- src/sections.rt:68:43
+-- src/playing.rt:68:43
 sub-t16 : tie.Need-sub-t16
 sub-t16 c = let q = c .before .before .before .before .before .before .before .before in let a = q .args in let row = times (a .r) (rowOf (a .d) (a .n) (a .words .now) (a .s)) in let t = tallied row (a .k) _ _ _ _ _ (short-times (a .r) _ (short-row (a .d) (a .n) (a .words .now) (q .pre .0) (a .s))) (q .pre .1) (c .before .before .before .before .rounds .ensures) in omega (arith, t .1)
 
--- src/sections.rt:59:1
+-- src/playing.rt:59:1
 returns : tie.Need-returns
 returns c = let q = c .before .before .before .before .before .before .before .before in let a = q .args in let row = times (a .r) (rowOf (a .d) (a .n) (a .words .now) (a .s)) in let t = tallied row (a .k) _ _ _ _ _ (short-times (a .r) _ (short-row (a .d) (a .n) (a .words .now) (q .pre .0) (a .s))) (q .pre .1) (c .before .before .before .before .rounds .ensures) in (omega (arith, t .0), (omega (arith, t .1, t .2), omega (arith, t .1, t .2)))
 

@@ -1,0 +1,79 @@
+-- The answer of the call, and the final content of the tables: written where the song is accepted, as they were where it is refused.
+use Prim.Native.Nat.{ℕ, zero, suc, _+_, _*_, _^_, _<_}
+use mathlib.Core.Path.{_≡_}
+use mathlib.Core.Bool.{Bool, true, false, _||_}
+use mathlib.Core.List.{List, [], _∷_, _++_}
+use mathlib.Core.Option.{Option, none, some}
+use lib.Dec.{eqb, ltb}
+use lib.ListN.{length, drop}
+use Rattle.songcode.specs.Lists.{if_then_else_}
+use Rattle.songcode.specs.Complaints.{Complaint}
+use Rattle.songcode.specs.Song.{Song}
+use Rattle.songcode.specs.References.{referenceFaults}
+use Rattle.songcode.specs.Meter.{meterFaults, lengthFaults}
+use Rattle.songcode.specs.Lyrics.{countFaults, sumFaults}
+use Rattle.songcode.specs.Tables.{Tables, keyWord}
+use Rattle.songcode.specs.Answer as songcode
+use Rattle.songcode.specs.Answer.{refused, accepted}
+use Rattle.sections.specs.Slots.{Setting}
+use Rattle.reader.specs.declared.Answer.{Answer}
+use Rattle.reader.specs.declared.sums.Totals.{Totals}
+
+-- "Lent memory past what a call writes keeps what it held".
+unfoldable pub written : List ℕ → List ℕ → List ℕ
+written new old = new ++ drop (length new) old
+
+-- "The result gives refusal 0, line 0 and the counts of sections, measures, beats and items"; "A refusal returns its number and line, counts 0".
+unfoldable pub answerOf : songcode.Answer → Answer
+answerOf (refused number line) = record { refusal = number; line = line; sections = 0; measures = 0; beats = 0; items = 0 }
+answerOf (accepted t) =
+    record { refusal = 0; line = 0; sections = length (t .sections); measures = length (t .measures); beats = length (t .beats); items = length (t .items) }
+
+-- "and no table word changes".
+unfoldable pub storedKeys : songcode.Answer → List ℕ → List ℕ
+unfolding written
+storedKeys (refused number line) old = old
+storedKeys (accepted t) old = written (t .keys) old
+
+unfoldable pub storedSections : songcode.Answer → List ℕ → List ℕ
+unfolding written
+storedSections (refused number line) old = old
+storedSections (accepted t) old = written (t .sections) old
+
+unfoldable pub storedMeasures : songcode.Answer → List ℕ → List ℕ
+unfolding written
+storedMeasures (refused number line) old = old
+storedMeasures (accepted t) old = written (t .measures) old
+
+unfoldable pub storedBeats : songcode.Answer → List ℕ → List ℕ
+unfolding written
+storedBeats (refused number line) old = old
+storedBeats (accepted t) old = written (t .beats) old
+
+unfoldable pub storedItems : songcode.Answer → List ℕ → List ℕ
+unfolding written
+storedItems (refused number line) old = old
+storedItems (accepted t) old = written (t .items) old
+
+-- Stages 3 to 7.
+unfoldable pub laterFaults : Song → List (List Complaint)
+laterFaults s = referenceFaults s ∷ meterFaults s ∷ lengthFaults s 0 (s .sections) ∷ countFaults s ∷ sumFaults s ∷ []
+
+-- A table that is too short for these totals.
+unfoldable pub isShort : Totals → ℕ → ℕ → ℕ → ℕ → ℕ → Bool
+isShort t k s m b i = ltb k 8 || ltb s (t .sections) || ltb m (t .measures) || ltb b (t .beats) || ltb i (t .items)
+
+unfoldable pub tempoOf : ℕ → ℕ → ℕ
+unfolding if_then_else_
+tempoOf own song = if eqb own 511 then song else own
+
+-- The word of a key's setting, where it is found.
+unfoldable pub wordOfSetting : Option Setting → ℕ
+unfolding keyWord
+wordOfSetting none = 0
+wordOfSetting (some x) = keyWord (some (x .text))
+
+-- A setting that is there has 1 to 511 bytes.
+unfoldable pub ShortSetting : Option Setting → Type 0
+ShortSetting none = Unit {0}
+ShortSetting (some x) = (0 < length (x .text)) × (length (x .text) < 512)

@@ -1,0 +1,24 @@
+-- The tokens of some lines, as they are laid into the buffer; the number that a pattern names.
+use Prim.Native.Nat.{ℕ, _≤_}
+use mathlib.Core.Path.{_≡_}
+use mathlib.Core.List.{List, [], _∷_}
+use mathlib.Core.Option.{Option, none, some}
+use Rattle.songcode.specs.Lines.{Line}
+use Rattle.songcode.specs.Song.{Pattern, items, named}
+use Rattle.songcode.specs.Tokens.{Token, tokens, tokensOf}
+use Rattle.sections.specs.Slots.{Setting}
+
+-- A line end stands between neighbours.
+unfoldable pub runTokens : List Line → List Token
+runTokens [] = []
+runTokens (l ∷ ls) = tokensOf l ls
+
+-- A lead-in or tail; none where there is no such setting.
+unfoldable pub saidTokens : Option Setting → List Token
+saidTokens none = []
+saidTokens (some x) = tokens (x .text)
+
+-- 0 is the number of no definition.
+unfoldable pub Names : Pattern → ℕ → Type 0
+Names (items r) k = k ≡ 0
+Names (named n) k = (k ≡ n) × (1 ≤ n) × (n ≤ 9999)

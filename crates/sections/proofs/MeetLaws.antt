@@ -1,0 +1,145 @@
+-- From section to section: the blocks behind a section's are those from the next place on, and their lines stand behind it.
+use Prim.Native.Nat.{ℕ, zero, suc, _+_, _-_, _<_, _≤_}
+use mathlib.Core.Path.{_≡_, refl, sym, ap, _∙_, subst}
+use mathlib.Core.List.{List, [], _∷_, _++_, map}
+use mathlib.Core.Bool.{Bool, true, false, not}
+use mathlib.Core.Option.{Option, none, some}
+use native.Mathlib.Omega.{arith}
+use lib.ListN.{length, drop}
+use Rattle.songcode.specs.Lists.{if_then_else_, isEmpty, gather, taken, left, isSome, orElse}
+use Rattle.songcode.specs.Lines.{Line, Block, shut, join, runs, blocks}
+use Rattle.songcode.specs.Song.{Section, Pattern, named}
+use Rattle.songcode.specs.PatternText.{sectionText}
+use Rattle.songcode.specs.Sections.{sectionFaults, sectionIn, patternIn, patternFaults, patternRun, body}
+use Rattle.songcode.proofs.ListLaws.{append-is-nil, nil-is-not-cons, complainIf-nil, true-is-not-false}
+use Rattle.text.specs.Spans.{lineOf, lineAt, lineText, spansFrom}
+use Rattle.text.specs.declared.lines.Line as text
+use Rattle.text.proofs.TestLaws.{by-cases}
+use Rattle.sections.specs.declared.blocks.Place.{Place}
+use Rattle.sections.specs.declared.blocks.SectionRead.{SectionRead}
+use Rattle.sections.specs.declared.walking.Met.{Met}
+use Rattle.sections.specs.declared.runs.Test.the-variants.{Full}
+use Rattle.sections.specs.Runs.{textLines, passing, passes, linesOf, linesBehind}
+use Rattle.sections.specs.BlockParts.{blockAt, linesPast, SectionAt, NextAt}
+use Rattle.sections.specs.SectionSays.{SectionSays}
+use Rattle.sections.specs.Onward.{sectionsFrom, Onward, sectionAt, Later, Meets}
+use Rattle.sections.proofs.SectionLaws.{clean-order, section-says}
+
+-- Lines, and the first lines of blocks, numbered from n on.
+From : ℕ → List Line → Type 0
+From n [] = Unit {0}
+From n (l ∷ ls) = (n ≤ l .number) × From n ls
+
+Firsts : ℕ → List Block → Type 0
+Firsts n [] = Unit {0}
+Firsts n (b ∷ bs) = (n ≤ b .first .number) × Firsts n bs
+
+from-wider : (m n : ℕ) → m ≤ n → (ls : List Line) → From n ls → From m ls
+unfolding From
+from-wider m n h [] w = tt
+from-wider m n h (l ∷ ls) w = let q = w .0 in (omega arith, from-wider m n h ls (w .1))
+
+from-spans : (s : List ℕ) (n at k : ℕ) (bs : List ℕ) → From n (map (lineText s) (spansFrom n at k bs))
+unfolding From spansFrom lineOf
+from-spans s n at k [] = tt
+from-spans s n at (suc k) (b ∷ bs) = from-spans s n (suc at) k bs
+from-spans s n at zero (b ∷ bs) =
+    (omega arith, from-wider n (suc n) (omega arith) (map (lineText s) (spansFrom (suc n) (suc at) (lineOf n at (b ∷ bs) .next - suc at) bs)) (from-spans s (suc n) (suc at) (lineOf n at (b ∷ bs) .next - suc at) bs))
+
+from-lines : (s : List ℕ) (n at : ℕ) → From n (textLines s n at)
+unfolding textLines
+from-lines s n at = from-spans s n at 0 (drop at s)
+
+from-left : (n : ℕ) (p : Line → Bool) (ls : List Line) → From n ls → From n (left p ls)
+unfolding From left if_then_else_
+from-left n p [] w = tt
+from-left n p (l ∷ ls) w = by-cases (p l) (λ e. rw e (from-left n p ls (w .1))) (λ e. rw e w)
+
+record RunsFrom (n : ℕ) (ls : List Line) : Type 0 where
+  front : From n (runs ls .front)
+  rest : Firsts n (runs ls .rest)
+
+shut-firsts : (n : ℕ) (ls : List Line) (bs : List Block) → From n ls → Firsts n bs → Firsts n (shut ls bs)
+unfolding From Firsts shut
+shut-firsts n [] bs w v = v
+shut-firsts n (l ∷ ls) bs w v = (w .0, v)
+
+runs-from : (n : ℕ) (ls : List Line) → From n ls → RunsFrom n ls
+unfolding From Firsts runs join
+runs-from n [] w = record { front = tt; rest = tt }
+runs-from n (l ∷ ls) w =
+    let r = runs-from n ls (w .1) in
+    by-cases (isEmpty (l .text))
+    (λ e. record { front = rw e tt; rest = rw e (shut-firsts n (runs ls .front) (runs ls .rest) (r .front) (r .rest)) })
+    (λ e. record { front = rw e (w .0, r .front); rest = rw e (r .rest) })
+
+blocks-from : (n : ℕ) (ls : List Line) → From n ls → Firsts n (blocks ls)
+unfolding blocks
+blocks-from n ls w = let r = runs-from n ls w in shut-firsts n (runs ls .front) (runs ls .rest) (r .front) (r .rest)
+
+firsts-later : (n : ℕ) (bs : List Block) → Firsts (n + 1) bs → Later n (map sectionIn bs)
+unfolding Firsts Later sectionIn
+firsts-later n [] w = tt
+firsts-later n (b ∷ bs) w = let q = w .0 in (omega arith, firsts-later n bs (w .1))
+
+-- A section without fault has a pattern.
+pattern-there : (header : ℕ) (ls : List Line) → patternFaults header ls ≡ [] → patternIn ls ≡ some (orElse (patternIn ls) (named 0))
+unfolding patternFaults patternIn isSome orElse
+pattern-there header [] h = nil-is-not-cons (sym h)
+pattern-there header (l ∷ ls) h = some-there (sectionText l ls) (complainIf-nil (not (isSome (sectionText l ls))) 7 (l .number) h)
+  where
+    some-there : (o : Option Pattern) → not (isSome o) ≡ false → o ≡ some (orElse o (named 0))
+    some-there none e = true-is-not-false refl e
+    some-there (some q) e = refl
+
+module _ (s : List ℕ) (p : Place) (x : SectionRead) (q : Place) (o : Onward s p) (inside : p .at < length s) (w : SectionAt s (p .number) (p .at) x) (e : NextAt s (x .lyrics .number + x .lyrics .lines) (x .lyrics .next) q) where
+  block : Block
+  block = blockAt s (p .number) (p .at)
+
+  behind : blocks (linesPast s (p .number) (p .at)) ≡ blocks (textLines s (q .number) (q .at))
+  unfolding linesBehind
+  behind = ap blocks (sym (w .past)) ∙ e .same
+
+  opened : blocks (textLines s (p .number) (p .at)) ≡ block ∷ blocks (textLines s (q .number) (q .at))
+  unfolding block
+  opened = o .opens inside ∙ ap (λ bs. blockAt s (p .number) (p .at) ∷ bs) behind
+
+  no-faults : (sectionFaults block ≡ []) × (gather sectionFaults (blocks (textLines s (q .number) (q .at))) ≡ [])
+  unfolding gather
+  no-faults = append-is-nil (sectionFaults block) (gather sectionFaults (blocks (textLines s (q .number) (q .at)))) (ap (gather sectionFaults) (sym opened) ∙ o .fair)
+
+  next-onward : Onward s q
+  next-onward = record { number = e .number; counted = e .counted; inside = e .inside; opens = λ h. sym (e .same) ∙ e .there h; fair = no-faults .1 }
+
+  header-is : sectionAt s p .header ≡ p .number
+  unfolding sectionAt sectionIn blockAt lineOf
+  header-is = refl
+
+  later : Later (sectionAt s p .header) (sectionsFrom s q)
+  unfolding sectionsFrom linesPast
+  later =
+      let n = p .number in
+      let f = blocks-from (n + 1) (linesPast s n (p .at)) (from-left (n + 1) (passing Full) (textLines s (n + 1) (lineAt s n (p .at) .next)) (from-lines s (n + 1) (lineAt s n (p .at) .next))) in
+      rw header-is (firsts-later n (blocks (textLines s (q .number) (q .at))) (subst (Firsts (n + 1)) behind f))
+
+  has-pattern : patternIn (linesOf s (x .pattern)) ≡ some (sectionAt s p .pattern)
+  unfolding sectionAt sectionIn block
+  has-pattern =
+      let b = block in
+      let ls = patternRun (body b) in
+      ap patternIn (w .pattern) ∙ pattern-there (b .first .number) ls (clean-order b (no-faults .0) .2)
+
+  pub meets : Meets s p (record { section = x; next = q })
+  unfolding sectionsFrom sectionAt block
+  meets =
+      let a = w .onward in
+      let b = e .onward in
+      record {
+        read = w;
+        says = section-says s (p .number) (p .at) x w (no-faults .0);
+        written = has-pattern;
+        first = ap (map sectionIn) opened;
+        onward = next-onward;
+        further = omega arith;
+        later = later;
+      }
