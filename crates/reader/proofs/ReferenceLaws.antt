@@ -9,12 +9,15 @@ use lib.ListN.{length}
 use Rattle.songcode.specs.Lists.{isSome, gather}
 use Rattle.songcode.specs.Complaints.{Complaint, complaint, earlier, earliest}
 use Rattle.songcode.specs.Song.{Pattern, items, named, Definition, Section}
+use Rattle.songcode.specs.Sections.{patternIn}
 use Rattle.songcode.specs.References.{definitionOf, namedFault, sectionReference}
 use Rattle.songcode.proofs.ListLaws.{true-is-not-false, Each, each-append, each-map}
 use Rattle.text.specs.declared.Refusal.{Refusal}
 use Rattle.text.specs.Refusals.{refusalOf}
 use Rattle.sections.specs.declared.blocks.Place.{Place}
-use Rattle.sections.specs.Onward.{sectionsFrom, Later}
+use Rattle.sections.specs.declared.walking.Met.{Met}
+use Rattle.sections.specs.Runs.{linesOf}
+use Rattle.sections.specs.Onward.{sectionsFrom, sectionAt, Later, Meets}
 use Rattle.sections.proofs.NextLaws.{blocks-over}
 use Rattle.reader.specs.Laying.{Names}
 use Rattle.reader.specs.Meters.{nothingRefused}
@@ -53,7 +56,7 @@ module _ (ds : List Definition) (header : ℕ) where
 
 -- Every complaint of a section stands on its header.
 module _ (ds : List Definition) where
-  pub sectionFault : Section → List Complaint
+  unfoldable pub sectionFault : Section → List Complaint
   sectionFault x = sectionReference ds (x .pattern) (x .header)
 
   on-header : (x : Section) → Each (λ c. c .line ≡ x .header) (sectionFault x)
@@ -101,3 +104,15 @@ module _ (ds : List Definition) where
   pub next-section : (x : Section) (xs : List Section) (r : Refusal) → r ≡ refusalOf (earliest (sectionFault x)) → r .number ≡ 0 → gather sectionFault (x ∷ xs) ≡ gather sectionFault xs
   unfolding gather
   next-section x xs r e z = rw (refused-none (sectionFault x) (numbered x) (ap (λ (q : Refusal). q .number) (sym e) ∙ z)) refl
+
+  -- The fault of the section that is met at a place.
+  pub fault-at : (s : List ℕ) (p : Place) (m : Met) (r : Refusal) → Meets s p m
+      → ((x : Pattern) → patternIn (linesOf s (m .section .pattern)) ≡ some x → r ≡ refusalOf (earliest (sectionReference ds x (m .section .header))))
+      → r ≡ refusalOf (earliest (sectionFault (sectionAt s p)))
+  unfolding sectionFault
+  fault-at s p m r w f = f (sectionAt s p .pattern) (w .written) ∙ ap (λ (h : ℕ). refusalOf (earliest (sectionReference ds (sectionAt s p .pattern) h))) (w .says .header)
+
+-- Behind the last section none is left.
+pub sections-over : (s : List ℕ) (p : Place) → length s ≤ p .at → sectionsFrom s p ≡ []
+unfolding sectionsFrom
+sections-over s p h = rw (blocks-over s (p .number) (p .at) h)
