@@ -1,3 +1,4 @@
 -- Laws that the proofs of the functions cite.
 pub mod ComplaintLaws
 pub mod ReferenceLaws
+pub mod StageLaws
