@@ -1,7 +1,7 @@
 -- A section's measures, from the outlines of its texts: each of them counts up to 65,536.
-use Prim.Native.Nat.{ℕ, zero, suc, _+_, _*_, _<_, _≤_, min}
-use mathlib.Core.Path.{_≡_, refl, sym, ap, _∙_}
-use mathlib.Core.List.{List, []}
+use Prim.Native.Nat.{ℕ, _+_, _*_, _≤_, min}
+use mathlib.Core.Path.{_≡_, refl, ap, _∙_}
+use mathlib.Core.List.{List}
 use mathlib.Core.Logic.{_⊎_, inl, inr}
 use mathlib.Core.Option.{Option, none, some}
 use native.Mathlib.Omega.{arith}
@@ -13,7 +13,7 @@ use Rattle.songcode.specs.Lists.{andThen, times}
 use Rattle.songcode.specs.Song.{Items, Section, Song}
 use Rattle.songcode.specs.References.{patternItems}
 use Rattle.songcode.specs.Playing.{Side, saidBy, beforeSaid, afterSaid, repeats, measuresOf}
-use Rattle.songcode.specs.Meter.{count, countOf, sideCount, sectionCount}
+use Rattle.songcode.specs.Meter.{countOf, sideCount, sectionCount}
 use Rattle.songcode.proofs.ListLaws.{by-cases, times-length}
 use Rattle.songcode.proofs.RowLaws.{length-items}
 use Rattle.outlines.specs.declared.readings.Outline.{Outline}

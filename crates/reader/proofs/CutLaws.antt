@@ -1,15 +1,15 @@
 -- Cuts that leave no beat: as the code finds them from the numbers of a plan, and as the definitions say.
-use Prim.Native.Nat.{ℕ, zero, suc, _+_, _-_, _*_, _<_, _≤_, min}
+use Prim.Native.Nat.{ℕ, zero, suc, _-_, _*_, _≤_, min}
 use mathlib.Core.Path.{_≡_, refl, sym, ap, _∙_}
-use mathlib.Core.List.{List, [], _∷_, _++_, append-nil}
-use mathlib.Core.Bool.{Bool, true, false, not, _||_}
+use mathlib.Core.List.{List, [], _∷_, append-nil}
+use mathlib.Core.Bool.{true, false, not}
 use mathlib.Core.Option.{Option, none, some}
 use native.Mathlib.Omega.{arith}
 use native.Mathlib.Nat.{mul-le-mul}
 use lib.Dec.{eqb}
 use lib.ListN.{length}
 use borrow.Author.Tests.{eq-eqb, ne-eqb, eqb-true, eqb-false}
-use Rattle.songcode.specs.Lists.{if_then_else_, isEmpty, isSome, times}
+use Rattle.songcode.specs.Lists.{if_then_else_, isEmpty, times}
 use Rattle.songcode.specs.Complaints.{complainIf}
 use Rattle.songcode.specs.Song.{Cut, Items, Modifier}
 use Rattle.songcode.specs.Playing.{Beat, saidBy, cutStartSaid, cutEndSaid, applied, cutRow, repeats, measuresOf, keptMeasures}
@@ -24,7 +24,6 @@ use Rattle.settings.specs.Cuts.{cutIs, CutFits}
 use Rattle.outlines.specs.declared.readings.Outline.{Outline}
 use Rattle.outlines.specs.Tables.{vacant}
 use Rattle.player.specs.Texts.{rowWords}
-use Rattle.player.specs.Walks.{rowOf}
 use Rattle.player.specs.Windows.{cutOf, cutSaid, window, firstBeat, lastBeat, keptOf, wholeOf, sectionRow}
 use Rattle.player.proofs.SectionMeaning.{kept-none, kept-total, section-words}
 use Rattle.sections.specs.declared.values.Modifiers.{Modifiers}

@@ -1,21 +1,21 @@
 -- Stage 4 of a section: the refusals of its three texts in N are those of the complaints that the definitions make of it.
 use Prim.Native.Nat.{ℕ, _≤_, _%_}
 use mathlib.Core.Path.{_≡_, refl, sym, ap, _∙_}
-use mathlib.Core.List.{List, [], _∷_, _++_, append-assoc}
-use mathlib.Core.Bool.{Bool, true, false, not, _||_, _&&_}
+use mathlib.Core.List.{List, _++_, append-assoc}
+use mathlib.Core.Bool.{Bool, true, false, not}
 use mathlib.Core.Option.{Option, none, some}
 use native.Mathlib.Omega.{arith}
-use lib.Dec.{eqb, leb, ltb}
+use lib.Dec.{eqb}
 use borrow.Author.Tests.{eq-eqb, le-ltb}
-use Rattle.songcode.specs.Lists.{if_then_else_, andThen, when, gather}
-use Rattle.songcode.specs.Bytes.{Byte, placed}
+use Rattle.songcode.specs.Lists.{if_then_else_, andThen, when}
+use Rattle.songcode.specs.Bytes.{placed}
 use Rattle.songcode.specs.Complaints.{Complaint, complaint, complainIf, goesFirst, earlier, earliest}
 use Rattle.songcode.specs.Song.{Items, Section, Song}
 use Rattle.songcode.specs.PatternText.{sideText}
 use Rattle.songcode.specs.References.{patternItems}
 use Rattle.songcode.specs.Playing.{Side, timeOf, saidBy, beforeSaid, afterSaid}
 use Rattle.songcode.specs.Meter.{allFit, stray, rowFaults, playedFaults, sideFaults, sectionMeter}
-use Rattle.songcode.proofs.ListLaws.{by-cases, true-is-not-false, Each, each-append}
+use Rattle.songcode.proofs.ListLaws.{by-cases, Each, each-append}
 use Rattle.songcode.proofs.PatternLaws.{none-some}
 use Rattle.text.specs.Spans.{part}
 use Rattle.text.specs.Refusals.{refusalOf}
@@ -26,7 +26,7 @@ use Rattle.outlines.specs.Told.{Tells}
 use Rattle.player.specs.declared.leaves.Definitions.{Definitions}
 use Rattle.sections.specs.declared.slots.Said.{Said}
 use Rattle.sections.specs.declared.values.Modifiers.{Modifiers}
-use Rattle.sections.specs.Slots.{Setting, settingAt}
+use Rattle.sections.specs.Slots.{settingAt}
 use Rattle.sections.specs.SectionSays.{sideOn, sideSaid}
 use Rattle.reader.specs.declared.texts.Text.{Text}
 use Rattle.reader.specs.declared.texts.Texts.{Texts}

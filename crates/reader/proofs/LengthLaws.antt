@@ -8,7 +8,7 @@ use native.Mathlib.Omega.{arith}
 use lib.Dec.{leb, ltb}
 use borrow.Author.Tests.{le-leb, le-ltb, lt-ltb, eq-eqb}
 use Rattle.songcode.specs.Lists.{if_then_else_, isEmpty, when}
-use Rattle.songcode.specs.Complaints.{Complaint, complaint, complainIf, goesFirst, earlier, earliest}
+use Rattle.songcode.specs.Complaints.{complaint, complainIf, goesFirst, earlier, earliest}
 use Rattle.songcode.specs.Song.{Items, Modifier, Section, Song}
 use Rattle.songcode.specs.References.{patternItems}
 use Rattle.songcode.specs.Playing.{timeOf, keptMeasures}

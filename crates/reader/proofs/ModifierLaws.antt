@@ -1,5 +1,5 @@
 -- A section has a modifier exactly where one of the values that are read of its modifiers is said.
-use Prim.Native.Nat.{ℕ, zero, suc, _+_, _<_, _≤_}
+use Prim.Native.Nat.{ℕ, _+_, _<_, _≤_}
 use mathlib.Core.Path.{_≡_, refl, sym, ap, _∙_}
 use mathlib.Core.List.{List, [], _∷_}
 use mathlib.Core.Bool.{Bool, true, false, not, _||_}
@@ -8,12 +8,12 @@ use native.Mathlib.Omega.{arith}
 use lib.Dec.{eqb}
 use lib.ListN.{length}
 use borrow.Author.Tests.{eq-eqb, ne-eqb, eqb-true}
-use Rattle.songcode.specs.Lists.{if_then_else_, isEmpty, gather, collect, andThen, orElse, firstThere}
-use Rattle.songcode.specs.Lines.{Line, Block, blocks}
+use Rattle.songcode.specs.Lists.{if_then_else_, isEmpty, gather, andThen, orElse, firstThere}
+use Rattle.songcode.specs.Lines.{Block, blocks}
 use Rattle.songcode.specs.Numbers.{repeatIn}
 use Rattle.songcode.specs.Song.{Modifier, repeated, cutStart, cutEnd, before, after}
-use Rattle.songcode.specs.Modifiers.{ModifierName, ofRepeat, ofBefore, ofAfter, modifierPlace, modifierIn}
-use Rattle.songcode.specs.Sections.{body, sectionFaults, sectionIn, amongKeys, order, faults, modifierOn}
+use Rattle.songcode.specs.Modifiers.{ModifierName, ofRepeat, ofBefore, ofAfter, modifierPlace}
+use Rattle.songcode.specs.Sections.{body, sectionFaults, sectionIn}
 use Rattle.songcode.specs.Playing.{Side, saidBy, repeats, repeatSaid, cutStartSaid, cutEndSaid, beforeSaid, afterSaid}
 use Rattle.songcode.proofs.ListLaws.{by-cases, append-is-nil}
 use Rattle.songcode.proofs.PatternLaws.{none-some}

@@ -1,10 +1,10 @@
 -- Stage 5 of a section that is opened: its measures, its cuts, and what is left to the sections behind it.
 use Prim.Native.Nat.{ℕ, _+_, _*_, _<_, _≤_}
-use mathlib.Core.Path.{_≡_, refl, sym, ap, _∙_, subst}
-use mathlib.Core.List.{List, [], _∷_, _++_}
-use mathlib.Core.Logic.{_⊎_, ⊎-elim}
+use mathlib.Core.Path.{_≡_, sym, ap, _∙_, subst}
+use mathlib.Core.List.{List, [], _∷_}
+use mathlib.Core.Logic.{⊎-elim}
 use mathlib.Core.Bool.{Bool, true, false, not}
-use mathlib.Core.Option.{Option, none, some}
+use mathlib.Core.Option.{none, some}
 use native.Mathlib.Omega.{arith}
 use lib.ListN.{length}
 use borrow.Author.Tests.{not-false}
@@ -50,11 +50,11 @@ unfolding Measured lengthFaults refusalOf earliest
 measured-end s p k h w = ap (λ (xs : List Section). refusalOf (earliest (lengthFaults (songOf s) k xs))) (sym (sections-over s p h)) ∙ w .0
 
 -- A pattern of which stage 4 complains in no way.
-row-fits : (n line : ℕ) (r : Items) → rowFaults n line r ≡ [] → allFit n r ≡ true
+pub row-fits : (n line : ℕ) (r : Items) → rowFaults n line r ≡ [] → allFit n r ≡ true
 unfolding rowFaults
 row-fits n line r e = not-false (allFit n r) (complainIf-nil _ 12 line (append-is-nil (complainIf (not (allFit n r)) 12 line) (complainIf (stray none r) 13 line) e .0))
 
-pattern-fits : (song : Song) (x : Section) → sectionMeter song x ≡ [] → (r : Items) → patternItems (song .definitions) (x .pattern) ≡ some r → allFit (timeOf song x) r ≡ true
+pub pattern-fits : (song : Song) (x : Section) → sectionMeter song x ≡ [] → (r : Items) → patternItems (song .definitions) (x .pattern) ≡ some r → allFit (timeOf song x) r ≡ true
 unfolding sectionMeter playedFaults
 pattern-fits song x e r h =
     let n = timeOf song x in

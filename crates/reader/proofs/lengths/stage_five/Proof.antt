@@ -3,7 +3,7 @@ use Rattle.reader.specs.Scores.{Ready}
 use Rattle.sections.specs.Onward.{Onward}
 use lib.ListN.{length}
 use native.Mathlib.Omega.{arith}
-use mathlib.Core.Path.{_≡_, refl, sym, _∙_}
+use mathlib.Core.Path.{_≡_, refl, _∙_}
 use Prim.Native.Nat.{_-_, _≤_}
 use borrow.Author.Needs.{needs}
 use Rattle.reader.proofs.lengths.stage_five.Statement.{statement}
@@ -43,8 +43,12 @@ same-length c = c .before .before .before .before .before .before .open-section 
 
 -- src/lengths.rt:134:13
 returns : tie.Need-returns Inv-loop μ-loop
-returns c = let q = c .before .before .before .before .before .before .open-section in let w = q .ensures .0 in let l = c .before .before .before .before .before .before .before .before .before .before .loop in
-    (opened-passes _ _ _ _ _ w (l .inv .0) (c .before .before .before .before .before .before .before .before .if1 .taken) (c .before .before .before .before .before .before .before .before .before .before .before .before .before .pre .3) (l .measures) (l .inv .4) (l .inv .5) (omega (arith, c .if2 .taken, c .before .section-count .ensures)), (q .ensures .1 .0, q .ensures .1 .1 ∙ l .inv .2))
+returns c =
+    let q = c .before .before .before .before .before .before in
+    let w = q .open-section .ensures in
+    let l = q .before .before .before .before .loop in
+    let i = l .inv in
+    (opened-passes _ _ _ _ _ (w .0) (i .0) (q .before .before .if1 .taken) (q .before .before .before .before .before .before .before .pre .3) (l .measures) (i .4) (i .5) (omega (arith, c .if2 .taken, c .before .section-count .ensures)), (w .1 .0, w .1 .1 ∙ i .2))
 
 -- src/lengths.rt:142:13
 meter-of-requires : tie.Need-meter-of-requires Inv-loop μ-loop
@@ -52,8 +56,12 @@ meter-of-requires c κs = search needs
 
 -- src/lengths.rt:139:12
 is-cut-away-requires : tie.Need-is-cut-away-requires Inv-loop μ-loop
-is-cut-away-requires c κs = let q = c .before .before .before .before .before .before .before .before .open-section in let w = q .ensures .0 in let l = c .before .before .before .before .before .before .before .before .before .before .before .before .loop in
-    rw (c .meter-of .ensures) (opened-fits _ _ _ _ _ w (l .inv .0) (c .before .before .before .before .before .before .before .before .before .before .if1 .taken) (c .before .before .before .before .before .before .before .before .before .before .before .before .before .before .before .pre .3) (l .measures) (l .inv .4) (l .inv .5) (omega (arith, c .before .before .if2 .left, c .before .before .before .section-count .ensures)))
+is-cut-away-requires c κs =
+    let q = c .before .before .before .before .before .before .before .before in
+    let w = q .open-section .ensures in
+    let l = q .before .before .before .before .loop in
+    let i = l .inv in
+    rw (c .meter-of .ensures) (opened-fits _ _ _ _ _ (w .0) (i .0) (q .before .before .if1 .taken) (q .before .before .before .before .before .before .before .pre .3) (l .measures) (i .4) (i .5) (omega (arith, c .before .before .if2 .left, c .before .before .before .section-count .ensures)))
 
 -- src/lengths.rt:146:13
 same-length-2 : tie.Need-same-length-2 Inv-loop μ-loop
@@ -61,8 +69,14 @@ same-length-2 c = c .before .before .before .before .before .before .before .bef
 
 -- src/lengths.rt:146:13
 returns-2 : tie.Need-returns-2 Inv-loop μ-loop
-returns-2 c = let q = c .before .before .before .before .before .before .before .before .before .before .open-section in let w = q .ensures .0 in let l = c .before .before .before .before .before .before .before .before .before .before .before .before .before .before .loop in
-    (opened-cut _ _ _ _ _ w (l .inv .0) (c .before .before .before .before .before .before .before .before .before .before .before .before .if1 .taken) (c .before .before .before .before .before .before .before .before .before .before .before .before .before .before .before .before .before .pre .3) (l .measures) (l .inv .4) (l .inv .5) (omega (arith, c .before .before .before .before .if2 .left, c .before .before .before .before .before .section-count .ensures)) (found-away _ _ _ _ (c .before .before .meter-of .ensures) (c .before .is-cut-away .ensures) (c .if3 .taken)), (q .ensures .1 .0, q .ensures .1 .1 ∙ l .inv .2))
+returns-2 c =
+    let q = c .before .before .before .before .before .before .before .before .before .before in
+    let w = q .open-section .ensures in
+    let l = q .before .before .before .before .loop in
+    let i = l .inv in
+    let few = c .before .before .before .before .if2 .left in
+    let away = found-away _ _ _ _ (c .before .before .meter-of .ensures) (c .before .is-cut-away .ensures) (c .if3 .taken) in
+    (opened-cut _ _ _ _ _ (w .0) (i .0) (q .before .before .if1 .taken) (q .before .before .before .before .before .before .before .pre .3) (l .measures) (i .4) (i .5) (omega (arith, few, c .before .before .before .before .before .section-count .ensures)) away, (w .1 .0, w .1 .1 ∙ i .2))
 
 -- src/lengths.rt:128:5
 loop-less : tie.Need-loop-less Inv-loop μ-loop
@@ -70,15 +84,16 @@ loop-less c = let further = c .before .before .before .before .before .before .b
 
 -- src/lengths.rt:128:5
 loop-again : tie.Need-loop-again Inv-loop μ-loop
-loop-again c = let q = c .before .before .before .before .before .before .before .before .before .before .before .open-section in let w = q .ensures .0 in let l = c .before .before .before .before .before .before .before .before .before .before .before .before .before .before .before .loop in
-    let further = w .met .further in (
-      w .met .onward,
-      q .ensures .1 .0,
-      q .ensures .1 .1 ∙ l .inv .2,
-      omega (arith, l .inv .3),
-      c .before .before .before .before .before .if2 .left,
-      rw (c .before .before .before .before .before .before .section-count .ensures) (opened-on _ _ _ _ _ w (l .inv .0) (c .before .before .before .before .before .before .before .before .before .before .before .before .before .if1 .taken) (c .before .before .before .before .before .before .before .before .before .before .before .before .before .before .before .before .before .before .pre .3) (l .measures) (l .inv .4) (l .inv .5) (omega (arith, c .before .before .before .before .before .if2 .left, c .before .before .before .before .before .before .section-count .ensures)) (found-away _ _ _ _ (c .before .before .before .meter-of .ensures) (c .before .before .is-cut-away .ensures) (c .before .if3 .left))),
-    )
+loop-again c =
+    let q = c .before .before .before .before .before .before .before .before .before .before .before in
+    let w = q .open-section .ensures in
+    let l = q .before .before .before .before .loop in
+    let i = l .inv in
+    let few = c .before .before .before .before .before .if2 .left in
+    let count = c .before .before .before .before .before .before .section-count .ensures in
+    let away = found-away _ _ _ _ (c .before .before .before .meter-of .ensures) (c .before .before .is-cut-away .ensures) (c .before .if3 .left) in
+    let further = w .0 .met .further in
+    (w .0 .met .onward, w .1 .0, w .1 .1 ∙ i .2, omega (arith, i .3), few, rw count (opened-on _ _ _ _ _ (w .0) (i .0) (q .before .before .if1 .taken) (q .before .before .before .before .before .before .before .pre .3) (l .measures) (i .4) (i .5) (omega (arith, few, count)) away))
 
 -- src/lengths.rt:121:1
 same-length-3 : tie.Need-same-length-3 Inv-loop μ-loop

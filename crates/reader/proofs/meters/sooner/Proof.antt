@@ -30,12 +30,16 @@ returns-4 c = rw (ne-eqb _ 0 (c .before .before .before .before .before .before 
 -- src/meters.rt:47:1
 returns-5 : tie.Need-returns-5
 unfolding soonerOf if_then_else_
-returns-5 c = rw (ne-eqb _ 0 (c .before .before .before .before .before .before .before .before .before .before .before .if1 .left), ne-eqb _ 0 (c .before .before .before .before .before .before .before .before .before .if2 .left), le-ltb _ _ (c .before .before .before .before .before .before .if3 .left), le-ltb _ _ (c .before .before .before .if4 .left), lt-ltb _ _ (c .if5 .taken))
+returns-5 c =
+    let q = c .before .before .before in
+    rw (ne-eqb _ 0 (q .before .before .before .before .before .before .before .before .if1 .left), ne-eqb _ 0 (q .before .before .before .before .before .before .if2 .left), le-ltb _ _ (q .before .before .before .if3 .left), le-ltb _ _ (q .if4 .left), lt-ltb _ _ (c .if5 .taken))
 
 -- src/meters.rt:47:1
 returns-6 : tie.Need-returns-6
 unfolding soonerOf if_then_else_
-returns-6 c = rw (ne-eqb _ 0 (c .before .before .before .before .before .before .before .before .before .before .before .if1 .left), ne-eqb _ 0 (c .before .before .before .before .before .before .before .before .before .if2 .left), le-ltb _ _ (c .before .before .before .before .before .before .if3 .left), le-ltb _ _ (c .before .before .before .if4 .left), le-ltb _ _ (c .if5 .left))
+returns-6 c =
+    let q = c .before .before .before in
+    rw (ne-eqb _ 0 (q .before .before .before .before .before .before .before .before .if1 .left), ne-eqb _ 0 (q .before .before .before .before .before .before .if2 .left), le-ltb _ _ (q .before .before .before .if3 .left), le-ltb _ _ (q .if4 .left), le-ltb _ _ (c .if5 .left))
 
 pub sooner-spec : {M : Type 1} → statement M
 sooner-spec = tie.close (tie.spec returns returns-2 returns-3 returns-4 returns-5 returns-6)

@@ -3,7 +3,7 @@ use Rattle.reader.specs.Scores.{Ready}
 use Rattle.sections.specs.Onward.{Onward}
 use lib.ListN.{length}
 use native.Mathlib.Omega.{arith}
-use mathlib.Core.Path.{_≡_, refl, sym, _∙_}
+use mathlib.Core.Path.{_≡_, refl, _∙_}
 use Prim.Native.Nat.{_-_, _≤_}
 use borrow.Author.Needs.{needs}
 use Rattle.reader.proofs.meters.stage_four.Statement.{statement}
@@ -47,13 +47,14 @@ loop-less c = let w = c .before .before .before .before .before .before .before 
 
 -- src/meters.rt:88:5
 loop-again : tie.Need-loop-again Inv-loop μ-loop
-loop-again c = let q = c .before .before .before .before .before .before .before .before in let l = q .before .before .before .before .loop in let w = q .open-section .ensures .0 in let further = w .met .further in (
-  w .met .onward,
-  q .open-section .ensures .1 .0,
-  q .open-section .ensures .1 .1 ∙ l .inv .2,
-  omega (arith, l .inv .3),
-  rw (c .before .sooner .ensures) (judged-next _ _ _ _ _ (w .met .first) (c .before .before .meter-fault .ensures ∙ rw (c .before .before .before .meter-of .ensures) (opened-fault _ _ _ _ _ w (c .before .before .before .before .before .before .before .before .before .before .before .before .before .before .before .pre .3))) (l .inv .4)),
-)
+loop-again c =
+    let q = c .before .before .before .before .before .before .before .before in
+    let w = q .open-section .ensures in
+    let l = q .before .before .before .before .loop in
+    let i = l .inv in
+    let further = w .0 .met .further in
+    let fault = opened-fault _ _ _ _ _ (w .0) (q .before .before .before .before .before .before .before .pre .3) (c .before .before .before .meter-of .ensures) (c .before .before .meter-fault .ensures) in
+    (w .0 .met .onward, w .1 .0, w .1 .1 ∙ i .2, omega (arith, i .3), rw (c .before .sooner .ensures) (judged-next _ _ _ _ _ (w .0 .met .first) fault (i .4)))
 
 -- src/meters.rt:81:1
 same-length : tie.Need-same-length Inv-loop μ-loop
