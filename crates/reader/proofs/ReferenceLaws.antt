@@ -8,9 +8,9 @@ use native.Mathlib.Omega.{arith}
 use lib.ListN.{length}
 use Rattle.songcode.specs.Lists.{isSome, gather}
 use Rattle.songcode.specs.Complaints.{Complaint, complaint, earlier, earliest}
-use Rattle.songcode.specs.Song.{Pattern, items, named, Definition, Section}
+use Rattle.songcode.specs.Song.{Pattern, items, named, Definition, Section, Song}
 use Rattle.songcode.specs.Sections.{patternIn}
-use Rattle.songcode.specs.References.{definitionOf, namedFault, sectionReference}
+use Rattle.songcode.specs.References.{definitionOf, namedFault, sectionReference, definitionsReferences, referenceFaults}
 use Rattle.songcode.proofs.ListLaws.{true-is-not-false, Each, each-append, each-map}
 use Rattle.text.specs.declared.Refusal.{Refusal}
 use Rattle.text.specs.Refusals.{refusalOf}
@@ -87,7 +87,7 @@ module _ (ds : List Definition) where
       of (items r) = tt
       of (named n) = found (definitionOf n ds)
 
-  all-numbered : (xs : List Section) → Each Numbered (gather sectionFault xs)
+  pub all-numbered : (xs : List Section) → Each Numbered (gather sectionFault xs)
   unfolding gather Each
   all-numbered [] = tt
   all-numbered (x ∷ xs) = each-append Numbered (sectionFault x) (gather sectionFault xs) (numbered x) (all-numbered xs)
@@ -116,3 +116,18 @@ module _ (ds : List Definition) where
 pub sections-over : (s : List ℕ) (p : Place) → length s ≤ p .at → sectionsFrom s p ≡ []
 unfolding sectionsFrom
 sections-over s p h = rw (blocks-over s (p .number) (p .at) h)
+
+-- Stage 3 of the whole song, where nothing is wrong with the definitions.
+module _ (song : Song) (clear : definitionsReferences [] (song .definitions) ≡ []) where
+  references-are : referenceFaults song ≡ gather (sectionFault (song .definitions)) (song .sections)
+  unfolding referenceFaults sectionFault
+  references-are = rw clear refl
+
+  pub song-references : (xs : List Section) (r : Refusal) → xs ≡ song .sections → r ≡ refusalOf (earliest (gather (sectionFault (song .definitions)) xs)) → r ≡ refusalOf (earliest (referenceFaults song))
+  song-references xs r e h = h ∙ ap (λ (ys : List Section). refusalOf (earliest (gather (sectionFault (song .definitions)) ys))) e ∙ ap (λ (cs : List Complaint). refusalOf (earliest cs)) (sym references-are)
+
+  pub references-none : (r : Refusal) → r ≡ refusalOf (earliest (referenceFaults song)) → r .number ≡ 0 → referenceFaults song ≡ []
+  references-none r h z =
+      references-are
+      ∙ refused-none (gather (sectionFault (song .definitions)) (song .sections)) (all-numbered (song .definitions) (song .sections))
+      (ap (λ (cs : List Complaint). refusalOf (earliest cs) .number) (sym references-are) ∙ ap (λ (q : Refusal). q .number) (sym h) ∙ z)

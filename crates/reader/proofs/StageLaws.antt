@@ -20,6 +20,7 @@ use Rattle.songcode.specs.Answer.{mostBytes, lineOfPlace, inputFaults}
 use Rattle.songcode.proofs.ListLaws.{by-cases, Each, each-append, nil-is-not-cons}
 use Rattle.text.specs.declared.Refusal.{Refusal}
 use Rattle.text.specs.Refusals.{refusalOf}
+use Rattle.reader.specs.declared.sums.Totals.{Totals}
 use Rattle.reader.proofs.ComplaintLaws.{Numbered, numbered-if, refused-none}
 
 -- A stage that refuses gives the verdict; one that complains of nothing leaves it to the rest.
@@ -125,3 +126,7 @@ module _ (song : Song) where
   pub numbered-sums : Each Numbered (sumFaults song)
   unfolding sumFaults
   numbered-sums = numbered-when (hasCounts song) (gather (sumFault song) (song .sections)) (numbered-gather (sumFault song) numbered-sum (song .sections))
+
+-- What is said where nothing is refused is not asked of a refusal.
+pub refused-says : {X : Type 0} (r : Totals) (q : Refusal) → r .refusal ≡ q → (q .number ≡ 0 → ⊥) → r .refusal .number ≡ 0 → X
+refused-says r q e n z = absurd (n (ap (λ (x : Refusal). x .number) (sym e) ∙ z))
