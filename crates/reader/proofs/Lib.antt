@@ -10,3 +10,4 @@ pub mod ModifierLaws
 pub mod CutLaws
 pub mod LengthLaws
 pub mod OpenedLaws
+pub mod AnswerLaws

@@ -1,0 +1,212 @@
+-- The answer from the verdicts of its stages: the first two, the next five, and the room in the tables.
+use Prim.Native.Nat.{ℕ, zero, suc, _+_, _<_, _≤_}
+use mathlib.Core.Path.{_≡_, refl, sym, ap, _∙_}
+use mathlib.Core.List.{List, [], _∷_, _++_, map}
+use mathlib.Core.Bool.{Bool, true, false, not, _||_, _&&_}
+use mathlib.Core.Option.{Option, none, some}
+use native.Mathlib.Omega.{arith}
+use borrow.Author.Tests.{ltb-false}
+use lib.Dec.{eqb, leb, ltb}
+use lib.ListN.{length}
+use Rattle.songcode.specs.Lists.{gather, when, andThen, orElse}
+use Rattle.songcode.specs.Bytes.{Byte}
+use Rattle.songcode.specs.Complaints.{Complaint, complaint, complainIf, earlier, earliest, stageOr, verdict}
+use Rattle.songcode.specs.Song.{Items, Definition, Song, Section, KeyName, time, bpm}
+use Rattle.songcode.specs.PatternText.{depth, loopsDeep, references, noReference}
+use Rattle.songcode.specs.Keys.{keyPlace, timeIn, bpmIn}
+use Rattle.songcode.specs.References.{putIn, itemsOf, definitionOf, itemsFault, referenceFault, depthFault, definitionReferences, definitionsReferences, referenceFaults}
+use Rattle.songcode.specs.Playing as playing
+use Rattle.songcode.specs.Playing.{timeAmong, bpmAmong}
+use Rattle.songcode.specs.Meter.{meterFaults, lengthFaults}
+use Rattle.songcode.specs.Lyrics.{countFaults, sumFaults}
+use Rattle.songcode.specs.SongText.{textFaults, metadataLines, songIn}
+use Rattle.songcode.specs.Tables.{Tables, tables, keyWords, keyOrder}
+use Rattle.songcode.specs.Answer.{Room, inputFaults, blocksOf, songOf, roomFaults, stages, refused, accepted, answerBy, answer}
+use Rattle.songcode.proofs.ListLaws.{by-cases, Each, each-append, none-passes, pass-none}
+use Rattle.text.specs.declared.Refusal.{Refusal}
+use Rattle.text.specs.Refusals.{refusalOf}
+use Rattle.sections.specs.declared.blocks.Place.{Place}
+use Rattle.sections.specs.declared.runs.Run.{Run}
+use Rattle.sections.specs.declared.values.Keys.{Keys}
+use Rattle.sections.specs.Runs.{linesOf}
+use Rattle.sections.specs.Slots.{Setting, settingAmong}
+use Rattle.sections.specs.Values.{timeSaid, bpmSaid, KeysAre}
+use Rattle.sections.proofs.SaidLaws.{key-among}
+use Rattle.reader.specs.Metadata.{linesBefore, MetadataEnds}
+use Rattle.reader.specs.Sums.{Holds}
+use Rattle.reader.specs.declared.sums.Totals.{Totals}
+use Rattle.reader.specs.Answers.{lyricFaults, playingFaults, laterFaults, isShort}
+use Rattle.reader.proofs.ComplaintLaws.{Numbered, numbered-if, refused-none}
+use Rattle.reader.proofs.ReferenceLaws.{sectionFault, all-numbered}
+use Rattle.reader.proofs.StageLaws.{stage-passed, last-stage, numbered-meters, numbered-lengths, numbered-counts, numbered-sums}
+
+-- Complaints of references are numbered.
+numbered-items : (o : Option Items) (head : ℕ) → Each Numbered (itemsFault o head)
+unfolding itemsFault Each Numbered
+numbered-items none head = (omega arith, tt)
+numbered-items (some r) head = numbered-if (not (noReference r)) 11 head (omega arith)
+
+numbered-reference : (o : Option Definition) (head : ℕ) → Each Numbered (referenceFault o head)
+unfolding referenceFault Each Numbered
+numbered-reference none head = (omega arith, tt)
+numbered-reference (some d) head = numbered-items (d .items) head
+
+numbered-all : (earlier : List Definition) (head : ℕ) (ns : List ℕ) → Each Numbered (gather (λ n. referenceFault (definitionOf n earlier) head) ns)
+unfolding gather Each
+numbered-all earlier head [] = tt
+numbered-all earlier head (n ∷ ns) = each-append Numbered (referenceFault (definitionOf n earlier) head) (gather (λ n. referenceFault (definitionOf n earlier) head) ns) (numbered-reference (definitionOf n earlier) head) (numbered-all earlier head ns)
+
+numbered-definition : (earlier : List Definition) (o : Option Items) (head : ℕ) → Each Numbered (definitionReferences earlier o head)
+unfolding definitionReferences depthFault Each
+numbered-definition earlier none head = tt
+numbered-definition earlier (some r) head = each-append Numbered (gather (λ n. referenceFault (definitionOf n earlier) head) (references r)) (complainIf (not (leb (depth (putIn (itemsOf earlier) r)) loopsDeep)) 11 head) (numbered-all earlier head (references r)) (numbered-if (not (leb (depth (putIn (itemsOf earlier) r)) loopsDeep)) 11 head (omega arith))
+
+numbered-definitions : (earlier ds : List Definition) → Each Numbered (definitionsReferences earlier ds)
+unfolding definitionsReferences Each
+numbered-definitions earlier [] = tt
+numbered-definitions earlier (d ∷ ds) = each-append Numbered (definitionReferences earlier (d .items) (d .head)) (definitionsReferences (d ∷ earlier) ds) (numbered-definition earlier (d .items) (d .head)) (numbered-definitions (d ∷ earlier) ds)
+
+numbered-song : (song : Song) → Each Numbered (referenceFaults song)
+unfolding referenceFaults sectionFault
+numbered-song song = each-append Numbered (definitionsReferences [] (song .definitions)) (gather (sectionFault (song .definitions)) (song .sections)) (numbered-definitions [] (song .definitions)) (all-numbered (song .definitions) (song .sections))
+
+-- A verdict of number 0 over numbered stages: none of them has a complaint.
+verdict-clear : (xs : List Complaint) (rest : List (List Complaint)) → Each Numbered xs → refusalOf (verdict (xs ∷ rest)) .number ≡ 0 → (xs ≡ []) × (refusalOf (verdict rest) .number ≡ 0)
+unfolding verdict refusalOf stageOr
+verdict-clear xs rest h z =
+    let e = of (earliest xs) z in
+    let n = refused-none xs h e in
+    (n, ap (λ (r : Refusal). r .number) (sym (stage-passed xs rest n)) ∙ z)
+  where
+    of : (o : Option Complaint) → refusalOf (stageOr o (verdict rest)) .number ≡ 0 → refusalOf o .number ≡ 0
+    of none z = refl
+    of (some c) z = z
+
+-- Nothing is wrong with the song in stages 3 to 7.
+pub record Clear (song : Song) : Type 0 where
+  pub references : referenceFaults song ≡ []
+  pub meters : meterFaults song ≡ []
+  pub lengths : lengthFaults song 0 (song .sections) ≡ []
+  pub counts : countFaults song ≡ []
+  pub sums : sumFaults song ≡ []
+
+pub song-clear : (song : Song) → refusalOf (verdict (laterFaults song)) .number ≡ 0 → Clear song
+unfolding laterFaults playingFaults lyricFaults
+song-clear song z =
+    let a = verdict-clear (referenceFaults song) (playingFaults song) (numbered-song song) z in
+    let b = verdict-clear (meterFaults song) (lengthFaults song 0 (song .sections) ∷ lyricFaults song) (numbered-meters song) (a .1) in
+    let c = verdict-clear (lengthFaults song 0 (song .sections)) (lyricFaults song) (numbered-lengths song 0 (song .sections)) (b .1) in
+    let d = verdict-clear (countFaults song) (sumFaults song ∷ []) (numbered-counts song) (c .1) in
+    let e = verdict-clear (sumFaults song) [] (numbered-sums song) (d .1) in
+    record { references = a .0; meters = b .0; lengths = c .0; counts = d .0; sums = e .0 }
+
+-- Stages put together.
+verdict-append : (xs ys : List (List Complaint)) → verdict (xs ++ ys) ≡ stageOr (verdict xs) (verdict ys)
+unfolding verdict
+verdict-append [] ys = refl
+verdict-append (x ∷ xs) ys = ap (stageOr (earliest x)) (verdict-append xs ys) ∙ of (earliest x)
+  where
+    of : (o : Option Complaint) → stageOr o (stageOr (verdict xs) (verdict ys)) ≡ stageOr (stageOr o (verdict xs)) (verdict ys)
+    of none = refl
+    of (some c) = refl
+
+module _ (room : Room) (bs : List ℕ) where
+  firsts : List (List Complaint)
+  firsts = inputFaults bs ∷ textFaults (blocksOf bs) ∷ []
+
+  rooms : List Complaint
+  rooms = roomFaults room (tables (songOf bs))
+
+  stages-are : verdict (stages room bs) ≡ stageOr (verdict firsts) (stageOr (verdict (laterFaults (songOf bs))) (earliest rooms))
+  unfolding stages firsts rooms laterFaults playingFaults lyricFaults
+  stages-are = verdict-append firsts (laterFaults (songOf bs) ++ (rooms ∷ [])) ∙ ap (stageOr (verdict firsts)) (verdict-append (laterFaults (songOf bs)) (rooms ∷ []) ∙ ap (stageOr (verdict (laterFaults (songOf bs)))) (last-stage rooms))
+
+  -- A refusal that is given is a complaint.
+  given : (o : Option Complaint) (r : Refusal) → r ≡ refusalOf o → (r .number ≡ 0 → ⊥) → o ≡ some (complaint (r .number) (r .line))
+  unfolding refusalOf
+  given none r e n = absurd (n (ap (λ (q : Refusal). q .number) e))
+  given (some c) r e n = rw e refl
+
+  refuses : (c : Complaint) → verdict (stages room bs) ≡ some c → answer room bs ≡ refused (c .number) (c .line)
+  unfolding answer answerBy
+  refuses c e = rw e refl
+
+  -- Stages 1 and 2 refuse.
+  pub early-refused : (r : Refusal) → r ≡ refusalOf (verdict (inputFaults bs ∷ textFaults (blocksOf bs) ∷ [])) → (r .number ≡ 0 → ⊥) → answer room bs ≡ refused (r .number) (r .line)
+  unfolding firsts stageOr
+  early-refused r e n = refuses (complaint (r .number) (r .line)) (stages-are ∙ ap (λ o. stageOr o (stageOr (verdict (laterFaults (songOf bs))) (earliest rooms))) (given (verdict firsts) r e n))
+
+  -- They do not.
+  module _ (input : inputFaults bs ≡ []) (texts : textFaults (blocksOf bs) ≡ []) where
+    firsts-none : verdict firsts ≡ none
+    unfolding firsts verdict earliest stageOr
+    firsts-none = rw (input, texts) refl
+
+    later-are : verdict (stages room bs) ≡ stageOr (verdict (laterFaults (songOf bs))) (earliest rooms)
+    unfolding stageOr
+    later-are = stages-are ∙ ap (λ o. stageOr o (stageOr (verdict (laterFaults (songOf bs))) (earliest rooms))) firsts-none
+
+    pub late-refused : (r : Refusal) → r ≡ refusalOf (verdict (laterFaults (songOf bs))) → (r .number ≡ 0 → ⊥) → answer room bs ≡ refused (r .number) (r .line)
+    unfolding stageOr
+    late-refused r e n = refuses (complaint (r .number) (r .line)) (later-are ∙ ap (λ o. stageOr o (earliest rooms)) (given (verdict (laterFaults (songOf bs))) r e n))
+
+    module _ (clear : Clear (songOf bs)) where
+      later-none : verdict (laterFaults (songOf bs)) ≡ none
+      unfolding laterFaults playingFaults lyricFaults verdict earliest stageOr
+      later-none = rw (clear .references, clear .meters, clear .lengths, clear .counts, clear .sums) refl
+
+      room-are : verdict (stages room bs) ≡ earliest rooms
+      unfolding stageOr
+      room-are = later-are ∙ ap (λ o. stageOr o (earliest rooms)) later-none
+
+      pub short-refused : roomFaults room (tables (songOf bs)) ≡ complaint 18 0 ∷ [] → answer room bs ≡ refused 18 0
+      unfolding earliest earlier rooms
+      short-refused e = refuses (complaint 18 0) (room-are ∙ ap earliest e)
+
+      pub song-accepted : roomFaults room (tables (songOf bs)) ≡ [] → answer room bs ≡ accepted (tables (songOf bs))
+      unfolding earliest answer answerBy rooms
+      song-accepted e = rw (room-are ∙ ap earliest e) refl
+
+-- Whether a table is too short, by the totals that were counted.
+keys-eight : (song : Song) → length (tables song .keys) ≡ 8
+unfolding tables keyWords keyOrder
+keys-eight song = refl
+
+pub short-is : (room : Room) (song : Song) (t : Totals) → Holds (tables song) t → isShort t (room .keys) (room .sections) (room .measures) (room .beats) (room .items) ≡ true → roomFaults room (tables song) ≡ complaint 18 0 ∷ []
+unfolding isShort roomFaults complainIf when
+short-is room song t h e = let f = rw (h .sections, h .measures, h .beats, h .items, ← keys-eight song) at e in rw f refl
+
+pub long-is : (room : Room) (song : Song) (t : Totals) → Holds (tables song) t → isShort t (room .keys) (room .sections) (room .measures) (room .beats) (room .items) ≡ false → roomFaults room (tables song) ≡ []
+unfolding isShort roomFaults complainIf when
+long-is room song t h e = let f = rw (h .sections, h .measures, h .beats, h .items, ← keys-eight song) at e in rw f refl
+
+-- Where none is too short, each has room.
+pub record Roomy (room : Room) (t : Totals) : Type 0 where
+  pub keys : 8 ≤ room .keys
+  pub sections : t .sections ≤ room .sections
+  pub measures : t .measures ≤ room .measures
+  pub beats : t .beats ≤ room .beats
+  pub items : t .items ≤ room .items
+
+pub has-room : (room : Room) (t : Totals) → isShort t (room .keys) (room .sections) (room .measures) (room .beats) (room .items) ≡ false → Roomy room t
+unfolding isShort
+has-room room t e =
+    let a = none-passes _ (ltb (room .items) (t .items)) e in
+    let b = none-passes _ (ltb (room .beats) (t .beats)) (a .0) in
+    let c = none-passes _ (ltb (room .measures) (t .measures)) (b .0) in
+    let d = none-passes (ltb (room .keys) 8) (ltb (room .sections) (t .sections)) (c .0) in
+    record { keys = ltb-false _ _ (d .0); sections = ltb-false _ _ (d .1); measures = ltb-false _ _ (c .1); beats = ltb-false _ _ (b .1); items = ltb-false _ _ (a .1) }
+
+-- The song's time and bpm, as they are found among the lines before the metadata's end.
+module _ (s : List ℕ) (p : Place) (k : Keys) (ends : MetadataEnds s p) (are : KeysAre (linesOf s (linesBefore p)) k) where
+  song-key : (f : List Byte → Option ℕ) (n : KeyName) → keyPlace n < 8 → andThen (settingAmong (keyPlace n) (linesOf s (linesBefore p))) (λ x. f (x .text)) ≡ andThen (playing.settingOf n (songOf s .keys)) f
+  unfolding songOf songIn
+  song-key f n h = ap (λ (o : Option Setting). andThen o (λ x. f (x .text))) (ends .keys (keyPlace n) h) ∙ sym (key-among f n (metadataLines (blocksOf s)))
+
+  pub song-time : k .time ≡ orElse (timeAmong (songOf s .keys)) 0
+  unfolding timeAmong timeSaid keyPlace
+  song-time = are .time ∙ ap (λ (o : Option ℕ). orElse o 0) (song-key timeIn time (omega arith))
+
+  pub song-bpm : k .bpm ≡ orElse (bpmAmong (songOf s .keys)) 511
+  unfolding bpmAmong bpmSaid keyPlace
+  song-bpm = are .bpm ∙ ap (λ (o : Option ℕ). orElse o 511) (song-key bpmIn bpm (omega arith))
