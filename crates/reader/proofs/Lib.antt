@@ -6,3 +6,7 @@ pub mod TallyLaws
 pub mod ItemLaws
 pub mod NumberLaws
 pub mod TakenLaws
+pub mod PromptLaws
+pub mod GoodLaws
+pub mod SettingLaws
+pub mod KeyLaws
