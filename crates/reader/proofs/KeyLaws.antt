@@ -69,14 +69,14 @@ word-of : (k : KeyName) (ls : List Line) → keyWord (settingOf k (collect keyIn
 word-of k ls = same-word (settingOf k (collect keyIn ls)) (settingAmong (keyPlace k) ls) (key-among some k ls)
 
 eight : (P : ℕ → Type 0) → P 0 → P 1 → P 2 → P 3 → P 4 → P 5 → P 6 → P 7 → (k : ℕ) → k < 8 → P k
-eight P a b c d e f g h 0 l = a
-eight P a b c d e f g h 1 l = b
-eight P a b c d e f g h 2 l = c
-eight P a b c d e f g h 3 l = d
-eight P a b c d e f g h 4 l = e
-eight P a b c d e f g h 5 l = f
-eight P a b c d e f g h 6 l = g
-eight P a b c d e f g h 7 l = h
+eight P a b c d e f g h zero l = a
+eight P a b c d e f g h (suc zero) l = b
+eight P a b c d e f g h (suc (suc zero)) l = c
+eight P a b c d e f g h (suc (suc (suc zero))) l = d
+eight P a b c d e f g h (suc (suc (suc (suc zero)))) l = e
+eight P a b c d e f g h (suc (suc (suc (suc (suc zero))))) l = f
+eight P a b c d e f g h (suc (suc (suc (suc (suc (suc zero)))))) l = g
+eight P a b c d e f g h (suc (suc (suc (suc (suc (suc (suc zero))))))) l = h
 eight P a b c d e f g h (suc (suc (suc (suc (suc (suc (suc (suc k)))))))) l = absurd (let y : ⊥ = omega arith in y)
 
 -- The words of the keys from a place of the table on.
