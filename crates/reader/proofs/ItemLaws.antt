@@ -1,10 +1,10 @@
 -- The word of a prompter item from the places of its text.
 use Prim.Native.Nat.{ℕ, suc, _+_, _-_, _*_, _^_, _<_, _≤_}
-use mathlib.Core.Path.{_≡_, refl, sym, ap, _∙_}
+use mathlib.Core.Path.{_≡_, refl, ap, _∙_}
 use mathlib.Core.List.{List, [], _∷_}
 use native.Mathlib.Omega.{arith}
-use lib.ListN.{length, take, drop}
-use Rattle.songcode.specs.Bytes.{Byte, placed}
+use lib.ListN.{length}
+use Rattle.songcode.specs.Bytes.{placed}
 use Rattle.songcode.specs.Tables.{offset, itemWord}
 use Rattle.songcode.specs.Lyrics as songcode
 use Rattle.text.specs.Spans.{part}

@@ -1,18 +1,17 @@
 -- The words of the keys table, from the settings that the code finds.
 use Prim.Native.Nat.{ℕ, zero, suc, _+_, _-_, _*_, _^_, _<_, _≤_}
-use mathlib.Core.Path.{_≡_, refl, sym, ap, _∙_, subst}
+use mathlib.Core.Path.{_≡_, refl, ap, subst}
 use mathlib.Core.List.{List, [], _∷_, map}
 use mathlib.Core.Logic.{_⊎_, ⊎-elim}
 use mathlib.Core.Option.{Option, none, some}
 use native.Mathlib.Omega.{arith}
-use lib.Dec.{eqb}
 use lib.ListN.{length, drop}
 use borrow.Author.Tests.{eq-eqb, ne-eqb}
 use Rattle.songcode.specs.Lists.{if_then_else_, andThen, collect}
 use Rattle.songcode.specs.Bytes.{Byte, placed}
 use Rattle.songcode.specs.Characters.{characters}
 use Rattle.songcode.specs.Lines.{Line}
-use Rattle.songcode.specs.Song.{KeyName, name, artist, original, capo, bpm, time, warning, end, Key}
+use Rattle.songcode.specs.Song.{KeyName, name, artist, original, capo, bpm, time, warning, end}
 use Rattle.songcode.specs.Keys.{keyPlace}
 use Rattle.songcode.specs.Sections.{keyIn}
 use Rattle.songcode.specs.Playing.{settingOf}

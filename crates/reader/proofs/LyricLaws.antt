@@ -1,8 +1,8 @@
 -- The lyric lines of a run, line by line: their texts, their counts and their prompter items.
 use Prim.Native.Nat.{ℕ, zero, suc, _+_, _-_, _<_, _≤_}
-use mathlib.Core.Path.{_≡_, refl, sym, ap, _∙_}
+use mathlib.Core.Path.{_≡_, refl, ap, _∙_}
 use mathlib.Core.List.{List, [], _∷_, map}
-use mathlib.Core.Option.{Option, none, some}
+use mathlib.Core.Option.{Option}
 use native.Mathlib.Omega.{arith}
 use lib.ListN.{length, take}
 use Rattle.songcode.specs.Lists.{orElse}
@@ -10,7 +10,7 @@ use Rattle.songcode.specs.Bytes.{placed}
 use Rattle.songcode.specs.Song.{LyricLine}
 use Rattle.songcode.specs.Sections.{lyricLine}
 use Rattle.songcode.specs.Lyrics as songcode
-use Rattle.songcode.specs.Lyrics.{wordsOf, countOf, styled, counted, Prompt, promptsFrom}
+use Rattle.songcode.specs.Lyrics.{wordsOf, countOf, styled, counted, promptsFrom}
 use Rattle.songcode.specs.Tables.{itemWord}
 use Rattle.text.specs.declared.lines.Line.{Line}
 use Rattle.text.specs.Spans.{part, Found}

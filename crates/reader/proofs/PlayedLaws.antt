@@ -1,20 +1,20 @@
 -- A section plays no more measures than are counted before its cuts, and the songs that stage 5 accepts have few measures.
-use Prim.Native.Nat.{ℕ, zero, suc, _+_, _-_, _*_, _≤_, _<_}
-use mathlib.Core.Path.{_≡_, refl, sym, ap, _∙_}
+use Prim.Native.Nat.{ℕ, _+_, _-_, _*_, _≤_}
+use mathlib.Core.Path.{_≡_, refl, ap, _∙_}
 use mathlib.Core.List.{List, [], _∷_, _++_}
-use mathlib.Core.Bool.{Bool, true, false, _&&_}
+use mathlib.Core.Bool.{false, _&&_}
 use mathlib.Core.Option.{Option, none, some}
 use native.Mathlib.Omega.{arith}
 use lib.Dec.{leb, ltb}
 use lib.ListN.{length, drop, length-append, length-drop}
-use borrow.Author.Tests.{le-leb, lt-ltb, ltb-false}
+use borrow.Author.Tests.{le-leb, ltb-false}
 use Rattle.songcode.specs.Lists.{times}
 use Rattle.songcode.specs.Complaints.{complainIf}
 use Rattle.songcode.specs.Song.{Cut, Items, Modifier, Section, Song}
 use Rattle.songcode.specs.References.{patternItems}
-use Rattle.songcode.specs.Playing.{Side, Beat, keep, dropBeats, dropMeasures, cutFront, turned, cutBack, applied, cutRow, cutStartSaid, cutEndSaid, saidBy, beforeSaid, afterSaid, repeats, measuresOf, sideMeasures, keptMeasures, timeOf, played}
+use Rattle.songcode.specs.Playing.{Side, keep, dropBeats, dropMeasures, cutFront, turned, cutBack, applied, cutRow, cutStartSaid, cutEndSaid, saidBy, beforeSaid, afterSaid, repeats, measuresOf, sideMeasures, keptMeasures, timeOf, played}
 use Rattle.songcode.specs.Meter.{count, countOf, sideCount, sectionCount, mostMeasures, cutFaults, lengthFaults}
-use Rattle.songcode.proofs.ListLaws.{by-cases, append-is-nil, complainIf-nil, times-length, true-is-not-false}
+use Rattle.songcode.proofs.ListLaws.{append-is-nil, complainIf-nil, times-length}
 use Rattle.songcode.proofs.RowLaws.{length-items}
 use Rattle.songcode.proofs.TurnedRows.{length-turned}
 

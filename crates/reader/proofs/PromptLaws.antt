@@ -1,21 +1,20 @@
 -- The prompter items section by section, where the song has items and the counts of every section sum to its measures.
-use Prim.Native.Nat.{ℕ, zero, suc, _+_, _<_, _≤_}
-use mathlib.Core.Path.{_≡_, refl, sym, ap, _∙_, subst}
-use mathlib.Core.List.{List, [], _∷_, _++_, map, map-append}
-use mathlib.Core.Bool.{Bool, true, false, not, _||_, _&&_}
+use Prim.Native.Nat.{ℕ, _+_, _≤_}
+use mathlib.Core.Path.{_≡_, refl, ap, _∙_, subst}
+use mathlib.Core.List.{List, [], _∷_, _++_, map}
+use mathlib.Core.Bool.{Bool, true, false, not, _&&_}
 use native.Mathlib.Omega.{arith}
 use lib.Dec.{eqb}
-use lib.ListN.{length, length-append}
+use lib.ListN.{length}
 use borrow.Author.Tests.{eqb-true, not-false}
 use Rattle.songcode.specs.Lists.{if_then_else_, gather, any, every, isEmpty, orElse}
-use Rattle.songcode.specs.Complaints.{complainIf}
 use Rattle.songcode.specs.Song.{LyricLine, Section, Song}
 use Rattle.songcode.specs.Sections.{lyricLine}
 use Rattle.songcode.specs.Playing.{played}
 use Rattle.songcode.specs.Meter.{sectionCount, lengthFaults}
 use Rattle.songcode.specs.Lyrics.{countOf, isCounted, isPlayed, linesTaken, hasCounts, counted, sumFault, sumFaults, hasItems, promptsFrom, prompts, styled, wordsOf}
 use Rattle.songcode.specs.Tables.{itemWord, tables}
-use Rattle.songcode.proofs.ListLaws.{by-cases, true-is-not-false, both-pass, pass-both, every-append, gather-nil, Each, complainIf-nil}
+use Rattle.songcode.proofs.ListLaws.{by-cases, both-pass, pass-both, every-append, gather-nil, Each, complainIf-nil}
 use Rattle.sections.specs.declared.blocks.Place.{Place}
 use Rattle.sections.specs.declared.walking.Met.{Met}
 use Rattle.sections.specs.Runs.{linesOf}

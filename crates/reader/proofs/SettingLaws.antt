@@ -1,10 +1,10 @@
 -- A setting of metadata that stage 2 accepts is short.
-use Prim.Native.Nat.{ℕ, zero, suc, _+_, _-_, _*_, _<_, _≤_}
+use Prim.Native.Nat.{ℕ, suc, _+_, _-_, _*_, _<_, _≤_}
 use Prim.Native.Char.{code}
-use mathlib.Core.Path.{_≡_, refl, sym, ap, _∙_, subst}
+use mathlib.Core.Path.{_≡_, refl, sym, ap, _∙_}
 use mathlib.Core.List.{List, [], _∷_, _++_}
 use mathlib.Core.Logic.{_⊎_, inl, inr}
-use mathlib.Core.Bool.{Bool, true, false, not, _||_, _&&_}
+use mathlib.Core.Bool.{Bool, true, false, not, _&&_}
 use mathlib.Core.Option.{Option, none, some}
 use native.Mathlib.Omega.{arith}
 use lib.Dec.{eqb, leb}
@@ -19,12 +19,12 @@ use Rattle.songcode.specs.Lines.{Line, Block}
 use Rattle.songcode.specs.Complaints.{Complaint, complaint, complainIf}
 use Rattle.songcode.specs.Song.{KeyName, name, artist, original, capo, bpm, time, warning, end}
 use Rattle.songcode.specs.Keys.{isPhrase, bpmIn, timeIn, isSetting, ofMetadata}
-use Rattle.songcode.specs.Sections.{Kind, keyLine, modifierLine, patternLine, kindOfLine, keyNameOf, settingOf, keyFaultsBy, keyFaults, twice, keySaid}
+use Rattle.songcode.specs.Sections.{kindOfLine, keyNameOf, settingOf, keyFaultsBy, keyFaults, twice, keySaid}
 use Rattle.songcode.specs.SongText.{blockOrder, metadataLines, metadataFault, metadataFaults, definitionsFaults, definitionBlocks, sectionBlocks, orNoSection, textFaults}
 use Rattle.songcode.specs.Sections.{sectionFaults}
 use Rattle.songcode.proofs.ListLaws.{by-cases, true-is-not-false, nil-is-not-cons, both-pass, append-is-nil, complainIf-nil, taken-left}
 use Rattle.settings.proofs.PartLaws.{same-lengths}
-use Rattle.sections.specs.Slots.{slotOf, Setting, settingAmong}
+use Rattle.sections.specs.Slots.{slotOf, settingAmong}
 use Rattle.sections.proofs.SaidLaws.{by-kind}
 use Rattle.reader.specs.Answers.{ShortSetting}
 use Rattle.reader.proofs.GoodLaws.{characters-le}

@@ -1,12 +1,12 @@
 -- Lyric lines summed up: how many they are, their counts, and the first line without one.
-use Prim.Native.Nat.{ℕ, zero, suc, _+_}
-use mathlib.Core.Bool.{Bool, true, false, not, _||_, _&&_}
+use Prim.Native.Nat.{ℕ, _+_}
+use mathlib.Core.Bool.{Bool, true, not, _||_, _&&_}
 use mathlib.Core.List.{List, [], _∷_}
 use lib.Dec.{eqb, ltb}
 use lib.ListN.{length}
-use Rattle.songcode.specs.Lists.{if_then_else_, orElse, any}
+use Rattle.songcode.specs.Lists.{if_then_else_, any}
 use Rattle.songcode.specs.Song.{LyricLine}
-use Rattle.songcode.specs.Lyrics.{countOf, isCounted, counted}
+use Rattle.songcode.specs.Lyrics.{isCounted, counted}
 use Rattle.reader.specs.declared.lyrics.Tally.{Tally}
 use Rattle.reader.specs.declared.lyrics.Counted.{Counted}
 

@@ -1,7 +1,6 @@
-use borrow.Author.Tests.{eq-eqb, ne-eqb, lt-ltb, le-ltb}
+use borrow.Author.Tests.{eq-eqb, ne-eqb}
 use Rattle.songcode.specs.Lists.{if_then_else_}
 use Rattle.reader.specs.Lyrics.{countFault}
-use borrow.Author.Needs.{needs}
 use Rattle.reader.proofs.lyrics.count_fault.Statement.{statement}
 use Rattle.reader.proofs.lyrics.count_fault.Tie as tie
 use Rattle.reader.proofs.lyrics.count_fault.Reads as reads

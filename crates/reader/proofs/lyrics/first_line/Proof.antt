@@ -1,7 +1,6 @@
 use borrow.Author.Tests.{eq-eqb, ne-eqb, lt-ltb, le-ltb}
 use Rattle.songcode.specs.Lists.{if_then_else_}
 use Rattle.reader.specs.Lyrics.{firstLine}
-use borrow.Author.Needs.{needs}
 use Rattle.reader.proofs.lyrics.first_line.Statement.{statement}
 use Rattle.reader.proofs.lyrics.first_line.Tie as tie
 use Rattle.reader.proofs.lyrics.first_line.Reads as reads

@@ -1,9 +1,8 @@
 use mathlib.Core.Path.{_≡_, _∙_}
 use mathlib.Core.Bool.{_||_}
 use mathlib.Core.Logic.{⊎-elim}
-use borrow.Author.Tests.{eq-eqb, ne-eqb, lt-ltb, le-ltb}
 use Rattle.songcode.specs.Lists.{if_then_else_}
-use Rattle.reader.specs.Lyrics.{firstLine, takenWith}
+use Rattle.reader.specs.Lyrics.{takenWith}
 use borrow.Author.Needs.{needs}
 use Rattle.reader.proofs.lyrics.taken_with.Statement.{statement}
 use Rattle.reader.proofs.lyrics.taken_with.Tie as tie

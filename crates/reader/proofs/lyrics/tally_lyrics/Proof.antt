@@ -1,12 +1,12 @@
 use mathlib.Core.List.{List}
 use Rattle.songcode.specs.Song.{LyricLine}
 use Prim.Native.Nat.{_+_, _-_, _*_, _≤_}
-use mathlib.Core.Path.{_≡_, refl, sym, ap, _∙_}
+use mathlib.Core.Path.{_≡_, sym, ap, _∙_}
 use native.Mathlib.Omega.{arith}
 use lib.ListN.{length}
 use Rattle.sections.specs.Runs.{linesOf}
 use Rattle.reader.specs.declared.lyrics.Tally.{Tally}
-use Rattle.reader.specs.Lyrics.{tallied, withLine}
+use Rattle.reader.specs.Lyrics.{tallied}
 use Rattle.reader.proofs.LyricLaws.{lyricsAt, lyrics-none, lyrics-over}
 use Rattle.reader.proofs.TallyLaws.{joined, joined-none, none-joined, with-lines, with-sum, tally-more}
 use borrow.Author.Needs.{needs}

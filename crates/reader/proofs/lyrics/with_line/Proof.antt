@@ -1,6 +1,6 @@
-use borrow.Author.Tests.{eq-eqb, ne-eqb, lt-ltb, le-ltb}
+use borrow.Author.Tests.{eq-eqb, ne-eqb}
 use Rattle.songcode.specs.Lists.{if_then_else_}
-use Rattle.reader.specs.Lyrics.{firstLine, withLine}
+use Rattle.reader.specs.Lyrics.{withLine}
 use borrow.Author.Needs.{needs}
 use Rattle.reader.proofs.lyrics.with_line.Statement.{statement}
 use Rattle.reader.proofs.lyrics.with_line.Tie as tie
