@@ -11,3 +11,14 @@ pub mod CutLaws
 pub mod LengthLaws
 pub mod OpenedLaws
 pub mod AnswerLaws
+pub mod PlayedLaws
+pub mod WrittenLaws
+pub mod LyricLaws
+pub mod TallyLaws
+pub mod ItemLaws
+pub mod NumberLaws
+pub mod TakenLaws
+pub mod PromptLaws
+pub mod GoodLaws
+pub mod SettingLaws
+pub mod KeyLaws
