@@ -34,6 +34,7 @@ use Rattle.sections.specs.Values.{timeSaid, bpmSaid, KeysAre}
 use Rattle.sections.proofs.SaidLaws.{key-among}
 use Rattle.reader.specs.Metadata.{linesBefore, MetadataEnds}
 use Rattle.reader.specs.Sums.{Holds}
+use Rattle.reader.specs.Charts.{Clear, SongKeys, Roomy}
 use Rattle.reader.specs.declared.sums.Totals.{Totals}
 use Rattle.reader.specs.Answers.{lyricFaults, playingFaults, laterFaults, isShort}
 use Rattle.reader.proofs.ComplaintLaws.{Numbered, numbered-if, refused-none}
@@ -81,14 +82,6 @@ verdict-clear xs rest h z =
     of : (o : Option Complaint) → refusalOf (stageOr o (verdict rest)) .number ≡ 0 → refusalOf o .number ≡ 0
     of none z = refl
     of (some c) z = z
-
--- Nothing is wrong with the song in stages 3 to 7.
-pub record Clear (song : Song) : Type 0 where
-  pub references : referenceFaults song ≡ []
-  pub meters : meterFaults song ≡ []
-  pub lengths : lengthFaults song 0 (song .sections) ≡ []
-  pub counts : countFaults song ≡ []
-  pub sums : sumFaults song ≡ []
 
 pub song-clear : (song : Song) → refusalOf (verdict (laterFaults song)) .number ≡ 0 → Clear song
 unfolding laterFaults playingFaults lyricFaults
@@ -181,21 +174,25 @@ unfolding isShort roomFaults complainIf when
 long-is room song t h e = let f = rw (h .sections, h .measures, h .beats, h .items, ← keys-eight song) at e in rw f refl
 
 -- Where none is too short, each has room.
-pub record Roomy (room : Room) (t : Totals) : Type 0 where
-  pub keys : 8 ≤ room .keys
-  pub sections : t .sections ≤ room .sections
-  pub measures : t .measures ≤ room .measures
-  pub beats : t .beats ≤ room .beats
-  pub items : t .items ≤ room .items
-
-pub has-room : (room : Room) (t : Totals) → isShort t (room .keys) (room .sections) (room .measures) (room .beats) (room .items) ≡ false → Roomy room t
+pub keys-room : (t : Totals) (k s m b i : ℕ) → isShort t k s m b i ≡ false → 8 ≤ k
 unfolding isShort
-has-room room t e =
-    let a = none-passes _ (ltb (room .items) (t .items)) e in
-    let b = none-passes _ (ltb (room .beats) (t .beats)) (a .0) in
-    let c = none-passes _ (ltb (room .measures) (t .measures)) (b .0) in
-    let d = none-passes (ltb (room .keys) 8) (ltb (room .sections) (t .sections)) (c .0) in
-    record { keys = ltb-false _ _ (d .0); sections = ltb-false _ _ (d .1); measures = ltb-false _ _ (c .1); beats = ltb-false _ _ (b .1); items = ltb-false _ _ (a .1) }
+keys-room t k s m b i e =
+    let w = none-passes (ltb k 8) (ltb s (t .sections)) (none-passes (ltb k 8 || ltb s (t .sections)) (ltb m (t .measures)) (none-passes (ltb k 8 || ltb s (t .sections) || ltb m (t .measures)) (ltb b (t .beats)) (none-passes (ltb k 8 || ltb s (t .sections) || ltb m (t .measures) || ltb b (t .beats)) (ltb i (t .items)) e .0) .0) .0) in
+    ltb-false _ _ (w .0)
+
+pub tables-room : (song : Song) (t : Totals) (k : ℕ) (s m b i : List ℕ) → Holds (tables song) t → isShort t k (length s) (length m) (length b) (length i) ≡ false → Roomy (tables song) s m b i
+unfolding isShort
+tables-room song t k s m b i h e =
+    let p = none-passes (ltb k 8 || ltb (length s) (t .sections) || ltb (length m) (t .measures) || ltb (length b) (t .beats)) (ltb (length i) (t .items)) e in
+    let q = none-passes (ltb k 8 || ltb (length s) (t .sections) || ltb (length m) (t .measures)) (ltb (length b) (t .beats)) (p .0) in
+    let r = none-passes (ltb k 8 || ltb (length s) (t .sections)) (ltb (length m) (t .measures)) (q .0) in
+    let w = none-passes (ltb k 8) (ltb (length s) (t .sections)) (r .0) in
+    record {
+      sections = rw (← h .sections) (ltb-false _ _ (w .1));
+      measures = rw (← h .measures) (ltb-false _ _ (r .1));
+      beats = rw (← h .beats) (ltb-false _ _ (q .1));
+      items = rw (← h .items) (ltb-false _ _ (p .1));
+    }
 
 -- The song's time and bpm, as they are found among the lines before the metadata's end.
 module _ (s : List ℕ) (p : Place) (k : Keys) (ends : MetadataEnds s p) (are : KeysAre (linesOf s (linesBefore p)) k) where
@@ -203,10 +200,12 @@ module _ (s : List ℕ) (p : Place) (k : Keys) (ends : MetadataEnds s p) (are : 
   unfolding songOf songIn
   song-key f n h = ap (λ (o : Option Setting). andThen o (λ x. f (x .text))) (ends .keys (keyPlace n) h) ∙ sym (key-among f n (metadataLines (blocksOf s)))
 
-  pub song-time : k .time ≡ orElse (timeAmong (songOf s .keys)) 0
-  unfolding timeAmong timeSaid keyPlace
-  song-time = are .time ∙ ap (λ (o : Option ℕ). orElse o 0) (song-key timeIn time (omega arith))
-
-  pub song-bpm : k .bpm ≡ orElse (bpmAmong (songOf s .keys)) 511
-  unfolding bpmAmong bpmSaid keyPlace
-  song-bpm = are .bpm ∙ ap (λ (o : Option ℕ). orElse o 511) (song-key bpmIn bpm (omega arith))
+  pub song-keys : SongKeys (songOf s) k
+  unfolding timeAmong timeSaid bpmAmong bpmSaid keyPlace
+  song-keys =
+      record {
+        time = are .time ∙ ap (λ (o : Option ℕ). orElse o 0) (song-key timeIn time (omega arith));
+        time-fits = are .time-fits;
+        bpm = are .bpm ∙ ap (λ (o : Option ℕ). orElse o 511) (song-key bpmIn bpm (omega arith));
+        bpm-fits = are .bpm-fits;
+      }

@@ -7,3 +7,4 @@ pub mod Lengths
 pub mod Lyrics
 pub mod Sums
 pub mod Answers
+pub mod Charts

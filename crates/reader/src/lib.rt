@@ -1,4 +1,5 @@
 // The reader: a chart and five lent tables; one refusal and nothing stored, or every word of every table.
+mod charts;
 mod definitions;
 mod items;
 mod keys;
@@ -12,20 +13,17 @@ mod songs;
 mod stages;
 mod sums;
 mod texts;
+mod writing;
 
-use definitions::load;
-use items::write_items;
-use keys::lines_before;
-use keys::write_keys;
-use metadata::metadata_end;
-use sections::keys_of;
-use songs::write_song;
+use charts::judge;
 use stages::first_stages;
-use stages::later_stages;
 use sums::Totals;
+use writing::write_tables;
 ghost use mathlib.Core.Path.{_≡_};
+ghost use mathlib.Core.List.{[]};
 ghost use lib.ListN.{length};
-ghost use Rattle.songcode.specs.Answer.{answer};
+ghost use Rattle.songcode.specs.SongText.{textFaults};
+ghost use Rattle.songcode.specs.Answer.{answer, inputFaults, blocksOf};
 ghost use Rattle.reader.specs.Answers.{answerOf, isShort, storedKeys, storedSections, storedMeasures, storedBeats, storedItems};
 
 // Refusal and line, both 0 where the song is accepted, and how many words of each table are its own.
@@ -77,6 +75,61 @@ fn is_short(
     items < t.items
 }
 
+// A chart that stages 1 and 2 have passed.
+fn read_song(
+    text: &[u8],
+    keys: &mut [u32],
+    sections: &mut [u64],
+    measures: &mut [u32],
+    beats: &mut [u32],
+    items: &mut [u64],
+) -> Answer
+    requires { ⌜ (inputFaults (now text) ≡ []) × (textFaults (blocksOf (now text)) ≡ []) ⌝ }
+    ensures answer { λ r. ⌜ r ≡ answerOf (answer (record { keys = length (now (keys .entry)); sections = length (now (sections .entry)); measures = length (now (measures .entry)); beats = length (now (beats .entry)); items = length (now (items .entry)) }) (now (text .entry))) ⌝ }
+    ensures keys { λ r. ⌜ now (keys .exit) ≡ storedKeys (answer (record { keys = length (now (keys .entry)); sections = length (now (sections .entry)); measures = length (now (measures .entry)); beats = length (now (beats .entry)); items = length (now (items .entry)) }) (now (text .entry))) (now (keys .entry)) ⌝ }
+    ensures sections { λ r. ⌜ now (sections .exit) ≡ storedSections (answer (record { keys = length (now (keys .entry)); sections = length (now (sections .entry)); measures = length (now (measures .entry)); beats = length (now (beats .entry)); items = length (now (items .entry)) }) (now (text .entry))) (now (sections .entry)) ⌝ }
+    ensures measures { λ r. ⌜ now (measures .exit) ≡ storedMeasures (answer (record { keys = length (now (keys .entry)); sections = length (now (sections .entry)); measures = length (now (measures .entry)); beats = length (now (beats .entry)); items = length (now (items .entry)) }) (now (text .entry))) (now (measures .entry)) ⌝ }
+    ensures beats { λ r. ⌜ now (beats .exit) ≡ storedBeats (answer (record { keys = length (now (keys .entry)); sections = length (now (sections .entry)); measures = length (now (measures .entry)); beats = length (now (beats .entry)); items = length (now (items .entry)) }) (now (text .entry))) (now (beats .entry)) ⌝ }
+    ensures items { λ r. ⌜ now (items .exit) ≡ storedItems (answer (record { keys = length (now (keys .entry)); sections = length (now (sections .entry)); measures = length (now (measures .entry)); beats = length (now (beats .entry)); items = length (now (items .entry)) }) (now (text .entry))) (now (items .entry)) ⌝ }
+{
+    let mut words = [0u32; 65536];
+    let chart = judge(text, &mut words);
+    let totals = chart.totals;
+    let late = totals.refusal;
+    if late.number != 0 {
+        return refused(late.number, late.line);
+    }
+    if is_short(
+        totals,
+        keys.len(),
+        sections.len(),
+        measures.len(),
+        beats.len(),
+        items.len(),
+    ) {
+        return refused(18, 0);
+    }
+    write_tables(
+        text,
+        chart,
+        &mut words,
+        keys,
+        sections,
+        measures,
+        beats,
+        items,
+    );
+    Answer {
+        refusal: 0,
+        line: 0,
+        sections: totals.sections,
+        measures: totals.measures,
+        beats: totals.beats,
+        items: totals.items,
+    }
+}
+
+// Every text of every length and every length of every table is answered.
 pub fn read(
     text: &[u8],
     keys: &mut [u32],
@@ -96,43 +149,5 @@ pub fn read(
     if early.number != 0 {
         return refused(early.number, early.line);
     }
-    let mut words = [0u32; 65536];
-    let end = metadata_end(text);
-    let song = keys_of(text, lines_before(end));
-    let loaded = load(text, end, &mut words);
-    let totals = later_stages(text, loaded, song.time, &mut words);
-    let late = totals.refusal;
-    if late.number != 0 {
-        return refused(late.number, late.line);
-    }
-    if is_short(
-        totals,
-        keys.len(),
-        sections.len(),
-        measures.len(),
-        beats.len(),
-        items.len(),
-    ) {
-        return refused(18, 0);
-    }
-    write_keys(text, end, keys);
-    write_song(
-        text,
-        loaded.score,
-        loaded.sections,
-        song,
-        &mut words,
-        sections,
-        measures,
-        beats,
-    );
-    write_items(text, loaded.sections, totals.items, items);
-    Answer {
-        refusal: 0,
-        line: 0,
-        sections: totals.sections,
-        measures: totals.measures,
-        beats: totals.beats,
-        items: totals.items,
-    }
+    read_song(text, keys, sections, measures, beats, items)
 }
