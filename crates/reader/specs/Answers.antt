@@ -1,12 +1,14 @@
 -- The answer of the call, and the final content of the tables: written where the song is accepted, as they were where it is refused.
-use Prim.Native.Nat.{ℕ, zero, suc, _+_, _*_, _^_, _<_}
+use Prim.Native.Nat.{ℕ, zero, suc, _+_, _*_, _^_, _<_, _≤_}
 use mathlib.Core.Path.{_≡_}
 use mathlib.Core.Bool.{Bool, true, false, _||_}
+use mathlib.Core.Logic.{_⊎_}
 use mathlib.Core.List.{List, [], _∷_, _++_}
 use mathlib.Core.Option.{Option, none, some}
 use lib.Dec.{eqb, ltb}
 use lib.ListN.{length, drop}
 use Rattle.songcode.specs.Lists.{if_then_else_}
+use Rattle.songcode.specs.Characters.{characters}
 use Rattle.songcode.specs.Complaints.{Complaint}
 use Rattle.songcode.specs.Song.{Song}
 use Rattle.songcode.specs.References.{referenceFaults}
@@ -73,7 +75,7 @@ unfolding keyWord
 wordOfSetting none = 0
 wordOfSetting (some x) = keyWord (some (x .text))
 
--- A setting that is there has 1 to 511 bytes.
+-- A setting that is there is not empty, and has at most 511 bytes or at most 100 characters.
 unfoldable pub ShortSetting : Option Setting → Type 0
 ShortSetting none = Unit {0}
-ShortSetting (some x) = (0 < length (x .text)) × (length (x .text) < 512)
+ShortSetting (some x) = (0 < length (x .text)) × ((length (x .text) < 512) ⊎ (characters (x .text) ≤ 100))

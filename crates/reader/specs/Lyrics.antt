@@ -1,8 +1,9 @@
--- Lyric lines summed up: their counts, and the first line without one.
+-- Lyric lines summed up: how many they are, their counts, and the first line without one.
 use Prim.Native.Nat.{ℕ, zero, suc, _+_}
 use mathlib.Core.Bool.{Bool, true, false, not, _||_, _&&_}
 use mathlib.Core.List.{List, [], _∷_}
 use lib.Dec.{eqb, ltb}
+use lib.ListN.{length}
 use Rattle.songcode.specs.Lists.{if_then_else_, orElse, any}
 use Rattle.songcode.specs.Song.{LyricLine}
 use Rattle.songcode.specs.Lyrics.{countOf, isCounted, counted}
@@ -17,8 +18,8 @@ firstLine a b = if eqb a 0 then b else (if eqb b 0 then a else (if ltb b a then 
 unfoldable pub withLine : Tally → ℕ → ℕ → Tally
 unfolding if_then_else_ firstLine
 withLine t number count =
-    if eqb count 0 then record { sum = t .sum; counted = t .counted; bare = firstLine (t .bare) number }
-    else record { sum = t .sum + count; counted = true; bare = t .bare }
+    if eqb count 0 then record { lines = t .lines + 1; sum = t .sum; counted = t .counted; bare = firstLine (t .bare) number }
+    else record { lines = t .lines + 1; sum = t .sum + count; counted = true; bare = t .bare }
 
 -- The least number of a line without a count; 0 if all have one.
 unfoldable pub bareLine : List LyricLine → ℕ
@@ -28,13 +29,13 @@ bareLine (l ∷ ls) = if isCounted l then bareLine ls else firstLine (l .number)
 
 unfoldable pub tallied : List LyricLine → Tally
 unfolding any isCounted counted bareLine
-tallied ls = record { sum = counted ls; counted = any isCounted ls; bare = bareLine ls }
+tallied ls = record { lines = length ls; sum = counted ls; counted = any isCounted ls; bare = bareLine ls }
 
 unfoldable pub takenWith : Bool → Bool → ℕ → Tally → Tally
 unfolding if_then_else_ firstLine
 takenWith played c b t =
-    if played then record { sum = 0; counted = c || t .counted; bare = firstLine b (t .bare) }
-    else record { sum = 0; counted = c; bare = b }
+    if played then record { lines = 0; sum = 0; counted = c || t .counted; bare = firstLine b (t .bare) }
+    else record { lines = 0; sum = 0; counted = c; bare = b }
 
 unfoldable pub countFault : Bool → ℕ → Counted
 unfolding if_then_else_

@@ -24,12 +24,15 @@ ghost use Rattle.sections.specs.BlockParts.{Placed};
 ghost use Rattle.reader.specs.Scores.{Begins};
 ghost use Rattle.reader.specs.Answers.{written};
 
-// A lyric line's word: its text without the count, the count, and its first measure.
+// A lyric line's word: its text without the count, the count, and its first measure. An empty text has offset 0.
 fn item_at(s: &[u8], start: usize, stop: usize, count: usize, first: usize) -> u64
-    requires { ⌜ (start < stop) × (stop ≤ length (now s)) × (length (now s) ≤ 65536) × (count ≤ 9999) × (first < 65536) ⌝ }
+    requires { ⌜ (0 < start) × (start ≤ stop) × (stop ≤ length (now s)) × (length (now s) ≤ 65536) × (count ≤ 9999) × (first < 65536) ⌝ }
     ensures { λ r. ⌜ r ≡ itemWord (record { words = styled (placed start (part start stop (now (s .entry)))); first = first; measures = count }) ⌝ }
 {
     let styled = style_of(s, start, stop);
+    if styled.start == styled.stop {
+        return item_word(0, 0, first, count, styled.style);
+    }
     item_word(
         styled.start,
         styled.stop - styled.start,
@@ -39,11 +42,17 @@ fn item_at(s: &[u8], start: usize, stop: usize, count: usize, first: usize) -> u
     )
 }
 
-// The items of some lyric lines from a measure on; the measure behind them is returned.
-fn write_lyrics(s: &[u8], run: Run, first: usize, items: &mut [u64]) -> usize
-    requires { ⌜ Placed (now s) run × (length (now s) ≤ 65536) × (first + counted (map lyricLine (linesOf (now s) run)) ≤ 65535) × (length (linesOf (now s) run) ≤ length (now items)) ⌝ }
+// How many items were written, and the measure behind them.
+pub struct Behind {
+    pub items: usize,
+    pub measure: usize,
+}
+
+// The items of some lyric lines from a measure on.
+fn write_lyrics(s: &[u8], run: Run, first: usize, items: &mut [u64]) -> Behind
+    requires { ⌜ Placed (now s) run × (0 < length (linesOf (now s) run) → 2 ≤ run .number) × (length (now s) ≤ 65536) × (first + counted (map lyricLine (linesOf (now s) run)) ≤ 65535) × (length (linesOf (now s) run) ≤ length (now items)) ⌝ }
     ensures items { λ r. ⌜ now (items .exit) ≡ written (map itemWord (promptsFrom first (map lyricLine (linesOf (now (s .entry)) run)))) (now (items .entry)) ⌝ }
-    ensures behind { λ r. ⌜ r ≡ first + counted (map lyricLine (linesOf (now (s .entry)) run)) ⌝ }
+    ensures behind { λ r. ⌜ (r .items ≡ length (linesOf (now (s .entry)) run)) × (r .measure ≡ first + counted (map lyricLine (linesOf (now (s .entry)) run))) ⌝ }
 {
     let mut number = run.number;
     let mut at = run.at;
@@ -52,7 +61,7 @@ fn write_lyrics(s: &[u8], run: Run, first: usize, items: &mut [u64]) -> usize
     let mut measure = first;
     while at < s.len() {
         if left == 0 {
-            return measure;
+            return Behind { items: i, measure };
         }
         let line = line_at(s, number, at);
         let words = lyric_words(s, line.start, line.stop);
@@ -63,7 +72,7 @@ fn write_lyrics(s: &[u8], run: Run, first: usize, items: &mut [u64]) -> usize
         left -= 1;
         i += 1;
     }
-    measure
+    Behind { items: i, measure }
 }
 
 // The items of all sections, if there are any.
@@ -80,9 +89,9 @@ pub fn write_items(s: &[u8], first: Place, count: usize, items: &mut [u64])
     while place.at < s.len() {
         let x = meet(s, place);
         let section = x.section;
-        let run = section.lyrics;
-        measure = write_lyrics(s, run, measure, &mut items[i..]);
-        i += run.lines;
+        let behind = write_lyrics(s, section.lyrics, measure, &mut items[i..]);
+        measure = behind.measure;
+        i += behind.items;
         place = x.next;
     }
 }

@@ -7,7 +7,7 @@ ghost use mathlib.Core.Path.{_≡_};
 ghost use mathlib.Core.List.{[]};
 ghost use Prim.Native.Nat.{_+_, _≤_, _<_};
 ghost use lib.ListN.{length};
-ghost use Rattle.songcode.specs.Answer.{blocksOf, songOf};
+ghost use Rattle.songcode.specs.Answer.{inputFaults, blocksOf, songOf};
 ghost use Rattle.songcode.specs.SongText.{textFaults};
 ghost use Rattle.songcode.specs.Tables.{tables};
 ghost use Rattle.sections.specs.Runs.{linesOf};
@@ -17,7 +17,7 @@ ghost use Rattle.reader.specs.Answers.{written, wordOfSetting, ShortSett
 
 // The word of the key at a place of the table.
 fn key_at(s: &[u8], metadata: Run, k: usize) -> u32
-    requires { ⌜ (1 ≤ metadata .number) × (metadata .number ≤ metadata .at + 1) × (metadata .at ≤ length (now s)) × (k < 8) × (length (now s) ≤ 65536) × ShortSetting (settingAmong k (linesOf (now s) metadata)) ⌝ }
+    requires { ⌜ (1 ≤ metadata .number) × (metadata .number ≤ metadata .at + 1) × (metadata .at ≤ length (now s)) × (k < 8) × (inputFaults (now s) ≡ []) × ShortSetting (settingAmong k (linesOf (now s) metadata)) ⌝ }
     ensures { λ r. ⌜ r ≡ wordOfSetting (settingAmong k (linesOf (now (s .entry)) metadata)) ⌝ }
 {
     let said = find(s, k, metadata);
@@ -29,7 +29,7 @@ fn key_at(s: &[u8], metadata: Run, k: usize) -> u32
 
 // The words of all keys, from the lines before the metadata's end.
 pub fn write_keys(s: &[u8], end: Place, keys: &mut [u32])
-    requires { ⌜ (textFaults (blocksOf (now s)) ≡ []) × MetadataEnds (now s) end × (length (now s) ≤ 65536) × (8 ≤ length (now keys)) ⌝ }
+    requires { ⌜ (inputFaults (now s) ≡ []) × (textFaults (blocksOf (now s)) ≡ []) × MetadataEnds (now s) end × (8 ≤ length (now keys)) ⌝ }
     ensures { λ _. ⌜ now (keys .exit) ≡ written (tables (songOf (now (s .entry))) .keys) (now (keys .entry)) ⌝ }
 {
     let metadata = lines_before(end);

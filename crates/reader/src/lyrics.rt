@@ -21,8 +21,9 @@ ghost use Rattle.sections.specs.BlockParts.{Placed};
 ghost use Rattle.reader.specs.Scores.{Told, Begins};
 ghost use Rattle.reader.specs.Lyrics.{firstLine, withLine, tallied, countFault, takenWith};
 
-// Of some lyric lines: the sum of their counts, whether one has a count, and the least number of a line that has none, 0 if all have.
+// Of some lyric lines: how many they are, the sum of their counts, whether one has a count, and the least number of a line that has none, 0 if all have.
 pub struct Tally {
+    pub lines: usize,
     pub sum: usize,
     pub counted: bool,
     pub bare: usize,
@@ -43,17 +44,19 @@ fn first_line(a: usize, b: usize) -> usize
 
 // With one more line; a count of 0 is none.
 fn with_line(t: Tally, number: usize, count: usize) -> Tally
-    requires { ⌜ (t .sum ≤ 9999 * 65536) × (count ≤ 9999) ⌝ }
+    requires { ⌜ (t .lines ≤ 65536) × (t .sum ≤ 9999 * 65536) × (count ≤ 9999) ⌝ }
     ensures { λ r. ⌜ r ≡ withLine t number count ⌝ }
 {
     if count != 0 {
         return Tally {
+            lines: t.lines + 1,
             sum: t.sum + count,
             counted: true,
             bare: t.bare,
         };
     }
     Tally {
+        lines: t.lines + 1,
         sum: t.sum,
         counted: t.counted,
         bare: first_line(t.bare, number),
@@ -69,6 +72,7 @@ pub fn tally_lyrics(s: &[u8], run: Run) -> Tally
     let mut at = run.at;
     let mut left = run.lines;
     let mut t = Tally {
+        lines: 0,
         sum: 0,
         counted: false,
         bare: 0,
@@ -119,12 +123,14 @@ fn taken_with(played: bool, counted: bool, bare: usize, t: Tally) -> Tally
 {
     if played {
         return Tally {
+            lines: 0,
             sum: 0,
             counted: counted || t.counted,
             bare: first_line(bare, t.bare),
         };
     }
     Tally {
+        lines: 0,
         sum: 0,
         counted,
         bare,
@@ -139,6 +145,7 @@ pub fn stage_six(s: &[u8], score: Score, first: Place) -> Counted
 {
     let mut place = first;
     let mut t = Tally {
+        lines: 0,
         sum: 0,
         counted: false,
         bare: 0,

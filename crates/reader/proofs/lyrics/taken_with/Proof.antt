@@ -1,0 +1,28 @@
+use mathlib.Core.Path.{_∙_}
+use mathlib.Core.Logic.{⊎-elim}
+use borrow.Author.Tests.{eq-eqb, ne-eqb, lt-ltb, le-ltb}
+use Rattle.songcode.specs.Lists.{if_then_else_}
+use Rattle.reader.specs.Lyrics.{firstLine, takenWith}
+use borrow.Author.Needs.{needs}
+use Rattle.reader.proofs.lyrics.taken_with.Statement.{statement}
+use Rattle.reader.proofs.lyrics.taken_with.Tie as tie
+use Rattle.reader.proofs.lyrics.taken_with.Reads as reads
+use Rattle.reader.proofs.lyrics.taken_with.Lts as lts
+use Rattle.reader.proofs.lyrics.first_line.Reads as first-line-reads
+
+-- src/lyrics.rt:124:19
+first-line-requires : tie.Need-first-line-requires
+first-line-requires c κs = search needs
+
+-- src/lyrics.rt:121:9
+returns : tie.Need-returns
+unfolding takenWith if_then_else_
+returns c = rw (c .before .before .if1 .taken, c .first-line .ensures, ⊎-elim (λ w. w .1 ∙ rw (w .0 .taken)) (λ w. w .1 ∙ rw (w .0 .left)) (c .before .if2 .came))
+
+-- src/lyrics.rt:117:1
+returns-2 : tie.Need-returns-2
+unfolding takenWith if_then_else_
+returns-2 c = rw (c .if1 .left)
+
+pub taken-with-spec : {M : Type 1} → statement M
+taken-with-spec = tie.close (tie.spec first-line-requires returns returns-2)
