@@ -171,5 +171,5 @@ module _ (s : Song) (x : Section) (ws : List ℕ) (score : Score) (t : Texts) (m
       let p = pattern-length n in
       let q = tail-length n in
       let a = section-beats (cutOrNone (m .front)) (cutOrNone (m .back)) (m .repeat) (rowOf d n ws (t .lead .at)) (rowOf d n ws (t .pattern .at)) (rowOf d n ws (t .tail .at))
-          (short-row d n ws few (t .lead .at)) (short-row d n ws few (t .pattern .at)) (short-row d n ws few (t .tail .at)) in
+      (short-row d n ws few (t .lead .at)) (short-row d n ws few (t .pattern .at)) (short-row d n ws few (t .tail .at)) in
       omega arith
