@@ -8,3 +8,4 @@ pub mod MeterLaws
 pub mod PlayLaws
 pub mod AlongLaws
 pub mod SumLaws
+pub mod SongLaws

@@ -31,7 +31,7 @@ use Rattle.player.specs.declared.leaves.Definitions.{Definitions}
 use Rattle.sections.specs.declared.runs.Run.{Run}
 use Rattle.sections.specs.Runs.{textLines, linesOf}
 use Rattle.sections.specs.declared.blocks.Place.{Place}
-use Rattle.sections.specs.Onward.{Later, sectionAt}
+use Rattle.sections.specs.Onward.{Later, sectionAt, sectionsFrom}
 use Rattle.reader.specs.declared.definitions.Score.{Score}
 use Rattle.reader.specs.declared.texts.Text.{Text}
 use Rattle.reader.specs.declared.texts.Opened.{Opened}
@@ -45,13 +45,13 @@ use Rattle.reader.proofs.ComplaintLaws.{UpTo, first-wins, gather-behind
 use Rattle.reader.proofs.LyricLaws.{prompts-length}
 
 -- A text is empty where there are no items.
-pub empty-is : (ws : List ℕ) (d : Definitions) (t : Text) (o : Option Items) → Carries ws d t o → t .outline .empty ≡ not (isSome o)
+empty-is : (ws : List ℕ) (d : Definitions) (t : Text) (o : Option Items) → Carries ws d t o → t .outline .empty ≡ not (isSome o)
 unfolding Carries isSome vacant
 empty-is ws d t none h = ap (λ x. x .empty) (h .0)
 empty-is ws d t (some r) h = h .0
 
 -- A section that is sung has lyric lines and a pattern that is not empty; it has items if all its lines have counts.
-abbrev pub isSung : Song → Section → Bool
+abbrev isSung : Song → Section → Bool
 isSung s x = isPlayed s x && not (isEmpty (x .lyrics))
 
 abbrev pub isPrompted : Song → Section → Bool
@@ -67,7 +67,7 @@ no-lines [] = refl
 no-lines (l ∷ ls) = ne-eqb (suc (length ls)) 0 (λ z. let y : ⊥ = omega arith in absurd y)
 
 -- Every line that has a number from 1 on has a count where no line is bare.
-pub Lined : LyricLine → Type 0
+Lined : LyricLine → Type 0
 Lined l = 1 ≤ l .number
 
 first-some : (a b : ℕ) → 1 ≤ a → eqb (firstLine a b) 0 ≡ false
@@ -76,7 +76,7 @@ first-some a b h =
     let n : eqb a 0 ≡ false = ne-eqb a 0 (λ z. let y : ⊥ = omega arith in absurd y) in
     by-cases (eqb b 0) (λ e. rw (n, e) n) (λ e. by-cases (ltb b a) (λ f. rw (n, e, f) e) (λ f. rw (n, e, f) n))
 
-pub bare-none : (ls : List LyricLine) → Each Lined ls → eqb (bareLine ls) 0 ≡ every isCounted ls
+bare-none : (ls : List LyricLine) → Each Lined ls → eqb (bareLine ls) 0 ≡ every isCounted ls
 unfolding bareLine every if_then_else_ Each Lined
 bare-none [] h = refl
 bare-none (l ∷ ls) h =
@@ -90,7 +90,7 @@ lined-spans n at k [] h = tt
 lined-spans n at (suc k) (b ∷ bs) h = lined-spans n (suc at) k bs h
 lined-spans n at zero (b ∷ bs) h = (h, lined-spans (suc n) (suc at) (lineOf n at (b ∷ bs) .next - suc at) bs (omega arith))
 
-pub lined-run : (s : List ℕ) (r : Run) → 1 ≤ r .number → Each Lined (map lyricLine (linesOf s r))
+lined-run : (s : List ℕ) (r : Run) → 1 ≤ r .number → Each Lined (map lyricLine (linesOf s r))
 unfolding linesOf textLines lyricLine Each Lined
 lined-run s r h = go (r .lines) (spansFrom (r .number) (r .at) 0 (drop (r .at) s)) (lined-spans (r .number) (r .at) 0 (drop (r .at) s) h)
   where
@@ -117,13 +117,13 @@ module _ (s : Song) (x : Section) (empty : Bool) (t : Tally) (e : empty ≡ not 
   unfolding hasLines tallied
   lines-said = rw (e, u, no-lines (x .lyrics), not-not (isPlayed s x))
 
-  pub prompts-said : Each Lined (x .lyrics) → hasPrompts empty t ≡ isPrompted s x
+  prompts-said : Each Lined (x .lyrics) → hasPrompts empty t ≡ isPrompted s x
   unfolding hasPrompts
   prompts-said h =
       let b : eqb (t .bare) 0 ≡ every isCounted (x .lyrics) = ap (λ (y : Tally). eqb (y .bare) 0) u ∙ tallied-bare (x .lyrics) h in
       rw (lines-said, b)
 
-  pub differs-said : (c : Bool) (k : ℕ) → k ≡ length (played s x) → sumDiffers c empty t k ≡ c && offSum s x
+  differs-said : (c : Bool) (k : ℕ) → k ≡ length (played s x) → sumDiffers c empty t k ≡ c && offSum s x
   unfolding sumDiffers
   differs-said c k h =
       let w : t .sum ≡ counted (x .lyrics) = ap (λ (y : Tally). y .sum) u ∙ tallied-sum (x .lyrics) in
@@ -141,13 +141,13 @@ module _ {s vs : List ℕ} {score : Score} {p : Place} (x : Opened) (o : Opens s
   opened-lined : Each Lined (sectionAt s p .lyrics)
   opened-lined = subst (λ ls. Each Lined ls) (o .met .says .lyrics) (lined-run s (x .section .lyrics) (o .met .read .lyrics-placed .number))
 
-  pub opened-prompts : hasPrompts (x .texts .pattern .outline .empty) t ≡ isPrompted (songOf s) (sectionAt s p)
+  opened-prompts : hasPrompts (x .texts .pattern .outline .empty) t ≡ isPrompted (songOf s) (sectionAt s p)
   opened-prompts = prompts-said (songOf s) (sectionAt s p) _ t opened-empty opened-tally opened-lined
 
-  pub opened-differs : (c : Bool) (k : ℕ) → k ≡ length (played (songOf s) (sectionAt s p)) → sumDiffers c (x .texts .pattern .outline .empty) t k ≡ c && offSum (songOf s) (sectionAt s p)
+  opened-differs : (c : Bool) (k : ℕ) → k ≡ length (played (songOf s) (sectionAt s p)) → sumDiffers c (x .texts .pattern .outline .empty) t k ≡ c && offSum (songOf s) (sectionAt s p)
   opened-differs c k e = differs-said (songOf s) (sectionAt s p) _ t opened-empty opened-tally c k e
 
-  pub opened-lines : t .lines ≡ length (sectionAt s p .lyrics)
+  opened-lines : t .lines ≡ length (sectionAt s p .lyrics)
   unfolding tallied
   opened-lines = ap (λ (y : Tally). y .lines) opened-tally
 
@@ -182,14 +182,14 @@ unfolding faultsLeft gather if_then_else_ refusalOf earliest
 faults-end s h = by-cases (hasCounts s) (λ c. let w : sumFaults s ≡ [] = rw c at h in rw w) (λ c. let w : sumFaults s ≡ [] = rw c at h in rw w)
 
 module _ (s : Song) (x : Section) (xs : List Section) where
-  pub faults-pass : hasCounts s && offSum s x ≡ false → faultsLeft s (x ∷ xs) ≡ faultsLeft s xs
+  faults-pass : hasCounts s && offSum s x ≡ false → faultsLeft s (x ∷ xs) ≡ faultsLeft s xs
   unfolding faultsLeft gather sumFault complainIf when if_then_else_
   faults-pass e =
       by-cases (hasCounts s)
       (λ c. let f : offSum s x ≡ false = rw c at e in rw (c, f))
       (λ c. rw c)
 
-  pub faults-stop : hasCounts s && offSum s x ≡ true → Later (x .header) xs → sumFaults s ≡ faultsLeft s (x ∷ xs) → refusalOf (earliest (sumFaults s)) ≡ record { number = 17; line = x .header }
+  faults-stop : hasCounts s && offSum s x ≡ true → Later (x .header) xs → sumFaults s ≡ faultsLeft s (x ∷ xs) → refusalOf (earliest (sumFaults s)) ≡ record { number = 17; line = x .header }
   unfolding faultsLeft gather sumFault complainIf when if_then_else_ refusalOf earliest earlier UpTo Each
   faults-stop e l h =
       let b = both-pass (hasCounts s) (offSum s x) e in
@@ -205,7 +205,7 @@ pub record Summed (s : Song) (rest : List Section) (x : Sums) : Type 0 where
   pub lines : x .lines + length (gather lyricsOf rest) ≡ length (gather lyricsOf (s .sections))
   pub all : x .all && every (isPrompted s) rest ≡ hasItems s
 
-pub summed-start : (s : Song) → Summed s (s .sections) (record { sections = 0; measures = 0; beats = 0; lines = 0; all = true })
+summed-start : (s : Song) → Summed s (s .sections) (record { sections = 0; measures = 0; beats = 0; lines = 0; all = true })
 unfolding allMeasures hasItems
 summed-start s =
     record {
@@ -219,11 +219,14 @@ summed-start s =
     from-none : (k : ℕ) → 0 + k ≡ k
     from-none k = omega arith
 
+pub summed-from : (s : Song) (xs : List Section) → xs ≡ s .sections → Summed s xs (record { sections = 0; measures = 0; beats = 0; lines = 0; all = true })
+summed-from s xs e = subst (λ ys. Summed s ys (record { sections = 0; measures = 0; beats = 0; lines = 0; all = true })) (sym e) (summed-start s)
+
 and-both : (a b c : Bool) → (a && b) && c ≡ a && (b && c)
 and-both true b c = refl
 and-both false b c = refl
 
-pub summed-next : (s : Song) (y : Section) (rest : List Section) (x : Sums) (c : Counts) (l : ℕ) (b : Bool) → c .measures ≡ length (played s y) → c .beats ≡ total (played s y) → l ≡ length (y .lyrics) → b ≡ isPrompted s y
+summed-next : (s : Song) (y : Section) (rest : List Section) (x : Sums) (c : Counts) (l : ℕ) (b : Bool) → c .measures ≡ length (played s y) → c .beats ≡ total (played s y) → l ≡ length (y .lyrics) → b ≡ isPrompted s y
     → Summed s (y ∷ rest) x → Summed s rest (withSection x c l b)
 unfolding withSection gather every lyricsOf
 summed-next s y rest x c l b m t e p h =
@@ -242,8 +245,34 @@ summed-next s y rest x c l b m t e p h =
       all = ap (λ (q : Bool). (x .all && q) && every (isPrompted s) rest) p ∙ and-both (x .all) (isPrompted s y) (every (isPrompted s) rest) ∙ h .all;
     }
 
+-- A section that is opened: stage 7 refuses it, or goes on to the next.
+module _ {s vs : List ℕ} {score : Score} {p : Place} (x : Opened) (o : Opens s p vs score x) (t : Tally) (u : t ≡ tallied (map lyricLine (linesOf s (x .section .lyrics)))) where
+  pub opened-off : (c r : Bool) (k : ℕ) → c ≡ hasCounts (songOf s) → r ≡ sumDiffers c (x .texts .pattern .outline .empty) t k → k ≡ length (played (songOf s) (sectionAt s p))
+      → hasCounts (songOf s) && offSum (songOf s) (sectionAt s p) ≡ r
+  opened-off c r k e f g = ap (λ (b : Bool). b && offSum (songOf s) (sectionAt s p)) (sym e) ∙ sym (opened-differs x o t u c k g) ∙ sym f
+
+  pub opened-refused : hasCounts (songOf s) && offSum (songOf s) (sectionAt s p) ≡ true → sumFaults (songOf s) ≡ faultsLeft (songOf s) (sectionsFrom s p)
+      → refusalOf (earliest (sumFaults (songOf s))) ≡ record { number = 17; line = x .section .header }
+  opened-refused e h =
+      faults-stop (songOf s) (sectionAt s p) (sectionsFrom s (x .next)) e (o .met .later) (h ∙ ap (λ (xs : List Section). faultsLeft (songOf s) xs) (o .met .first))
+      ∙ ap (λ (k : ℕ). record { number = 17; line = k }) (sym (o .met .says .header))
+
+  pub opened-passed : hasCounts (songOf s) && offSum (songOf s) (sectionAt s p) ≡ false → sumFaults (songOf s) ≡ faultsLeft (songOf s) (sectionsFrom s p)
+      → sumFaults (songOf s) ≡ faultsLeft (songOf s) (sectionsFrom s (x .next))
+  opened-passed e h = h ∙ ap (λ (xs : List Section). faultsLeft (songOf s) xs) (o .met .first) ∙ faults-pass (songOf s) (sectionAt s p) (sectionsFrom s (x .next)) e
+
+  pub opened-summed : (y z : Sums) (c : Counts) (b : Bool) → z ≡ withSection y c (t .lines) b → b ≡ hasPrompts (x .texts .pattern .outline .empty) t → c .measures ≡ length (played (songOf s) (sectionAt s p)) → c .beats ≡ total (played (songOf s) (sectionAt s p))
+      → Summed (songOf s) (sectionsFrom s p) y → Summed (songOf s) (sectionsFrom s (x .next)) z
+  opened-summed y z c b w e m d h =
+      let g : Summed (songOf s) (sectionAt s p ∷ sectionsFrom s (x .next)) y = subst (λ xs. Summed (songOf s) xs y) (o .met .first) h in
+      subst (λ v. Summed (songOf s) (sectionsFrom s (x .next)) v) (sym w) (summed-next (songOf s) (sectionAt s p) (sectionsFrom s (x .next)) y c (t .lines) b m d (opened-lines x o t u) (e ∙ opened-prompts x o t u) g)
+
+pub with-counts : (z y : Sums) (c : Counts) (l : ℕ) (b : Bool) → z ≡ withSection y c l b → (z .sections ≡ y .sections + 1) × (z .measures ≡ y .measures + c .measures) × (z .beats ≡ y .beats + c .beats) × (z .lines ≡ y .lines + l)
+unfolding withSection
+with-counts z y c l b e = rw e (refl, refl, refl, refl)
+
 -- The words of the tables are as many.
-section-words-length : (s : Song) (first : ℕ) (xs : List Section) → length (sectionWords s first xs) ≡ length xs
+pub section-words-length : (s : Song) (first : ℕ) (xs : List Section) → length (sectionWords s first xs) ≡ length xs
 unfolding sectionWords
 section-words-length s first [] = refl
 section-words-length s first (x ∷ xs) = ap suc (section-words-length s (first + length (played s x)) xs)

@@ -1,6 +1,5 @@
 use Prim.Native.Nat.{ℕ, _+_, _-_, _*_, _≤_}
 use mathlib.Core.Path.{_≡_, refl, sym, ap, _∙_, subst}
-use mathlib.Core.Bool.{_&&_}
 use native.Mathlib.Omega.{arith}
 use lib.ListN.{length}
 use borrow.Author.Needs.{needs}
@@ -10,12 +9,11 @@ use Rattle.songcode.specs.Lyrics.{sumFaults}
 use Rattle.songcode.specs.Tables.{tables}
 use Rattle.songcode.specs.Answer.{songOf}
 use Rattle.sections.specs.Onward.{sectionsFrom, sectionAt}
-use Rattle.reader.specs.declared.sums.Sums.{Sums}
 use Rattle.reader.specs.declared.sums.Totals.{Totals}
-use Rattle.reader.specs.Sums.{withSection, totalsOf, Holds}
+use Rattle.reader.specs.Sums.{totalsOf, Holds}
 use Rattle.reader.proofs.MeterLaws.{meter-is}
 use Rattle.reader.proofs.AlongLaws.{Along, along-start, along-same, along-within, along-measures, along-beats, along-next, sections-over}
-use Rattle.reader.proofs.SumLaws.{offSum, opened-prompts, opened-differs, opened-lines, opened-few, faultsLeft, faults-start, faults-end, faults-pass, faults-stop, Summed, summed-start, summed-next, summed-end}
+use Rattle.reader.proofs.SumLaws.{opened-few, opened-off, opened-refused, opened-passed, opened-summed, faultsLeft, faults-start, faults-end, Summed, summed-from, summed-end, with-counts}
 use Rattle.reader.proofs.sums.stage_seven.Statement.{statement}
 use Rattle.reader.proofs.sums.stage_seven.Tie as tie
 use Rattle.reader.proofs.sums.stage_seven.Reads as reads
@@ -49,13 +47,13 @@ meter c = c .meter-of .ensures ∙ meter-is _ _ (c .before .before .before .befo
 -- src/sums.rt:192:5
 loop-holds : tie.Need-loop-holds Inv-loop μ-loop
 loop-holds c = let q = c .before .before .pre in
-    let song = songOf (c .before .before .args .s .now) in (
+    let s = c .before .before .args .s .now in (
       along-start (q .0) (q .1) (q .2) (q .5) (q .6),
       refl,
       omega arith,
       omega arith,
-      subst (λ xs. Summed song xs _) (sym (q .0 .sections)) (summed-start song),
-      faults-start song ∙ ap (faultsLeft song) (sym (q .0 .sections)),
+      summed-from (songOf s) (sectionsFrom s (c .before .before .args .first)) (q .0 .sections),
+      faults-start (songOf s) ∙ ap (faultsLeft (songOf s)) (sym (q .0 .sections)),
     )
 
 -- src/sums.rt:193:13
@@ -93,10 +91,11 @@ returns c = let y = c .before .before .before .before .before in
     let l = y .before .before .before .before .before .before .before .before .before .before .before .before .before .loop in
     let o = y .before .before .before .before .before .before .before .before .before .open-section in
     let s = y .before .before .before .before .before .before .before .before .before .before .before .before .before .before .before .before .args .s .now in
-    let off = sym (ap (λ b. b && offSum (songOf s) (sectionAt s (l .place))) (y .before .before .before .before .before .before .before .before .before .before .before .before .before .before .before .before .pre .7)) ∙ sym (opened-differs (o .result) (o .ensures .0) (c .before .before .before .tally-lyrics .result) (c .before .before .before .tally-lyrics .ensures) _ _ (along-measures (l .inv .0) (o .result) (o .ensures .0) (o .ensures .1 .0) (y .meter-of .result) (meter y) _ (c .before .before .before .before .counts-of .ensures .0))) ∙ sym (c .before .before .sum-differs .ensures) ∙ c .before .if2 .taken in
-    let stop = faults-stop (songOf s) (sectionAt s (l .place)) (sectionsFrom s (o .result .next)) off (o .ensures .0 .met .later) (l .inv .5 ∙ ap (faultsLeft (songOf s)) (o .ensures .0 .met .first)) in
+    let tally = c .before .before .before .tally-lyrics in
+    let m = along-measures (l .inv .0) (o .result) (o .ensures .0) (o .ensures .1 .0) (y .meter-of .result) (meter y) _ (c .before .before .before .before .counts-of .ensures .0) in
+    let off = opened-off (o .result) (o .ensures .0) (tally .result) (tally .ensures) _ _ _ (y .before .before .before .before .before .before .before .before .before .before .before .before .before .before .before .before .pre .7) (c .before .before .sum-differs .ensures) m ∙ c .before .if2 .taken in
     let r = c .sum-refused .ensures in (
-      ap (λ (t : Totals). t .refusal) r ∙ ap (λ (h : ℕ). record { number = 17; line = h }) (o .ensures .0 .met .says .header) ∙ sym stop,
+      ap (λ (t : Totals). t .refusal) r ∙ sym (opened-refused (o .result) (o .ensures .0) (tally .result) (tally .ensures) off (l .inv .5)),
       ((λ z. let w = ap (λ (t : Totals). t .refusal .number) r in let n : ⊥ = omega arith in absurd n), (o .ensures .1 .0, omega (arith, o .ensures .1 .1, l .inv .1))),
     )
 
@@ -123,30 +122,26 @@ loop-less c = omega (arith, c .before .before .before .before .before .before .b
 
 -- src/sums.rt:192:5
 loop-again : tie.Need-loop-again Inv-loop μ-loop
-unfolding withSection
 loop-again c = let y = c .before .before .before .before .before .before .before in
     let l = y .before .before .before .before .before .before .before .before .before .before .before .before .before .loop in
     let o = y .before .before .before .before .before .before .before .before .before .open-section in
-    let s = y .before .before .before .before .before .before .before .before .before .before .before .before .before .before .before .before .args .s .now in
-    let song = songOf s in
-    let x = sectionAt s (l .place) in
-    let rest = sectionsFrom s (o .result .next) in
+    let x = o .result in
     let i = o .ensures .0 in
     let counts = c .before .before .before .before .before .before .counts-of in
     let tally = c .before .before .before .before .before .tally-lyrics in
-    let a = along-next (l .inv .0) (o .result) (o .ensures .0) (o .ensures .1 .0) (y .meter-of .result) (meter y) in
-    let m = along-measures (l .inv .0) (o .result) i (o .ensures .1 .0) (y .meter-of .result) (meter y) _ (counts .ensures .0) in
-    let b = along-beats (l .inv .0) (o .result) i (o .ensures .1 .0) (y .meter-of .result) (meter y) _ (counts .ensures .1) in
-    let lines = opened-few (o .result) i (tally .result) (tally .ensures) (l .inv .0 .ready .told .small) in
+    let a = along-next (l .inv .0) x i (o .ensures .1 .0) (y .meter-of .result) (meter y) in
+    let m = along-measures (l .inv .0) x i (o .ensures .1 .0) (y .meter-of .result) (meter y) (counts .result .measures) (counts .ensures .0) in
+    let b = along-beats (l .inv .0) x i (o .ensures .1 .0) (y .meter-of .result) (meter y) (counts .result .beats) (counts .ensures .1) in
+    let lines = opened-few x i (tally .result) (tally .ensures) (l .inv .0 .ready .told .small) in
     let w = c .before .with-section .ensures in
-    let pass = sym (ap (λ b. b && offSum song x) (y .before .before .before .before .before .before .before .before .before .before .before .before .before .before .before .before .pre .7)) ∙ sym (opened-differs (o .result) i (tally .result) (tally .ensures) _ _ m) ∙ sym (c .before .before .before .before .sum-differs .ensures) ∙ c .before .before .before .if2 .left in
-    let prompts = c .before .before .has-prompts .ensures ∙ opened-prompts (o .result) i (tally .result) (tally .ensures) in (
-      along-same (ap (λ (z : Sums). z .measures) w ∙ ap (λ (k : ℕ). l .sums .measures + k) m) (ap (λ (z : Sums). z .beats) w ∙ ap (λ (k : ℕ). l .sums .beats + k) b) a,
+    let counted = with-counts (c .before .with-section .result) (l .sums) (counts .result) (tally .result .lines) (c .before .before .has-prompts .result) w in
+    let off = opened-off x i (tally .result) (tally .ensures) _ _ _ (y .before .before .before .before .before .before .before .before .before .before .before .before .before .before .before .before .pre .7) (c .before .before .before .before .sum-differs .ensures) m ∙ c .before .before .before .if2 .left in (
+      along-same (omega (arith, counted .1, m)) (omega (arith, counted .2, b)) a,
       omega (arith, o .ensures .1 .1, l .inv .1),
-      omega (arith, ap (λ (z : Sums). z .sections) w, l .inv .2, i .met .further),
-      omega (arith, ap (λ (z : Sums). z .sections) w, ap (λ (z : Sums). z .lines) w, l .inv .3),
-      subst (λ z. Summed song rest z) (sym w) (summed-next song x rest (l .sums) (counts .result) (tally .result .lines) _ m b (opened-lines (o .result) i (tally .result) (tally .ensures)) prompts (subst (λ xs. Summed song xs (l .sums)) (i .met .first) (l .inv .4))),
-      l .inv .5 ∙ ap (faultsLeft song) (i .met .first) ∙ faults-pass song x rest pass,
+      omega (arith, counted .0, l .inv .2, i .met .further),
+      omega (arith, counted .0, counted .3, l .inv .3),
+      opened-summed x i (tally .result) (tally .ensures) (l .sums) _ (counts .result) _ w (c .before .before .has-prompts .ensures) m b (l .inv .4),
+      opened-passed x i (tally .result) (tally .ensures) off (l .inv .5),
     )
 
 -- src/sums.rt:213:5
