@@ -125,7 +125,7 @@ module _ {s ws vs : List ℕ} {score : Score} {p : Place} {m b : ℕ} (a : Along
   sections-next old new all k w tempo h f g t =
       let q : w ≡ sectionWord (sectionAt s p .header) m (length (played (songOf s) (sectionAt s p))) (timeOf (songOf s) (sectionAt s p)) (bpmOf (songOf s) (sectionAt s p)) = f ∙ rw (o .met .says .header, measures, e, g) in
       let r : sectionWords (songOf s) m (sectionsFrom s p) ≡ w ∷ sectionWords (songOf s) (m + c) (sectionsFrom s (x .next)) =
-          ap (λ (xs : List Section). sectionWords (songOf s) m xs) (o .met .first) ∙ rw (q, measures) in
+      ap (λ (xs : List Section). sectionWords (songOf s) m xs) (o .met .first) ∙ rw (q, measures) in
       wrote-put old k new (sectionWords (songOf s) (m + c) (sectionsFrom s (x .next))) all w h (subst (λ xs. Wrote old k new xs all) r t)
 
   pub measures-next : (old new all ys : List ℕ) → m ≤ length new → length new ≡ length old → length all ≤ length old
@@ -138,7 +138,7 @@ module _ {s ws vs : List ℕ} {score : Score} {p : Place} {m b : ℕ} (a : Along
       let rest = gather (played (songOf s)) (sectionsFrom s (x .next)) in
       let f : heads b (rowOfTexts vs score n (x .texts) (x .section .modifiers)) ≡ measureWords b row = ap (λ (r : List (List ℕ)). heads b r) (along-row a x o ready n e) ∙ heads-words b row in
       let r : measureWords b (gather (played (songOf s)) (sectionsFrom s p)) ≡ measureWords b row ++ measureWords (b + d) rest =
-          ap (λ (xs : List Section). measureWords b (gather (played (songOf s)) xs)) (o .met .first) ∙ measure-words-append b row rest ∙ ap (λ (k : ℕ). measureWords b row ++ measureWords (b + k) rest) (sym beats) in
+      ap (λ (xs : List Section). measureWords b (gather (played (songOf s)) xs)) (o .met .first) ∙ measure-words-append b row rest ∙ ap (λ (k : ℕ). measureWords b row ++ measureWords (b + k) rest) (sym beats) in
       stored-lent old new (measureWords b row) (measureWords (b + d) rest) all ys m c (measure-words-length b row ∙ sym measures) h l room
       (y ∙ ap (λ (xs : List ℕ). sets (take (length new - m) (drop m new)) 0 xs) f)
       (subst (λ xs. Wrote old m new xs all) r t)
@@ -153,7 +153,7 @@ module _ {s ws vs : List ℕ} {score : Score} {p : Place} {m b : ℕ} (a : Along
       let rest = gather (played (songOf s)) (sectionsFrom s (x .next)) in
       let f : flat (rowOfTexts vs score n (x .texts) (x .section .modifiers)) ≡ gather (map beatWord) row = ap flat (along-row a x o ready n e) ∙ flat-words row in
       let r : gather (map beatWord) (gather (played (songOf s)) (sectionsFrom s p)) ≡ gather (map beatWord) row ++ gather (map beatWord) rest =
-          ap (λ (xs : List Section). gather (map beatWord) (gather (played (songOf s)) xs)) (o .met .first) ∙ gather-append (map beatWord) row rest in
+      ap (λ (xs : List Section). gather (map beatWord) (gather (played (songOf s)) xs)) (o .met .first) ∙ gather-append (map beatWord) row rest in
       stored-lent old new (gather (map beatWord) row) (gather (map beatWord) rest) all ys b d (beat-words-length row ∙ sym beats) h l room
       (y ∙ ap (λ (xs : List ℕ). sets (take (length new - b) (drop b new)) 0 xs) f)
       (subst (λ xs. Wrote old b new xs all) r t)

@@ -30,6 +30,7 @@ Inv-loop s score song words₀ sections₀ measures₀ beats₀ place₀ k₀ m�
     × (length sections ≡ length sections₀)
     × (length measures ≡ length measures₀)
     × (length beats ≡ length beats₀)
+    × (k ≤ place .at)
     × (m ≤ length measures)
     × (b ≤ length beats)
     × Wrote sections₀ k sections (sectionWords (songOf s) m (sectionsFrom s place)) (tables (songOf s) .sections)
@@ -46,7 +47,7 @@ meter c = c .meter-of .ensures ∙ meter-is _ _ (c .before .before .before .befo
 -- The table of sections has room for its word.
 room : (c : tie.After-meter-of Inv-loop μ-loop) → c .before .before .before .before .before .before .before .before .before .loop .k < length (c .before .before .before .before .before .before .before .before .before .before .before .before .before .before .before .args .sections .now)
 room c = let l = c .before .before .before .before .before .before .before .before .before .loop in let s = c .before .before .before .before .before .before .before .before .before .before .before .before .before .before .before .args .s .now in
-    sections-left s (l .place) _ (l .m) (c .before .before .before .before .before .before .before .before .before .before .before .before .before .before .before .args .sections .now) (l .k) (l .sections) (c .before .before .before .before .before .open-section .ensures .0 .met .first) (c .before .before .before .before .before .before .before .before .before .before .before .before .before .before .before .pre .1 .1 .1 .0) (l .inv .7)
+    sections-left s (l .place) _ (l .m) (c .before .before .before .before .before .before .before .before .before .before .before .before .before .before .before .args .sections .now) (l .k) (l .sections) (c .before .before .before .before .before .open-section .ensures .0 .met .first) (c .before .before .before .before .before .before .before .before .before .before .before .before .before .before .before .pre .1 .1 .1 .0) (l .inv .8)
 
 -- src/songs.rt:50:5
 loop-holds : tie.Need-loop-holds Inv-loop μ-loop
@@ -60,6 +61,7 @@ loop-holds c = let q = c .before .before .before .before .before in
       refl,
       refl,
       refl,
+      omega arith,
       omega arith,
       omega arith,
       sections-start s (a .first) (a .sections .now) e,
@@ -138,15 +140,15 @@ section-word-requires c κs = let y = c .before .before .before .before .before 
 
 -- src/songs.rt:65:9
 mul-sections : tie.Need-mul-sections Inv-loop μ-loop
-mul-sections c = search needs
+mul-sections c = let l = c .before .before .before .before .before .before .before .before .before .before .before .before .before .before .before .before .before .before .before .loop in omega (arith, l .inv .5, l .inv .0 .onward .inside, l .inv .0 .ready .told .small)
 
 -- src/songs.rt:65:9
 slice-write-sections : tie.Need-slice-write-sections Inv-loop μ-loop
-slice-write-sections c = let y = c .before .before .before .before .before .before .before .before .before .before in room (y)
+slice-write-sections c = let y = c .before .before .before .before .before .before .before .before .before .before in omega (arith, room y, y .before .before .before .before .before .before .before .before .before .loop .inv .2)
 
 -- src/songs.rt:72:9
 add-k : tie.Need-add-k Inv-loop μ-loop
-add-k c = let y = c .before .before .before .before .before .before .before .before .before .before in let r = room y in search needs
+add-k c = let l = c .before .before .before .before .before .before .before .before .before .before .before .before .before .before .before .before .before .before .before .loop in omega (arith, l .inv .5, l .inv .0 .onward .inside, l .inv .0 .ready .told .small)
 
 -- src/songs.rt:73:9
 add-m : tie.Need-add-m Inv-loop μ-loop
@@ -195,9 +197,9 @@ loop-again c = let y = c .before .before .before .before .before .before .before
     let q = y .before .before .before .before .before .before .before .before .before .before .before .before .before .before .before in
     let table = tables (songOf (q .args .s .now)) in
     let tempo = c .before .before .before .before .tempo-of .ensures ∙ tempo-is _ _ (i .met .says .bpm) (q .pre .1 .0 .2) in
-    let ws = sections-next (l .inv .0) x i (o .ensures .1 .0) n (meter y) (counts .result .measures) (counts .result .beats) m b (q .args .sections .now) (l .sections) (table .sections) (l .k) _ _ (room y) (c .before .before .before .section-word .ensures) tempo (l .inv .7) in
-    let wm = measures-next (l .inv .0) x i (o .ensures .1 .0) n (meter y) (counts .result .measures) (counts .result .beats) m b (q .args .measures .now) (l .measures) (table .measures) _ (l .inv .5) (l .inv .3) (q .pre .1 .1 .1 .1) (counts .ensures .1 .0) (l .inv .8) in
-    let wb = beats-next (l .inv .0) x i (o .ensures .1 .0) n (meter y) (counts .result .measures) (counts .result .beats) m b (q .args .beats .now) (l .beats) (table .beats) _ (l .inv .6) (l .inv .4) (q .pre .1 .1 .1 .2) (counts .ensures .1 .1) (l .inv .9) in
+    let ws = sections-next (l .inv .0) x i (o .ensures .1 .0) n (meter y) (counts .result .measures) (counts .result .beats) m b (q .args .sections .now) (l .sections) (table .sections) (l .k) _ _ (room y) (c .before .before .before .section-word .ensures) tempo (l .inv .8) in
+    let wm = measures-next (l .inv .0) x i (o .ensures .1 .0) n (meter y) (counts .result .measures) (counts .result .beats) m b (q .args .measures .now) (l .measures) (table .measures) _ (l .inv .6) (l .inv .3) (q .pre .1 .1 .1 .1) (counts .ensures .1 .0) (l .inv .9) in
+    let wb = beats-next (l .inv .0) x i (o .ensures .1 .0) n (meter y) (counts .result .measures) (counts .result .beats) m b (q .args .beats .now) (l .beats) (table .beats) _ (l .inv .7) (l .inv .4) (q .pre .1 .1 .1 .2) (counts .ensures .1 .1) (l .inv .10) in
     let um = wrote-left _ _ _ _ _ wm in
     let ub = wrote-left _ _ _ _ _ wb in
     let lm = wrote-length _ _ _ _ _ (omega (arith, um, q .pre .1 .1 .1 .1)) wm in
@@ -208,6 +210,7 @@ loop-again c = let y = c .before .before .before .before .before .before .before
       ls,
       lm,
       lb,
+      omega (arith, l .inv .5, i .met .further),
       omega (arith, um, lm, q .pre .1 .1 .1 .1),
       omega (arith, ub, lb, q .pre .1 .1 .1 .2),
       ws,
@@ -237,7 +240,7 @@ returns c = let l = c .before .before .loop in
     let q = c .before .before .before .before .before .before .before .before in
     let s = q .args .s .now in
     let over = sections-over s (l .place) (c .if1 .left) in
-    (sections-end s (l .place) (l .m) (q .args .sections .now) (l .k) (l .sections) over (l .inv .7), (measures-end s (l .place) (l .b) (q .args .measures .now) (l .m) (l .measures) over (l .inv .8), beats-end s (l .place) (q .args .beats .now) (l .b) (l .beats) over (l .inv .9)))
+    (sections-end s (l .place) (l .m) (q .args .sections .now) (l .k) (l .sections) over (l .inv .8), (measures-end s (l .place) (l .b) (q .args .measures .now) (l .m) (l .measures) over (l .inv .9), beats-end s (l .place) (q .args .beats .now) (l .b) (l .beats) over (l .inv .10)))
 
 pub write-song-spec : {M : Type 1} → statement M
 write-song-spec =
