@@ -57,9 +57,17 @@ unfolding written
 storedItems (refused number line) old = old
 storedItems (accepted t) old = written (t .items) old
 
--- Stages 3 to 7.
+-- Stages 6 and 7; 4 to 7; 3 to 7.
+unfoldable pub lyricFaults : Song → List (List Complaint)
+lyricFaults s = countFaults s ∷ sumFaults s ∷ []
+
+unfoldable pub playingFaults : Song → List (List Complaint)
+unfolding lyricFaults
+playingFaults s = meterFaults s ∷ lengthFaults s 0 (s .sections) ∷ lyricFaults s
+
 unfoldable pub laterFaults : Song → List (List Complaint)
-laterFaults s = referenceFaults s ∷ meterFaults s ∷ lengthFaults s 0 (s .sections) ∷ countFaults s ∷ sumFaults s ∷ []
+unfolding playingFaults
+laterFaults s = referenceFaults s ∷ playingFaults s
 
 -- A table that is too short for these totals.
 unfoldable pub isShort : Totals → ℕ → ℕ → ℕ → ℕ → ℕ → Bool

@@ -43,4 +43,4 @@ cutAway ws score n m t =
     (lastBeat (cutOrNone (m .back)) (times (m .repeat) (rowOf (score .definitions) n ws (t .pattern .at)))
     - firstBeat (cutOrNone (m .front)) (times (m .repeat) (rowOf (score .definitions) n ws (t .pattern .at))))
     0
-    else false)
+    else eqb (t .pattern .outline .measures) 0)

@@ -91,7 +91,7 @@ fn is_modified(m: Modifiers) -> bool
     has_cut(m)
 }
 
-// Whether cuts leave no beat, or a modifier stands on an empty pattern.
+// Whether no beat is left, or a modifier stands on an empty pattern.
 fn is_cut_away(words: &[u32], score: Score, n: usize, m: Modifiers, t: Texts) -> bool
     requires { ⌜ (n ≤ 32) × CutFits (m .front) × (length (times (m .repeat) (rowOf (score .definitions) n (now words) (t .pattern .at))) ≤ 65535) ⌝ }
     ensures { λ r. ⌜ r ≡ cutAway (now (words .entry)) score n m t ⌝ }
@@ -102,7 +102,7 @@ fn is_cut_away(words: &[u32], score: Score, n: usize, m: Modifiers, t: Texts) ->
         return is_modified(m);
     }
     if !has_cut(m) {
-        return false;
+        return outline.measures == 0;
     }
     let front = m.front;
     let back = m.back;

@@ -115,3 +115,13 @@ unfolding orNoSection
 or-no-section [] bs h = nothing-else (isEmpty bs)
 or-no-section (c ∷ cs) bs h =
     ap refusalAt (low-stays (isEmpty bs) (least (c ∷ cs)) (least-low c cs h)) ∙ earliest-least (c ∷ cs) h
+
+first-numbered : (c : Complaint) (cs : List Complaint) → Each Small (c ∷ cs) → 1 ≤ earlier c (earliest cs) .number
+unfolding Says earliest
+first-numbered c cs h = least-says (c ∷ cs) h .1 .2
+
+-- Where no number is given nothing is complained of.
+pub clear-faults : (cs : List Complaint) (bs : List Block) → Each Small cs → refusalOf (earliest (orNoSection cs bs)) .number ≡ 0 → orNoSection cs bs ≡ []
+unfolding orNoSection complainIf when refusalOf earliest earlier
+clear-faults [] bs h e = by-cases (isEmpty bs) (λ t. let z : 9 ≡ 0 = rw t at e in let w : ⊥ = omega arith in absurd w) (λ t. rw t)
+clear-faults (c ∷ cs) bs h e = let k = first-numbered c cs h in let z : ⊥ = omega arith in absurd z

@@ -17,7 +17,7 @@ use Rattle.stage2.proofs.SmallLineFaults.{Low, LowBlock, Fine, fine-if,
 
 fine-header : (l : Line) → Low l → Fine (headerFaults l)
 unfolding headerFaults isHeader
-fine-header l h = fine-if (not (isHeader (l .text))) 8 l (omega arith) h
+fine-header l h = fine-if (not (isHeader (l .text))) 8 l (omega arith, omega arith) h
 
 all-seven : (h o k m f p l : List Complaint) → Fine h → Fine o → Fine k → Fine m → Fine f → Fine p → Fine l → Fine (h ++ o ++ k ++ m ++ f ++ p ++ l)
 all-seven h o k m f p l a b c d e g i =
@@ -43,8 +43,8 @@ fine-section b h =
     (lyricFaults (ending b))
     (fine-header (b .first) (h .0))
     (fine-order amongKeys (body b) low)
-    (fine-twice 4 (omega arith) keySaid [] (body b) low)
-    (fine-twice 8 (omega arith) modifierSaid [] (body b) low)
+    (fine-twice 4 (omega arith, omega arith) keySaid [] (body b) low)
+    (fine-twice 8 (omega arith, omega arith) modifierSaid [] (body b) low)
     (fine-gather faults fine-faults (body b) low)
     (fine-pattern (b .first) (patternRun (body b)) (h .0) run)
     (fine-lyrics (ending b) (each-left Low notDashes (b .others) (h .1)))
@@ -54,13 +54,13 @@ fine-blocks-order : (t : ℕ) (bs : List Block) → Each LowBlock bs → Fine (b
 unfolding blockOrder Each LowBlock
 fine-blocks-order t [] h = tt
 fine-blocks-order t (b ∷ bs) h =
-    each-append Small (complainIf (ltb (turn (blockKind b)) t) 3 (b .first .number)) (blockOrder (max t (turn (blockKind b))) bs) (fine-if (ltb (turn (blockKind b)) t) 3 (b .first) (omega arith) (h .0 .0)) (fine-blocks-order (max t (turn (blockKind b))) bs (h .1))
+    each-append Small (complainIf (ltb (turn (blockKind b)) t) 3 (b .first .number)) (blockOrder (max t (turn (blockKind b))) bs) (fine-if (ltb (turn (blockKind b)) t) 3 (b .first) (omega arith, omega arith) (h .0 .0)) (fine-blocks-order (max t (turn (blockKind b))) bs (h .1))
 
 fine-heads : (n : ℕ) (bs : List Block) → Each LowBlock bs → Fine (headsFaults n bs)
 unfolding headsFaults Each LowBlock
 fine-heads n [] h = tt
 fine-heads n (b ∷ bs) h =
-    each-append Small (complainIf (not (isSome (headIn (b .first))) || leb 26 n) 6 (b .first .number)) (headsFaults (suc n) bs) (fine-if (not (isSome (headIn (b .first))) || leb 26 n) 6 (b .first) (omega arith) (h .0 .0)) (fine-heads (suc n) bs (h .1))
+    each-append Small (complainIf (not (isSome (headIn (b .first))) || leb 26 n) 6 (b .first .number)) (headsFaults (suc n) bs) (fine-if (not (isSome (headIn (b .first))) || leb 26 n) 6 (b .first) (omega arith, omega arith) (h .0 .0)) (fine-heads (suc n) bs (h .1))
 
 low-firsts : (bs : List Block) → Each LowBlock bs → Each Low (map firstLine bs)
 unfolding Each LowBlock firstLine
@@ -99,8 +99,8 @@ faults-small bs h =
     let d1 = headsFaults 0 ds in
     let d2 = twice 6 headIn [] (map firstLine ds) in
     let d3 = gather (λ b. definitionFaults (b .others)) ds in
-    let m = each-append Small m1 m2 (fine-twice 4 (omega arith) keySaid [] ls lines) (fine-gather metadataFault fine-metadata ls lines) in
-    let d = each-append Small d1 d2 (fine-heads 0 ds definitions) (fine-twice 6 (omega arith) headIn [] (map firstLine ds) (low-firsts ds definitions)) in
+    let m = each-append Small m1 m2 (fine-twice 4 (omega arith, omega arith) keySaid [] ls lines) (fine-gather metadataFault fine-metadata ls lines) in
+    let d = each-append Small d1 d2 (fine-heads 0 ds definitions) (fine-twice 6 (omega arith, omega arith) headIn [] (map firstLine ds) (low-firsts ds definitions)) in
     let e = each-append Small (d1 ++ d2) d3 d (fine-gather (λ b. definitionFaults (b .others)) (λ b p. fine-definition (b .others) (p .1)) ds definitions) in
     let o = each-append Small (blockOrder 0 bs) (m1 ++ m2) (fine-blocks-order 0 bs h) m in
     each-append Small (blockOrder 0 bs ++ (m1 ++ m2) ++ (d1 ++ d2 ++ d3)) (gather sectionFaults (sectionBlocks bs)) (each-append Small (blockOrder 0 bs ++ (m1 ++ m2)) (d1 ++ d2 ++ d3) o e) (fine-gather sectionFaults fine-section (sectionBlocks bs) sections)

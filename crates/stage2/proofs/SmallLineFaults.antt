@@ -1,5 +1,5 @@
 -- A line's complaints have small numbers, and its own line.
-use Prim.Native.Nat.{ℕ, _<_}
+use Prim.Native.Nat.{ℕ, _<_, _≤_}
 use mathlib.Core.List.{List, [], _∷_, map}
 use mathlib.Core.Bool.{Bool, true, false, not}
 use mathlib.Core.Option.{Option, none, some}
@@ -30,13 +30,13 @@ LowBlock b = Low (b .first) × Each Low (b .others)
 abbrev pub Fine : List Complaint → Type 0
 Fine cs = Each Small cs
 
-pub one : (number : ℕ) (l : Line) → number < 32 → Low l → Fine (complaint number (l .number) ∷ [])
+pub one : (number : ℕ) (l : Line) → (1 ≤ number) × (number < 32) → Low l → Fine (complaint number (l .number) ∷ [])
 unfolding Each
-one number l n h = ((n, h), tt)
+one number l n h = ((n .1, h, n .0), tt)
 
-pub fine-if : (t : Bool) (number : ℕ) (l : Line) → number < 32 → Low l → Fine (complainIf t number (l .number))
+pub fine-if : (t : Bool) (number : ℕ) (l : Line) → (1 ≤ number) × (number < 32) → Low l → Fine (complainIf t number (l .number))
 unfolding complainIf when Each
-fine-if true number l n h = ((n, h), tt)
+fine-if true number l n h = ((n .1, h, n .0), tt)
 fine-if false number l n h = tt
 
 pub fine-gather : {A : Type 0} {P : A → Type 0} (f : A → List Complaint) → ((x : A) → P x → Fine (f x)) → (xs : List A) → Each P xs → Fine (gather f xs)
@@ -62,7 +62,7 @@ module _ {A : Type 0} (P : A → Type 0) (t : A → Bool) where
   each-left (x ∷ xs) p = by-cases (t x) (λ e. rw e (each-left xs (p .1))) (λ e. rw e p)
 
 -- Said twice.
-module _ (number : ℕ) (small : number < 32) (said : Line → Option ℕ) where
+module _ (number : ℕ) (small : (1 ≤ number) × (number < 32)) (said : Line → Option ℕ) where
   fine-said : (o : Option ℕ) (seen : List ℕ) (l : Line) → Low l → Fine (twiceBy number o seen l)
   unfolding twiceBy Each
   fine-said none seen l h = tt
@@ -78,25 +78,25 @@ module _ (number : ℕ) (small : number < 32) (said : Line → Option ℕ) where
 module _ (l : Line) (h : Low l) where
   fine-key-by : (allowed : KeyName → Bool) (o : Option KeyName) → Fine (keyFaultsBy allowed o l)
   unfolding keyFaultsBy
-  fine-key-by allowed none = one 4 l (omega arith) h
+  fine-key-by allowed none = one 4 l (omega arith, omega arith) h
   fine-key-by allowed (some k) =
-      each-append Small (complainIf (not (allowed k)) 4 (l .number)) (complainIf (not (isSetting k (settingOf l))) 5 (l .number)) (fine-if (not (allowed k)) 4 l (omega arith) h) (fine-if (not (isSetting k (settingOf l))) 5 l (omega arith) h)
+      each-append Small (complainIf (not (allowed k)) 4 (l .number)) (complainIf (not (isSetting k (settingOf l))) 5 (l .number)) (fine-if (not (allowed k)) 4 l (omega arith, omega arith) h) (fine-if (not (isSetting k (settingOf l))) 5 l (omega arith, omega arith) h)
 
   fine-key : (allowed : KeyName → Bool) → Fine (keyFaults allowed l)
   unfolding keyFaults
   fine-key allowed = fine-key-by allowed (keyNameOf l)
 
-  refusal-small : (m : ModifierName) → settingRefusal m < 32
+  refusal-small : (m : ModifierName) → (1 ≤ settingRefusal m) × (settingRefusal m < 32)
   unfolding settingRefusal
-  refusal-small ofRepeat = omega arith
-  refusal-small ofCutStart = omega arith
-  refusal-small ofCutEnd = omega arith
-  refusal-small ofBefore = omega arith
-  refusal-small ofAfter = omega arith
+  refusal-small ofRepeat = (omega arith, omega arith)
+  refusal-small ofCutStart = (omega arith, omega arith)
+  refusal-small ofCutEnd = (omega arith, omega arith)
+  refusal-small ofBefore = (omega arith, omega arith)
+  refusal-small ofAfter = (omega arith, omega arith)
 
   fine-modifier-by : (o : Option ModifierName) → Fine (modifierFaultsBy o l)
   unfolding modifierFaultsBy
-  fine-modifier-by none = one 8 l (omega arith) h
+  fine-modifier-by none = one 8 l (omega arith, omega arith) h
   fine-modifier-by (some m) = fine-if (not (isSome (modifierIn m (l .number) (settingOf l)))) (settingRefusal m) l (refusal-small m) h
 
   pub fine-faults : Fine (faults l)
@@ -114,23 +114,23 @@ module _ (l : Line) (h : Low l) where
       by-line-kind
       (kindOfLine l)
       (λ e. rw (e, metadataFault) (fine-key ofMetadata))
-      (λ e. rw (e, metadataFault) (one 8 l (omega arith) h))
-      (λ e. rw (e, metadataFault) (one 8 l (omega arith) h))
+      (λ e. rw (e, metadataFault) (one 8 l (omega arith, omega arith) h))
+      (λ e. rw (e, metadataFault) (one 8 l (omega arith, omega arith) h))
 
   fine-misplaced : (p : Place) (k : Kind) → Fine (map (λ n. complaint n (l .number)) (misplaced p k))
   unfolding misplaced Each
   fine-misplaced amongKeys keyLine = tt
-  fine-misplaced amongKeys modifierLine = one 8 l (omega arith) h
+  fine-misplaced amongKeys modifierLine = one 8 l (omega arith, omega arith) h
   fine-misplaced amongKeys patternLine = tt
-  fine-misplaced early keyLine = one 4 l (omega arith) h
-  fine-misplaced early modifierLine = one 8 l (omega arith) h
+  fine-misplaced early keyLine = one 4 l (omega arith, omega arith) h
+  fine-misplaced early modifierLine = one 8 l (omega arith, omega arith) h
   fine-misplaced early patternLine = tt
-  fine-misplaced inPattern keyLine = one 4 l (omega arith) h
+  fine-misplaced inPattern keyLine = one 4 l (omega arith, omega arith) h
   fine-misplaced inPattern modifierLine = tt
   fine-misplaced inPattern patternLine = tt
-  fine-misplaced behind keyLine = one 4 l (omega arith) h
+  fine-misplaced behind keyLine = one 4 l (omega arith, omega arith) h
   fine-misplaced behind modifierLine = tt
-  fine-misplaced behind patternLine = one 8 l (omega arith) h
+  fine-misplaced behind patternLine = one 8 l (omega arith, omega arith) h
 
 pub fine-order : (p : Place) (ls : List Line) → Each Low ls → Fine (order p ls)
 unfolding order Each
@@ -140,15 +140,15 @@ fine-order p (l ∷ ls) h =
 
 pub fine-pattern : (b : Line) (ls : List Line) → Low b → Each Low ls → Fine (patternFaults (b .number) ls)
 unfolding patternFaults Each
-fine-pattern b [] h p = one 8 b (omega arith) h
-fine-pattern b (l ∷ ls) h p = fine-if (not (isSome (sectionText l ls))) 7 l (omega arith) (p .0)
+fine-pattern b [] h p = one 8 b (omega arith, omega arith) h
+fine-pattern b (l ∷ ls) h p = fine-if (not (isSome (sectionText l ls))) 7 l (omega arith, omega arith) (p .0)
 
 pub fine-definition : (ls : List Line) → Each Low ls → Fine (definitionFaults ls)
 unfolding definitionFaults Each
 fine-definition [] p = tt
-fine-definition (l ∷ ls) p = fine-if (not (isSome (definitionText l ls))) 7 l (omega arith) (p .0)
+fine-definition (l ∷ ls) p = fine-if (not (isSome (definitionText l ls))) 7 l (omega arith, omega arith) (p .0)
 
 pub fine-lyrics : (ls : List Line) → Each Low ls → Fine (lyricFaults ls)
 unfolding lyricFaults Each
 fine-lyrics [] p = tt
-fine-lyrics (l ∷ ls) p = fine-if (isEmpty ls) 8 l (omega arith) (p .0)
+fine-lyrics (l ∷ ls) p = fine-if (isEmpty ls) 8 l (omega arith, omega arith) (p .0)

@@ -1,5 +1,5 @@
 -- A complaint as one number, so that the one that goes first is the least: by its line, on one line by its number.
-use Prim.Native.Nat.{ℕ, _+_, _*_, _/_, _%_, _<_, min}
+use Prim.Native.Nat.{ℕ, _+_, _*_, _/_, _%_, _<_, _≤_, min}
 use mathlib.Core.List.{List, [], _∷_}
 use mathlib.Core.Bool.{Bool}
 use lib.Dec.{eqb, ltb}
@@ -20,9 +20,9 @@ noSection = 4194313
 abbrev pub none : ℕ
 none = 8388608
 
--- A complaint that a text may have: its number is below 32, its line below that of `noSection`.
+-- A complaint that a text may have: its number is from 1 to 31, its line below that of `noSection`.
 abbrev pub Small : Complaint → Type 0
-Small c = (c .number < 32) × (c .line < 131072)
+Small c = (c .number < 32) × (c .line < 131072) × (1 ≤ c .number)
 
 unfoldable pub least : List Complaint → ℕ
 least [] = none
