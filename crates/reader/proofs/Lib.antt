@@ -17,3 +17,11 @@ pub mod PlayLaws
 pub mod AlongLaws
 pub mod SumLaws
 pub mod SongLaws
+pub mod TallyLaws
+pub mod ItemLaws
+pub mod NumberLaws
+pub mod TakenLaws
+pub mod PromptLaws
+pub mod GoodLaws
+pub mod SettingLaws
+pub mod KeyLaws

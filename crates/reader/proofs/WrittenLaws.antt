@@ -63,3 +63,9 @@ wrote-lent o n t xs rest all ys k e h f w y =
     let b : drop (length t - n) (drop n t) ≡ [] = drop-of-length-le (drop n t) g in
     let z : ys ≡ xs ++ drop (length xs) (drop n t) = rw (← a) y in
     rw (z, b, append-nil, ← e) (wrote-part o n t xs rest all (omega arith) w)
+
+-- Nothing is to be written.
+pub written-none : (o ws : List ℕ) → length ws ≡ 0 → o ≡ written ws o
+unfolding written
+written-none o [] e = refl
+written-none o (w ∷ ws) e = absurd (let z : ⊥ = omega arith in z)

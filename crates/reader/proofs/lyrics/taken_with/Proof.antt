@@ -1,4 +1,5 @@
-use mathlib.Core.Path.{_∙_}
+use mathlib.Core.Path.{_≡_, _∙_}
+use mathlib.Core.Bool.{_||_}
 use mathlib.Core.Logic.{⊎-elim}
 use borrow.Author.Tests.{eq-eqb, ne-eqb, lt-ltb, le-ltb}
 use Rattle.songcode.specs.Lists.{if_then_else_}
@@ -17,7 +18,10 @@ first-line-requires c κs = search needs
 -- src/lyrics.rt:121:9
 returns : tie.Need-returns
 unfolding takenWith if_then_else_
-returns c = rw (c .before .before .if1 .taken, c .first-line .ensures, ⊎-elim (λ w. w .1 ∙ rw (w .0 .taken)) (λ w. w .1 ∙ rw (w .0 .left)) (c .before .if2 .came))
+returns c =
+    let a = c .before .before .before .args in
+    let one : c .before .if2 .t7 ≡ a .counted || a .t .counted = ⊎-elim (λ w. rw (w .0 .taken) (w .1 ∙ w .0 .taken)) (λ w. rw (w .0 .left) (w .1)) (c .before .if2 .came) in
+    rw (c .before .before .if1 .taken, c .first-line .ensures, one)
 
 -- src/lyrics.rt:117:1
 returns-2 : tie.Need-returns-2
