@@ -1,7 +1,7 @@
 -- The walk along the sections of a song that stages 4 and 5 accept: each section that is opened plays what the definitions say, and the tables have room.
 use Prim.Native.Nat.{ℕ, zero, suc, _+_, _*_, _<_, _≤_}
 use mathlib.Core.Path.{_≡_, refl, sym, ap, _∙_}
-use mathlib.Core.List.{List, [], _∷_, _++_, map}
+use mathlib.Core.List.{List, [], _∷_, _++_}
 use native.Mathlib.Omega.{arith}
 use lib.ListN.{length}
 use Rattle.songcode.specs.Lists.{gather}
@@ -13,9 +13,7 @@ use Rattle.songcode.specs.Meter.{sectionMeter, meterFaults, sectionCount, lengt
 use Rattle.songcode.specs.Answer.{songOf}
 use Rattle.songcode.proofs.ListLaws.{append-is-nil}
 use Rattle.player.specs.Texts.{rowWords}
-use Rattle.songcode.specs.Sections.{sectionIn}
 use Rattle.sections.specs.declared.blocks.Place.{Place}
-use Rattle.sections.proofs.NextLaws.{blocks-over}
 use Rattle.sections.specs.Onward.{Onward, sectionsFrom, sectionAt}
 use Rattle.reader.specs.declared.definitions.Score.{Score}
 use Rattle.reader.specs.declared.texts.Opened.{Opened}
@@ -65,11 +63,6 @@ along-same {s} {ws} {score} {p} {m} {n} {b} {d} e f a =
       meters = a .meters;
       lengths = a .lengths;
     }
-
--- No section is left at the end of the text.
-pub sections-over : (s : List ℕ) (p : Place) → length s ≤ p .at → sectionsFrom s p ≡ []
-unfolding sectionsFrom
-sections-over s p h = ap (map sectionIn) (blocks-over s (p .number) (p .at) h)
 
 -- The next section is opened, and played in its own N.
 module _ {s ws vs : List ℕ} {score : Score} {p : Place} {m b : ℕ} (a : Along s ws score p m b) (x : Opened) (o : Opens s p vs score x) (ready : Ready s vs score) (n : ℕ) (e : n ≡ timeOf (songOf s) (sectionAt s p)) where

@@ -2,32 +2,26 @@
 use Prim.Native.Nat.{ℕ, zero, suc, _+_, _-_, _*_, _<_, _≤_}
 use mathlib.Core.Path.{_≡_, refl, sym, ap, _∙_}
 use mathlib.Core.List.{List, [], _∷_, _++_, map}
-use mathlib.Core.Bool.{Bool, true, false, not}
 use mathlib.Core.Option.{Option, none, some}
 use native.Mathlib.Omega.{arith}
 use lib.ListN.{length, length-map}
-use borrow.Author.Tests.{not-false}
 use Rattle.songcode.specs.Lists.{times, andThen}
-use Rattle.songcode.specs.Complaints.{complainIf}
-use Rattle.songcode.specs.Song as song
 use Rattle.songcode.specs.Song.{Items, Modifier, Section, Song}
 use Rattle.songcode.specs.References.{patternItems}
 use Rattle.songcode.specs.Playing.{Beat, Side, cutStartSaid, cutEndSaid, saidBy, beforeSaid, afterSaid, repeats, cutRow, measuresOf, sideMeasures, keptMeasures, timeOf, played}
 use Rattle.songcode.specs.Performance.{total}
 use Rattle.songcode.specs.Tables.{beatWord}
-use Rattle.songcode.specs.Meter.{allFit, stray, rowFaults, playedFaults, sideFaults, sectionMeter, count, countOf, sideCount, sectionCount}
-use Rattle.songcode.proofs.ListLaws.{append-is-nil, complainIf-nil, times-length}
-use Rattle.songcode.proofs.RowLaws.{Filled, filled-items, length-items}
+use Rattle.songcode.specs.Meter.{rowFaults, playedFaults, sideFaults, sectionMeter, countOf, sideCount, sectionCount}
+use Rattle.songcode.proofs.ListLaws.{append-is-nil, times-length}
+use Rattle.songcode.proofs.RowLaws.{Filled, filled-items}
 use Rattle.songcode.proofs.SectionPlays.{meter-some, pass-of}
 use Rattle.songcode.proofs.TurnedRows.{total-append}
 use Rattle.settings.specs.declared.cuts.Cut.{Cut}
-use Rattle.settings.specs.declared.cuts.CutRead.{CutRead}
-use Rattle.settings.specs.declared.cuts.CutRead.the-variants as read
 use Rattle.settings.specs.Cuts.{cutIs, CutFits}
 use Rattle.player.specs.declared.leaves.Definitions.{Definitions}
 use Rattle.player.specs.Texts.{rowWords}
 use Rattle.player.specs.Walks.{rowOf}
-use Rattle.player.specs.Windows.{cutOf, cutSaid, wholeOf, keptOf, sectionRow}
+use Rattle.player.specs.Windows.{wholeOf, keptOf, sectionRow}
 use Rattle.player.proofs.SectionLaws.{total-whole, total-kept}
 use Rattle.player.proofs.SectionMeaning.{section-words}
 use Rattle.player.proofs.ShortLaws.{Short, short-times, short-row, total-short}
@@ -38,18 +32,10 @@ use Rattle.reader.specs.declared.texts.Texts.{Texts}
 use Rattle.reader.specs.Scores.{Carries, sideItems, TextsAre}
 use Rattle.reader.specs.Lengths.{cutOrNone}
 use Rattle.reader.specs.Sums.{rowOfTexts, PlaysWithin}
+use Rattle.reader.proofs.CountLaws.{played-length}
+use Rattle.reader.proofs.CutLaws.{cut-said}
+use Rattle.reader.proofs.OpenedLaws.{row-fits}
 use Rattle.reader.proofs.PlayedLaws.{cut-short, side-length}
-
--- A cut that is read is the cut that is said, and fits.
-pub cut-said : (o : Option song.Cut) → cutOrNone (cutIs o) ≡ cutSaid o
-unfolding cutOrNone cutIs cutSaid cutOf
-cut-said none = refl
-cut-said (some c) = refl
-
-pub cut-beats : (c : CutRead) → CutFits c → cutOrNone c .beats .0 ≤ 9999
-unfolding cutOrNone CutFits
-cut-beats (read.Cut c) h = h .1
-cut-beats read.Not h = omega arith
 
 -- The words of a row: as many measures and beats as the row has.
 pub words-length : (row : List (List Beat)) → length (rowWords row) ≡ length row
@@ -75,10 +61,7 @@ module _ (ws : List ℕ) (d : Definitions) (n : ℕ) where
 
 -- Every measure of a text that stage 4 passes has a beat.
 row-filled : (n l : ℕ) (r : Items) → 1 ≤ n → rowFaults n l r ≡ [] → Filled (measuresOf n none r)
-unfolding rowFaults
-row-filled n l r h e =
-    let g = append-is-nil (complainIf (not (allFit n r)) 12 l) (complainIf (stray none r) 13 l) e in
-    filled-items n none r h (not-false (allFit n r) (complainIf-nil _ _ _ (g .0)))
+row-filled n l r h e = filled-items n none r h (row-fits n l r e)
 
 pass-filled : (n l : ℕ) (o : Option Items) → 1 ≤ n → playedFaults n l o ≡ [] → Filled (pass-of n o)
 unfolding playedFaults pass-of Filled
@@ -103,11 +86,6 @@ kept-pass n ms none =
     let b : length (times (repeats ms) row) ≡ 0 = times-length (repeats ms) row ∙ omega arith in
     no-length (cutRow ms (times (repeats ms) row)) (omega arith)
 kept-pass n ms (some r) = refl
-
-pass-length : (n : ℕ) (o : Option Items) → length (pass-of n o) ≡ countOf o
-unfolding pass-of countOf
-pass-length n none = refl
-pass-length n (some r) = length-items n none r
 
 -- Cuts only take beats away.
 section-beats : (f k : Cut) (r : ℕ) (lead row tail : List (List ℕ)) → Short lead → Short row → Short tail → total (sectionRow f k r lead row tail) ≤ 32 * (length lead + length (times r row) + length tail)
@@ -150,10 +128,7 @@ module _ (s : Song) (x : Section) (ws : List ℕ) (score : Score) (t : Texts) (m
   tail-length n = rw (carried-side ws (score .definitions) n (t .tail) (saidBy afterSaid (x .modifiers)) (h .tail)) (words-length _ ∙ side-length n (saidBy afterSaid (x .modifiers)))
 
   pattern-length : (n : ℕ) → length (times (m .repeat) (rowOf (score .definitions) n ws (t .pattern .at))) ≡ repeats (x .modifiers) * countOf (patternItems (s .definitions) (x .pattern))
-  pattern-length n =
-      let o = patternItems (s .definitions) (x .pattern) in
-      let k = repeats (x .modifiers) in
-      rw (again, carried ws (score .definitions) n (t .pattern) o (h .pattern)) (times-length k (rowWords (pass-of n o)) ∙ ap (λ (y : ℕ). k * y) (words-length (pass-of n o) ∙ pass-length n o))
+  pattern-length n = rw again (played-length ws (score .definitions) (t .pattern) (patternItems (s .definitions) (x .pattern)) n (repeats (x .modifiers)) (h .pattern))
 
   pub texts-within : (n base sofar : ℕ) → n ≤ 32 → CutFits (m .front) → sofar + sectionCount s x ≤ 65535 → base ≤ 32 * sofar → PlaysWithin ws score n t m base
   unfolding sectionCount

@@ -7,7 +7,7 @@ use mathlib.Core.Option.{Option, none, some}
 use native.Mathlib.Omega.{arith}
 use native.Mathlib.Nat.{le-refl}
 use lib.Dec.{eqb, ltb}
-use lib.ListN.{length, take, drop, length-map, length-append, length-take}
+use lib.ListN.{length, length-map, length-append, length-take}
 use borrow.Author.Tests.{eq-eqb, ne-eqb}
 use Rattle.songcode.specs.Lists.{if_then_else_, isEmpty, isSome, every, gather, when}
 use Rattle.songcode.specs.Complaints.{Complaint, complaint, complainIf, earliest, earlier}
@@ -23,12 +23,9 @@ use Rattle.songcode.proofs.ListLaws.{by-cases, both-pass, nil-is-not-cons, Each
 use Rattle.songcode.proofs.TurnedRows.{total-append}
 use Rattle.songcode.specs.Sections.{lyricLine}
 use Rattle.text.specs.Refusals.{refusalOf}
-use Rattle.text.specs.declared.lines.Line as text
-use Rattle.text.specs.Spans.{lineOf, spansFrom, lineText}
 use Rattle.outlines.specs.Tables.{vacant}
 use Rattle.player.specs.declared.playing.Counts.{Counts}
 use Rattle.player.specs.declared.leaves.Definitions.{Definitions}
-use Rattle.sections.specs.declared.runs.Run.{Run}
 use Rattle.sections.specs.Runs.{textLines, linesOf}
 use Rattle.sections.specs.declared.blocks.Place.{Place}
 use Rattle.sections.specs.Onward.{Later, sectionAt, sectionsFrom}
@@ -43,6 +40,7 @@ use Rattle.reader.specs.Lyrics.{firstLine, bareLine, tallied}
 use Rattle.reader.specs.Sums.{hasLines, hasPrompts, sumDiffers, withSection, totalsOf, Holds}
 use Rattle.reader.proofs.ComplaintLaws.{UpTo, first-wins, gather-behind}
 use Rattle.reader.proofs.LyricLaws.{prompts-length}
+use Rattle.reader.proofs.NumberLaws.{Numbered, lyrics-numbered}
 
 -- A text is empty where there are no items.
 empty-is : (ws : List ℕ) (d : Definitions) (t : Text) (o : Option Items) → Carries ws d t o → t .outline .empty ≡ not (isSome o)
@@ -67,44 +65,26 @@ no-lines [] = refl
 no-lines (l ∷ ls) = ne-eqb (suc (length ls)) 0 (λ z. let y : ⊥ = omega arith in absurd y)
 
 -- Every line that has a number from 1 on has a count where no line is bare.
-Lined : LyricLine → Type 0
-Lined l = 1 ≤ l .number
-
 first-some : (a b : ℕ) → 1 ≤ a → eqb (firstLine a b) 0 ≡ false
 unfolding firstLine if_then_else_
 first-some a b h =
     let n : eqb a 0 ≡ false = ne-eqb a 0 (λ z. let y : ⊥ = omega arith in absurd y) in
     by-cases (eqb b 0) (λ e. rw (n, e) n) (λ e. by-cases (ltb b a) (λ f. rw (n, e, f) e) (λ f. rw (n, e, f) n))
 
-bare-none : (ls : List LyricLine) → Each Lined ls → eqb (bareLine ls) 0 ≡ every isCounted ls
-unfolding bareLine every if_then_else_ Each Lined
+bare-none : (ls : List LyricLine) → Numbered ls → eqb (bareLine ls) 0 ≡ every isCounted ls
+unfolding bareLine every if_then_else_ Each
 bare-none [] h = refl
 bare-none (l ∷ ls) h =
     by-cases (isCounted l)
     (λ e. rw e (bare-none ls (h .1)))
     (λ e. rw e (first-some (l .number) (bareLine ls) (h .0)))
 
-lined-spans : (n at k : ℕ) (bs : List ℕ) → 1 ≤ n → Each (λ (l : text.Line). 1 ≤ l .number) (spansFrom n at k bs)
-unfolding spansFrom lineOf Each
-lined-spans n at k [] h = tt
-lined-spans n at (suc k) (b ∷ bs) h = lined-spans n (suc at) k bs h
-lined-spans n at zero (b ∷ bs) h = (h, lined-spans (suc n) (suc at) (lineOf n at (b ∷ bs) .next - suc at) bs (omega arith))
-
-lined-run : (s : List ℕ) (r : Run) → 1 ≤ r .number → Each Lined (map lyricLine (linesOf s r))
-unfolding linesOf textLines lyricLine Each Lined
-lined-run s r h = go (r .lines) (spansFrom (r .number) (r .at) 0 (drop (r .at) s)) (lined-spans (r .number) (r .at) 0 (drop (r .at) s) h)
-  where
-    go : (k : ℕ) (ls : List text.Line) → Each (λ (l : text.Line). 1 ≤ l .number) ls → Each Lined (map lyricLine (take k (map (lineText s) ls)))
-    go zero ls e = tt
-    go (suc k) [] e = tt
-    go (suc k) (l ∷ ls) e = (e .0, go k ls (e .1))
-
 -- What the tally of a section's lyric lines says of them.
 not-not : (b : Bool) → not (not b) ≡ b
 not-not true = refl
 not-not false = refl
 
-tallied-bare : (ls : List LyricLine) → Each Lined ls → eqb (tallied ls .bare) 0 ≡ every isCounted ls
+tallied-bare : (ls : List LyricLine) → Numbered ls → eqb (tallied ls .bare) 0 ≡ every isCounted ls
 unfolding tallied
 tallied-bare ls h = bare-none ls h
 
@@ -117,7 +97,7 @@ module _ (s : Song) (x : Section) (empty : Bool) (t : Tally) (e : empty ≡ not 
   unfolding hasLines tallied
   lines-said = rw (e, u, no-lines (x .lyrics), not-not (isPlayed s x))
 
-  prompts-said : Each Lined (x .lyrics) → hasPrompts empty t ≡ isPrompted s x
+  prompts-said : Numbered (x .lyrics) → hasPrompts empty t ≡ isPrompted s x
   unfolding hasPrompts
   prompts-said h =
       let b : eqb (t .bare) 0 ≡ every isCounted (x .lyrics) = ap (λ (y : Tally). eqb (y .bare) 0) u ∙ tallied-bare (x .lyrics) h in
@@ -138,8 +118,9 @@ module _ {s vs : List ℕ} {score : Score} {p : Place} (x : Opened) (o : Opens s
   opened-tally : t ≡ tallied (sectionAt s p .lyrics)
   opened-tally = u ∙ ap tallied (o .met .says .lyrics)
 
-  opened-lined : Each Lined (sectionAt s p .lyrics)
-  opened-lined = subst (λ ls. Each Lined ls) (o .met .says .lyrics) (lined-run s (x .section .lyrics) (o .met .read .lyrics-placed .number))
+  opened-lined : Numbered (sectionAt s p .lyrics)
+  unfolding linesOf
+  opened-lined = subst (λ ls. Numbered ls) (o .met .says .lyrics) (lyrics-numbered s (x .section .lyrics .number) (x .section .lyrics .at) (x .section .lyrics .lines) (o .met .read .lyrics-placed .number))
 
   opened-prompts : hasPrompts (x .texts .pattern .outline .empty) t ≡ isPrompted (songOf s) (sectionAt s p)
   opened-prompts = prompts-said (songOf s) (sectionAt s p) _ t opened-empty opened-tally opened-lined

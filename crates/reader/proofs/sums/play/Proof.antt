@@ -1,4 +1,4 @@
-use Rattle.reader.proofs.PlayLaws.{cut-beats}
+use Rattle.reader.proofs.CutLaws.{cut-fits}
 use Rattle.reader.specs.Sums.{rowOfTexts}
 use borrow.Author.Needs.{needs}
 use Rattle.reader.proofs.sums.play.Statement.{statement}
@@ -19,7 +19,7 @@ cut-or-none-requires-2 c κs = search needs
 -- src/sums.rt:73:5
 play-section-requires : tie.Need-play-section-requires
 play-section-requires c κs = let q = c .before .before .before .before .before .before .before .before .before .before in
-    ((q .pre .meter, rw (c .before .before .before .cut-or-none .ensures) (cut-beats _ (q .pre .cuts)), q .pre .measures), q .pre .room)
+    ((q .pre .meter, rw (c .before .before .before .cut-or-none .ensures) (cut-fits _ (q .pre .cuts)), q .pre .measures), q .pre .room)
 
 -- src/sums.rt:53:1
 same-length : tie.Need-same-length

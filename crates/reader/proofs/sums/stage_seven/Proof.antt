@@ -12,7 +12,8 @@ use Rattle.sections.specs.Onward.{sectionsFrom, sectionAt}
 use Rattle.reader.specs.declared.sums.Totals.{Totals}
 use Rattle.reader.specs.Sums.{totalsOf, Holds}
 use Rattle.reader.proofs.MeterLaws.{meter-is}
-use Rattle.reader.proofs.AlongLaws.{Along, along-start, along-same, along-within, along-measures, along-beats, along-next, sections-over}
+use Rattle.reader.proofs.AlongLaws.{Along, along-start, along-same, along-within, along-measures, along-beats, along-next}
+use Rattle.reader.proofs.JudgedLaws.{sections-over}
 use Rattle.reader.proofs.SumLaws.{opened-few, opened-off, opened-refused, opened-passed, opened-summed, faultsLeft, faults-start, faults-end, Summed, summed-from, summed-end, with-counts}
 use Rattle.reader.proofs.sums.stage_seven.Statement.{statement}
 use Rattle.reader.proofs.sums.stage_seven.Tie as tie
