@@ -1,12 +1,11 @@
 -- The walk along the sections of a song that stages 4 and 5 accept: each section that is opened plays what the definitions say, and the tables have room.
-use Prim.Native.Nat.{ℕ, zero, suc, _+_, _*_, _<_, _≤_}
+use Prim.Native.Nat.{ℕ, _+_, _*_, _≤_}
 use mathlib.Core.Path.{_≡_, refl, sym, ap, _∙_}
-use mathlib.Core.List.{List, [], _∷_, _++_}
+use mathlib.Core.List.{List, []}
 use native.Mathlib.Omega.{arith}
 use lib.ListN.{length}
 use Rattle.songcode.specs.Lists.{gather}
-use Rattle.songcode.specs.Complaints.{Complaint}
-use Rattle.songcode.specs.Song.{Section, Song}
+use Rattle.songcode.specs.Song.{Section}
 use Rattle.songcode.specs.Playing.{timeOf, played}
 use Rattle.songcode.specs.Performance.{total}
 use Rattle.songcode.specs.Meter.{sectionMeter, meterFaults, sectionCount, lengthFaults}

@@ -1,6 +1,6 @@
 -- The texts of an opened section play what the definitions say of the section, and few enough measures for the tables.
-use Prim.Native.Nat.{ℕ, zero, suc, _+_, _-_, _*_, _<_, _≤_}
-use mathlib.Core.Path.{_≡_, refl, sym, ap, _∙_}
+use Prim.Native.Nat.{ℕ, _+_, _-_, _*_, _≤_}
+use mathlib.Core.Path.{_≡_, refl, _∙_}
 use mathlib.Core.List.{List, [], _∷_, _++_, map}
 use mathlib.Core.Option.{Option, none, some}
 use native.Mathlib.Omega.{arith}
@@ -21,7 +21,7 @@ use Rattle.settings.specs.Cuts.{cutIs, CutFits}
 use Rattle.player.specs.declared.leaves.Definitions.{Definitions}
 use Rattle.player.specs.Texts.{rowWords}
 use Rattle.player.specs.Walks.{rowOf}
-use Rattle.player.specs.Windows.{wholeOf, keptOf, sectionRow}
+use Rattle.player.specs.Windows.{sectionRow}
 use Rattle.player.proofs.SectionLaws.{total-whole, total-kept}
 use Rattle.player.proofs.SectionMeaning.{section-words}
 use Rattle.player.proofs.ShortLaws.{Short, short-times, short-row, total-short}

@@ -1,5 +1,5 @@
 -- The sums over the sections of a song: what its tables hold, and the first section whose lyric lines do not sum to its measures.
-use Prim.Native.Nat.{ℕ, zero, suc, _+_, _-_, _*_, _<_, _≤_}
+use Prim.Native.Nat.{ℕ, suc, _+_, _-_, _≤_}
 use mathlib.Core.Path.{_≡_, refl, sym, ap, _∙_, subst}
 use mathlib.Core.List.{List, [], _∷_, _++_, map}
 use mathlib.Core.Bool.{Bool, true, false, not, _&&_}
@@ -8,14 +8,14 @@ use native.Mathlib.Omega.{arith}
 use native.Mathlib.Nat.{le-refl}
 use lib.Dec.{eqb, ltb}
 use lib.ListN.{length, length-map, length-append, length-take}
-use borrow.Author.Tests.{eq-eqb, ne-eqb}
+use borrow.Author.Tests.{ne-eqb}
 use Rattle.songcode.specs.Lists.{if_then_else_, isEmpty, isSome, every, gather, when}
 use Rattle.songcode.specs.Complaints.{Complaint, complaint, complainIf, earliest, earlier}
 use Rattle.songcode.specs.Song.{Items, LyricLine, Section, Song}
 use Rattle.songcode.specs.References.{patternItems}
 use Rattle.songcode.specs.Playing.{Beat, played}
 use Rattle.songcode.specs.Performance.{total}
-use Rattle.songcode.specs.Lyrics.{isCounted, isPlayed, linesTaken, hasCounts, counted, sumFault, sumFaults, hasItems, promptsFrom, prompts}
+use Rattle.songcode.specs.Lyrics.{isCounted, isPlayed, linesTaken, hasCounts, counted, sumFault, sumFaults, hasItems, prompts}
 use Rattle.songcode.specs.Tables.{sectionWords, allMeasures, measureWords, beatWord, itemWord, tables}
 use Rattle.songcode.specs.WrittenTables.{lyricsOf}
 use Rattle.songcode.specs.Answer.{songOf}
@@ -34,7 +34,6 @@ use Rattle.reader.specs.declared.texts.Text.{Text}
 use Rattle.reader.specs.declared.texts.Opened.{Opened}
 use Rattle.reader.specs.declared.lyrics.Tally.{Tally}
 use Rattle.reader.specs.declared.sums.Sums.{Sums}
-use Rattle.reader.specs.declared.sums.Totals.{Totals}
 use Rattle.reader.specs.Scores.{Carries, Opens}
 use Rattle.reader.specs.Lyrics.{firstLine, bareLine, tallied}
 use Rattle.reader.specs.Sums.{hasLines, hasPrompts, sumDiffers, withSection, totalsOf, Holds}

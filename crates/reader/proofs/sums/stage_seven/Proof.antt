@@ -1,10 +1,9 @@
-use Prim.Native.Nat.{ℕ, _+_, _-_, _*_, _≤_}
+use Prim.Native.Nat.{_-_, _*_, _≤_}
 use mathlib.Core.Path.{_≡_, refl, sym, ap, _∙_, subst}
 use native.Mathlib.Omega.{arith}
 use lib.ListN.{length}
 use borrow.Author.Needs.{needs}
 use Rattle.songcode.specs.Playing.{timeOf, played}
-use Rattle.songcode.specs.Performance.{total}
 use Rattle.songcode.specs.Lyrics.{sumFaults}
 use Rattle.songcode.specs.Tables.{tables}
 use Rattle.songcode.specs.Answer.{songOf}
