@@ -14,6 +14,10 @@ pub mod AnswerLaws
 pub mod PlayedLaws
 pub mod WrittenLaws
 pub mod LyricLaws
+pub mod PlayLaws
+pub mod AlongLaws
+pub mod SumLaws
+pub mod SongLaws
 pub mod TallyLaws
 pub mod ItemLaws
 pub mod NumberLaws

@@ -1,8 +1,9 @@
 -- A section played from its texts, and what the sections of a song hold in all.
 use Prim.Native.Nat.{ℕ, zero, suc, _+_, _*_, _≤_}
 use mathlib.Core.Path.{_≡_}
-use mathlib.Core.Bool.{Bool, true, false, _&&_}
+use mathlib.Core.Bool.{Bool, true, false, not, _&&_}
 use mathlib.Core.List.{List, [], _∷_}
+use lib.Dec.{eqb}
 use lib.ListN.{length}
 use Rattle.songcode.specs.Lists.{if_then_else_, times}
 use Rattle.songcode.specs.Tables.{Tables}
@@ -13,6 +14,7 @@ use Rattle.player.specs.Windows.{sectionRow}
 use Rattle.sections.specs.declared.values.Modifiers.{Modifiers}
 use Rattle.reader.specs.declared.definitions.Score.{Score}
 use Rattle.reader.specs.declared.texts.Texts.{Texts}
+use Rattle.reader.specs.declared.lyrics.Tally.{Tally}
 use Rattle.reader.specs.declared.sums.Sums.{Sums}
 use Rattle.reader.specs.declared.sums.Totals.{Totals}
 use Rattle.reader.specs.Lengths.{cutOrNone}
@@ -31,6 +33,19 @@ pub record PlaysWithin (ws : List ℕ) (score : Score) (n : ℕ) (t : Texts) (m 
   pub room :
       base + 32 * (length (rowOf (score .definitions) n ws (t .lead .at)) + length (times (m .repeat) (rowOf (score .definitions) n ws (t .pattern .at))) + length (rowOf (score .definitions) n ws (t .tail .at)))
       ≤ 2097120
+
+-- Whether a section has lyric lines and a pattern that is not empty; whether, moreover, all its lines have counts; whether they sum to another number
+-- of measures, where the lines of the song have counts.
+unfoldable pub hasLines : Bool → Tally → Bool
+hasLines empty t = not empty && not (eqb (t .lines) 0)
+
+unfoldable pub hasPrompts : Bool → Tally → Bool
+unfolding hasLines
+hasPrompts empty t = hasLines empty t && eqb (t .bare) 0
+
+unfoldable pub sumDiffers : Bool → Bool → Tally → ℕ → Bool
+unfolding hasLines
+sumDiffers counted empty t measures = counted && (hasLines empty t && not (eqb (t .sum) measures))
 
 unfoldable pub withSection : Sums → Counts → ℕ → Bool → Sums
 withSection x c l b =

@@ -1,6 +1,7 @@
 // Stage 7, and what the song's tables will hold.
 use super::definitions::Score;
 use super::lengths::cut_or_none;
+use super::lyrics::Tally;
 use super::lyrics::tally_lyrics;
 use super::meters::meter_of;
 use super::texts::Texts;
@@ -28,7 +29,7 @@ ghost use Rattle.settings.specs.Cuts.{CutFits};
 ghost use Rattle.player.specs.Walks.{rowOf};
 ghost use Rattle.player.specs.Windows.{flat, heads};
 ghost use Rattle.reader.specs.Scores.{Ready, Begins};
-ghost use Rattle.reader.specs.Sums.{rowOfTexts, PlaysWithin, withSection, totalsOf, Holds};
+ghost use Rattle.reader.specs.Sums.{rowOfTexts, PlaysWithin, hasLines, hasPrompts, sumDiffers, withSection, totalsOf, Holds};
 
 // How many words the tables take, or the refusal of a stage.
 pub struct Totals {
@@ -108,9 +109,42 @@ fn totals_of(x: Sums) -> Totals
     }
 }
 
+// Whether a section has lyric lines and a pattern that is not empty.
+fn has_lines(empty: bool, t: Tally) -> bool
+    ensures { λ r. ⌜ r ≡ hasLines empty t ⌝ }
+{
+    if empty {
+        return false;
+    }
+    t.lines != 0
+}
+
+// Whether, moreover, all its lines have counts.
+fn has_prompts(empty: bool, t: Tally) -> bool
+    ensures { λ r. ⌜ r ≡ hasPrompts empty t ⌝ }
+{
+    if !has_lines(empty, t) {
+        return false;
+    }
+    t.bare == 0
+}
+
+// "each such section with lyrics sums to its measures": whether this one does not, where lines have counts.
+fn sum_differs(counted: bool, empty: bool, t: Tally, measures: usize) -> bool
+    ensures { λ r. ⌜ r ≡ sumDiffers counted empty t measures ⌝ }
+{
+    if !counted {
+        return false;
+    }
+    if !has_lines(empty, t) {
+        return false;
+    }
+    t.sum != measures
+}
+
 // With one more section: its measures and beats, its lyric lines, and whether it has items.
 fn with_section(x: Sums, c: Counts, lines: usize, prompts: bool) -> Sums
-    requires { ⌜ (x .sections ≤ 65536) × (x .measures + c .measures ≤ 65536) × (x .beats + c .beats ≤ 2097152) × (x .lines + lines ≤ 65536) ⌝ }
+    requires { ⌜ (x .sections ≤ 65536) × (x .measures + c .measures ≤ 65536) × (x .beats + c .beats ≤ 2097152) × (x .lines + lines ≤ 4295032832) ⌝ }
     ensures { λ r. ⌜ r ≡ withSection x c lines prompts ⌝ }
 {
     Sums {
@@ -159,7 +193,6 @@ pub fn stage_seven(
         let x = open_section(s, place, score, words);
         let section = x.section;
         let keys = section.keys;
-        let lyrics = section.lyrics;
         let texts = x.texts;
         let pattern = texts.pattern;
         let outline = pattern.outline;
@@ -170,12 +203,11 @@ pub fn stage_seven(
             texts,
             section.modifiers,
         );
-        let t = tally_lyrics(s, lyrics);
-        let sung = !outline.empty && lyrics.lines != 0;
-        if counted && sung && t.sum != c.measures {
+        let t = tally_lyrics(s, section.lyrics);
+        if sum_differs(counted, outline.empty, t, c.measures) {
             return sum_refused(section.header);
         }
-        sums = with_section(sums, c, lyrics.lines, sung && t.bare == 0);
+        sums = with_section(sums, c, t.lines, has_prompts(outline.empty, t));
         place = x.next;
     }
     totals_of(sums)
