@@ -1,3 +1,6 @@
 -- Laws that the proofs of the functions cite.
 pub mod LaidLaws
 pub mod LayingLaws
+pub mod WeightLaws
+pub mod ReachedLaws
+pub mod FitLaws
