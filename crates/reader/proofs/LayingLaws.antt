@@ -42,6 +42,10 @@ unfolding tokensOf moreTokens
 tokens-more l [] = sym (append-nil (tokens (l .text)))
 tokens-more l (m ∷ ms) = ap (λ (ts : List Token). tokens (l .text) ++ (lineEnd ∷ ts)) (tokens-more m ms)
 
+pub run-tokens : (l : songcode.Line) (ls : List songcode.Line) → runTokens (l ∷ ls) ≡ tokens (l .text) ++ moreTokens ls
+unfolding runTokens
+run-tokens l ls = tokens-more l ls
+
 pub words-append : (ts us : List Token) → tokenWords (ts ++ us) ≡ tokenWords ts ++ tokenWords us
 unfolding tokenWords
 words-append [] us = refl

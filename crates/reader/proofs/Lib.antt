@@ -4,3 +4,6 @@ pub mod LayingLaws
 pub mod WeightLaws
 pub mod ReachedLaws
 pub mod FitLaws
+pub mod NamedLaws
+pub mod SideLaws
+pub mod TextLaws

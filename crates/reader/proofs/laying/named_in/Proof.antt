@@ -1,3 +1,5 @@
+use native.Mathlib.Omega.{arith}
+use Rattle.reader.proofs.NamedLaws.{named-end, named-is, named-not}
 use borrow.Author.Needs.{needs}
 use Rattle.reader.proofs.laying.named_in.Statement.{statement}
 use Rattle.reader.proofs.laying.named_in.Tie as tie
@@ -26,7 +28,9 @@ enum-told c = search needs
 
 -- src/laying.rt:72:9
 returns : tie.Need-returns
-returns c = search needs
+returns c = λ x e.
+    let q = c .before .before .before .before .before in
+    named-end (q .args .s .now) (q .pre .1) (q .args .run) (c .before .before .before .line-at .ensures) x e (c .enum-told .given .1) (c .before .before .next-token .ensures)
 
 -- src/laying.rt:74:8
 kind-requires : tie.Need-kind-requires
@@ -38,11 +42,15 @@ number-requires c κs = search needs
 
 -- src/laying.rt:66:1
 returns-2 : tie.Need-returns-2
-returns-2 c = search needs
+returns-2 c = λ x e.
+    let q = c .before .before .before .before .before .before .before .before .before in
+    named-is (q .args .s .now) (q .pre .1) (q .args .run) (c .before .before .before .before .before .before .before .line-at .ensures) x e (c .before .before .before .before .word .given .1) (c .before .before .before .before .before .before .next-token .ensures) (c .before .before .kind .ensures) (c .before .if1 .taken) (c .number .ensures .0)
 
 -- src/laying.rt:66:1
 returns-3 : tie.Need-returns-3
-returns-3 c = search needs
+returns-3 c = λ x e.
+    let q = c .before .before .before .before .before .before .before .before in
+    named-not (q .args .s .now) (q .pre .1) (q .args .run) (c .before .before .before .before .before .before .line-at .ensures) x e (c .before .before .before .word .given .1) (c .before .before .before .before .before .next-token .ensures) (c .before .kind .ensures) (c .if1 .left)
 
 pub named-in-spec : {M : Type 1} → statement M
 named-in-spec =
