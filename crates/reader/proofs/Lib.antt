@@ -7,3 +7,4 @@ pub mod FitLaws
 pub mod NamedLaws
 pub mod SideLaws
 pub mod TextLaws
+pub mod OpenLaws

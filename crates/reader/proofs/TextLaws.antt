@@ -51,9 +51,11 @@ module _ (ws : List ℕ) (d : Definitions) (find : ℕ → Outline) (t : Stretch
       let fit = items-fit r ts e good in
       let there : Stands ws t r = stands ∙ ap tokenWords e in
       let known : KnowsItems (some r) (outlined find (drop (t .from) (take (t .to) ws))) = items-known find ws t r there fit deep in
-      let walkable = plain-walkable ws d f r fit plain (omega arith) in
-      (known .0 .filled, known .2 plain,
-      λ n. row-meaning ws d f n r t walkable there ∙ ap (λ (q : Items). rowWords (measuresOf n none q)) (putIn-same f r plain))
+      let walkable = plain-walkable ws d f r fit plain (omega arith) in (
+        known .0 .filled,
+        known .2 plain,
+        λ n. row-meaning ws d f n r t walkable there ∙ ap (λ (q : Items). rowWords (measuresOf n none q)) (putIn-same f r plain),
+      )
 
   -- No items.
   pub empty-carries : t .to ≤ t .from → drop (t .from) (take (t .to) ws) ≡ [] → Carries ws d (readText find ws t) none
