@@ -1,18 +1,18 @@
 -- The number that a section's pattern names, by the first token of its first line.
-use Prim.Native.Nat.{ℕ, zero, suc, _+_, _-_, _*_, _/_, _%_, _^_, _<_, _≤_}
+use Prim.Native.Nat.{ℕ, _+_, _-_, _<_, _≤_}
 use mathlib.Core.Path.{_≡_, refl, sym, ap, _∙_, subst}
-use mathlib.Core.List.{List, [], _∷_, _++_, append-nil, head-eq-of-cons-eq, tail-eq-of-cons-eq}
+use mathlib.Core.List.{List, [], _∷_, _++_, append-nil, head-eq-of-cons-eq}
 use mathlib.Core.Bool.{Bool, true, false, not}
-use mathlib.Core.Option.{Option, none, some}
+use mathlib.Core.Option.{some}
 use native.Mathlib.Omega.{arith}
-use borrow.Author.Tests.{eq-eqb, ne-eqb, eqb-true, eqb-false, ltb-true, ltb-false}
-use lib.Dec.{eqb, ltb}
-use lib.ListN.{length, take, drop}
+use borrow.Author.Tests.{ltb-true, ltb-false}
+use lib.Dec.{ltb}
+use lib.ListN.{length, take}
 use lib.Seq.{take-nil}
-use Rattle.songcode.specs.Lists.{if_then_else_, isSome}
+use Rattle.songcode.specs.Lists.{isSome}
 use Rattle.songcode.specs.Lines.{Line}
-use Rattle.songcode.specs.Song.{Sound, chord, again, silence, Items, Pattern, items, named, Definition}
-use Rattle.songcode.specs.Tokens.{Token, sound, remover, reference, semicolon, colon, lineEnd, opens, closes, wrong, tokens, tokensOf}
+use Rattle.songcode.specs.Song.{chord, again, silence, Items, Pattern, items, named, Definition}
+use Rattle.songcode.specs.Tokens.{Token, sound, remover, reference, semicolon, colon, lineEnd, opens, closes, wrong}
 use Rattle.songcode.specs.PatternText.{depth, loopsDeep, references}
 use Rattle.songcode.specs.References.{patternItems}
 use Rattle.songcode.specs.Sections.{patternIn}

@@ -1,15 +1,15 @@
 -- The texts of a section laid behind the definitions: they have room, and the buffer carries them.
-use Prim.Native.Nat.{ℕ, zero, suc, _+_, _-_, _<_, _≤_}
-use mathlib.Core.Path.{_≡_, refl, sym, ap, _∙_, subst}
-use mathlib.Core.List.{List, [], _∷_, _++_, append-assoc, append-nil}
+use Prim.Native.Nat.{ℕ, _+_, _-_, _<_, _≤_}
+use mathlib.Core.Path.{_≡_, refl, sym, ap, _∙_}
+use mathlib.Core.List.{List, [], _++_, append-assoc, append-nil}
 use mathlib.Core.Option.{Option, none, some}
 use native.Mathlib.Omega.{arith}
 use lib.ListN.{length, take, drop, length-append}
 use Rattle.songcode.specs.Lists.{gather, andThen}
 use Rattle.songcode.specs.Lines.{Line, blocks}
-use Rattle.songcode.specs.Song.{Pattern, named}
+use Rattle.songcode.specs.Song.{Pattern}
 use Rattle.songcode.specs.Modifiers.{ofBefore, ofAfter, modifierPlace}
-use Rattle.songcode.specs.Sections.{patternIn, patternRun, body, sectionFaults, sectionIn}
+use Rattle.songcode.specs.Sections.{patternIn, patternRun, body, sectionFaults}
 use Rattle.songcode.specs.References.{patternItems}
 use Rattle.songcode.specs.Playing.{saidBy, beforeSaid, afterSaid}
 use Rattle.songcode.specs.Answer.{songOf}
@@ -29,7 +29,7 @@ use Rattle.sections.proofs.SectionLaws.{clean-order}
 use Rattle.sections.proofs.TellLaws.{before-tells, after-tells}
 use Rattle.reader.specs.declared.definitions.Score.{Score}
 use Rattle.reader.specs.Laying.{runTokens, saidTokens, weight, saidWeight, Names}
-use Rattle.reader.specs.Scores.{namedText, Told, Carries, Ready, sideItems}
+use Rattle.reader.specs.Scores.{namedText, Carries, Ready, sideItems}
 use Rattle.reader.proofs.LaidLaws.{laid-laid, laid-part, laid-before}
 use Rattle.reader.proofs.WeightLaws.{weight-section, run-words, said-words}
 use Rattle.reader.proofs.FitLaws.{said-good, run-good}

@@ -6,10 +6,9 @@ use mathlib.Core.Bool.{Bool, true, false}
 use mathlib.Core.Option.{Option, none, some}
 use lib.Dec.{eqb}
 use Rattle.songcode.specs.Lists.{gather, collect, andThen, firstThere}
-use Rattle.songcode.specs.Bytes.{Byte}
 use Rattle.songcode.specs.Lines.{Line}
 use Rattle.songcode.specs.Song.{Modifier}
-use Rattle.songcode.specs.Modifiers.{ModifierName, modifierPlace, modifierIn}
+use Rattle.songcode.specs.Modifiers.{ModifierName, modifierPlace}
 use Rattle.songcode.specs.Sections.{modifierOn, amongKeys, order, faults}
 use Rattle.songcode.specs.Playing.{saidBy}
 use Rattle.songcode.proofs.PatternLaws.{none-some}

@@ -1,13 +1,12 @@
 -- When a stretch of the buffer carries the items of a text: where their words stand there, or no words.
-use Prim.Native.Nat.{ℕ, zero, suc, _+_, _<_, _≤_}
+use Prim.Native.Nat.{ℕ, _+_, _≤_}
 use mathlib.Core.Path.{_≡_, refl, sym, ap, _∙_, subst}
-use mathlib.Core.List.{List, [], _∷_, _++_}
-use mathlib.Core.Bool.{Bool, true, false}
+use mathlib.Core.List.{List, []}
 use mathlib.Core.Option.{Option, none, some}
 use native.Mathlib.Omega.{arith}
 use lib.ListN.{length, take, drop}
 use Rattle.songcode.specs.Lists.{andThen}
-use Rattle.songcode.specs.Song.{Items, Pattern, items, named, Definition}
+use Rattle.songcode.specs.Song.{Items, Pattern, items, Definition}
 use Rattle.songcode.specs.Tokens.{Token, tokens}
 use Rattle.songcode.specs.PatternText.{depth, loopsDeep, references, sideText}
 use Rattle.songcode.specs.References.{patternItems}
@@ -20,14 +19,13 @@ use Rattle.songcode.proofs.TokensAgree.{text-complete}
 use Rattle.tokens.specs.TokenWords.{tokenWords}
 use Rattle.player.specs.declared.leaves.Definitions.{Definitions}
 use Rattle.player.specs.declared.leaves.Stretch.{Stretch}
-use Rattle.player.specs.Walks.{rowOf}
-use Rattle.player.specs.Texts.{rowWords, Stands, ItemsFit}
+use Rattle.player.specs.Texts.{rowWords, Stands}
 use Rattle.player.proofs.Meaning.{row-meaning}
 use Rattle.player.proofs.PutInLaws.{putIn-same}
 use Rattle.player.proofs.Walkables.{plain-walkable, empty-row}
 use Rattle.outlines.specs.declared.readings.Outline.{Outline}
 use Rattle.outlines.specs.Readings.{outlined}
-use Rattle.outlines.specs.Told.{KnowsItems, Sketches, Tells}
+use Rattle.outlines.specs.Told.{KnowsItems}
 use Rattle.outlines.proofs.KnownLaws.{items-known, empty-known}
 use Rattle.sections.specs.Slots.{Setting}
 use Rattle.sections.specs.SectionSays.{sideOn, sideSaid}

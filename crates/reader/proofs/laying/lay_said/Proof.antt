@@ -1,6 +1,4 @@
-use mathlib.Core.Path.{_≡_, refl, sym, ap, _∙_}
 use native.Mathlib.Omega.{arith}
-use Rattle.tokens.specs.TokenWords.{tokenWords}
 use Rattle.tokens.proofs.LaidLaws.{laid-none}
 use Rattle.reader.proofs.LayingLaws.{said-weight, said-tokens, nothing-said}
 use borrow.Author.Needs.{needs}

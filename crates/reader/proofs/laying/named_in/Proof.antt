@@ -1,4 +1,3 @@
-use native.Mathlib.Omega.{arith}
 use Rattle.reader.proofs.NamedLaws.{named-end, named-is, named-not}
 use borrow.Author.Needs.{needs}
 use Rattle.reader.proofs.laying.named_in.Statement.{statement}

@@ -1,9 +1,4 @@
-use mathlib.Core.Path.{_≡_, refl, sym, ap, _∙_}
-use mathlib.Core.Bool.{Bool, true, false, not}
-use Rattle.songcode.specs.Lists.{isSome}
 use Rattle.songcode.specs.Answer.{songOf}
-use Rattle.songcode.specs.Song.{named}
-use Rattle.songcode.specs.References.{patternItems}
 use Rattle.reader.proofs.NamedLaws.{plays-items, plays-named}
 use borrow.Author.Needs.{needs}
 use Rattle.reader.proofs.texts.is_played.Statement.{statement}

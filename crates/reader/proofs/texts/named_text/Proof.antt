@@ -1,5 +1,5 @@
-use mathlib.Core.Path.{_≡_, refl, sym, ap, _∙_}
-use Rattle.outlines.specs.Tables.{lookUp, atPlace}
+use mathlib.Core.Path.{refl}
+use Rattle.outlines.specs.Tables.{lookUp}
 use Rattle.reader.specs.Scores.{namedText}
 use borrow.Author.Needs.{needs}
 use Rattle.reader.proofs.texts.named_text.Statement.{statement}

@@ -1,6 +1,5 @@
-use mathlib.Core.Path.{_≡_, refl, sym, ap, _∙_, subst}
+use mathlib.Core.Path.{sym, _∙_, subst}
 use mathlib.Core.Logic.{⊎-elim}
-use native.Mathlib.Omega.{arith}
 use Rattle.songcode.specs.Playing.{saidBy, beforeSaid, afterSaid}
 use Rattle.songcode.specs.References.{patternItems}
 use Rattle.songcode.specs.Answer.{songOf}

@@ -1,6 +1,5 @@
-use mathlib.Core.Path.{_≡_, refl, sym, ap, _∙_}
+use mathlib.Core.Path.{ap}
 use Rattle.outlines.specs.declared.readings.Outline.{Outline}
-use Rattle.reader.specs.declared.texts.Text.{Text}
 use borrow.Author.Needs.{needs}
 use Rattle.reader.proofs.texts.plain_text.Statement.{statement}
 use Rattle.reader.proofs.texts.plain_text.Tie as tie
