@@ -26,3 +26,12 @@ pub mod PromptLaws
 pub mod GoodLaws
 pub mod SettingLaws
 pub mod KeyLaws
+pub mod LaidLaws
+pub mod LayingLaws
+pub mod WeightLaws
+pub mod ReachedLaws
+pub mod FitLaws
+pub mod NamedLaws
+pub mod SideLaws
+pub mod TextLaws
+pub mod OpenLaws
