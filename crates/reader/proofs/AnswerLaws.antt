@@ -21,10 +21,12 @@ use Rattle.songcode.specs.Meter.{meterFaults, lengthFaults}
 use Rattle.songcode.specs.Lyrics.{countFaults, sumFaults}
 use Rattle.songcode.specs.SongText.{textFaults, metadataLines, songIn}
 use Rattle.songcode.specs.Tables.{Tables, tables, keyWords, keyOrder}
+use Rattle.songcode.specs.Answer as songcode
 use Rattle.songcode.specs.Answer.{Room, inputFaults, blocksOf, songOf, roomFaults, stages, refused, accepted, answerBy, answer}
 use Rattle.songcode.proofs.ListLaws.{by-cases, Each, each-append, none-passes, pass-none}
 use Rattle.text.specs.declared.Refusal.{Refusal}
 use Rattle.text.specs.Refusals.{refusalOf}
+use Rattle.stage2.proofs.SmallLines.{stage-clear}
 use Rattle.sections.specs.declared.blocks.Place.{Place}
 use Rattle.sections.specs.declared.runs.Run.{Run}
 use Rattle.sections.specs.declared.values.Keys.{Keys}
@@ -36,10 +38,11 @@ use Rattle.reader.specs.Metadata.{linesBefore, MetadataEnds}
 use Rattle.reader.specs.Sums.{Holds}
 use Rattle.reader.specs.Charts.{Clear, SongKeys, Roomy}
 use Rattle.reader.specs.declared.sums.Totals.{Totals}
-use Rattle.reader.specs.Answers.{lyricFaults, playingFaults, laterFaults, isShort}
+use Rattle.reader.specs.declared.Answer.{Answer}
+use Rattle.reader.specs.Answers.{lyricFaults, playingFaults, laterFaults, isShort, written, answerOf, storedKeys, storedSections, storedMeasures, storedBeats, storedItems}
 use Rattle.reader.proofs.ComplaintLaws.{Numbered, numbered-if, refused-none}
 use Rattle.reader.proofs.ReferenceLaws.{sectionFault, all-numbered}
-use Rattle.reader.proofs.StageLaws.{stage-passed, last-stage, numbered-meters, numbered-lengths, numbered-counts, numbered-sums}
+use Rattle.reader.proofs.StageLaws.{stage-passed, last-stage, numbered-input, input-small, numbered-meters, numbered-lengths, numbered-counts, numbered-sums}
 
 -- Complaints of references are numbered.
 numbered-items : (o : Option Items) (head : ℕ) → Each Numbered (itemsFault o head)
@@ -209,3 +212,61 @@ module _ (s : List ℕ) (p : Place) (k : Keys) (ends : MetadataEnds s p) (are : 
         bpm = are .bpm ∙ ap (λ (o : Option ℕ). orElse o 511) (song-key bpmIn bpm (omega arith));
         bpm-fits = are .bpm-fits;
       }
+
+-- Where stages 1 and 2 refuse nothing they complain of nothing.
+pub first-clear : (s : List ℕ) (r : Refusal) → r ≡ refusalOf (verdict (inputFaults s ∷ textFaults (blocksOf s) ∷ [])) → r .number ≡ 0 → (inputFaults s ≡ []) × (textFaults (blocksOf s) ≡ [])
+first-clear s r e z =
+    let a = verdict-clear (inputFaults s) (textFaults (blocksOf s) ∷ []) (numbered-input s) (ap (λ (q : Refusal). q .number) (sym e) ∙ z) in
+    (a .0, stage-clear s (input-small s (a .0)) (ap (λ (o : Option Complaint). refusalOf o .number) (sym (last-stage (textFaults (blocksOf s)))) ∙ a .1))
+
+-- The call's own answer, and tables that were not written.
+module _ (a : songcode.Answer) (n l : ℕ) (is : a ≡ refused n l) where
+  pub answer-refused : (r : Answer) → r ≡ record { refusal = n; line = l; sections = 0; measures = 0; beats = 0; items = 0 } → r ≡ answerOf a
+  unfolding answerOf
+  answer-refused r e = e ∙ sym (ap answerOf is)
+
+  pub keys-kept : (old : List ℕ) → old ≡ storedKeys a old
+  unfolding storedKeys
+  keys-kept old = sym (ap (λ b. storedKeys b old) is)
+
+  pub sections-kept : (old : List ℕ) → old ≡ storedSections a old
+  unfolding storedSections
+  sections-kept old = sym (ap (λ b. storedSections b old) is)
+
+  pub measures-kept : (old : List ℕ) → old ≡ storedMeasures a old
+  unfolding storedMeasures
+  measures-kept old = sym (ap (λ b. storedMeasures b old) is)
+
+  pub beats-kept : (old : List ℕ) → old ≡ storedBeats a old
+  unfolding storedBeats
+  beats-kept old = sym (ap (λ b. storedBeats b old) is)
+
+  pub items-kept : (old : List ℕ) → old ≡ storedItems a old
+  unfolding storedItems
+  items-kept old = sym (ap (λ b. storedItems b old) is)
+
+-- And tables that were written.
+module _ (a : songcode.Answer) (t : Tables) (is : a ≡ accepted t) where
+  pub answer-accepted : (q : Totals) → Holds t q → record { refusal = 0; line = 0; sections = q .sections; measures = q .measures; beats = q .beats; items = q .items } ≡ answerOf a
+  unfolding answerOf
+  answer-accepted q h = rw (h .sections, h .measures, h .beats, h .items) (sym (ap answerOf is))
+
+  pub keys-written : (new old : List ℕ) → new ≡ written (t .keys) old → new ≡ storedKeys a old
+  unfolding storedKeys
+  keys-written new old e = e ∙ sym (ap (λ b. storedKeys b old) is)
+
+  pub sections-written : (new old : List ℕ) → new ≡ written (t .sections) old → new ≡ storedSections a old
+  unfolding storedSections
+  sections-written new old e = e ∙ sym (ap (λ b. storedSections b old) is)
+
+  pub measures-written : (new old : List ℕ) → new ≡ written (t .measures) old → new ≡ storedMeasures a old
+  unfolding storedMeasures
+  measures-written new old e = e ∙ sym (ap (λ b. storedMeasures b old) is)
+
+  pub beats-written : (new old : List ℕ) → new ≡ written (t .beats) old → new ≡ storedBeats a old
+  unfolding storedBeats
+  beats-written new old e = e ∙ sym (ap (λ b. storedBeats b old) is)
+
+  pub items-written : (new old : List ℕ) → new ≡ written (t .items) old → new ≡ storedItems a old
+  unfolding storedItems
+  items-written new old e = e ∙ sym (ap (λ b. storedItems b old) is)
