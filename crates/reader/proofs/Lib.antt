@@ -10,6 +10,7 @@ pub mod ModifierLaws
 pub mod CutLaws
 pub mod LengthLaws
 pub mod OpenedLaws
+pub mod ClearLaws
 pub mod AnswerLaws
 pub mod PlayedLaws
 pub mod WrittenLaws

@@ -1,4 +1,4 @@
-use Rattle.reader.proofs.AnswerLaws.{song-clear, song-keys}
+use Rattle.reader.proofs.ClearLaws.{song-clear, song-keys}
 use Rattle.reader.proofs.StageLaws.{input-small}
 use Rattle.reader.specs.Metadata.{linesBefore}
 use Rattle.sections.specs.declared.runs.Run.{Run}
