@@ -21,7 +21,6 @@ use Rattle.songcode.specs.Meter.{meterFaults, lengthFaults}
 use Rattle.songcode.specs.Lyrics.{countFaults, sumFaults}
 use Rattle.songcode.specs.SongText.{textFaults, metadataLines, songIn}
 use Rattle.songcode.specs.Tables.{Tables, tables, keyWords, keyOrder}
-use Rattle.songcode.specs.Answer as songcode
 use Rattle.songcode.specs.Answer.{Room, inputFaults, blocksOf, songOf, roomFaults, stages, refused, accepted, answerBy, answer}
 use Rattle.songcode.proofs.ListLaws.{by-cases, Each, each-append, none-passes, pass-none}
 use Rattle.text.specs.declared.Refusal.{Refusal}
@@ -39,7 +38,7 @@ use Rattle.reader.specs.Sums.{Holds}
 use Rattle.reader.specs.Charts.{Clear, SongKeys, Roomy}
 use Rattle.reader.specs.declared.sums.Totals.{Totals}
 use Rattle.reader.specs.declared.Answer.{Answer}
-use Rattle.reader.specs.Answers.{lyricFaults, playingFaults, laterFaults, isShort, written, answerOf, storedKeys, storedSections, storedMeasures, storedBeats, storedItems}
+use Rattle.reader.specs.Answers.{lyricFaults, playingFaults, laterFaults, isShort, written, answerOf, Lent, roomOf, stored, Promised}
 use Rattle.reader.proofs.ComplaintLaws.{Numbered, numbered-if, refused-none}
 use Rattle.reader.proofs.ReferenceLaws.{sectionFault, all-numbered}
 use Rattle.reader.proofs.ClearLaws.{verdict-clear}
@@ -152,54 +151,25 @@ first-clear s r e z =
     let a = verdict-clear (inputFaults s) (textFaults (blocksOf s) ∷ []) (numbered-input s) (ap (λ (q : Refusal). q .number) (sym e) ∙ z) in
     (a .0, stage-clear s (input-small s (a .0)) (ap (λ (o : Option Complaint). refusalOf o .number) (sym (last-stage (textFaults (blocksOf s)))) ∙ a .1))
 
--- The call's own answer, and tables that were not written.
-module _ (a : songcode.Answer) (n l : ℕ) (is : a ≡ refused n l) where
-  pub answer-refused : (r : Answer) → r ≡ record { refusal = n; line = l; sections = 0; measures = 0; beats = 0; items = 0 } → r ≡ answerOf a
-  unfolding answerOf
-  answer-refused r e = e ∙ sym (ap answerOf is)
+-- A refusal is promised where no table was written.
+pub promised-refused : (text : List ℕ) (lent : Lent) (n l : ℕ) (r : Answer) → answer (roomOf lent) text ≡ refused n l → r ≡ record { refusal = n; line = l; sections = 0; measures = 0; beats = 0; items = 0 } → Promised text lent r lent
+unfolding answerOf stored
+promised-refused text lent n l r is e = record { answer = e ∙ sym (ap answerOf is); tables = sym (ap (λ a. stored a lent) is) }
 
-  pub keys-kept : (old : List ℕ) → old ≡ storedKeys a old
-  unfolding storedKeys
-  keys-kept old = sym (ap (λ b. storedKeys b old) is)
+-- A song is promised where all tables were.
+same-lent : {k s m b i x y z u v : List ℕ} → k ≡ x → s ≡ y → m ≡ z → b ≡ u → i ≡ v → _≡_ {A = Lent} (record { keys = k; sections = s; measures = m; beats = b; items = i }) (record { keys = x; sections = y; measures = z; beats = u; items = v })
+same-lent p q r e f = rw (p, q, r, e, f) refl
 
-  pub sections-kept : (old : List ℕ) → old ≡ storedSections a old
-  unfolding storedSections
-  sections-kept old = sym (ap (λ b. storedSections b old) is)
+pub promised-accepted : (text : List ℕ) (lent after : Lent) (t : Tables) (q : Totals) → answer (roomOf lent) text ≡ accepted t → Holds t q
+    → after .keys ≡ written (t .keys) (lent .keys) → after .sections ≡ written (t .sections) (lent .sections) → after .measures ≡ written (t .measures) (lent .measures) → after .beats ≡ written (t .beats) (lent .beats) → after .items ≡ written (t .items) (lent .items)
+    → Promised text lent (record { refusal = 0; line = 0; sections = q .sections; measures = q .measures; beats = q .beats; items = q .items }) after
+unfolding answerOf stored
+promised-accepted text lent after t q is h a b c d e =
+    record {
+      answer = rw (h .sections, h .measures, h .beats, h .items) (sym (ap answerOf is));
+      tables = same-lent a b c d e ∙ sym (ap (λ x. stored x lent) is);
+    }
 
-  pub measures-kept : (old : List ℕ) → old ≡ storedMeasures a old
-  unfolding storedMeasures
-  measures-kept old = sym (ap (λ b. storedMeasures b old) is)
-
-  pub beats-kept : (old : List ℕ) → old ≡ storedBeats a old
-  unfolding storedBeats
-  beats-kept old = sym (ap (λ b. storedBeats b old) is)
-
-  pub items-kept : (old : List ℕ) → old ≡ storedItems a old
-  unfolding storedItems
-  items-kept old = sym (ap (λ b. storedItems b old) is)
-
--- And tables that were written.
-module _ (a : songcode.Answer) (t : Tables) (is : a ≡ accepted t) where
-  pub answer-accepted : (q : Totals) → Holds t q → record { refusal = 0; line = 0; sections = q .sections; measures = q .measures; beats = q .beats; items = q .items } ≡ answerOf a
-  unfolding answerOf
-  answer-accepted q h = rw (h .sections, h .measures, h .beats, h .items) (sym (ap answerOf is))
-
-  pub keys-written : (new old : List ℕ) → new ≡ written (t .keys) old → new ≡ storedKeys a old
-  unfolding storedKeys
-  keys-written new old e = e ∙ sym (ap (λ b. storedKeys b old) is)
-
-  pub sections-written : (new old : List ℕ) → new ≡ written (t .sections) old → new ≡ storedSections a old
-  unfolding storedSections
-  sections-written new old e = e ∙ sym (ap (λ b. storedSections b old) is)
-
-  pub measures-written : (new old : List ℕ) → new ≡ written (t .measures) old → new ≡ storedMeasures a old
-  unfolding storedMeasures
-  measures-written new old e = e ∙ sym (ap (λ b. storedMeasures b old) is)
-
-  pub beats-written : (new old : List ℕ) → new ≡ written (t .beats) old → new ≡ storedBeats a old
-  unfolding storedBeats
-  beats-written new old e = e ∙ sym (ap (λ b. storedBeats b old) is)
-
-  pub items-written : (new old : List ℕ) → new ≡ written (t .items) old → new ≡ storedItems a old
-  unfolding storedItems
-  items-written new old e = e ∙ sym (ap (λ b. storedItems b old) is)
+-- No second outcome meets the promise.
+pub one-outcome : (text : List ℕ) (before : Lent) (r q : Answer) (a b : Lent) → Promised text before r a → Promised text before q b → (r ≡ q) × (a ≡ b)
+one-outcome text before r q a b x y = (x .answer ∙ sym (y .answer), x .tables ∙ sym (y .tables))

@@ -31,31 +31,35 @@ answerOf (refused number line) = record { refusal = number; line = line; section
 answerOf (accepted t) =
     record { refusal = 0; line = 0; sections = length (t .sections); measures = length (t .measures); beats = length (t .beats); items = length (t .items) }
 
--- "and no table word changes".
-unfoldable pub storedKeys : songcode.Answer → List ℕ → List ℕ
-unfolding written
-storedKeys (refused number line) old = old
-storedKeys (accepted t) old = written (t .keys) old
+-- The five lent tables, and how many words each has.
+pub record Lent : Type 0 where
+  pub keys : List ℕ
+  pub sections : List ℕ
+  pub measures : List ℕ
+  pub beats : List ℕ
+  pub items : List ℕ
 
-unfoldable pub storedSections : songcode.Answer → List ℕ → List ℕ
-unfolding written
-storedSections (refused number line) old = old
-storedSections (accepted t) old = written (t .sections) old
+unfoldable pub roomOf : Lent → songcode.Room
+roomOf l =
+    record { keys = length (l .keys); sections = length (l .sections); measures = length (l .measures); beats = length (l .beats); items = length (l .items) }
 
-unfoldable pub storedMeasures : songcode.Answer → List ℕ → List ℕ
+-- "and no table word changes"; where the song is accepted, its words stand in each table, and past them what was there.
+unfoldable pub stored : songcode.Answer → Lent → Lent
 unfolding written
-storedMeasures (refused number line) old = old
-storedMeasures (accepted t) old = written (t .measures) old
+stored (refused number line) old = old
+stored (accepted t) old =
+    record {
+      keys = written (t .keys) (old .keys);
+      sections = written (t .sections) (old .sections);
+      measures = written (t .measures) (old .measures);
+      beats = written (t .beats) (old .beats);
+      items = written (t .items) (old .items);
+    }
 
-unfoldable pub storedBeats : songcode.Answer → List ℕ → List ℕ
-unfolding written
-storedBeats (refused number line) old = old
-storedBeats (accepted t) old = written (t .beats) old
-
-unfoldable pub storedItems : songcode.Answer → List ℕ → List ℕ
-unfolding written
-storedItems (refused number line) old = old
-storedItems (accepted t) old = written (t .items) old
+-- The promise of the call: its answer and the final content of all lent memory, for every text and all tables.
+pub record Promised (text : List ℕ) (before : Lent) (r : Answer) (after : Lent) : Type 0 where
+  pub answer : r ≡ answerOf (songcode.answer (roomOf before) text)
+  pub tables : after ≡ stored (songcode.answer (roomOf before) text) before
 
 -- Stages 6 and 7; 4 to 7; 3 to 7.
 unfoldable pub lyricFaults : Song → List (List Complaint)

@@ -21,10 +21,9 @@ use sums::Totals;
 use writing::write_tables;
 ghost use mathlib.Core.Path.{_≡_};
 ghost use mathlib.Core.List.{[]};
-ghost use lib.ListN.{length};
 ghost use Rattle.songcode.specs.SongText.{textFaults};
-ghost use Rattle.songcode.specs.Answer.{answer, inputFaults, blocksOf};
-ghost use Rattle.reader.specs.Answers.{answerOf, isShort, storedKeys, storedSections, storedMeasures, storedBeats, storedItems};
+ghost use Rattle.songcode.specs.Answer.{inputFaults, blocksOf};
+ghost use Rattle.reader.specs.Answers.{isShort, Promised};
 
 // Refusal and line, both 0 where the song is accepted, and how many words of each table are its own.
 pub struct Answer {
@@ -85,12 +84,7 @@ fn read_song(
     items: &mut [u64],
 ) -> Answer
     requires { ⌜ (inputFaults (now text) ≡ []) × (textFaults (blocksOf (now text)) ≡ []) ⌝ }
-    ensures answer { λ r. ⌜ r ≡ answerOf (answer (record { keys = length (now (keys .entry)); sections = length (now (sections .entry)); measures = length (now (measures .entry)); beats = length (now (beats .entry)); items = length (now (items .entry)) }) (now (text .entry))) ⌝ }
-    ensures keys { λ r. ⌜ now (keys .exit) ≡ storedKeys (answer (record { keys = length (now (keys .entry)); sections = length (now (sections .entry)); measures = length (now (measures .entry)); beats = length (now (beats .entry)); items = length (now (items .entry)) }) (now (text .entry))) (now (keys .entry)) ⌝ }
-    ensures sections { λ r. ⌜ now (sections .exit) ≡ storedSections (answer (record { keys = length (now (keys .entry)); sections = length (now (sections .entry)); measures = length (now (measures .entry)); beats = length (now (beats .entry)); items = length (now (items .entry)) }) (now (text .entry))) (now (sections .entry)) ⌝ }
-    ensures measures { λ r. ⌜ now (measures .exit) ≡ storedMeasures (answer (record { keys = length (now (keys .entry)); sections = length (now (sections .entry)); measures = length (now (measures .entry)); beats = length (now (beats .entry)); items = length (now (items .entry)) }) (now (text .entry))) (now (measures .entry)) ⌝ }
-    ensures beats { λ r. ⌜ now (beats .exit) ≡ storedBeats (answer (record { keys = length (now (keys .entry)); sections = length (now (sections .entry)); measures = length (now (measures .entry)); beats = length (now (beats .entry)); items = length (now (items .entry)) }) (now (text .entry))) (now (beats .entry)) ⌝ }
-    ensures items { λ r. ⌜ now (items .exit) ≡ storedItems (answer (record { keys = length (now (keys .entry)); sections = length (now (sections .entry)); measures = length (now (measures .entry)); beats = length (now (beats .entry)); items = length (now (items .entry)) }) (now (text .entry))) (now (items .entry)) ⌝ }
+    ensures { λ r. ⌜ Promised (now (text .entry)) (record { keys = now (keys .entry); sections = now (sections .entry); measures = now (measures .entry); beats = now (beats .entry); items = now (items .entry) }) r (record { keys = now (keys .exit); sections = now (sections .exit); measures = now (measures .exit); beats = now (beats .exit); items = now (items .exit) }) ⌝ }
 {
     let mut words = [0u32; 65536];
     let chart = judge(text, &mut words);
@@ -138,12 +132,7 @@ pub fn read(
     beats: &mut [u32],
     items: &mut [u64],
 ) -> Answer
-    ensures answer { λ r. ⌜ r ≡ answerOf (answer (record { keys = length (now (keys .entry)); sections = length (now (sections .entry)); measures = length (now (measures .entry)); beats = length (now (beats .entry)); items = length (now (items .entry)) }) (now (text .entry))) ⌝ }
-    ensures keys { λ r. ⌜ now (keys .exit) ≡ storedKeys (answer (record { keys = length (now (keys .entry)); sections = length (now (sections .entry)); measures = length (now (measures .entry)); beats = length (now (beats .entry)); items = length (now (items .entry)) }) (now (text .entry))) (now (keys .entry)) ⌝ }
-    ensures sections { λ r. ⌜ now (sections .exit) ≡ storedSections (answer (record { keys = length (now (keys .entry)); sections = length (now (sections .entry)); measures = length (now (measures .entry)); beats = length (now (beats .entry)); items = length (now (items .entry)) }) (now (text .entry))) (now (sections .entry)) ⌝ }
-    ensures measures { λ r. ⌜ now (measures .exit) ≡ storedMeasures (answer (record { keys = length (now (keys .entry)); sections = length (now (sections .entry)); measures = length (now (measures .entry)); beats = length (now (beats .entry)); items = length (now (items .entry)) }) (now (text .entry))) (now (measures .entry)) ⌝ }
-    ensures beats { λ r. ⌜ now (beats .exit) ≡ storedBeats (answer (record { keys = length (now (keys .entry)); sections = length (now (sections .entry)); measures = length (now (measures .entry)); beats = length (now (beats .entry)); items = length (now (items .entry)) }) (now (text .entry))) (now (beats .entry)) ⌝ }
-    ensures items { λ r. ⌜ now (items .exit) ≡ storedItems (answer (record { keys = length (now (keys .entry)); sections = length (now (sections .entry)); measures = length (now (measures .entry)); beats = length (now (beats .entry)); items = length (now (items .entry)) }) (now (text .entry))) (now (items .entry)) ⌝ }
+    ensures { λ r. ⌜ Promised (now (text .entry)) (record { keys = now (keys .entry); sections = now (sections .entry); measures = now (measures .entry); beats = now (beats .entry); items = now (items .entry) }) r (record { keys = now (keys .exit); sections = now (sections .exit); measures = now (measures .exit); beats = now (beats .exit); items = now (items .exit) }) ⌝ }
 {
     let early = first_stages(text);
     if early.number != 0 {

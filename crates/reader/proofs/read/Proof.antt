@@ -1,9 +1,9 @@
-use Rattle.reader.proofs.AnswerLaws.{early-refused, late-refused, short-refused, song-accepted, short-is, long-is, keys-room, tables-room, first-clear, answer-refused, keys-kept, sections-kept, measures-kept, beats-kept, items-kept, answer-accepted, keys-written, sections-written, measures-written, beats-written, items-written}
-use Rattle.songcode.specs.Answer.{Room, songOf, answer}
+use Rattle.reader.proofs.AnswerLaws.{early-refused, late-refused, short-refused, song-accepted, short-is, long-is, keys-room, tables-room, first-clear, promised-refused, promised-accepted}
+use Rattle.reader.specs.Answers.{Lent, roomOf}
+use Rattle.songcode.specs.Answer.{songOf}
 use Rattle.songcode.specs.Tables.{tables}
 use lib.ListN.{length}
-use mathlib.Core.Bool.{true, false}
-use mathlib.Core.Path.{_≡_, refl, sym, ap, _∙_}
+use mathlib.Core.Path.{_≡_, sym, _∙_}
 use borrow.Author.Needs.{needs}
 use Rattle.reader.proofs.read.Statement.{statement}
 use Rattle.reader.proofs.read.Tie as tie
@@ -24,15 +24,12 @@ refused-requires c κs = search needs
 -- src/lib.rt:150:9
 returns : tie.Need-returns
 returns c =
-    let entry = c .before .before .before .before .before .before .before .before .before .before in
-    let a = entry .args in
+    let a = c .before .before .before .before .before .before .before .before .before .before .args in
     let bs = a .text .now in
-    let room : Room = record { keys = length (a .keys .now); sections = length (a .sections .now); measures = length (a .measures .now); beats = length (a .beats .now); items = length (a .items .now) } in
+    let lent : Lent = record { keys = a .keys .now; sections = a .sections .now; measures = a .measures .now; beats = a .beats .now; items = a .items .now } in
     let early = c .before .before .before .first-stages in
-    let is = early-refused room bs (early .result) (early .ensures) (c .before .if1 .taken) in (
-      answer-refused (answer room bs) (early .result .number) (early .result .line) is (c .refused .result) (c .refused .ensures),
-      (keys-kept (answer room bs) (early .result .number) (early .result .line) is (a .keys .now), (sections-kept (answer room bs) (early .result .number) (early .result .line) is (a .sections .now), (measures-kept (answer room bs) (early .result .number) (early .result .line) is (a .measures .now), (beats-kept (answer room bs) (early .result .number) (early .result .line) is (a .beats .now), items-kept (answer room bs) (early .result .number) (early .result .line) is (a .items .now))))),
-    )
+    let is = early-refused (roomOf lent) bs (early .result) (early .ensures) (c .before .if1 .taken) in
+    promised-refused bs lent (early .result .number) (early .result .line) (c .refused .result) is (c .refused .ensures)
 
 -- src/lib.rt:152:5
 read-song-requires : tie.Need-read-song-requires

@@ -1,9 +1,9 @@
-use Rattle.reader.proofs.AnswerLaws.{early-refused, late-refused, short-refused, song-accepted, short-is, long-is, keys-room, tables-room, first-clear, answer-refused, keys-kept, sections-kept, measures-kept, beats-kept, items-kept, answer-accepted, keys-written, sections-written, measures-written, beats-written, items-written}
-use Rattle.songcode.specs.Answer.{Room, songOf, answer}
+use Rattle.reader.proofs.AnswerLaws.{early-refused, late-refused, short-refused, song-accepted, short-is, long-is, keys-room, tables-room, first-clear, promised-refused, promised-accepted}
+use Rattle.reader.specs.Answers.{Lent, roomOf}
+use Rattle.songcode.specs.Answer.{songOf}
 use Rattle.songcode.specs.Tables.{tables}
 use lib.ListN.{length}
-use mathlib.Core.Bool.{true, false}
-use mathlib.Core.Path.{_≡_, refl, sym, ap, _∙_}
+use mathlib.Core.Path.{_≡_, sym, _∙_}
 use borrow.Author.Needs.{needs}
 use Rattle.reader.proofs.read_song.Statement.{statement}
 use Rattle.reader.proofs.read_song.Tie as tie
@@ -28,16 +28,15 @@ refused-requires c κs = search needs
 
 -- src/lib.rt:100:9
 returns : tie.Need-returns
+unfolding roomOf
 returns c =
     let entry = c .before .before .before .before .before .before .before .before .before .before .before .before .before .before in
     let a = entry .args in
     let bs = a .text .now in
-    let room : Room = record { keys = length (a .keys .now); sections = length (a .sections .now); measures = length (a .measures .now); beats = length (a .beats .now); items = length (a .items .now) } in
+    let lent : Lent = record { keys = a .keys .now; sections = a .sections .now; measures = a .measures .now; beats = a .beats .now; items = a .items .now } in
     let late = c .before .before .before .before .before .before .judge .result .totals .refusal in
-    let is = late-refused room bs (entry .pre .0) (entry .pre .1) late (c .before .before .before .before .before .before .judge .ensures .refusal) (c .before .if1 .taken) in (
-      answer-refused (answer room bs) (late .number) (late .line) is (c .refused .result) (c .refused .ensures),
-      (keys-kept (answer room bs) (late .number) (late .line) is (a .keys .now), (sections-kept (answer room bs) (late .number) (late .line) is (a .sections .now), (measures-kept (answer room bs) (late .number) (late .line) is (a .measures .now), (beats-kept (answer room bs) (late .number) (late .line) is (a .beats .now), items-kept (answer room bs) (late .number) (late .line) is (a .items .now))))),
-    )
+    let is = late-refused (roomOf lent) bs (entry .pre .0) (entry .pre .1) late (c .before .before .before .before .before .before .judge .ensures .refusal) (c .before .if1 .taken) in
+    promised-refused bs lent (late .number) (late .line) (c .refused .result) is (c .refused .ensures)
 
 -- src/lib.rt:102:8
 is-short-requires : tie.Need-is-short-requires
@@ -49,18 +48,17 @@ refused-requires-2 c κs = search needs
 
 -- src/lib.rt:110:9
 returns-2 : tie.Need-returns-2
+unfolding roomOf
 returns-2 c =
     let entry = c .before .before .before .before .before .before .before .before .before .before .before .before .before .before .before .before in
     let a = entry .args in
     let bs = a .text .now in
-    let room : Room = record { keys = length (a .keys .now); sections = length (a .sections .now); measures = length (a .measures .now); beats = length (a .beats .now); items = length (a .items .now) } in
+    let lent : Lent = record { keys = a .keys .now; sections = a .sections .now; measures = a .measures .now; beats = a .beats .now; items = a .items .now } in
     let judge = c .before .before .before .before .before .before .before .before .judge in
     let w = judge .ensures .writable (c .before .before .before .if1 .left) in
-    let short = short-is room (songOf bs) (judge .result .totals) (w .holds) (sym (c .before .before .is-short .ensures) ∙ c .before .if2 .taken) in
-    let is = short-refused room bs (entry .pre .0) (entry .pre .1) (w .clear) short in (
-      answer-refused (answer room bs) 18 0 is (c .refused2 .result) (c .refused2 .ensures),
-      (keys-kept (answer room bs) 18 0 is (a .keys .now), (sections-kept (answer room bs) 18 0 is (a .sections .now), (measures-kept (answer room bs) 18 0 is (a .measures .now), (beats-kept (answer room bs) 18 0 is (a .beats .now), items-kept (answer room bs) 18 0 is (a .items .now))))),
-    )
+    let short = short-is (roomOf lent) (songOf bs) (judge .result .totals) (w .holds) (sym (c .before .before .is-short .ensures) ∙ c .before .if2 .taken) in
+    let is = short-refused (roomOf lent) bs (entry .pre .0) (entry .pre .1) (w .clear) short in
+    promised-refused bs lent 18 0 (c .refused2 .result) is (c .refused2 .ensures)
 
 -- src/lib.rt:115:9
 slice-aggregate-write-tables : tie.Need-slice-aggregate-write-tables
@@ -103,33 +101,18 @@ same-length-5 c = search needs
 
 -- src/lib.rt:79:1
 returns-3 : tie.Need-returns-3
+unfolding roomOf
 returns-3 c =
     let entry = c .before .before .before .before .before .before .before .before .before .before .before .before .before .before .before .before .before .before .before .before .before .before .before .before .before .before .before .before .before .before .before .before .before in
     let a = entry .args in
     let bs = a .text .now in
-    let room : Room = record { keys = length (a .keys .now); sections = length (a .sections .now); measures = length (a .measures .now); beats = length (a .beats .now); items = length (a .items .now) } in
+    let lent : Lent = record { keys = a .keys .now; sections = a .sections .now; measures = a .measures .now; beats = a .beats .now; items = a .items .now } in
     let judge = c .before .before .before .before .before .before .before .before .before .before .before .before .before .before .before .before .before .before .before .before .before .before .before .before .before .judge in
     let w = judge .ensures .writable (c .before .before .before .before .before .before .before .before .before .before .before .before .before .before .before .before .before .before .before .before .if1 .left) in
-    let long = long-is room (songOf bs) (judge .result .totals) (w .holds) (sym (c .before .before .before .before .before .before .before .before .before .before .before .before .before .before .before .before .before .before .before .is-short .ensures) ∙ c .before .before .before .before .before .before .before .before .before .before .before .before .before .before .before .before .before .before .if2 .left) in
-    let is = song-accepted room bs (entry .pre .0) (entry .pre .1) (w .clear) long in
-    let x = answer room bs in
-    let t = tables (songOf bs) in
-    let wrote = c .before .before .before .before .before .before .before .before .before .before .before .write-tables .ensures in (
-      answer-accepted x t is (judge .result .totals) (w .holds),
-      (
-        keys-written x t is _ (a .keys .now) (wrote .0),
-        (
-          sections-written x t is _ (a .sections .now) (wrote .1 .0),
-          (
-            measures-written x t is _ (a .measures .now) (wrote .1 .1 .0),
-            (
-              beats-written x t is _ (a .beats .now) (wrote .1 .1 .1 .0),
-              items-written x t is _ (a .items .now) (wrote .1 .1 .1 .1),
-            ),
-          ),
-        ),
-      ),
-    )
+    let long = long-is (roomOf lent) (songOf bs) (judge .result .totals) (w .holds) (sym (c .before .before .before .before .before .before .before .before .before .before .before .before .before .before .before .before .before .before .before .is-short .ensures) ∙ c .before .before .before .before .before .before .before .before .before .before .before .before .before .before .before .before .before .before .if2 .left) in
+    let is = song-accepted (roomOf lent) bs (entry .pre .0) (entry .pre .1) (w .clear) long in
+    let wrote = c .before .before .before .before .before .before .before .before .before .before .before .write-tables .ensures in
+    promised-accepted bs lent _ (tables (songOf bs)) (judge .result .totals) is (w .holds) (wrote .0) (wrote .1 .0) (wrote .1 .1 .0) (wrote .1 .1 .1 .0) (wrote .1 .1 .1 .1)
 
 pub read-song-spec : {M : Type 1} → statement M
 read-song-spec =
