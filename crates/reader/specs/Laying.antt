@@ -1,8 +1,9 @@
 -- The tokens of some lines, as they are laid into the buffer; the number that a pattern names.
-use Prim.Native.Nat.{ℕ, _≤_}
+use Prim.Native.Nat.{ℕ, _+_, _≤_}
 use mathlib.Core.Path.{_≡_}
 use mathlib.Core.List.{List, [], _∷_}
 use mathlib.Core.Option.{Option, none, some}
+use lib.ListN.{length}
 use Rattle.songcode.specs.Lines.{Line}
 use Rattle.songcode.specs.Song.{Pattern, items, named}
 use Rattle.songcode.specs.Tokens.{Token, tokens, tokensOf}
@@ -17,6 +18,16 @@ runTokens (l ∷ ls) = tokensOf l ls
 unfoldable pub saidTokens : Option Setting → List Token
 saidTokens none = []
 saidTokens (some x) = tokens (x .text)
+
+-- The bytes of some lines, each with one for its line end: as many words are enough for their tokens.
+unfoldable pub weight : List Line → ℕ
+weight [] = 0
+weight (l ∷ ls) = length (l .text) + 1 + weight ls
+
+-- The bytes of a lead-in or tail.
+unfoldable pub saidWeight : Option Setting → ℕ
+saidWeight none = 0
+saidWeight (some x) = length (x .text)
 
 -- 0 is the number of no definition.
 unfoldable pub Names : Pattern → ℕ → Type 0

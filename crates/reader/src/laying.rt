@@ -20,11 +20,11 @@ ghost use Rattle.sections.specs.Runs.{linesOf};
 ghost use Rattle.sections.specs.BlockParts.{Placed};
 ghost use Rattle.sections.specs.Slots.{settingAt};
 ghost use Rattle.sections.specs.Values.{Inside};
-ghost use Rattle.reader.specs.Laying.{runTokens, saidTokens, Names};
+ghost use Rattle.reader.specs.Laying.{runTokens, saidTokens, weight, saidWeight, Names};
 
 // The words of the lines of a run from n on, a line end between neighbours; the new fill is returned.
 pub fn lay_run(s: &[u8], run: Run, words: &mut [u32], n: usize) -> usize
-    requires { ⌜ Placed (now s) run × (length (now s) ≤ 65536) × (n + length (tokenWords (runTokens (linesOf (now s) run))) ≤ length (now words)) ⌝ }
+    requires { ⌜ Placed (now s) run × (length (now s) ≤ 65536) × (n + weight (linesOf (now s) run) ≤ length (now words)) ⌝ }
     ensures held { λ r. ⌜ now (words .exit) ≡ laid n (tokenWords (runTokens (linesOf (now (s .entry)) run))) (now (words .entry)) ⌝ }
     ensures fill { λ r. ⌜ r ≡ n + length (tokenWords (runTokens (linesOf (now (s .entry)) run))) ⌝ }
 {
@@ -52,7 +52,7 @@ pub fn lay_run(s: &[u8], run: Run, words: &mut [u32], n: usize) -> usize
 
 // The words of a lead-in or tail, if there is one.
 pub fn lay_said(s: &[u8], said: Said, words: &mut [u32], n: usize) -> usize
-    requires { ⌜ Inside (now s) said × (length (now s) ≤ 65536) × (n + length (tokenWords (saidTokens (settingAt (now s) said))) ≤ length (now words)) ⌝ }
+    requires { ⌜ Inside (now s) said × (length (now s) ≤ 65536) × (n + saidWeight (settingAt (now s) said) ≤ length (now words)) ⌝ }
     ensures held { λ r. ⌜ now (words .exit) ≡ laid n (tokenWords (saidTokens (settingAt (now (s .entry)) said))) (now (words .entry)) ⌝ }
     ensures fill { λ r. ⌜ r ≡ n + length (tokenWords (saidTokens (settingAt (now (s .entry)) said))) ⌝ }
 {
