@@ -7,3 +7,4 @@ pub mod ReachedLaws
 pub mod CleanLaws
 pub mod LineNumberLaws
 pub mod MetadataLaws
+pub mod NumberedLaws

@@ -40,7 +40,7 @@ whole-next b bs h =
     by-ending b
     (λ e. rw e (omega arith))
     (λ e. let z : 1 < 0 + 1 = rw (e, e) at h in absurd (omega arith))
-    (λ e. let z : 1 < 0 + breakWidth cr (end (getD bs 0 0)) = rw (e, e) at h in rw (e, e) (cr-then bs z))
+    (λ e. let z : 1 < 0 + breakWidth cr (end (getD bs 0 0)) = rw (e, e) at h in let y = cr-then bs (omega arith) in rw (e, e) (omega arith))
 
 abbrev after : List ℕ → ℕ → ℕ
 after s at = at + whole (drop at s)
