@@ -8,3 +8,6 @@ pub mod CleanLaws
 pub mod LineNumberLaws
 pub mod MetadataLaws
 pub mod NumberedLaws
+pub mod FitLaws
+pub mod DefinitionLaws
+pub mod HeldLaws

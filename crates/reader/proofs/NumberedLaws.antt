@@ -51,10 +51,10 @@ pub record Seen (d : Definitions) (o : Outlines) (n : ℕ) (missing : Bool) (at 
   pub outline-is : lookUp d o n ≡ x
 
 module _ (d : Definitions) (o : Outlines) (c : ℕ) (here : d .count ≡ c) (same : o .count ≡ c) (few : c ≤ 26) (n : ℕ) where
-  abbrev place : ℕ
+  abbrev pub place : ℕ
   place = placeBy c (d .ids) 0 n
 
-  seen-past : leb c place ≡ true → Seen d o n true (record { from = 0; to = 0 }) vacant
+  pub seen-past : leb c place ≡ true → Seen d o n true (record { from = 0; to = 0 }) vacant
   unfolding isMissing stretchOf lookUp placeOf atPlace if_then_else_
   seen-past t =
       let a : min (o .count) 26 ≡ c = omega arith in
@@ -187,9 +187,9 @@ module _ (d : Definitions) (o : Outlines) (id : ℕ) (t : Stretch) (x : Outline)
         let s = there (rw p (lt-leb (c + 1) before (omega arith))) in
         let k : before ≡ c → ⊥ = λ z. let w : ⊥ = omega arith in w in
         let moved : Seen d' (extended o x) n false (record { from = getD (d .from) before 0; to = getD (d .to) before 0 }) (rowAt o before)
-              = record {
-                missing-is = s .missing-is;
-                at-is = s .at-is ∙ rw (p, getD-set-other (d .from) c before (t .from) 0 k, getD-set-other (d .to) c before (t .to) 0 k) refl;
-                outline-is = s .outline-is ∙ rw p (row-kept before l);
-              } in
+        = record {
+          missing-is = s .missing-is;
+          at-is = s .at-is ∙ rw (p, getD-set-other (d .from) c before (t .from) 0 k, getD-set-other (d .to) c before (t .to) 0 k) refl;
+          outline-is = s .outline-is ∙ rw p (row-kept before l);
+        } in
         alike moved (seen-at d o c refl (even .count) (even .few) n y)))

@@ -109,8 +109,8 @@ line-there s n at h =
       inside = omega arith;
       text = omega arith;
       ended = λ z. by-cases (ltb (lineLength bs) (whole bs))
-        (λ e. let w = ltb-true (lineLength bs) (whole bs) e in omega arith)
-        (λ e. let w = fit .last (ltb-false (lineLength bs) (whole bs) e) in omega arith);
+          (λ e. let w = ltb-true (lineLength bs) (whole bs) e in omega arith)
+          (λ e. let w = fit .last (ltb-false (lineLength bs) (whole bs) e) in omega arith);
     }
 
 -- The lines from a place on have at most the bytes that are left; the last may have no line end.
@@ -190,7 +190,7 @@ settings-weight k j ne (l ∷ ls) =
 -- The pattern of a section, its lead-in and its tail stand on lines of their own.
 pub weight-section : (s : List ℕ) (n at : ℕ) → at < length s
     → let ls = body (blockAt s n at) in
-      at + (saidWeight (settingAmong 11 (lateLines ls)) + weight (patternRun ls) + saidWeight (settingAmong 12 (lateLines ls))) ≤ length s
+    at + (saidWeight (settingAmong 11 (lateLines ls)) + weight (patternRun ls) + saidWeight (settingAmong 12 (lateLines ls))) ≤ length s
 unfolding body patternRun lateLines
 weight-section s n at h =
     let b = blockAt s n at in
