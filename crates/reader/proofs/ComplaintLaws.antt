@@ -75,7 +75,7 @@ earlier-both c d e =
     (λ q. rw (q, p, goes-behind-both c d e p q, q)))
 
 -- The earlier of two that may be absent.
-pub firstOf : Option Complaint → Option Complaint → Option Complaint
+unfoldable pub firstOf : Option Complaint → Option Complaint → Option Complaint
 firstOf none y = y
 firstOf (some c) y = some (earlier c y)
 
@@ -95,7 +95,7 @@ earliest-none [] e = refl
 earliest-none (c ∷ xs) e = let z : _≡_ {A = ℕ} 0 1 = cc in absurd (omega arith)
 
 -- Complaints that have numbers from 1 on, as all have.
-pub Numbered : Complaint → Type 0
+unfoldable pub Numbered : Complaint → Type 0
 Numbered c = 1 ≤ c .number
 
 pub numbered-if : (b : Bool) (n line : ℕ) → 1 ≤ n → Each Numbered (complainIf b n line)
@@ -190,10 +190,10 @@ sooner-append xs ys h k =
     ∙ sooner-first (earliest xs) (earliest ys) (λ c e. earliest-each (λ c. 1 ≤ c .number) xs c h e) (λ c e. earliest-each (λ c. 1 ≤ c .number) ys c k e)
 
 -- A complaint on a line goes before all on later lines.
-pub UpTo : ℕ → Complaint → Type 0
+unfoldable pub UpTo : ℕ → Complaint → Type 0
 UpTo line c = c .line ≤ line
 
-pub Behind : ℕ → Complaint → Type 0
+unfoldable pub Behind : ℕ → Complaint → Type 0
 Behind line c = line < c .line
 
 pub first-wins : (line : ℕ) (xs ys : List Complaint) → Each (UpTo line) xs → Each (Behind line) ys → (xs ≡ [] → ⊥) → earliest (xs ++ ys) ≡ earliest xs

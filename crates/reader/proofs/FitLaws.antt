@@ -1,7 +1,7 @@
 -- Every token of a text of at most 65,536 bytes fits its word, and every count among them is at least 1; so do the items that are read of them.
-use Prim.Native.Nat.{ℕ, zero, suc, _+_, _-_, _*_, _^_, _<_, _≤_, min}
-use mathlib.Core.Path.{_≡_, refl, sym, ap, _∙_, subst}
-use mathlib.Core.List.{List, [], _∷_, _++_, map}
+use Prim.Native.Nat.{ℕ, zero, suc, _-_, _<_, _≤_}
+use mathlib.Core.Path.{_≡_, refl, subst}
+use mathlib.Core.List.{List, [], _∷_, map}
 use mathlib.Core.Bool.{Bool, true, false}
 use mathlib.Core.Option.{Option, none, some}
 use native.Mathlib.Omega.{arith}
@@ -14,8 +14,7 @@ use Rattle.songcode.specs.Bytes.{Byte, placed, is, isByte}
 use Rattle.songcode.specs.Numbers.{countIn, repeatIn}
 use Rattle.songcode.specs.Chords.{Chord, chordIn}
 use Rattle.songcode.specs.Lines.{Line}
-use Rattle.songcode.specs.Song.{Sound, chord, again, silence, Sounds, only, also, Measure, Beside, nothing, aLineEnd, Separator, bySemicolon, byLineEnd, byColon, Item, measure, loop, refer, Items, one, next}
-use Rattle.songcode.specs.Tables.{offset}
+use Rattle.songcode.specs.Song.{Sound, chord, again, silence, Sounds, only, also, Beside, nothing, aLineEnd, Separator, bySemicolon, byLineEnd, byColon, Item, measure, loop, refer, Items, one, next}
 use Rattle.songcode.specs.Tokens.{Token, sound, remover, reference, semicolon, colon, lineEnd, opens, closes, wrong, Class, blank, semi, double, bracket, closing, plain, class, chordToken, referenceToken, closingToken, dollarOr, wordToken, Lexed, word, lexedBy, lexed, tokens, tokensOf}
 use Rattle.songcode.specs.WrittenPattern.{writeSounds, writeRemovers, writeMeasure, writeBeside, writeSeparator, writeItem, writeItems}
 use Rattle.songcode.proofs.NumbersAgree.{count-exact, repeat-exact}

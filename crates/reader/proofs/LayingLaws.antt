@@ -1,13 +1,13 @@
 -- The words of the lines of a run, line by line.
-use Prim.Native.Nat.{ℕ, zero, suc, _+_, _-_, _*_, _^_, _<_, _≤_}
+use Prim.Native.Nat.{ℕ, suc, _+_, _-_, _*_, _^_, _<_, _≤_}
 use mathlib.Core.Path.{_≡_, refl, sym, ap, _∙_}
 use mathlib.Core.List.{List, [], _∷_, _++_, append-assoc, append-nil}
 use native.Mathlib.Omega.{arith}
 use borrow.Author.Tests.{ltb-true, ltb-false, ne-eqb}
 use lib.Dec.{ltb}
-use lib.ListN.{length, take, drop, length-append}
+use lib.ListN.{length, take, length-append}
 use lib.Seq.{take-nil}
-use mathlib.Core.Option.{Option, none, some}
+use mathlib.Core.Option.{none, some}
 use Rattle.songcode.specs.Lists.{if_then_else_}
 use Rattle.songcode.specs.Bytes.{placed}
 use Rattle.songcode.specs.Lines as songcode
@@ -24,7 +24,7 @@ use Rattle.tokens.proofs.PartLaws.{part-none}
 use Rattle.sections.specs.declared.runs.Run.{Run}
 use Rattle.sections.specs.declared.slots.Said.{Said}
 use Rattle.sections.specs.Runs.{textLines, linesOf}
-use Rattle.sections.specs.Slots.{Setting, settingAt}
+use Rattle.sections.specs.Slots.{settingAt}
 use Rattle.sections.proofs.RunLaws.{lines-found, lines-over}
 use Rattle.reader.specs.Laying.{runTokens, saidTokens, weight, saidWeight}
 use Rattle.reader.proofs.LaidLaws.{laid-laid}
@@ -41,6 +41,10 @@ tokens-more : (l : songcode.Line) (ls : List songcode.Line) → tokensOf l ls �
 unfolding tokensOf moreTokens
 tokens-more l [] = sym (append-nil (tokens (l .text)))
 tokens-more l (m ∷ ms) = ap (λ (ts : List Token). tokens (l .text) ++ (lineEnd ∷ ts)) (tokens-more m ms)
+
+pub run-tokens : (l : songcode.Line) (ls : List songcode.Line) → runTokens (l ∷ ls) ≡ tokens (l .text) ++ moreTokens ls
+unfolding runTokens
+run-tokens l ls = tokens-more l ls
 
 pub words-append : (ts us : List Token) → tokenWords (ts ++ us) ≡ tokenWords ts ++ tokenWords us
 unfolding tokenWords

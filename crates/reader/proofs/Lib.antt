@@ -11,3 +11,4 @@ pub mod NumberedLaws
 pub mod FitLaws
 pub mod DefinitionLaws
 pub mod HeldLaws
+pub mod LoadLaws

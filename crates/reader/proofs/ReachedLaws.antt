@@ -6,12 +6,11 @@ use native.Mathlib.Omega.{arith}
 use native.Mathlib.Numerals.{add-one}
 use borrow.Author.Tests.{ltb-true, ltb-false, leb-true, leb-false}
 use lib.Dec.{ltb, leb}
-use lib.ListN.{length, take, drop, getD, length-append}
+use lib.ListN.{length, drop, getD}
 use lib.Seq.{drop-cons}
-use Rattle.songcode.specs.Lists.{if_then_else_, taken, left}
-use Rattle.songcode.specs.Lines.{Line, Ending, lf, cr, inside, ending}
+use Rattle.songcode.specs.Lists.{if_then_else_, left}
+use Rattle.songcode.specs.Lines.{Line, cr, inside, ending}
 use Rattle.songcode.proofs.ListLaws.{by-cases, taken-left, nil-is-not-cons}
-use Rattle.text.specs.declared.lines.Line as text
 use Rattle.text.specs.Spans.{end, longer, lineLength, breakWidth, breakLength, lineOf, lineAt, lineText, spansFrom}
 use Rattle.text.proofs.SpanLaws.{by-ending}
 use Rattle.text.proofs.WalkLaws.{whole, next-is}

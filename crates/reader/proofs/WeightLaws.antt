@@ -2,15 +2,15 @@
 use Prim.Native.Nat.{ℕ, zero, suc, _+_, _-_, _<_, _≤_}
 use mathlib.Core.Path.{_≡_, refl, sym, ap, _∙_}
 use mathlib.Core.List.{List, [], _∷_, _++_}
-use mathlib.Core.Bool.{Bool, true, false}
+use mathlib.Core.Bool.{Bool}
 use mathlib.Core.Option.{Option, none, some}
 use native.Mathlib.Omega.{arith}
-use borrow.Author.Tests.{ltb-true, ltb-false, eqb-true, eqb-false}
+use borrow.Author.Tests.{ltb-true, ltb-false, eqb-true}
 use lib.Dec.{eqb, ltb}
 use lib.ListN.{length, take, drop, getD, length-append, length-take, length-drop, take-append-drop}
 use Rattle.songcode.specs.Lists.{if_then_else_, taken, left}
 use Rattle.songcode.specs.Bytes.{Byte, placed, isBlank, notBlank}
-use Rattle.songcode.specs.Lines.{Line, Ending, lf, cr, inside, ending, Block}
+use Rattle.songcode.specs.Lines.{Line, cr, inside, ending}
 use Rattle.songcode.specs.Keys.{settingIn}
 use Rattle.songcode.specs.Sections.{behindFirst, settingOf, isPatternLine, notPatternLine, patternRun, notDashes, body}
 use Rattle.songcode.specs.Tokens.{Token, Class, blank, semi, double, bracket, closing, plain, class, Lexed, word, lexedBy, lexed, tokens, tokensOf}
