@@ -1,30 +1,30 @@
 -- The definition at a place: what stage 2 says of it, what its lines say, and what is left behind it.
-use Prim.Native.Nat.{ℕ, zero, suc, _+_, _<_, _≤_, max}
+use Prim.Native.Nat.{ℕ, suc, _+_, _<_, _≤_}
 use mathlib.Core.Path.{_≡_, refl, sym, ap, _∙_, subst}
 use mathlib.Core.List.{List, [], _∷_, _++_, map}
-use mathlib.Core.Bool.{Bool, true, false, not, _||_}
+use mathlib.Core.Bool.{true, false, not, _||_}
 use mathlib.Core.Option.{Option, none, some}
 use native.Mathlib.Omega.{arith}
-use borrow.Author.Tests.{eqb-false, eqb-true, ne-eqb, leb-false, not-false}
-use lib.Dec.{eqb, leb, ltb}
+use borrow.Author.Tests.{leb-false, not-false}
+use lib.Dec.{eqb, leb}
 use lib.ListN.{length}
 use Rattle.songcode.specs.Lists.{if_then_else_, any, gather, prepend, isSome, orElse}
 use Rattle.songcode.specs.Lines.{Line, Block, blocks}
 use Rattle.songcode.specs.Complaints.{complainIf}
 use Rattle.songcode.specs.Song.{Items, Definition}
-use Rattle.songcode.specs.Sections.{twiceBy, twice, sectionIn}
-use Rattle.songcode.specs.SongText.{BlockKind, metadata, definition, section, blockKind, turn, blockOrder, definitionIf, definitionBlocks, sectionIf, sectionBlocks, headIn, headsFaults, firstLine, definitionItems, definitionFaults, definitionIn}
+use Rattle.songcode.specs.Sections.{behindFirst, twiceBy, twice, sectionIn}
+use Rattle.songcode.specs.SongText.{definition, blockKind, turn, blockOrder, definitionIf, definitionBlocks, sectionIf, sectionBlocks, headIn, headsFaults, firstLine, definitionItems, definitionFaults, definitionIn}
 use Rattle.songcode.specs.PatternText.{depth, definitionText}
 use Rattle.songcode.specs.Tokens.{tokensOf}
 use Rattle.songcode.specs.References.{definitionOf}
 use Rattle.songcode.specs.WrittenPattern.{writeItems}
 use Rattle.songcode.specs.WrittenSong.{idOf}
-use Rattle.songcode.proofs.ListLaws.{by-cases, true-is-not-false, none-passes, append-is-nil, complainIf-nil}
+use Rattle.songcode.proofs.ListLaws.{true-is-not-false, none-passes, append-is-nil, complainIf-nil}
 use Rattle.songcode.proofs.ChoiceLaws.{isSome-some}
 use Rattle.songcode.proofs.NumbersAgree.{count-exact}
 use Rattle.songcode.proofs.PatternAgree.{kept-sound}
 use Rattle.songcode.proofs.BlockKinds.{by-kind}
-use Rattle.text.specs.Spans.{lineAt, lineOf}
+use Rattle.text.specs.Spans.{lineAt}
 use Rattle.sections.specs.declared.blocks.Place.{Place}
 use Rattle.sections.specs.declared.blocks.DefinitionRead.{DefinitionRead}
 use Rattle.sections.specs.declared.runs.Test.the-variants.{Full}
@@ -32,7 +32,7 @@ use Rattle.sections.specs.Runs.{textLines, passing, linesOf, linesBehind}
 use Rattle.sections.specs.BlockParts.{blockAt, linesPast, DefinitionAt, NextAt}
 use Rattle.sections.specs.Onward.{Later}
 use Rattle.sections.proofs.SectionLaws.{definition-says}
-use Rattle.sections.proofs.MeetLaws.{From, Firsts, from-lines, from-left, blocks-from, firsts-later}
+use Rattle.sections.proofs.MeetLaws.{Firsts, from-lines, from-left, blocks-from, firsts-later}
 use Rattle.reader.specs.Laying.{runTokens}
 use Rattle.reader.specs.Loading.{blocksFrom, definitionsFrom, Leaves}
 
@@ -124,7 +124,7 @@ module _ (s : List ℕ) (count : ℕ) (seen : List ℕ) (p : Place) (w : Leaves 
 
   pub id-small : e .id ≤ 9999
   unfolding headIn
-  id-small = count-exact _ (e .id) .0 head-is .atMost
+  id-small = count-exact (behindFirst (block .first .text)) (e .id) .0 head-is .atMost
 
   fresh-parts : (any (λ x. eqb x (e .id)) seen ≡ false) × (twice 6 headIn (e .id ∷ seen) (map firstLine (definitionBlocks rest)) ≡ [])
   unfolding twice twiceBy prepend firstLine

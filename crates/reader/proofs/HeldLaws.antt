@@ -1,30 +1,28 @@
 -- What the tables and the buffer hold of a definition: how it is known, how it stays, how one comes, and what it plays.
-use Prim.Native.Nat.{ℕ, zero, suc, _+_, _-_, _<_, _≤_}
-use mathlib.Core.Path.{_≡_, refl, sym, ap, _∙_, subst}
+use Prim.Native.Nat.{ℕ, _+_, _≤_}
+use mathlib.Core.Path.{_≡_, refl, sym, ap, _∙_}
 use mathlib.Core.List.{List, [], _∷_, _++_}
-use mathlib.Core.Bool.{Bool, true, false, not}
+use mathlib.Core.Bool.{Bool, not}
 use mathlib.Core.Option.{Option, none, some}
 use native.Mathlib.Omega.{arith}
 use lib.ListN.{length, take, drop, length-take}
 use lib.Seq.{take-take, take-at, drop-at, take-append-add}
 use Rattle.songcode.specs.Complaints.{earliest}
-use Rattle.songcode.specs.Lists.{if_then_else_, isSome, andThen, orElse, gather, firstThere}
+use Rattle.songcode.specs.Lists.{if_then_else_, isSome, andThen, orElse, gather}
 use Rattle.songcode.specs.Lines.{Line}
-use Rattle.songcode.specs.Song.{Items, one, refer, named, Definition}
-use Rattle.songcode.specs.PatternText.{depth, references}
+use Rattle.songcode.specs.Song.{Items, one, named, Definition}
+use Rattle.songcode.specs.PatternText.{references}
 use Rattle.songcode.specs.References.{definitionOf, itemsOf, putInItem, putIn, patternItems, itemsFault, referenceFault, depthFault, definitionReferences}
-use Rattle.songcode.specs.Playing.{measuresOf}
 use Rattle.songcode.specs.Fits.{Refers, ReferAll}
 use Rattle.songcode.proofs.ListLaws.{Each, each-map, append-is-nil, gather-nil, nil-is-not-cons}
-use Rattle.songcode.proofs.PatternLaws.{none-some}
 use Rattle.songcode.proofs.PatternAgree.{none-referred}
 use Rattle.songcode.proofs.FaultLaws.{unless-exact}
 use Rattle.tokens.specs.TokenWords.{tokenWords}
 use Rattle.tokens.specs.Lexing.{laid}
 use Rattle.player.specs.declared.leaves.Definitions.{Definitions}
 use Rattle.player.specs.declared.leaves.Stretch.{Stretch}
-use Rattle.player.specs.Walks.{stretchOf, rowOf}
-use Rattle.player.specs.Texts.{rowWords, ItemsFit, Stands, Says, Walkable}
+use Rattle.player.specs.Walks.{stretchOf}
+use Rattle.player.specs.Texts.{ItemsFit, Stands}
 use Rattle.player.proofs.PutInLaws.{putIn-same}
 use Rattle.player.proofs.Meaning.{row-meaning}
 use Rattle.player.proofs.Walkables as walkables
@@ -34,7 +32,7 @@ use Rattle.outlines.specs.declared.tables.Outlines.{Outlines}
 use Rattle.outlines.specs.Tables.{vacant, lookUp, isMissing}
 use Rattle.outlines.specs.Readings.{outlined}
 use Rattle.outlines.specs.Faults.{allFaults, faultless, faultNumber, faultIn}
-use Rattle.outlines.specs.Told.{refusal, Tells, Told, Sketches, KnowsItems, Knows, Known}
+use Rattle.outlines.specs.Told.{refusal, Tells, Told, KnowsItems, Knows, Known}
 use Rattle.outlines.proofs.OutlineAgree.{outline-tells}
 use Rattle.outlines.proofs.SketchLaws.{outline-sketches}
 use Rattle.outlines.proofs.KnownLaws.{empty-known}

@@ -1,27 +1,26 @@
 -- The definitions of a song, loaded one after another: none at first, then one more, and at last all.
-use Prim.Native.Nat.{ℕ, zero, suc, _+_, _-_, _<_, _≤_}
+use Prim.Native.Nat.{ℕ, zero, suc, _+_, _<_, _≤_}
 use mathlib.Core.Path.{_≡_, refl, sym, ap, _∙_, subst}
 use mathlib.Core.List.{List, [], _∷_, _++_, map, append-assoc}
 use mathlib.Core.Bool.{Bool, true, false, not}
 use mathlib.Core.Option.{Option, none, some}
 use native.Mathlib.Omega.{arith}
 use borrow.Author.Tests.{eqb-true, eqb-false, le-leb}
-use lib.Dec.{eqb, leb, ltb}
+use lib.Dec.{eqb, leb}
 use lib.ListN.{length, take, drop}
 use Rattle.songcode.specs.Lists.{if_then_else_, gather, firstThere, when}
 use Rattle.songcode.specs.Complaints.{Complaint, complaint, complainIf, earliest}
-use Rattle.songcode.specs.Lines.{Line, Block, blocks}
+use Rattle.songcode.specs.Lines.{Block, blocks}
 use Rattle.songcode.specs.Song.{Items, Pattern, items, named, Definition, Section}
 use Rattle.songcode.specs.Sections.{twice, sectionFaults, sectionIn}
-use Rattle.songcode.specs.SongText.{BlockKind, metadata, definition, section, blockKind, turn, blockOrder, definitionIf, definitionBlocks, sectionIf, sectionBlocks, headIn, headsFaults, firstLine, definitionItems, definitionFaults, definitionsFaults, definitionIn, textFaults, songIn}
+use Rattle.songcode.specs.SongText.{definition, section, blockKind, turn, blockOrder, definitionIf, definitionBlocks, sectionIf, sectionBlocks, headIn, headsFaults, firstLine, definitionItems, definitionFaults, definitionsFaults, definitionIn, textFaults, songIn}
 use Rattle.songcode.specs.PatternText.{noReference, depth, loopsDeep, references}
 use Rattle.songcode.specs.References.{definitionOf, itemsOf, putIn, itemsFault, referenceFault, depthFault, definitionReferences, definitionsReferences, namedFault, sectionReference, referenceFaults}
 use Rattle.songcode.specs.WrittenSong.{idOf}
 use Rattle.songcode.specs.Answer.{blocksOf, songOf}
-use Rattle.songcode.proofs.ListLaws.{by-cases, true-is-not-false, nil-is-not-cons, append-is-nil, Each, each-append, each-map}
+use Rattle.songcode.proofs.ListLaws.{by-cases, nil-is-not-cons, append-is-nil, Each, each-append, each-map}
 use Rattle.songcode.proofs.PatternLaws.{none-some}
 use Rattle.songcode.proofs.BlockKinds.{by-kind}
-use Rattle.text.specs.declared.Refusal.{Refusal}
 use Rattle.text.specs.Refusals.{refusalOf}
 use Rattle.tokens.specs.TokenWords.{tokenWords}
 use Rattle.tokens.specs.Lexing.{laid}
@@ -31,28 +30,28 @@ use Rattle.player.specs.declared.leaves.Stretch.{Stretch}
 use Rattle.player.specs.Walks.{stretchOf}
 use Rattle.outlines.specs.declared.readings.Outline.{Outline}
 use Rattle.outlines.specs.declared.tables.Outlines.{Outlines}
-use Rattle.outlines.specs.Tables.{vacant, lookUp, isMissing, extended}
+use Rattle.outlines.specs.Tables.{lookUp, isMissing, extended}
 use Rattle.outlines.specs.Faults.{faultIn}
 use Rattle.outlines.specs.Readings.{outlined}
 use Rattle.outlines.specs.Told.{Roomy, refusal}
 use Rattle.sections.specs.declared.blocks.Place.{Place}
 use Rattle.sections.specs.declared.blocks.DefinitionRead.{DefinitionRead}
-use Rattle.sections.specs.Runs.{textLines, linesOf}
+use Rattle.sections.specs.Runs.{linesOf}
 use Rattle.sections.specs.BlockParts.{blockAt, linesPast, DefinitionAt, NextAt}
-use Rattle.sections.specs.Onward.{sectionsFrom, Onward, Later}
+use Rattle.sections.specs.Onward.{sectionsFrom, Later}
 use Rattle.reader.specs.declared.definitions.Score.{Score}
 use Rattle.reader.specs.declared.definitions.Loaded.{Loaded}
 use Rattle.reader.specs.Laying.{runTokens, weight}
 use Rattle.reader.specs.Metadata.{MetadataEnds}
-use Rattle.reader.specs.Scores.{numbered, Told, Ready, Begins, Loads}
-use Rattle.reader.specs.Loading.{HeldItems, Held, Even, blocksFrom, definitionsFrom, Leaves, Loading, LoadsOne}
+use Rattle.reader.specs.Scores.{numbered, Begins, Loads}
+use Rattle.reader.specs.Loading.{HeldItems, Held, blocksFrom, definitionsFrom, Leaves, Loading, LoadsOne}
 use Rattle.reader.proofs.ComplaintLaws.{earliest-none, UpTo, Behind, first-wins, gather-behind}
 use Rattle.reader.proofs.WeightLaws.{weight-block, run-words}
 use Rattle.reader.proofs.ReachedLaws.{definition-reach}
 use Rattle.reader.proofs.FitLaws.{run-good}
-use Rattle.reader.proofs.CleanLaws.{Clean, clean}
-use Rattle.reader.proofs.NumberedLaws.{place, Seen, seen-past, Alike, numbered-is, even-added, seen-new, alike-other}
-use Rattle.reader.proofs.DefinitionLaws.{LaterHeads, fresh-none, few-before, not-seen, readDefinition, lines-say, definitions-left, leaves-next, heads-later, sections-later}
+use Rattle.reader.proofs.CleanLaws.{clean}
+use Rattle.reader.proofs.NumberedLaws.{place, seen-past, numbered-is, even-added, seen-new, alike-other}
+use Rattle.reader.proofs.DefinitionLaws.{LaterHeads, fresh-none, few-before, not-seen, lines-say, definitions-left, leaves-next, heads-later, sections-later}
 use Rattle.reader.proofs.HeldLaws.{laid-there, laid-before, held-kept, fault-is, items-new, missing-told, filled-told, carries-all}
 
 -- No definition is loaded yet.
@@ -98,8 +97,8 @@ module _ (s ws : List ℕ) (p : Place) (faultless : textFaults (blocksOf s) ≡ 
         found = λ n. ap (definitionOf n) all-from;
         clear = ap (definitionsReferences []) all-from;
         held = λ n.
-        let x = seen-past d o 0 count none-yet (omega arith) n (le-leb 0 (place d o 0 count none-yet (omega arith) n) (omega arith)) in
-        rw (x .missing-is, x .at-is, x .outline-is) (refl, omega arith, refl);
+            let x = seen-past d o 0 count none-yet (omega arith) n (le-leb 0 (place d o 0 count none-yet (omega arith) n) (omega arith)) in
+            rw (x .missing-is, x .at-is, x .outline-is) (refl, omega arith, refl);
       }
 
 -- The lines of complaints of stage 3.
@@ -327,6 +326,19 @@ module _ (s ws : List ℕ) (score : Score) (p : Place) (w : Loading s ws score p
               clear = split ∙ ap (λ cs. cs ++ later-said) none-said;
               held = held-next;
             }
+
+      pub loads-one : (d' : Definitions) (o' : Outlines) (y : Outline) → d' ≡ numbered (score .definitions) (e .id) text → o' ≡ extended (score .outlines) y
+          → y ≡ outlined (lookUp (score .definitions) (score .outlines)) (drop (score .fill) (take end vs))
+          → LoadsOne s vs p (record { score = record { definitions = d'; outlines = o'; fill = end }; sections = q; refusal = record { number = f; line = e .head } })
+      loads-one d' o' y d-is o-is y-is =
+          let a = r .onward in
+          let b = x .onward in
+          record { refused = refused-one; loading = λ z. rw (d-is, o-is, y-is) (loading-next z); further = omega arith }
+
+-- A refusal ends the loading.
+pub loads-refused : (s ws : List ℕ) (p : Place) (r : Loaded) → LoadsOne s ws p r → (r .refusal .number ≡ 0 → ⊥) → Loads s ws r
+loads-refused s ws p r w n =
+    record { refused = w .refused; clear = λ z. absurd (n z); ready = λ z. absurd (n z); begins = λ z. absurd (n z); filled = λ z. absurd (n z) }
 
 -- All definitions are loaded where the first section begins.
 only-sections : (bs : List Block) → blockOrder 2 bs ≡ [] → (definitionBlocks bs ≡ []) × (sectionBlocks bs ≡ bs)

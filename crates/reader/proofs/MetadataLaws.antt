@@ -1,14 +1,14 @@
 -- The metadata of a chart, block by block: which lines stand before a place, and which keys they say.
-use Prim.Native.Nat.{ℕ, zero, suc, _+_, _-_, _<_, _≤_}
-use mathlib.Core.Path.{_≡_, refl, sym, ap, _∙_, subst}
-use mathlib.Core.List.{List, [], _∷_, _++_, map, append-nil, append-assoc}
+use Prim.Native.Nat.{ℕ, zero, suc, _+_, _<_, _≤_}
+use mathlib.Core.Path.{_≡_, refl, sym, ap, _∙_}
+use mathlib.Core.List.{List, [], _∷_, _++_, append-nil, append-assoc}
 use mathlib.Core.Logic.{_⊎_, inl, inr}
-use mathlib.Core.Bool.{Bool, true, false, not}
+use mathlib.Core.Bool.{true, false, not}
 use mathlib.Core.Option.{Option, none, some}
 use native.Mathlib.Omega.{arith}
 use borrow.Author.Tests.{ne-eqb}
 use lib.Dec.{eqb}
-use lib.ListN.{length, take, drop}
+use lib.ListN.{length, take}
 use Rattle.songcode.specs.Lists.{if_then_else_, isEmpty, taken, left, gather, firstThere}
 use Rattle.songcode.specs.Bytes.{Byte}
 use Rattle.songcode.specs.Lines.{Line, Block, blocks}
@@ -19,19 +19,18 @@ use Rattle.songcode.specs.SongText.{BlockKind, metadata, definition, section, k
 use Rattle.songcode.proofs.ListLaws.{by-cases, true-is-not-false, nil-is-not-cons}
 use Rattle.songcode.proofs.BlockKinds.{by-kind}
 use Rattle.songcode.proofs.ChoiceLaws.{zero-is-not-one}
-use Rattle.text.specs.Spans.{lineOf, lineAt, lineText}
 use Rattle.settings.specs.declared.kinds.BlockKind.the-variants.{Metadata, Definition, Section}
 use Rattle.settings.specs.Kinds.{blockKindIs}
 use Rattle.sections.specs.declared.blocks.Place.{Place}
 use Rattle.sections.specs.declared.runs.Run.{Run}
 use Rattle.sections.specs.declared.runs.Test.the-variants.{Empty, Full}
 use Rattle.sections.specs.Runs.{textLines, passing, passes, linesOf, Longest}
-use Rattle.sections.specs.BlockParts.{blockAt, linesPast, NextAt}
+use Rattle.sections.specs.BlockParts.{blockAt, linesPast}
 use Rattle.sections.specs.Slots.{slotBy, slotOf, Setting, settingAmong}
 use Rattle.sections.proofs.RunLaws.{lines-next}
 use Rattle.sections.proofs.NextLaws.{blocks-start, blocks-over, next-is}
 use Rattle.reader.specs.Metadata.{Skips, linesBefore, MetadataEnds}
-use Rattle.reader.proofs.CleanLaws.{Clean, clean, no-metadata}
+use Rattle.reader.proofs.CleanLaws.{clean, no-metadata}
 use Rattle.reader.proofs.LineNumberLaws.{run-behind, run-passed, lines-reached}
 
 -- The kind of a block by the kind that the code finds.
@@ -56,6 +55,10 @@ is-section section h = refl
 pub not-metadata : {k : BlockKind} → (k ≡ definition) ⊎ (k ≡ section) → k ≡ metadata → ⊥
 not-metadata (inl e) h = let z : definition ≡ metadata = sym e ∙ h in zero-is-not-one cc
 not-metadata (inr e) h = let z : section ≡ metadata = sym e ∙ h in zero-is-not-one cc
+
+pub not-definition : {k : BlockKind} → (k ≡ metadata) ⊎ (k ≡ section) → k ≡ definition → ⊥
+not-definition (inl e) h = let z : metadata ≡ definition = sym e ∙ h in zero-is-not-one cc
+not-definition (inr e) h = let z : section ≡ definition = sym e ∙ h in zero-is-not-one cc
 
 pub skips : (s : List ℕ) (n at : ℕ) (r : Run) → Longest s Empty n at r → 1 ≤ n → n ≤ at + 1 → Skips s n at (record { number = n + r .lines; at = r .next })
 skips s n at r w one fits = record { next = next-is s n at r w one fits; lines = run-passed s Empty n at r w }
@@ -150,21 +153,19 @@ module _ (s : List ℕ) (p : Place) (c : Come s p) (inside : p .at < length s) w
 
   module _ (kind : blockKind block ≡ metadata) (r : Run) (q : Place) (w : Longest s Full (p .number) (p .at) r) (v : Skips s (p .number + r .lines) (r .next) q) where
     full : passing Full (blockAt s (p .number) (p .at) .first) ≡ true
-    unfolding block
     full = begins-full s (p .number) (p .at) (λ e. let z : metadata ≡ section = sym kind ∙ e in zero-is-not-one cc)
 
     behind : blocks (linesPast s (p .number) (p .at)) ≡ blocks (textLines s (q .number) (q .at))
     behind = ap blocks (sym (block-past s (p .number) (p .at) inside full) ∙ sym (run-behind s Full (p .number) (p .at) r w)) ∙ v .next .same
 
     opened : blocks (textLines s (p .number) (p .at)) ≡ block ∷ blocks (textLines s (q .number) (q .at))
-    unfolding block
     opened = c .opens inside ∙ ap (λ bs. blockAt s (p .number) (p .at) ∷ bs) behind
 
     gap : List Line
     gap = taken (passing Empty) (textLines s (p .number + r .lines) (r .next))
 
     passed-over : textLines s 1 0 ≡ (c .lines ++ ((block .first ∷ block .others) ++ gap)) ++ textLines s (q .number) (q .at)
-    unfolding block gap
+    unfolding gap
     passed-over =
         let b = blockAt s (p .number) (p .at) .first ∷ blockAt s (p .number) (p .at) .others in
         let e = run-passed s Full (p .number) (p .at) r w ∙ ap (λ ls. ls ++ textLines s (p .number + r .lines) (r .next)) (block-lines s (p .number) (p .at) inside full) in
@@ -236,7 +237,6 @@ module _ (s : List ℕ) (p : Place) (c : Come s p) (inside : p .at < length s) w
         (λ k. let g = rw k at e in rw k g)
 
     in-turn : blockOrder 1 (blocks (textLines s (p .number) (p .at))) ≡ []
-    unfolding block
     in-turn = let o = c .opens inside in rw o (order-one (blockAt s (p .number) (p .at)) (blocks (linesPast s (p .number) (p .at))) kind (rw o at (c .order)))
 
     pub come-end : MetadataEnds s p

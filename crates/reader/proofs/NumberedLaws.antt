@@ -1,12 +1,12 @@
 -- Numbers looked up among the definitions with one more: the new one is found where its number is asked for, and the others as before.
-use Prim.Native.Nat.{ℕ, zero, suc, _+_, _-_, _<_, _≤_, min}
+use Prim.Native.Nat.{ℕ, zero, suc, _+_, _<_, _≤_, min}
 use mathlib.Core.Path.{_≡_, refl, sym, ap, _∙_}
 use mathlib.Core.List.{List}
 use mathlib.Core.Bool.{Bool, true, false}
 use native.Mathlib.Omega.{arith}
-use borrow.Author.Tests.{eq-eqb, ne-eqb, eqb-true, eqb-false, leb-true, leb-false, le-leb, lt-leb}
+use borrow.Author.Tests.{eq-eqb, ne-eqb, leb-false, le-leb, lt-leb}
 use lib.Dec.{eqb, leb}
-use lib.ListN.{length, getD, set, length-set}
+use lib.ListN.{getD, set, length-set}
 use lib.Seq.{getD-set-same, getD-set-other}
 use Rattle.songcode.specs.Lists.{if_then_else_}
 use Rattle.songcode.proofs.ListLaws.{by-cases, true-is-not-false}
@@ -16,7 +16,6 @@ use Rattle.player.specs.Walks.{stretchBy, stretchOf}
 use Rattle.outlines.specs.declared.readings.Outline.{Outline}
 use Rattle.outlines.specs.declared.tables.Outlines.{Outlines}
 use Rattle.outlines.specs.Tables.{placeBy, placeOf, vacant, rowAt, atPlace, lookUp, isMissing, extended}
-use Rattle.outlines.specs.Told.{Roomy}
 use Rattle.outlines.proofs.TableLaws.{roomy-added}
 use Rattle.reader.specs.Scores.{numbered}
 use Rattle.reader.specs.Loading.{Even}

@@ -1,3 +1,8 @@
+use Rattle.reader.proofs.LoadLaws.{room-there, same-room, loads-one}
+use Rattle.reader.proofs.DefinitionLaws.{id-small}
+use Rattle.songcode.specs.WrittenSong.{idOf}
+use mathlib.Core.List.{map}
+use native.Mathlib.Omega.{arith}
 use borrow.Author.Needs.{needs}
 use Rattle.reader.proofs.definitions.load_one.Statement.{statement}
 use Rattle.reader.proofs.definitions.load_one.Tie as tie
@@ -17,7 +22,10 @@ read-definition-requires c κs = search needs
 
 -- src/definitions.rt:95:9
 lay-run-requires : tie.Need-lay-run-requires
-lay-run-requires c κs = search needs
+lay-run-requires c κs =
+    let q = c .before .before .before .before .before .before .before in
+    let r = c .before .before .read-definition in
+    (r .ensures .pattern-placed, q .pre .0 .small, room-there (q .args .s .now) (q .args .words .now) (q .args .score) (q .args .p) (q .pre .0) (q .pre .1) (q .pre .2) (r .result) (r .ensures))
 
 -- src/definitions.rt:100:9
 reference-fault-requires : tie.Need-reference-fault-requires
@@ -29,7 +37,11 @@ outline-of-requires c κs = search needs
 
 -- src/definitions.rt:104:26
 with-definition-requires : tie.Need-with-definition-requires
-with-definition-requires c κs = search needs
+with-definition-requires c κs =
+    let q = c .before .before .before .before .before .before .before .before .before .before .before .before .before .before in
+    let w = q .pre .0 in
+    let r = c .before .before .before .before .before .before .before .before .before .read-definition in
+    id-small (q .args .s .now) (q .args .score .definitions .count) (map idOf (w .earlier)) (q .args .p) (w .leaves) (q .pre .1) (q .pre .2) (r .result) (r .ensures)
 
 -- src/definitions.rt:105:23
 with-outline-requires : tie.Need-with-outline-requires
@@ -37,11 +49,20 @@ with-outline-requires c κs = search needs
 
 -- src/definitions.rt:108:33
 add-next-block : tie.Need-add-next-block
-add-next-block c = search needs
+add-next-block c =
+    let w = c .before .before .before .before .before .before .before .before .before .before .before .before .before .before .before .before .before .pre .0 .small in
+    let r = c .before .before .before .before .before .before .before .before .before .before .before .before .read-definition .ensures .pattern-placed in
+    let a = r .behind in
+    let b = r .ends in
+    omega arith
 
 -- src/definitions.rt:108:19
 next-block-requires : tie.Need-next-block-requires
-next-block-requires c κs = search needs
+next-block-requires c κs =
+    let r = c .before .before .before .before .before .before .before .before .before .before .before .before .read-definition .ensures .pattern-placed in
+    let a = r .number in
+    let b = r .behind in
+    (omega arith, omega arith, r .ends)
 
 -- src/definitions.rt:87:1
 same-length : tie.Need-same-length
@@ -49,7 +70,17 @@ same-length c = search needs
 
 -- src/definitions.rt:87:1
 returns : tie.Need-returns
-returns c = search needs
+returns c =
+    let q = c .before .before .before .before .before .before .before .before .before .before .before .before .before .before .before .before .before .before in
+    let s = q .args .s .now in
+    let r = c .before .before .before .before .before .before .before .before .before .before .before .before .before .read-definition in
+    let l = c .before .before .before .before .before .before .before .before .before .before .lay-run in
+    let y = c .before .before .before .before .outline-of in (
+      loads-one s (q .args .words .now) (q .args .score) (q .args .p) (q .pre .0) (q .pre .1) (q .pre .2) (r .result) (r .ensures) (l .last .1 .1 .0) (l .result) (l .ensures .0) (l .ensures .1)
+          (c .next-block .result) (c .next-block .ensures) (c .before .before .before .before .before .before .reference-fault .result) (c .before .before .before .before .before .before .reference-fault .ensures)
+          (c .before .before .before .with-definition .result) (c .before .before .with-outline .result) (y .result) (c .before .before .before .with-definition .ensures) (c .before .before .with-outline .ensures) (y .ensures),
+      same-room s (q .args .words .now) (q .args .score) (q .args .p) (q .pre .0) (q .pre .1) (q .pre .2) (r .result) (r .ensures) (l .last .1 .1 .0) (l .result) (l .ensures .0) (l .ensures .1),
+    )
 
 pub load-one-spec : {M : Type 1} → statement M
 load-one-spec =
