@@ -11,4 +11,5 @@ pub mod NumberedLaws
 pub mod FitLaws
 pub mod DefinitionLaws
 pub mod HeldLaws
+pub mod FaultLineLaws
 pub mod LoadLaws

@@ -2,20 +2,19 @@
 use Prim.Native.Nat.{ℕ, zero, suc, _+_, _<_, _≤_}
 use mathlib.Core.Path.{_≡_, refl, sym, ap, _∙_, subst}
 use mathlib.Core.List.{List, [], _∷_, _++_, map, append-assoc}
-use mathlib.Core.Bool.{Bool, true, false, not}
+use mathlib.Core.Bool.{true}
 use mathlib.Core.Option.{Option, none, some}
 use native.Mathlib.Omega.{arith}
 use borrow.Author.Tests.{eqb-true, eqb-false, le-leb}
-use lib.Dec.{eqb, leb}
+use lib.Dec.{eqb}
 use lib.ListN.{length, take, drop}
-use Rattle.songcode.specs.Lists.{if_then_else_, gather, firstThere, when}
+use Rattle.songcode.specs.Lists.{if_then_else_, gather, firstThere}
 use Rattle.songcode.specs.Complaints.{Complaint, complaint, complainIf, earliest}
 use Rattle.songcode.specs.Lines.{Block, blocks}
-use Rattle.songcode.specs.Song.{Items, Pattern, items, named, Definition, Section}
+use Rattle.songcode.specs.Song.{items, Definition}
 use Rattle.songcode.specs.Sections.{twice, sectionFaults, sectionIn}
 use Rattle.songcode.specs.SongText.{definition, section, blockKind, turn, blockOrder, definitionIf, definitionBlocks, sectionIf, sectionBlocks, headIn, headsFaults, firstLine, definitionItems, definitionFaults, definitionsFaults, definitionIn, textFaults, songIn}
-use Rattle.songcode.specs.PatternText.{noReference, depth, loopsDeep, references}
-use Rattle.songcode.specs.References.{definitionOf, itemsOf, putIn, itemsFault, referenceFault, depthFault, definitionReferences, definitionsReferences, namedFault, sectionReference, referenceFaults}
+use Rattle.songcode.specs.References.{definitionOf, definitionReferences, definitionsReferences, sectionReference, referenceFaults}
 use Rattle.songcode.specs.WrittenSong.{idOf}
 use Rattle.songcode.specs.Answer.{blocksOf, songOf}
 use Rattle.songcode.proofs.ListLaws.{by-cases, nil-is-not-cons, append-is-nil, Each, each-append, each-map}
@@ -51,7 +50,8 @@ use Rattle.reader.proofs.ReachedLaws.{definition-reach}
 use Rattle.reader.proofs.FitLaws.{run-good}
 use Rattle.reader.proofs.CleanLaws.{clean}
 use Rattle.reader.proofs.NumberedLaws.{place, seen-past, numbered-is, even-added, seen-new, alike-other}
-use Rattle.reader.proofs.DefinitionLaws.{LaterHeads, fresh-none, few-before, not-seen, lines-say, definitions-left, leaves-next, heads-later, sections-later}
+use Rattle.reader.proofs.DefinitionLaws.{fresh-none, few-before, not-seen, lines-say, definitions-left, leaves-next, heads-later, sections-later}
+use Rattle.reader.proofs.FaultLineLaws.{definition-line, definitions-behind, section-line}
 use Rattle.reader.proofs.HeldLaws.{laid-there, laid-before, held-kept, fault-is, items-new, missing-told, filled-told, carries-all}
 
 -- No definition is loaded yet.
@@ -101,55 +101,7 @@ module _ (s ws : List ℕ) (p : Place) (faultless : textFaults (blocksOf s) ≡ 
             rw (x .missing-is, x .at-is, x .outline-is) (refl, omega arith, refl);
       }
 
--- The lines of complaints of stage 3.
-line-if : (b : Bool) (number line : ℕ) → Each (λ c. c .line ≡ line) (complainIf b number line)
-unfolding Each complainIf when
-line-if true number line = (refl, tt)
-line-if false number line = tt
-
-items-line : (i : Option Items) (head : ℕ) → Each (λ c. c .line ≡ head) (itemsFault i head)
-unfolding itemsFault Each
-items-line none head = (refl, tt)
-items-line (some r) head = line-if (not (noReference r)) 11 head
-
-reference-line : (x : Option Definition) (head : ℕ) → Each (λ c. c .line ≡ head) (referenceFault x head)
-unfolding referenceFault Each
-reference-line none head = (refl, tt)
-reference-line (some x) head = items-line (x .items) head
-
-gathered-line : (ds : List Definition) (head : ℕ) (ns : List ℕ) → Each (λ c. c .line ≡ head) (gather (λ n. referenceFault (definitionOf n ds) head) ns)
-unfolding gather Each
-gathered-line ds head [] = tt
-gathered-line ds head (n ∷ ns) = each-append (λ c. c .line ≡ head) (referenceFault (definitionOf n ds) head) (gather (λ n. referenceFault (definitionOf n ds) head) ns) (reference-line (definitionOf n ds) head) (gathered-line ds head ns)
-
-definition-line : (ds : List Definition) (i : Option Items) (head : ℕ) → Each (λ c. c .line ≡ head) (definitionReferences ds i head)
-unfolding definitionReferences depthFault Each
-definition-line ds none head = tt
-definition-line ds (some r) head =
-    each-append (λ c. c .line ≡ head) (gather (λ n. referenceFault (definitionOf n ds) head) (references r)) (depthFault ds r head)
-    (gathered-line ds head (references r))
-    (line-if (not (leb (depth (putIn (itemsOf ds) r)) loopsDeep)) 11 head)
-
-definitions-behind : (line : ℕ) (earlier ds : List Definition) → LaterHeads line ds → Each (Behind line) (definitionsReferences earlier ds)
-unfolding LaterHeads definitionsReferences Each Behind
-definitions-behind line earlier [] h = tt
-definitions-behind line earlier (d ∷ ds) h =
-    each-append (λ c. line < c .line) (definitionReferences earlier (d .items) (d .head)) (definitionsReferences (d ∷ earlier) ds)
-    (each-map (λ c e. let k = h .0 in omega arith) (definitionReferences earlier (d .items) (d .head)) (definition-line earlier (d .items) (d .head)))
-    (definitions-behind line (d ∷ earlier) ds (h .1))
-
-section-line : (ds : List Definition) (x : Section) → Each (λ c. c .line ≡ x .header) (sectionReference ds (x .pattern) (x .header))
-unfolding sectionReference namedFault Each
-section-line ds x = of (x .pattern)
-  where
-    found : (o : Option Definition) → Each (λ c. c .line ≡ x .header) (namedFault o (x .header))
-    found none = (refl, tt)
-    found (some d) = tt
-
-    of : (p : Pattern) → Each (λ c. c .line ≡ x .header) (sectionReference ds p (x .header))
-    of (items r) = tt
-    of (named n) = found (definitionOf n ds)
-
+-- A number other than 0 is a complaint.
 refusal-some : (f head : ℕ) → (f ≡ 0 → ⊥) → refusal f head ≡ some (complaint f head)
 unfolding refusal
 refusal-some zero head n = absurd (n refl)

@@ -1,14 +1,14 @@
-use Prim.Native.Nat.{ℕ, _+_, _-_, _*_, _^_, _≤_}
-use mathlib.Core.Path.{_≡_, refl, sym, ap, _∙_}
-use mathlib.Core.List.{List, [], _∷_}
+use Prim.Native.Nat.{_+_, _-_, _*_, _^_, _≤_}
+use mathlib.Core.Path.{_≡_, ap, _∙_}
+use mathlib.Core.List.{[], _∷_}
 use native.Mathlib.Omega.{arith}
-use lib.ListN.{length, take}
-use Rattle.sections.specs.Runs.{textLines, linesOf}
+use lib.ListN.{length}
+use Rattle.sections.specs.Runs.{linesOf}
 use Rattle.tokens.specs.TokenWords.{tokenWords}
 use Rattle.tokens.specs.Lexing.{tokensFrom}
 use Rattle.tokens.proofs.LaidLaws.{laid-none, laid-length}
-use Rattle.reader.specs.Laying.{runTokens, weight}
-use Rattle.reader.proofs.LayingLaws.{First, first-line, Lays, lays-none, lays-over, lays-end, lays-room, lays-next, run-laid, lines-less}
+use Rattle.reader.specs.Laying.{runTokens}
+use Rattle.reader.proofs.LayingLaws.{first-line, Lays, lays-none, lays-over, lays-end, lays-room, lays-next, run-laid, lines-less}
 use borrow.Author.Needs.{needs}
 use Rattle.reader.proofs.laying.lay_run.Statement.{statement}
 use Rattle.reader.proofs.laying.lay_run.Tie as tie
