@@ -36,3 +36,11 @@ pub mod NamedLaws
 pub mod SideLaws
 pub mod TextLaws
 pub mod OpenLaws
+pub mod CleanLaws
+pub mod LineNumberLaws
+pub mod MetadataLaws
+pub mod NumberedLaws
+pub mod DefinitionLaws
+pub mod HeldLaws
+pub mod FaultLineLaws
+pub mod LoadLaws

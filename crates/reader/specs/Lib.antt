@@ -2,6 +2,7 @@
 pub mod Laying
 pub mod Metadata
 pub mod Scores
+pub mod Loading
 pub mod Meters
 pub mod Lengths
 pub mod Lyrics

@@ -1,28 +1,36 @@
 -- Where the metadata of a chart ends: which blocks stand from there on, and which keys before.
 use Prim.Native.Nat.{ℕ, _+_, _-_, _<_, _≤_}
 use mathlib.Core.Path.{_≡_}
-use mathlib.Core.List.{List, [], _∷_}
+use mathlib.Core.List.{List, [], _∷_, _++_}
 use lib.ListN.{length}
+use Rattle.songcode.specs.Lists.{taken}
 use Rattle.songcode.specs.Lines.{blocks}
 use Rattle.songcode.specs.Answer.{blocksOf}
-use Rattle.songcode.specs.SongText.{metadataLines, definitionBlocks, sectionBlocks}
+use Rattle.songcode.specs.SongText.{blockOrder, metadataLines, definitionBlocks, sectionBlocks}
 use Rattle.sections.specs.declared.blocks.Place.{Place}
 use Rattle.sections.specs.declared.runs.Run.{Run}
-use Rattle.sections.specs.Runs.{textLines, linesOf}
-use Rattle.sections.specs.BlockParts.{blockAt, linesPast}
+use Rattle.sections.specs.declared.runs.Test.the-variants.{Empty}
+use Rattle.sections.specs.Runs.{textLines, passing, linesOf}
+use Rattle.sections.specs.BlockParts.{blockAt, linesPast, NextAt}
 use Rattle.sections.specs.Slots.{settingAmong}
+
+-- The next block from a line on, and that only blank lines stand before it.
+pub record Skips (s : List ℕ) (n at : ℕ) (r : Place) : Type 0 where
+  pub next : NextAt s n at r
+  pub lines : textLines s n at ≡ taken (passing Empty) (textLines s n at) ++ textLines s (r .number) (r .at)
 
 -- All lines before a place.
 unfoldable pub linesBefore : Place → Run
 linesBefore p = record { number = 1; at = 0; lines = p .number - 1; next = p .at }
 
--- A block begins at the place, or the text ends there. From there on no metadata is left, and all definitions and sections are.
+-- A block begins at the place, or the text ends there. From there on no metadata is left, and all definitions and sections are, in their order.
 pub record MetadataEnds (s : List ℕ) (p : Place) : Type 0 where
   pub number : 1 ≤ p .number
   pub counted : p .number ≤ p .at + 1
   pub inside : p .at ≤ length s
   pub opens : p .at < length s → blocks (textLines s (p .number) (p .at)) ≡ blockAt s (p .number) (p .at) ∷ blocks (linesPast s (p .number) (p .at))
   pub no-metadata : metadataLines (blocks (textLines s (p .number) (p .at))) ≡ []
+  pub ordered : blockOrder 1 (blocks (textLines s (p .number) (p .at))) ≡ []
   pub definitions : definitionBlocks (blocks (textLines s (p .number) (p .at))) ≡ definitionBlocks (blocksOf s)
   pub sections : sectionBlocks (blocks (textLines s (p .number) (p .at))) ≡ sectionBlocks (blocksOf s)
   pub keys : (k : ℕ) → k < 8 → settingAmong k (linesOf s (linesBefore p)) ≡ settingAmong k (metadataLines (blocksOf s))

@@ -20,10 +20,12 @@ ghost use mathlib.Core.List.{[]};
 ghost use Prim.Native.Nat.{_≤_, _<_};
 ghost use lib.ListN.{length};
 ghost use Rattle.songcode.specs.Answer.{blocksOf};
-ghost use Rattle.songcode.specs.SongText.{textFaults};
+ghost use Rattle.songcode.specs.SongText.{textFaults, blockKind, definition};
 ghost use Rattle.outlines.specs.Tables.{isMissing};
 ghost use Rattle.reader.specs.Metadata.{MetadataEnds};
+ghost use Rattle.sections.specs.BlockParts.{blockAt};
 ghost use Rattle.reader.specs.Scores.{Loads, numbered};
+ghost use Rattle.reader.specs.Loading.{Loading, LoadsOne};
 
 // The definitions, their outlines, and how many words of the buffer they fill.
 pub struct Score {
@@ -81,14 +83,46 @@ pub fn is_missing(score: Score, x: u32) -> bool
     least(o.count, 26) <= place_of(score.definitions, o.count, x)
 }
 
+// The definition at a place, laid behind the others, and the place of the next block; its refusal has number 0 where its references are right.
+fn load_one(s: &[u8], p: Place, score: Score, words: &mut [u32]) -> Loaded
+    requires { ⌜ Loading (now s) (now words) score p × (p .at < length (now s)) × (blockKind (blockAt (now s) (p .number) (p .at)) ≡ definition) ⌝ }
+    ensures { λ r. ⌜ LoadsOne (now (s .entry)) (now (words .exit)) p r × (length (now (words .exit)) ≡ length (now (words .entry))) ⌝ }
+{
+    let d = score.definitions;
+    let o = score.outlines;
+    let e = read_definition(s, p.number, p.at);
+    let run = e.pattern;
+    let end = lay_run(s, run, words, score.fill);
+    let text = Stretch {
+        from: score.fill,
+        to: end,
+    };
+    let fault = reference_fault(words, d, o, text);
+    let x = outline_of(words, d, o, text);
+    Loaded {
+        score: Score {
+            definitions: with_definition(d, e.id, text),
+            outlines: with_outline(o, x),
+            fill: end,
+        },
+        sections: next_block(s, run.number + run.lines, run.next),
+        refusal: Refusal {
+            number: fault,
+            line: e.head,
+        },
+    }
+}
+
 // The definitions from a block on, and the place of the first section.
 pub fn load(s: &[u8], first: Place, words: &mut [u32]) -> Loaded
     requires { ⌜ (textFaults (blocksOf (now s)) ≡ []) × MetadataEnds (now s) first × (length (now s) ≤ 65536) × (length (now s) ≤ length (now words)) ⌝ }
     ensures { λ r. ⌜ Loads (now (s .entry)) (now (words .exit)) r × (length (now (words .exit)) ≡ length (now (words .entry))) ⌝ }
 {
-    let mut d = no_definitions();
-    let mut o = no_outlines();
-    let mut fill = 0;
+    let mut score = Score {
+        definitions: no_definitions(),
+        outlines: no_outlines(),
+        fill: 0,
+    };
     let mut place = first;
     while place.at < s.len() {
         match kind_at(s, place.number, place.at) {
@@ -99,42 +133,18 @@ pub fn load(s: &[u8], first: Place, words: &mut [u32]) -> Loaded
                 break;
             }
             BlockKind::Definition => {
-                let e = read_definition(s, place.number, place.at);
-                let run = e.pattern;
-                let end = lay_run(s, run, words, fill);
-                let text = Stretch {
-                    from: fill,
-                    to: end,
-                };
-                let fault = reference_fault(words, d, o, text);
-                if fault != 0 {
-                    return Loaded {
-                        score: Score {
-                            definitions: d,
-                            outlines: o,
-                            fill,
-                        },
-                        sections: place,
-                        refusal: Refusal {
-                            number: fault,
-                            line: e.head,
-                        },
-                    };
+                let next = load_one(s, place, score, words);
+                let refusal = next.refusal;
+                if refusal.number != 0 {
+                    return next;
                 }
-                let x = outline_of(words, d, o, text);
-                d = with_definition(d, e.id, text);
-                o = with_outline(o, x);
-                fill = end;
-                place = next_block(s, run.number + run.lines, run.next);
+                score = next.score;
+                place = next.sections;
             }
         }
     }
     Loaded {
-        score: Score {
-            definitions: d,
-            outlines: o,
-            fill,
-        },
+        score,
         sections: place,
         refusal: Refusal { number: 0, line: 0 },
     }

@@ -26,11 +26,11 @@ use Rattle.sections.specs.Onward.{sectionsFrom, Onward, sectionAt, Later
 use Rattle.sections.proofs.SectionLaws.{clean-order, section-says}
 
 -- Lines, and the first lines of blocks, numbered from n on.
-From : ℕ → List Line → Type 0
+unfoldable pub From : ℕ → List Line → Type 0
 From n [] = Unit {0}
 From n (l ∷ ls) = (n ≤ l .number) × From n ls
 
-Firsts : ℕ → List Block → Type 0
+unfoldable pub Firsts : ℕ → List Block → Type 0
 Firsts n [] = Unit {0}
 Firsts n (b ∷ bs) = (n ≤ b .first .number) × Firsts n bs
 
@@ -46,11 +46,11 @@ from-spans s n at (suc k) (b ∷ bs) = from-spans s n (suc at) k bs
 from-spans s n at zero (b ∷ bs) =
     (omega arith, from-wider n (suc n) (omega arith) (map (lineText s) (spansFrom (suc n) (suc at) (lineOf n at (b ∷ bs) .next - suc at) bs)) (from-spans s (suc n) (suc at) (lineOf n at (b ∷ bs) .next - suc at) bs))
 
-from-lines : (s : List ℕ) (n at : ℕ) → From n (textLines s n at)
+pub from-lines : (s : List ℕ) (n at : ℕ) → From n (textLines s n at)
 unfolding textLines
 from-lines s n at = from-spans s n at 0 (drop at s)
 
-from-left : (n : ℕ) (p : Line → Bool) (ls : List Line) → From n ls → From n (left p ls)
+pub from-left : (n : ℕ) (p : Line → Bool) (ls : List Line) → From n ls → From n (left p ls)
 unfolding From left if_then_else_
 from-left n p [] w = tt
 from-left n p (l ∷ ls) w = by-cases (p l) (λ e. rw e (from-left n p ls (w .1))) (λ e. rw e w)
@@ -73,11 +73,11 @@ runs-from n (l ∷ ls) w =
     (λ e. record { front = rw e tt; rest = rw e (shut-firsts n (runs ls .front) (runs ls .rest) (r .front) (r .rest)) })
     (λ e. record { front = rw e (w .0, r .front); rest = rw e (r .rest) })
 
-blocks-from : (n : ℕ) (ls : List Line) → From n ls → Firsts n (blocks ls)
+pub blocks-from : (n : ℕ) (ls : List Line) → From n ls → Firsts n (blocks ls)
 unfolding blocks
 blocks-from n ls w = let r = runs-from n ls w in shut-firsts n (runs ls .front) (runs ls .rest) (r .front) (r .rest)
 
-firsts-later : (n : ℕ) (bs : List Block) → Firsts (n + 1) bs → Later n (map sectionIn bs)
+pub firsts-later : (n : ℕ) (bs : List Block) → Firsts (n + 1) bs → Later n (map sectionIn bs)
 unfolding Firsts Later sectionIn
 firsts-later n [] w = tt
 firsts-later n (b ∷ bs) w = let q = w .0 in (omega arith, firsts-later n bs (w .1))
