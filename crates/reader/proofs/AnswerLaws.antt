@@ -33,16 +33,17 @@ use Rattle.sections.specs.Runs.{linesOf}
 use Rattle.sections.specs.Slots.{Setting, settingAmong}
 use Rattle.sections.specs.Values.{timeSaid, bpmSaid, KeysAre}
 use Rattle.sections.proofs.SaidLaws.{key-among}
-use Rattle.reader.specs.Metadata.{linesBefore, MetadataEnds}
-use Rattle.reader.specs.Sums.{Holds}
-use Rattle.reader.specs.Charts.{Clear, SongKeys, Roomy}
-use Rattle.reader.specs.declared.sums.Totals.{Totals}
+use Rattle.scores.specs.Metadata.{linesBefore, MetadataEnds}
+use Rattle.judging.specs.Sums.{Holds}
+use Rattle.judging.specs.Charts.{Clear, SongKeys, Roomy}
+use Rattle.judging.specs.declared.sums.Totals.{Totals}
 use Rattle.reader.specs.declared.Answer.{Answer}
-use Rattle.reader.specs.Answers.{lyricFaults, playingFaults, laterFaults, isShort, written, answerOf, Lent, roomOf, stored, Promised}
-use Rattle.reader.proofs.ComplaintLaws.{Numbered, numbered-if, refused-none}
-use Rattle.reader.proofs.ReferenceLaws.{sectionFault, all-numbered}
-use Rattle.reader.proofs.ClearLaws.{verdict-clear}
-use Rattle.reader.proofs.StageLaws.{stage-passed, last-stage, numbered-input, input-small, numbered-meters, numbered-lengths, numbered-counts, numbered-sums}
+use Rattle.reader.specs.Answers.{isShort, written, answerOf, Lent, roomOf, stored, Promised}
+use Rattle.judging.specs.Stages.{lyricFaults, playingFaults, laterFaults}
+use Rattle.scores.proofs.ComplaintLaws.{Numbered, numbered-if, refused-none}
+use Rattle.judging.proofs.ReferenceLaws.{sectionFault, all-numbered}
+use Rattle.judging.proofs.ClearLaws.{verdict-clear}
+use Rattle.judging.proofs.StageLaws.{stage-passed, last-stage, numbered-input, input-small, numbered-meters, numbered-lengths, numbered-counts, numbered-sums}
 
 -- Stages put together.
 verdict-append : (xs ys : List (List Complaint)) → verdict (xs ++ ys) ≡ stageOr (verdict xs) (verdict ys)

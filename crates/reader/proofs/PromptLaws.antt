@@ -19,9 +19,9 @@ use Rattle.sections.specs.declared.blocks.Place.{Place}
 use Rattle.sections.specs.declared.walking.Met.{Met}
 use Rattle.sections.specs.Runs.{linesOf}
 use Rattle.sections.specs.Onward.{sectionsFrom, sectionAt, Meets}
-use Rattle.reader.proofs.PlayedLaws.{played-short, lengths-step}
-use Rattle.reader.proofs.LyricLaws.{prompts-length}
-use Rattle.reader.proofs.TakenLaws.{takenFrom}
+use Rattle.judging.proofs.PlayedLaws.{played-short, lengths-step}
+use Rattle.judging.proofs.LyricLaws.{prompts-length}
+use Rattle.judging.proofs.TakenLaws.{takenFrom}
 
 -- All lyric lines of these sections, and the words of their items from a measure on.
 abbrev pub lyricsOf : List Section → List LyricLine

@@ -24,14 +24,14 @@ use Rattle.player.specs.Windows.{heads, flat}
 use Rattle.player.proofs.SectionMeaning.{heads-words, flat-words}
 use Rattle.sections.specs.declared.blocks.Place.{Place}
 use Rattle.sections.specs.Onward.{sectionsFrom, sectionAt}
-use Rattle.reader.specs.declared.definitions.Score.{Score}
-use Rattle.reader.specs.declared.texts.Opened.{Opened}
-use Rattle.reader.specs.Scores.{Ready, Opens}
-use Rattle.reader.specs.Sums.{rowOfTexts}
+use Rattle.scores.specs.declared.definitions.Score.{Score}
+use Rattle.scores.specs.declared.texts.Opened.{Opened}
+use Rattle.scores.specs.Scores.{Ready, Opens}
+use Rattle.judging.specs.Sums.{rowOfTexts}
 use Rattle.reader.specs.Answers.{written, tempoOf}
 use Rattle.reader.proofs.WrittenLaws.{Wrote, wrote-start, wrote-put, wrote-left, wrote-lent, wrote-end}
-use Rattle.reader.proofs.AlongLaws.{Along, along-row}
-use Rattle.reader.proofs.SumLaws.{section-words-length, measure-words-length, beat-words-length}
+use Rattle.judging.proofs.AlongLaws.{Along, along-row}
+use Rattle.judging.proofs.SumLaws.{section-words-length, measure-words-length, beat-words-length}
 
 -- A bpm that keys say is at most 400.
 bpm-few : (ks : List Key) (n : ℕ) → bpmAmong ks ≡ some n → n ≤ 400

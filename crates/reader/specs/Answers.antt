@@ -9,17 +9,12 @@ use lib.Dec.{eqb, ltb}
 use lib.ListN.{length, drop}
 use Rattle.songcode.specs.Lists.{if_then_else_}
 use Rattle.songcode.specs.Characters.{characters}
-use Rattle.songcode.specs.Complaints.{Complaint}
-use Rattle.songcode.specs.Song.{Song}
-use Rattle.songcode.specs.References.{referenceFaults}
-use Rattle.songcode.specs.Meter.{meterFaults, lengthFaults}
-use Rattle.songcode.specs.Lyrics.{countFaults, sumFaults}
 use Rattle.songcode.specs.Tables.{Tables, keyWord}
 use Rattle.songcode.specs.Answer as songcode
 use Rattle.songcode.specs.Answer.{refused, accepted}
 use Rattle.sections.specs.Slots.{Setting}
 use Rattle.reader.specs.declared.Answer.{Answer}
-use Rattle.reader.specs.declared.sums.Totals.{Totals}
+use Rattle.judging.specs.declared.sums.Totals.{Totals}
 
 -- "Lent memory past what a call writes keeps what it held".
 unfoldable pub written : List ℕ → List ℕ → List ℕ
@@ -60,18 +55,6 @@ stored (accepted t) old =
 pub record Promised (text : List ℕ) (before : Lent) (r : Answer) (after : Lent) : Type 0 where
   pub answer : r ≡ answerOf (songcode.answer (roomOf before) text)
   pub tables : after ≡ stored (songcode.answer (roomOf before) text) before
-
--- Stages 6 and 7; 4 to 7; 3 to 7.
-unfoldable pub lyricFaults : Song → List (List Complaint)
-lyricFaults s = countFaults s ∷ sumFaults s ∷ []
-
-unfoldable pub playingFaults : Song → List (List Complaint)
-unfolding lyricFaults
-playingFaults s = meterFaults s ∷ lengthFaults s 0 (s .sections) ∷ lyricFaults s
-
-unfoldable pub laterFaults : Song → List (List Complaint)
-unfolding playingFaults
-laterFaults s = referenceFaults s ∷ playingFaults s
 
 -- A table that is too short for these totals.
 unfoldable pub isShort : Totals → ℕ → ℕ → ℕ → ℕ → ℕ → Bool

@@ -1,11 +1,2 @@
--- What the contracts of the reader say, from the buffer of token words up to the answer.
-pub mod Laying
-pub mod Metadata
-pub mod Scores
-pub mod Loading
-pub mod Meters
-pub mod Lengths
-pub mod Lyrics
-pub mod Sums
+-- What the contract of the call says: its answer, and the final content of all lent memory.
 pub mod Answers
-pub mod Charts

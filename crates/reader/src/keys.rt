@@ -1,5 +1,6 @@
 // The keys table: the places of the eight settings among the metadata.
 use packing::key_word;
+use scores::lines_before;
 use sections::Place;
 use sections::Run;
 use sections::find;
@@ -12,7 +13,7 @@ ghost use Rattle.songcode.specs.SongText.{textFaults};
 ghost use Rattle.songcode.specs.Tables.{tables};
 ghost use Rattle.sections.specs.Runs.{linesOf};
 ghost use Rattle.sections.specs.Slots.{settingAmong};
-ghost use Rattle.reader.specs.Metadata.{linesBefore, MetadataEnds};
+ghost use Rattle.scores.specs.Metadata.{linesBefore, MetadataEnds};
 ghost use Rattle.reader.specs.Answers.{written, wordOfSetting, ShortSetting};
 
 // The word of the key at a place of the table.
@@ -37,18 +38,5 @@ pub fn write_keys(s: &[u8], end: Place, keys: &mut [u32])
     while k < 8 {
         keys[k] = key_at(s, metadata, k);
         k += 1;
-    }
-}
-
-// All lines before a place.
-pub fn lines_before(p: Place) -> Run
-    requires { ⌜ 1 ≤ p .number ⌝ }
-    ensures { λ r. ⌜ r ≡ linesBefore p ⌝ }
-{
-    Run {
-        number: 1,
-        at: 0,
-        lines: p.number - 1,
-        next: p.at,
     }
 }

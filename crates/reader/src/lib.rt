@@ -1,23 +1,12 @@
 // The reader: a chart and five lent tables; one refusal and nothing stored, or every word of every table.
-mod charts;
-mod definitions;
 mod items;
 mod keys;
-mod laying;
-mod lengths;
-mod lyrics;
-mod metadata;
-mod meters;
-mod references;
 mod songs;
-mod stages;
-mod sums;
-mod texts;
 mod writing;
 
-use charts::judge;
-use stages::first_stages;
-use sums::Totals;
+use judging::Totals;
+use judging::first_stages;
+use judging::judge;
 use writing::write_tables;
 ghost use mathlib.Core.Path.{_≡_};
 ghost use mathlib.Core.List.{[]};

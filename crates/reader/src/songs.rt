@@ -1,9 +1,9 @@
 // Each section's word, measures and beats into the tables.
-use super::definitions::Score;
-use super::meters::meter_of;
-use super::sums::play;
-use super::texts::open_section;
+use judging::meter_of;
+use judging::play;
 use packing::section_word;
+use scores::Score;
+use scores::open_section;
 use sections::Keys;
 use sections::Place;
 ghost use mathlib.Core.Path.{_≡_};
@@ -15,7 +15,7 @@ ghost use Rattle.songcode.specs.Playing.{timeAmong, bpmAmong};
 ghost use Rattle.songcode.specs.Meter.{meterFaults, lengthFaults};
 ghost use Rattle.songcode.specs.Tables.{tables};
 ghost use Rattle.songcode.specs.Answer.{songOf};
-ghost use Rattle.reader.specs.Scores.{Ready, Begins};
+ghost use Rattle.scores.specs.Scores.{Ready, Begins};
 ghost use Rattle.reader.specs.Answers.{tempoOf, written};
 
 // "bpm (section's, else song's, else 511)"

@@ -1,8 +1,8 @@
 // All tables of a song that nothing is wrong with.
-use super::charts::Chart;
 use super::items::write_items;
 use super::keys::write_keys;
 use super::songs::write_song;
+use judging::Chart;
 ghost use mathlib.Core.Path.{_≡_};
 ghost use mathlib.Core.List.{[]};
 ghost use Prim.Native.Nat.{_≤_};
@@ -11,7 +11,7 @@ ghost use Rattle.songcode.specs.Answer.{inputFaults, blocksOf, songOf};
 ghost use Rattle.songcode.specs.SongText.{textFaults};
 ghost use Rattle.songcode.specs.Tables.{tables};
 ghost use Rattle.reader.specs.Answers.{written};
-ghost use Rattle.reader.specs.Charts.{Writable, Roomy};
+ghost use Rattle.judging.specs.Charts.{Writable, Roomy};
 
 pub fn write_tables(
     s: &[u8],

@@ -11,7 +11,7 @@ use Rattle.reader.proofs.read.Reads as reads
 use Rattle.reader.proofs.read.Lts as lts
 use Rattle.reader.proofs.read_song.Reads as read-song-reads
 use Rattle.reader.proofs.refused.Reads as refused-reads
-use Rattle.reader.proofs.stages.first_stages.Reads as first-stages-reads
+use Rattle.judging.proofs.first_stages.Reads as first-stages-reads
 
 -- src/lib.rt:148:9
 first-stages-requires : tie.Need-first-stages-requires

@@ -9,7 +9,7 @@ use Rattle.reader.proofs.read_song.Statement.{statement}
 use Rattle.reader.proofs.read_song.Tie as tie
 use Rattle.reader.proofs.read_song.Reads as reads
 use Rattle.reader.proofs.read_song.Lts as lts
-use Rattle.reader.proofs.charts.judge.Reads as judge-reads
+use Rattle.judging.proofs.judge.Reads as judge-reads
 use Rattle.reader.proofs.is_short.Reads as is-short-reads
 use Rattle.reader.proofs.refused.Reads as refused-reads
 use Rattle.reader.proofs.writing.write_tables.Reads as write-tables-reads

@@ -11,8 +11,8 @@ use Rattle.songcode.specs.Tables.{itemWord, tables}
 use Rattle.songcode.specs.Answer.{songOf}
 use Rattle.sections.specs.Runs.{linesOf}
 use Rattle.sections.specs.Onward.{sectionsFrom, Onward}
-use Rattle.reader.proofs.LyricLaws.{prompts-length}
-use Rattle.reader.proofs.NumberLaws.{lyrics-behind, sections-over}
+use Rattle.judging.proofs.LyricLaws.{prompts-length}
+use Rattle.judging.proofs.NumberLaws.{lyrics-behind, sections-over}
 use Rattle.reader.proofs.PromptLaws.{itemsFrom, Along, along-start, along-here, items-all, items-split}
 use Rattle.reader.proofs.WrittenLaws.{Wrote, wrote-start, wrote-left, wrote-length, wrote-end, wrote-lent, written-none}
 use borrow.Author.Needs.{needs}

@@ -8,7 +8,7 @@ use Rattle.songcode.specs.Sections.{lyricLine}
 use Rattle.songcode.specs.Lyrics.{counted, promptsFrom}
 use Rattle.songcode.specs.Tables.{itemWord}
 use Rattle.sections.specs.Runs.{linesOf}
-use Rattle.reader.proofs.LyricLaws.{lyricsAt, lyrics-none, lyrics-over, lyrics-more, counted-more, prompts-more}
+use Rattle.judging.proofs.LyricLaws.{lyricsAt, lyrics-none, lyrics-over, lyrics-more, counted-more, prompts-more}
 use Rattle.reader.proofs.WrittenLaws.{Wrote, wrote-start, wrote-put, wrote-length, wrote-end}
 use borrow.Author.Needs.{needs}
 use Rattle.reader.proofs.items.write_lyrics.Statement.{statement}

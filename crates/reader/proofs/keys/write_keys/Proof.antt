@@ -9,7 +9,7 @@ use Rattle.songcode.specs.Answer.{inputFaults, blocksOf, songOf}
 use Rattle.sections.specs.declared.runs.Run.{Run}
 use Rattle.sections.specs.Runs.{linesOf}
 use Rattle.sections.specs.Slots.{settingAmong}
-use Rattle.reader.specs.Metadata.{linesBefore}
+use Rattle.scores.specs.Metadata.{linesBefore}
 use Rattle.reader.specs.Answers.{wordOfSetting, ShortSetting}
 use Rattle.reader.proofs.KeyLaws.{wordsFrom, words-more, words-over}
 use Rattle.reader.proofs.SettingLaws.{metadata-short}
@@ -20,7 +20,7 @@ use Rattle.reader.proofs.keys.write_keys.Tie as tie
 use Rattle.reader.proofs.keys.write_keys.Reads as reads
 use Rattle.reader.proofs.keys.write_keys.Lts as lts
 use Rattle.reader.proofs.keys.key_at.Reads as key-at-reads
-use Rattle.reader.proofs.keys.lines_before.Reads as lines-before-reads
+use Rattle.scores.proofs.lines_before.Reads as lines-before-reads
 
 abbrev Inv-loop : tie.InvT-loop
 Inv-loop s keys₀ metadata k₀ keys k =

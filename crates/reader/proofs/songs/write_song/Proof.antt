@@ -10,19 +10,19 @@ use Rattle.songcode.specs.Tables.{sectionWords, measureWords, beatWord, tables}
 use Rattle.songcode.specs.Answer.{songOf}
 use Rattle.sections.specs.Onward.{sectionsFrom, sectionAt}
 use Rattle.reader.proofs.WrittenLaws.{Wrote, wrote-left, wrote-length}
-use Rattle.reader.proofs.MeterLaws.{meter-is, meter-range}
-use Rattle.reader.proofs.AlongLaws.{Along, along-start, along-same, along-within, along-measures, along-beats, along-next}
-use Rattle.reader.proofs.JudgedLaws.{sections-over}
+use Rattle.judging.proofs.MeterLaws.{meter-is, meter-range}
+use Rattle.judging.proofs.AlongLaws.{Along, along-start, along-same, along-within, along-measures, along-beats, along-next}
+use Rattle.judging.proofs.JudgedLaws.{sections-over}
 use Rattle.reader.proofs.SongLaws.{tempo-is, tempo-few, sections-start, measures-start, beats-start, sections-left, sections-next, measures-next, beats-next, sections-end, measures-end, beats-end}
 use Rattle.reader.proofs.songs.write_song.Statement.{statement}
 use Rattle.reader.proofs.songs.write_song.Tie as tie
 use Rattle.reader.proofs.songs.write_song.Reads as reads
 use Rattle.reader.proofs.songs.write_song.Lts as lts
 use Rattle.packing.proofs.section_word.Reads as section-word-reads
-use Rattle.reader.proofs.meters.meter_of.Reads as meter-of-reads
+use Rattle.judging.proofs.meter_of.Reads as meter-of-reads
 use Rattle.reader.proofs.songs.tempo_of.Reads as tempo-of-reads
-use Rattle.reader.proofs.sums.play.Reads as play-reads
-use Rattle.reader.proofs.texts.open_section.Reads as open-section-reads
+use Rattle.judging.proofs.play.Reads as play-reads
+use Rattle.scores.proofs.open_section.Reads as open-section-reads
 
 abbrev Inv-loop : tie.InvT-loop
 Inv-loop s score song words₀ sections₀ measures₀ beats₀ place₀ k₀ m₀ b₀ words sections measures beats place k m b =

@@ -1,4 +1,4 @@
-use Rattle.reader.proofs.StageLaws.{input-small}
+use Rattle.judging.proofs.StageLaws.{input-small}
 use native.Mathlib.Omega.{arith}
 use borrow.Author.Needs.{needs}
 use Rattle.reader.proofs.writing.write_tables.Statement.{statement}

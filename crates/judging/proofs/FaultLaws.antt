@@ -1,0 +1,122 @@
+-- Stage 4 of a section: the refusals of its three texts in N are those of the complaints that the definitions make of it.
+use Prim.Native.Nat.{ℕ, _≤_, _%_}
+use mathlib.Core.Path.{_≡_, refl, sym, ap, _∙_}
+use mathlib.Core.List.{List, _++_, append-assoc}
+use mathlib.Core.Bool.{Bool, true, false, not}
+use mathlib.Core.Option.{Option, none, some}
+use native.Mathlib.Omega.{arith}
+use lib.Dec.{eqb}
+use borrow.Author.Tests.{eq-eqb, le-ltb}
+use Rattle.songcode.specs.Lists.{if_then_else_, andThen, when}
+use Rattle.songcode.specs.Bytes.{placed}
+use Rattle.songcode.specs.Complaints.{Complaint, complaint, complainIf, goesFirst, earlier, earliest}
+use Rattle.songcode.specs.Song.{Items, Section, Song}
+use Rattle.songcode.specs.PatternText.{sideText}
+use Rattle.songcode.specs.References.{patternItems}
+use Rattle.songcode.specs.Playing.{Side, timeOf, saidBy, beforeSaid, afterSaid}
+use Rattle.songcode.specs.Meter.{allFit, stray, rowFaults, playedFaults, sideFaults, sectionMeter}
+use Rattle.songcode.proofs.ListLaws.{by-cases, Each, each-append}
+use Rattle.songcode.proofs.PatternLaws.{none-some}
+use Rattle.text.specs.Spans.{part}
+use Rattle.text.specs.Refusals.{refusalOf}
+use Rattle.outlines.specs.declared.readings.Outline.{Outline}
+use Rattle.outlines.specs.Sizes.{divides}
+use Rattle.outlines.specs.Tables.{vacant}
+use Rattle.outlines.specs.Told.{Tells}
+use Rattle.player.specs.declared.leaves.Definitions.{Definitions}
+use Rattle.sections.specs.declared.slots.Said.{Said}
+use Rattle.sections.specs.declared.values.Modifiers.{Modifiers}
+use Rattle.sections.specs.Slots.{settingAt}
+use Rattle.sections.specs.SectionSays.{sideOn, sideSaid}
+use Rattle.scores.specs.declared.texts.Text.{Text}
+use Rattle.scores.specs.declared.texts.Texts.{Texts}
+use Rattle.scores.specs.Scores.{Carries, sideItems, TextsAre}
+use Rattle.judging.specs.Meters.{nothingRefused, textFault, soonerOf, meterFault}
+use Rattle.scores.proofs.ComplaintLaws.{Numbered, numbered-if}
+use Rattle.judging.proofs.SoonerLaws.{sooner-append}
+
+-- A text that tells of its items.
+told-fault : (o : Outline) (n line : ℕ) (r : Items) → Tells o r → 1 ≤ n → n ≤ 32 → textFault o n line ≡ refusalOf (earliest (rowFaults n line r))
+unfolding textFault rowFaults complainIf when if_then_else_ refusalOf earliest earlier goesFirst
+told-fault o n line r t a b = rw (t .sizes n a b, t .wants) (go (allFit n r) (stray none r))
+  where
+    go : (f w : Bool) → (if not f then record { number = 12; line = line } else (if w then record { number = 13; line = line } else nothingRefused))
+        ≡ refusalOf (earliest (when (not f) (complaint 12 line) ++ when w (complaint 13 line)))
+    go true true = refl
+    go true false = refl
+    go false true = rw (le-ltb line line (omega arith), eq-eqb line line refl)
+    go false false = refl
+
+vacant-fault : (n line : ℕ) → textFault vacant n line ≡ nothingRefused
+unfolding textFault vacant divides if_then_else_
+vacant-fault n line = rw (eq-eqb (n % 1) 0 (omega arith))
+
+-- A text that carries items, or none.
+pub carried-fault : (ws : List ℕ) (d : Definitions) (t : Text) (o : Option Items) (n line : ℕ) → Carries ws d t o → 1 ≤ n → n ≤ 32
+    → textFault (t .outline) n line ≡ refusalOf (earliest (playedFaults n line o))
+unfolding Carries playedFaults refusalOf earliest
+carried-fault ws d t none n line w a b = ap (λ (x : Outline). textFault x n line) (w .0) ∙ vacant-fault n line
+carried-fault ws d t (some r) n line w a b = told-fault (t .outline) n line r (w .1) a b
+
+-- A lead-in or tail is on the line of its setting.
+pub side-line : (s : List ℕ) (r : Said) {o : Option Side} → andThen (settingAt s r) sideSaid ≡ o → (x : Side) → o ≡ some x → x .line ≡ r .line
+unfolding settingAt sideSaid sideOn andThen if_then_else_
+side-line s r e x h =
+    by-cases (eqb (r .line) 0)
+    (λ t. let z : none ≡ some x = rw t at (e ∙ h) in none-some refl z)
+    (λ t. go (sideText (placed (r .start) (part (r .start) (r .stop) s))) (rw t at (e ∙ h)))
+  where
+    go : (o : Option Items) → sideOn (r .line) o ≡ some x → x .line ≡ r .line
+    go none z = none-some refl z
+    go (some q) z = let y : record { line = r .line; items = q } ≡ x = cc in sym (ap (λ (k : Side). k .line) y)
+
+side-faults : (n line : ℕ) (o : Option Side) → ((x : Side) → o ≡ some x → x .line ≡ line) → playedFaults n line (sideItems o) ≡ sideFaults n o
+unfolding playedFaults sideItems sideFaults andThen
+side-faults n line none h = refl
+side-faults n line (some x) h = ap (λ (l : ℕ). rowFaults n l (x .items)) (sym (h x refl))
+
+-- Every complaint of the stage has a number.
+numbered-row : (n line : ℕ) (r : Items) → Each Numbered (rowFaults n line r)
+unfolding rowFaults
+numbered-row n line r = each-append Numbered (complainIf (not (allFit n r)) 12 line) (complainIf (stray none r) 13 line) (numbered-if (not (allFit n r)) 12 line (omega arith)) (numbered-if (stray none r) 13 line (omega arith))
+
+numbered-played : (n line : ℕ) (o : Option Items) → Each Numbered (playedFaults n line o)
+unfolding playedFaults Each
+numbered-played n line none = tt
+numbered-played n line (some r) = numbered-row n line r
+
+numbered-side : (n : ℕ) (o : Option Side) → Each Numbered (sideFaults n o)
+unfolding sideFaults Each
+numbered-side n none = tt
+numbered-side n (some x) = numbered-row n (x .line) (x .items)
+
+pub numbered-section : (s : Song) (x : Section) → Each Numbered (sectionMeter s x)
+unfolding sectionMeter
+numbered-section s x =
+    let n = timeOf s x in
+    let p = patternItems (s .definitions) (x .pattern) in
+    let y = saidBy beforeSaid (x .modifiers) in
+    let z = saidBy afterSaid (x .modifiers) in
+    each-append Numbered (playedFaults n (x .header) p ++ sideFaults n y) (sideFaults n z)
+    (each-append Numbered (playedFaults n (x .header) p) (sideFaults n y) (numbered-played n (x .header) p) (numbered-side n y))
+    (numbered-side n z)
+
+-- The three texts of a section.
+pub section-fault : (song : Song) (x : Section) (s ws : List ℕ) (d : Definitions) (m : Modifiers) (t : Texts) → TextsAre (song .definitions) x ws d t
+    → andThen (settingAt s (m .before)) sideSaid ≡ saidBy beforeSaid (x .modifiers)
+    → andThen (settingAt s (m .after)) sideSaid ≡ saidBy afterSaid (x .modifiers)
+    → 1 ≤ timeOf song x → timeOf song x ≤ 32
+    → meterFault (x .header) m t (timeOf song x) ≡ refusalOf (earliest (sectionMeter song x))
+unfolding meterFault sectionMeter
+section-fault song x s ws d m t w before after a b =
+    let n = timeOf song x in
+    let p = playedFaults n (x .header) (patternItems (song .definitions) (x .pattern)) in
+    let y = saidBy beforeSaid (x .modifiers) in
+    let z = saidBy afterSaid (x .modifiers) in
+    let f = carried-fault ws d (t .pattern) (patternItems (song .definitions) (x .pattern)) n (x .header) (w .pattern) a b in
+    let g = carried-fault ws d (t .lead) (sideItems y) n (m .before .line) (w .lead) a b ∙ ap (λ (l : List Complaint). refusalOf (earliest l)) (side-faults n (m .before .line) y (side-line s (m .before) before)) in
+    let h = carried-fault ws d (t .tail) (sideItems z) n (m .after .line) (w .tail) a b ∙ ap (λ (l : List Complaint). refusalOf (earliest l)) (side-faults n (m .after .line) z (side-line s (m .after) after)) in
+    rw (f, g, h)
+    (ap (soonerOf (refusalOf (earliest p))) (sym (sooner-append (sideFaults n y) (sideFaults n z) (numbered-side n y) (numbered-side n z)))
+    ∙ sym (sooner-append p (sideFaults n y ++ sideFaults n z) (numbered-played n (x .header) (patternItems (song .definitions) (x .pattern))) (each-append Numbered (sideFaults n y) (sideFaults n z) (numbered-side n y) (numbered-side n z)))
+    ∙ ap (λ (l : List Complaint). refusalOf (earliest l)) (sym (append-assoc p (sideFaults n y) (sideFaults n z))))

@@ -1,0 +1,21 @@
+-- Laws that the proofs of the functions cite, and that callers use.
+pub mod ReferenceLaws
+pub mod StageLaws
+pub mod MeterLaws
+pub mod FaultLaws
+pub mod JudgedLaws
+pub mod CountLaws
+pub mod ModifierLaws
+pub mod CutLaws
+pub mod LengthLaws
+pub mod OpenedLaws
+pub mod ClearLaws
+pub mod PlayedLaws
+pub mod LyricLaws
+pub mod PlayLaws
+pub mod AlongLaws
+pub mod SumLaws
+pub mod TallyLaws
+pub mod NumberLaws
+pub mod TakenLaws
+pub mod SoonerLaws

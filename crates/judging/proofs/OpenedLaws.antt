@@ -1,0 +1,153 @@
+-- Stage 5 of a section that is opened: its measures, its cuts, and what is left to the sections behind it.
+use Prim.Native.Nat.{ℕ, _+_, _*_, _<_, _≤_}
+use mathlib.Core.Path.{_≡_, sym, ap, _∙_, subst}
+use mathlib.Core.List.{List, [], _∷_}
+use mathlib.Core.Logic.{⊎-elim}
+use mathlib.Core.Bool.{Bool, true, false, not}
+use mathlib.Core.Option.{none, some}
+use native.Mathlib.Omega.{arith}
+use lib.ListN.{length}
+use borrow.Author.Tests.{not-false}
+use Rattle.songcode.specs.Lists.{gather, orElse, times}
+use Rattle.songcode.specs.Complaints.{Complaint, complainIf, earliest}
+use Rattle.songcode.specs.Song.{Items, Section, Song}
+use Rattle.songcode.specs.References.{patternItems}
+use Rattle.songcode.specs.Playing.{timeAmong, timeOf, saidBy, beforeSaid, afterSaid}
+use Rattle.songcode.specs.Meter.{allFit, stray, rowFaults, playedFaults, sideFaults, sectionMeter, meterFaults, sectionCount, countOf, cutFaults, lengthFaults}
+use Rattle.songcode.specs.Answer.{songOf}
+use Rattle.songcode.proofs.ListLaws.{append-is-nil, complainIf-nil}
+use Rattle.text.specs.Refusals.{refusalOf}
+use Rattle.settings.specs.Cuts.{CutFits}
+use Rattle.player.specs.Walks.{rowOf}
+use Rattle.sections.specs.declared.blocks.Place.{Place}
+use Rattle.sections.specs.declared.values.Modifiers.{Modifiers}
+use Rattle.sections.specs.Onward.{sectionsFrom, Onward, sectionAt}
+use Rattle.scores.specs.declared.definitions.Score.{Score}
+use Rattle.scores.specs.declared.texts.Texts.{Texts}
+use Rattle.scores.specs.declared.texts.Opened.{Opened}
+use Rattle.scores.specs.Scores.{Begins, Opens, sideItems}
+use Rattle.judging.specs.Meters.{meterOf}
+use Rattle.judging.specs.Lengths.{countOfTexts, cutAway}
+use Rattle.judging.proofs.MeterLaws.{meter-is, meter-range}
+use Rattle.judging.proofs.JudgedLaws.{sections-over}
+use Rattle.judging.proofs.CountLaws.{Counted, carried-fits, played-length, section-counted, pattern-within, count-small}
+use Rattle.judging.proofs.ModifierLaws.{modified-is}
+use Rattle.judging.proofs.CutLaws.{cut-away-is}
+use Rattle.judging.proofs.LengthLaws.{length-passes, length-cut, length-on}
+
+-- So many measures were counted before the place; what the sections from there on are refused for is what the stage is, and stage 4 refuses none of them.
+unfoldable pub Measured : List ℕ → Place → ℕ → Type 0
+Measured s p k =
+    (refusalOf (earliest (lengthFaults (songOf s) k (sectionsFrom s p))) ≡ refusalOf (earliest (lengthFaults (songOf s) 0 (songOf s .sections))))
+    × (gather (sectionMeter (songOf s)) (sectionsFrom s p) ≡ [])
+
+pub measured-start : (s : List ℕ) (p : Place) → Begins s p → meterFaults (songOf s) ≡ [] → Measured s p 0
+unfolding Measured meterFaults
+measured-start s p b e = (ap (λ (xs : List Section). refusalOf (earliest (lengthFaults (songOf s) 0 xs))) (b .sections), ap (gather (sectionMeter (songOf s))) (b .sections) ∙ e)
+
+pub measured-end : (s : List ℕ) (p : Place) (k : ℕ) → length s ≤ p .at → Measured s p k → record { number = 0; line = 0 } ≡ refusalOf (earliest (lengthFaults (songOf s) 0 (songOf s .sections)))
+unfolding Measured lengthFaults refusalOf earliest
+measured-end s p k h w = ap (λ (xs : List Section). refusalOf (earliest (lengthFaults (songOf s) k xs))) (sym (sections-over s p h)) ∙ w .0
+
+-- A pattern of which stage 4 complains in no way.
+pub row-fits : (n line : ℕ) (r : Items) → rowFaults n line r ≡ [] → allFit n r ≡ true
+unfolding rowFaults
+row-fits n line r e = not-false (allFit n r) (complainIf-nil _ 12 line (append-is-nil (complainIf (not (allFit n r)) 12 line) (complainIf (stray none r) 13 line) e .0))
+
+pub pattern-fits : (song : Song) (x : Section) → sectionMeter song x ≡ [] → (r : Items) → patternItems (song .definitions) (x .pattern) ≡ some r → allFit (timeOf song x) r ≡ true
+unfolding sectionMeter playedFaults
+pattern-fits song x e r h =
+    let n = timeOf song x in
+    let a = append-is-nil _ (sideFaults n (saidBy afterSaid (x .modifiers))) e .0 in
+    let b = append-is-nil (playedFaults n (x .header) (patternItems (song .definitions) (x .pattern))) (sideFaults n (saidBy beforeSaid (x .modifiers))) a .0 in
+    row-fits n (x .header) r (ap (playedFaults n (x .header)) (sym h) ∙ b)
+
+-- What is found of cuts in N.
+pub found-away : (ws : List ℕ) (score : Score) (m : Modifiers) (t : Texts) {n k : ℕ} {r b : Bool} → n ≡ k → r ≡ cutAway ws score n m t → r ≡ b → cutAway ws score k m t ≡ b
+found-away ws score m t e f g = ap (λ (j : ℕ). cutAway ws score j m t) (sym e) ∙ sym f ∙ g
+
+module _ (s ws : List ℕ) (p : Place) (score : Score) (r : Opened) (w : Opens s p ws score r) where
+  abbrev song : Song
+  song = songOf s
+
+  abbrev x : Section
+  x = sectionAt s p
+
+  abbrev m : Modifiers
+  m = r .section .modifiers
+
+  -- What counting its measures asks for.
+  pub opened-small : (m .repeat ≤ 9999) × (r .texts .lead .outline .measures ≤ 65536) × (r .texts .pattern .outline .measures ≤ 65536) × (r .texts .tail .outline .measures ≤ 65536)
+  opened-small = (
+    w .met .read .modifiers .repeat-fits .1,
+    carried-fits ws (score .definitions) (r .texts .lead) (sideItems (saidBy beforeSaid (x .modifiers))) (w .texts .lead),
+    carried-fits ws (score .definitions) (r .texts .pattern) (patternItems (song .definitions) (x .pattern)) (w .texts .pattern),
+    carried-fits ws (score .definitions) (r .texts .tail) (sideItems (saidBy afterSaid (x .modifiers))) (w .texts .tail),
+  )
+
+  pub opened-count : countOfTexts m (r .texts) ≤ 655425536
+  opened-count = let q = opened-small in count-small m (r .texts) (q .0) (q .1) (q .2) (q .3)
+
+  counted : Counted (countOfTexts m (r .texts)) (sectionCount song x)
+  counted = section-counted song x ws (score .definitions) m (r .texts) (w .texts) (w .met .says .repeat) (w .met .read .modifiers .repeat-fits .0)
+
+  -- Where the measures are few enough, all are counted.
+  all-counted : (k : ℕ) → k + countOfTexts m (r .texts) ≤ 65535 → countOfTexts m (r .texts) ≡ sectionCount song x
+  all-counted k h = ⊎-elim (λ e. e) (λ e. let q = e .0 in let z : ⊥ = omega arith in absurd z) counted
+
+  too-many : (k : ℕ) → 65535 < k + countOfTexts m (r .texts) → 65535 < k + sectionCount song x
+  too-many k h = ⊎-elim (λ e. omega arith) (λ e. let q = e .1 in omega arith) counted
+
+  module _ (o : Onward s p) (inside : p .at < length s) {time : ℕ} (t : time ≡ orElse (timeAmong (songOf s .keys)) 0) (k : ℕ) (small : k ≤ 65535) (measured : Measured s p k) where
+    abbrev n : ℕ
+    n = meterOf (r .section .keys .time) time
+
+    n-is : n ≡ timeOf song x
+    n-is = meter-is song x (w .met .says .time) t
+
+    metered : (sectionMeter song x ≡ []) × (gather (sectionMeter song) (sectionsFrom s (r .next)) ≡ [])
+    unfolding Measured gather
+    metered = append-is-nil (sectionMeter song x) (gather (sectionMeter song) (sectionsFrom s (r .next))) (ap (gather (sectionMeter song)) (sym (w .met .first)) ∙ measured .1)
+
+    cuts : cutFaults (timeOf song x) (x .header) (x .modifiers) (patternItems (song .definitions) (x .pattern)) ≡ complainIf (cutAway ws score n m (r .texts)) 15 (x .header)
+    cuts =
+        let says = w .met .says in
+        let read = w .met .read .modifiers in
+        rw n-is
+        (cut-away-is ws score (timeOf song x) (x .header) (x .modifiers) m (r .texts) (says .repeat) (read .repeat-fits .0) (says .front) (says .back)
+        (patternItems (song .definitions) (x .pattern)) (w .texts .pattern) (meter-range song x .0) (pattern-fits song x (metered .0)) (modified-is s p o inside (r .section) read says))
+
+    whole : refusalOf (earliest (lengthFaults song k (x ∷ sectionsFrom s (r .next)))) ≡ refusalOf (earliest (lengthFaults song 0 (song .sections)))
+    unfolding Measured
+    whole = ap (λ (xs : List Section). refusalOf (earliest (lengthFaults song k xs))) (sym (w .met .first)) ∙ measured .0
+
+    pub opened-passes : 65535 < k + countOfTexts m (r .texts) → record { number = 14; line = r .section .header } ≡ refusalOf (earliest (lengthFaults song 0 (song .sections)))
+    opened-passes h =
+        rw (w .met .says .header)
+        (sym (length-passes song k x (sectionsFrom s (r .next)) (cutAway ws score n m (r .texts)) small cuts (too-many k h) (w .met .later)) ∙ whole)
+
+    -- What looking at its cuts asks for.
+    pub opened-fits : k + countOfTexts m (r .texts) ≤ 65535 → (n ≤ 32) × CutFits (m .front) × (length (times (m .repeat) (rowOf (score .definitions) n ws (r .texts .pattern .at))) ≤ 65535)
+    opened-fits h =
+        let e = all-counted k h in
+        let l = played-length ws (score .definitions) (r .texts .pattern) (patternItems (song .definitions) (x .pattern)) n (m .repeat) (w .texts .pattern) in
+        let often = ap (λ (j : ℕ). j * countOf (patternItems (song .definitions) (x .pattern))) (w .met .says .repeat) in
+        let within = pattern-within song x in (
+          subst (λ (j : ℕ). j ≤ 32) (sym n-is) (meter-range song x .1),
+          w .met .read .modifiers .front-fits,
+          omega arith,
+        )
+
+    pub opened-cut : k + countOfTexts m (r .texts) ≤ 65535 → cutAway ws score n m (r .texts) ≡ true → record { number = 15; line = r .section .header } ≡ refusalOf (earliest (lengthFaults song 0 (song .sections)))
+    opened-cut h e =
+        let c = all-counted k h in
+        rw (w .met .says .header)
+        (sym (length-cut song k x (sectionsFrom s (r .next)) (cutAway ws score n m (r .texts)) small cuts (omega arith) e (w .met .later)) ∙ whole)
+
+    pub opened-on : k + countOfTexts m (r .texts) ≤ 65535 → cutAway ws score n m (r .texts) ≡ false → Measured s (r .next) (k + countOfTexts m (r .texts))
+    unfolding Measured
+    opened-on h e =
+        let c = all-counted k h in (
+          rw c (ap (λ (xs : List Complaint). refusalOf (earliest xs)) (sym (length-on song k x (sectionsFrom s (r .next)) (cutAway ws score n m (r .texts)) small cuts (omega arith) e)) ∙ whole),
+          metered .1,
+        )

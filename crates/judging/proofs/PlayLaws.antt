@@ -1,0 +1,150 @@
+-- The texts of an opened section play what the definitions say of the section, and few enough measures for the tables.
+use Prim.Native.Nat.{ℕ, _+_, _-_, _*_, _≤_}
+use mathlib.Core.Path.{_≡_, refl, _∙_}
+use mathlib.Core.List.{List, [], _∷_, _++_, map}
+use mathlib.Core.Option.{Option, none, some}
+use native.Mathlib.Omega.{arith}
+use lib.ListN.{length, length-map}
+use Rattle.songcode.specs.Lists.{times, andThen}
+use Rattle.songcode.specs.Song.{Items, Modifier, Section, Song}
+use Rattle.songcode.specs.References.{patternItems}
+use Rattle.songcode.specs.Playing.{Beat, Side, cutStartSaid, cutEndSaid, saidBy, beforeSaid, afterSaid, repeats, cutRow, measuresOf, sideMeasures, keptMeasures, timeOf, played}
+use Rattle.songcode.specs.Performance.{total}
+use Rattle.songcode.specs.Tables.{beatWord}
+use Rattle.songcode.specs.Meter.{rowFaults, playedFaults, sideFaults, sectionMeter, countOf, sideCount, sectionCount}
+use Rattle.songcode.proofs.ListLaws.{append-is-nil, times-length}
+use Rattle.songcode.proofs.RowLaws.{Filled, filled-items}
+use Rattle.songcode.proofs.SectionPlays.{meter-some, pass-of}
+use Rattle.songcode.proofs.TurnedRows.{total-append}
+use Rattle.settings.specs.declared.cuts.Cut.{Cut}
+use Rattle.settings.specs.Cuts.{cutIs, CutFits}
+use Rattle.player.specs.declared.leaves.Definitions.{Definitions}
+use Rattle.player.specs.Texts.{rowWords}
+use Rattle.player.specs.Walks.{rowOf}
+use Rattle.player.specs.Windows.{sectionRow}
+use Rattle.player.proofs.SectionLaws.{total-whole, total-kept}
+use Rattle.player.proofs.SectionMeaning.{section-words}
+use Rattle.player.proofs.ShortLaws.{Short, short-times, short-row, total-short}
+use Rattle.sections.specs.declared.values.Modifiers.{Modifiers}
+use Rattle.scores.specs.declared.definitions.Score.{Score}
+use Rattle.scores.specs.declared.texts.Text.{Text}
+use Rattle.scores.specs.declared.texts.Texts.{Texts}
+use Rattle.scores.specs.Scores.{Carries, sideItems, TextsAre}
+use Rattle.judging.specs.Lengths.{cutOrNone}
+use Rattle.judging.specs.Sums.{rowOfTexts, PlaysWithin}
+use Rattle.judging.proofs.CountLaws.{played-length}
+use Rattle.judging.proofs.CutLaws.{cut-said}
+use Rattle.judging.proofs.OpenedLaws.{row-fits}
+use Rattle.judging.proofs.PlayedLaws.{cut-short, side-length}
+
+-- The words of a row: as many measures and beats as the row has.
+pub words-length : (row : List (List Beat)) → length (rowWords row) ≡ length row
+unfolding rowWords
+words-length row = length-map row (map beatWord)
+
+pub words-total : (row : List (List Beat)) → total (rowWords row) ≡ total row
+unfolding rowWords total
+words-total [] = refl
+words-total (m ∷ row) = rw (length-map m beatWord, words-total row)
+
+-- The row of a text in the buffer.
+module _ (ws : List ℕ) (d : Definitions) (n : ℕ) where
+  carried : (t : Text) (o : Option Items) → Carries ws d t o → rowOf d n ws (t .at) ≡ rowWords (pass-of n o)
+  unfolding Carries pass-of rowWords
+  carried t none h = h .1 n
+  carried t (some r) h = h .2 n
+
+  carried-side : (t : Text) (o : Option Side) → Carries ws d t (sideItems o) → rowOf d n ws (t .at) ≡ rowWords (sideMeasures n o)
+  unfolding Carries sideItems andThen sideMeasures rowWords
+  carried-side t none h = h .1 n
+  carried-side t (some x) h = h .2 n
+
+-- Every measure of a text that stage 4 passes has a beat.
+row-filled : (n l : ℕ) (r : Items) → 1 ≤ n → rowFaults n l r ≡ [] → Filled (measuresOf n none r)
+row-filled n l r h e = filled-items n none r h (row-fits n l r e)
+
+pass-filled : (n l : ℕ) (o : Option Items) → 1 ≤ n → playedFaults n l o ≡ [] → Filled (pass-of n o)
+unfolding playedFaults pass-of Filled
+pass-filled n l none h e = tt
+pass-filled n l (some r) h e = row-filled n l r h e
+
+side-filled : (n : ℕ) (o : Option Side) → 1 ≤ n → sideFaults n o ≡ [] → Filled (sideMeasures n o)
+unfolding sideFaults sideMeasures Filled
+side-filled n none h e = tt
+side-filled n (some x) h e = row-filled n (x .line) (x .items) h e
+
+-- An empty pattern is cut to nothing.
+no-length : {A : Type 0} (xs : List A) → length xs ≤ 0 → xs ≡ []
+no-length [] h = refl
+no-length (x ∷ xs) h = absurd (omega arith)
+
+kept-pass : (n : ℕ) (ms : List Modifier) (o : Option Items) → cutRow ms (times (repeats ms) (pass-of n o)) ≡ keptMeasures n ms o
+unfolding pass-of keptMeasures
+kept-pass n ms none =
+    let row : List (List Beat) = [] in
+    let a = cut-short ms (times (repeats ms) row) in
+    let b : length (times (repeats ms) row) ≡ 0 = times-length (repeats ms) row ∙ omega arith in
+    no-length (cutRow ms (times (repeats ms) row)) (omega arith)
+kept-pass n ms (some r) = refl
+
+-- Cuts only take beats away.
+section-beats : (f k : Cut) (r : ℕ) (lead row tail : List (List ℕ)) → Short lead → Short row → Short tail → total (sectionRow f k r lead row tail) ≤ 32 * (length lead + length (times r row) + length tail)
+unfolding sectionRow
+section-beats f k r lead row tail x y z =
+    let a = total-whole lead in
+    let b = total-kept f k (times r row) in
+    let b0 = b .0 in
+    let b1 = b .1 in
+    let d = total-whole tail in
+    let p = total-short lead x in
+    let q = total-short (times r row) (short-times r row y) in
+    let u = total-short tail z in
+    rw (total-append, total-append) (omega arith)
+
+-- A section whose texts stand in the buffer.
+module _ (s : Song) (x : Section) (ws : List ℕ) (score : Score) (t : Texts) (m : Modifiers) (h : TextsAre (s .definitions) x ws (score .definitions) t)
+    (again : m .repeat ≡ repeats (x .modifiers)) where
+  pub texts-play : m .front ≡ cutIs (saidBy cutStartSaid (x .modifiers)) → m .back ≡ cutIs (saidBy cutEndSaid (x .modifiers)) → sectionMeter s x ≡ []
+      → rowOfTexts ws score (timeOf s x) t m ≡ rowWords (played s x)
+  unfolding rowOfTexts played sectionMeter
+  texts-play f b e =
+      let n = timeOf s x in
+      let ms = x .modifiers in
+      let d = score .definitions in
+      let o = patternItems (s .definitions) (x .pattern) in
+      let lead = saidBy beforeSaid ms in
+      let tail = saidBy afterSaid ms in
+      let p = append-is-nil (playedFaults n (x .header) o ++ sideFaults n lead) (sideFaults n tail) e in
+      let q = append-is-nil (playedFaults n (x .header) o) (sideFaults n lead) (p .0) in
+      let some-beat = meter-some s x in
+      let w = section-words ms (sideMeasures n lead) (pass-of n o) (sideMeasures n tail) (side-filled n lead some-beat (q .1)) (pass-filled n (x .header) o some-beat (q .0)) (side-filled n tail some-beat (p .1)) in
+      rw (again, f, b, cut-said (saidBy cutStartSaid ms), cut-said (saidBy cutEndSaid ms), carried-side ws d n (t .lead) lead (h .lead), carried ws d n (t .pattern) o (h .pattern), carried-side ws d n (t .tail) tail (h .tail), ← (kept-pass n ms o)) w
+
+  -- Its measures before cuts are those that stage 5 counts.
+  lead-length : (n : ℕ) → length (rowOf (score .definitions) n ws (t .lead .at)) ≡ sideCount (saidBy beforeSaid (x .modifiers))
+  lead-length n = rw (carried-side ws (score .definitions) n (t .lead) (saidBy beforeSaid (x .modifiers)) (h .lead)) (words-length _ ∙ side-length n (saidBy beforeSaid (x .modifiers)))
+
+  tail-length : (n : ℕ) → length (rowOf (score .definitions) n ws (t .tail .at)) ≡ sideCount (saidBy afterSaid (x .modifiers))
+  tail-length n = rw (carried-side ws (score .definitions) n (t .tail) (saidBy afterSaid (x .modifiers)) (h .tail)) (words-length _ ∙ side-length n (saidBy afterSaid (x .modifiers)))
+
+  pattern-length : (n : ℕ) → length (times (m .repeat) (rowOf (score .definitions) n ws (t .pattern .at))) ≡ repeats (x .modifiers) * countOf (patternItems (s .definitions) (x .pattern))
+  pattern-length n = rw again (played-length ws (score .definitions) (t .pattern) (patternItems (s .definitions) (x .pattern)) n (repeats (x .modifiers)) (h .pattern))
+
+  pub texts-within : (n base sofar : ℕ) → n ≤ 32 → CutFits (m .front) → sofar + sectionCount s x ≤ 65535 → base ≤ 32 * sofar → PlaysWithin ws score n t m base
+  unfolding sectionCount
+  texts-within n base sofar few c long b =
+      let l = lead-length n in
+      let p = pattern-length n in
+      let q = tail-length n in
+      record { meter = few; cuts = c; measures = omega arith; room = omega arith }
+
+  pub texts-beats : (n : ℕ) → n ≤ 32 → total (rowOfTexts ws score n t m) ≤ 32 * sectionCount s x
+  unfolding rowOfTexts sectionCount
+  texts-beats n few =
+      let d = score .definitions in
+      let l = lead-length n in
+      let p = pattern-length n in
+      let q = tail-length n in
+      let a = section-beats (cutOrNone (m .front)) (cutOrNone (m .back)) (m .repeat) (rowOf d n ws (t .lead .at)) (rowOf d n ws (t .pattern .at)) (rowOf d n ws (t .tail .at))
+      (short-row d n ws few (t .lead .at)) (short-row d n ws few (t .pattern .at)) (short-row d n ws few (t .tail .at)) in
+      omega arith

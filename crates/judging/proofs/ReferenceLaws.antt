@@ -1,0 +1,133 @@
+-- What stage 3 says of a section, from the number that its pattern names.
+use Prim.Native.Nat.{ℕ, zero, suc, _+_, _<_, _≤_}
+use mathlib.Core.Path.{_≡_, refl, sym, ap, _∙_}
+use mathlib.Core.List.{List, [], _∷_, _++_, map}
+use mathlib.Core.Bool.{Bool, true, false, not}
+use mathlib.Core.Option.{Option, none, some}
+use native.Mathlib.Omega.{arith}
+use lib.ListN.{length}
+use Rattle.songcode.specs.Lists.{isSome, gather}
+use Rattle.songcode.specs.Complaints.{Complaint, complaint, earlier, earliest}
+use Rattle.songcode.specs.Song.{Pattern, items, named, Definition, Section, Song}
+use Rattle.songcode.specs.Sections.{patternIn}
+use Rattle.songcode.specs.References.{definitionOf, namedFault, sectionReference, definitionsReferences, referenceFaults}
+use Rattle.songcode.proofs.ListLaws.{true-is-not-false, Each, each-append, each-map}
+use Rattle.text.specs.declared.Refusal.{Refusal}
+use Rattle.text.specs.Refusals.{refusalOf}
+use Rattle.sections.specs.declared.blocks.Place.{Place}
+use Rattle.sections.specs.declared.walking.Met.{Met}
+use Rattle.sections.specs.Runs.{linesOf}
+use Rattle.sections.specs.Onward.{sectionsFrom, sectionAt, Later, Meets}
+use Rattle.sections.proofs.NextLaws.{blocks-over}
+use Rattle.scores.specs.Laying.{Names}
+use Rattle.judging.specs.Meters.{nothingRefused}
+use Rattle.scores.proofs.ComplaintLaws.{Behind, UpTo, Numbered, first-wins, gather-behind, refused-none}
+
+module _ (ds : List Definition) (header : ℕ) where
+  -- A pattern of its own.
+  pub own-pattern : (x : Pattern) (k : ℕ) → Names x k → k ≡ 0 → nothingRefused ≡ refusalOf (earliest (sectionReference ds x header))
+  unfolding Names sectionReference refusalOf earliest
+  own-pattern (items r) k w e = refl
+  own-pattern (named n) k w e = let p = w .0 in let q = w .1 in let z : ⊥ = omega arith in absurd z
+
+  named-fault : (x : Pattern) (k : ℕ) → Names x k → (k ≡ 0 → ⊥) → sectionReference ds x header ≡ namedFault (definitionOf k ds) header
+  unfolding Names sectionReference
+  named-fault (items r) k w e = absurd (e w)
+  named-fault (named n) k w e = rw (w .0)
+
+  fault-there : (o : Option Definition) → not (isSome o) ≡ true → namedFault o header ≡ complaint 10 header ∷ []
+  unfolding namedFault isSome
+  fault-there none e = refl
+  fault-there (some d) e = true-is-not-false e refl
+
+  fault-none : (o : Option Definition) → not (isSome o) ≡ false → namedFault o header ≡ []
+  unfolding namedFault isSome
+  fault-none none e = true-is-not-false refl e
+  fault-none (some d) e = refl
+
+  -- A name that no definition has, and one that a definition has.
+  pub missing-name : (x : Pattern) (k : ℕ) (b : Bool) → Names x k → (k ≡ 0 → ⊥) → b ≡ not (isSome (definitionOf k ds)) → b ≡ true → record { number = 10; line = header } ≡ refusalOf (earliest (sectionReference ds x header))
+  unfolding refusalOf earliest earlier
+  missing-name x k b w n e t = rw (named-fault x k w n, fault-there (definitionOf k ds) (sym e ∙ t))
+
+  pub found-name : (x : Pattern) (k : ℕ) (b : Bool) → Names x k → (k ≡ 0 → ⊥) → b ≡ not (isSome (definitionOf k ds)) → b ≡ false → nothingRefused ≡ refusalOf (earliest (sectionReference ds x header))
+  unfolding refusalOf earliest
+  found-name x k b w n e t = rw (named-fault x k w n, fault-none (definitionOf k ds) (sym e ∙ t))
+
+-- Every complaint of a section stands on its header.
+module _ (ds : List Definition) where
+  unfoldable pub sectionFault : Section → List Complaint
+  sectionFault x = sectionReference ds (x .pattern) (x .header)
+
+  on-header : (x : Section) → Each (λ c. c .line ≡ x .header) (sectionFault x)
+  unfolding sectionFault sectionReference namedFault Each
+  on-header x = of (x .pattern)
+    where
+      found : (o : Option Definition) → Each (λ c. c .line ≡ x .header) (namedFault o (x .header))
+      found none = (refl, tt)
+      found (some d) = tt
+
+      of : (p : Pattern) → Each (λ c. c .line ≡ x .header) (sectionReference ds p (x .header))
+      of (items r) = tt
+      of (named n) = found (definitionOf n ds)
+
+  up-to : (x : Section) → Each (UpTo (x .header)) (sectionFault x)
+  unfolding UpTo
+  up-to x = each-map (λ c e. omega arith) (sectionFault x) (on-header x)
+
+  numbered : (x : Section) → Each Numbered (sectionFault x)
+  unfolding sectionFault sectionReference namedFault Each Numbered
+  numbered x = of (x .pattern)
+    where
+      found : (o : Option Definition) → Each (λ c. 1 ≤ c .number) (namedFault o (x .header))
+      found none = (omega arith, tt)
+      found (some d) = tt
+
+      of : (p : Pattern) → Each (λ c. 1 ≤ c .number) (sectionReference ds p (x .header))
+      of (items r) = tt
+      of (named n) = found (definitionOf n ds)
+
+  pub all-numbered : (xs : List Section) → Each Numbered (gather sectionFault xs)
+  unfolding gather Each
+  all-numbered [] = tt
+  all-numbered (x ∷ xs) = each-append Numbered (sectionFault x) (gather sectionFault xs) (numbered x) (all-numbered xs)
+
+  -- A section's refusal is that of all from it on; where it has none, the next ones' is.
+  pub first-section : (x : Section) (xs : List Section) (r : Refusal) → Later (x .header) xs → r ≡ refusalOf (earliest (sectionFault x)) → (r .number ≡ 0 → ⊥) → r ≡ refusalOf (earliest (gather sectionFault (x ∷ xs)))
+  unfolding gather refusalOf earliest
+  first-section x xs r w e n =
+      e ∙ ap refusalOf (sym (first-wins (x .header) (sectionFault x) (gather sectionFault xs) (up-to x) (gather-behind (x .header) sectionFault on-header xs w) (λ z. n (ap (λ (q : Refusal). q .number) e ∙ of (sectionFault x) z))))
+    where
+      of : (cs : List Complaint) → cs ≡ [] → refusalOf (earliest cs) .number ≡ 0
+      of cs z = rw z refl
+
+  pub next-section : (x : Section) (xs : List Section) (r : Refusal) → r ≡ refusalOf (earliest (sectionFault x)) → r .number ≡ 0 → gather sectionFault (x ∷ xs) ≡ gather sectionFault xs
+  unfolding gather
+  next-section x xs r e z = rw (refused-none (sectionFault x) (numbered x) (ap (λ (q : Refusal). q .number) (sym e) ∙ z)) refl
+
+  -- The fault of the section that is met at a place.
+  pub fault-at : (s : List ℕ) (p : Place) (m : Met) (r : Refusal) → Meets s p m
+      → ((x : Pattern) → patternIn (linesOf s (m .section .pattern)) ≡ some x → r ≡ refusalOf (earliest (sectionReference ds x (m .section .header))))
+      → r ≡ refusalOf (earliest (sectionFault (sectionAt s p)))
+  unfolding sectionFault
+  fault-at s p m r w f = f (sectionAt s p .pattern) (w .written) ∙ ap (λ (h : ℕ). refusalOf (earliest (sectionReference ds (sectionAt s p .pattern) h))) (w .says .header)
+
+-- Behind the last section none is left.
+pub sections-over : (s : List ℕ) (p : Place) → length s ≤ p .at → sectionsFrom s p ≡ []
+unfolding sectionsFrom
+sections-over s p h = rw (blocks-over s (p .number) (p .at) h)
+
+-- Stage 3 of the whole song, where nothing is wrong with the definitions.
+module _ (song : Song) (clear : definitionsReferences [] (song .definitions) ≡ []) where
+  references-are : referenceFaults song ≡ gather (sectionFault (song .definitions)) (song .sections)
+  unfolding referenceFaults sectionFault
+  references-are = rw clear refl
+
+  pub song-references : (xs : List Section) (r : Refusal) → xs ≡ song .sections → r ≡ refusalOf (earliest (gather (sectionFault (song .definitions)) xs)) → r ≡ refusalOf (earliest (referenceFaults song))
+  song-references xs r e h = h ∙ ap (λ (ys : List Section). refusalOf (earliest (gather (sectionFault (song .definitions)) ys))) e ∙ ap (λ (cs : List Complaint). refusalOf (earliest cs)) (sym references-are)
+
+  pub references-none : (r : Refusal) → r ≡ refusalOf (earliest (referenceFaults song)) → r .number ≡ 0 → referenceFaults song ≡ []
+  references-none r h z =
+      references-are
+      ∙ refused-none (gather (sectionFault (song .definitions)) (song .sections)) (all-numbered (song .definitions) (song .sections))
+      (ap (λ (cs : List Complaint). refusalOf (earliest cs) .number) (sym references-are) ∙ ap (λ (q : Refusal). q .number) (sym h) ∙ z)

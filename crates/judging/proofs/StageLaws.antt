@@ -1,0 +1,132 @@
+-- Stages one after another: the first that has a complaint gives it, and one that refuses nothing has none.
+use Prim.Native.Nat.{ℕ, zero, suc, _+_, _<_, _≤_}
+use mathlib.Core.Path.{_≡_, refl, sym, ap, _∙_}
+use mathlib.Core.List.{List, [], _∷_, _++_}
+use mathlib.Core.Bool.{Bool, true, false, not, _||_, _&&_}
+use mathlib.Core.Option.{Option, none, some}
+use native.Mathlib.Omega.{arith}
+use borrow.Author.Tests.{ltb-false}
+use lib.Dec.{eqb, leb, ltb}
+use lib.ListN.{length}
+use Rattle.songcode.specs.Lists.{if_then_else_, gather, isEmpty}
+use Rattle.songcode.specs.Complaints.{Complaint, complaint, complainIf, earliest, stageOr, verdict}
+use Rattle.songcode.specs.Song.{Items, Modifier, Section, Song, LyricLine}
+use Rattle.songcode.specs.Playing.{Side, timeOf, saidBy, beforeSaid, afterSaid, keptMeasures, played}
+use Rattle.songcode.specs.References.{patternItems}
+use Rattle.songcode.specs.Meter.{allFit, stray, rowFaults, playedFaults, sideFaults, sectionMeter, meterFaults, sectionCount, mostMeasures, cutFaults, lengthFaults}
+use Rattle.songcode.specs.Lyrics.{isCounted, isPlayed, counted, linesTaken, hasCounts, countFaults, sumFault, sumFaults}
+use Rattle.songcode.specs.Characters.{goodBytes}
+use Rattle.songcode.specs.Answer.{mostBytes, lineOfPlace, inputFaults}
+use Rattle.songcode.proofs.ListLaws.{by-cases, Each, each-append, nil-is-not-cons}
+use Rattle.text.specs.declared.Refusal.{Refusal}
+use Rattle.text.specs.Refusals.{refusalOf}
+use Rattle.judging.specs.declared.sums.Totals.{Totals}
+use Rattle.scores.proofs.ComplaintLaws.{Numbered, numbered-if, refused-none}
+
+-- A stage that refuses gives the verdict; one that complains of nothing leaves it to the rest.
+pub stage-refused : (xs : List Complaint) (rest : List (List Complaint)) (r : Refusal) → r ≡ refusalOf (earliest xs) → (r .number ≡ 0 → ⊥) → r ≡ refusalOf (verdict (xs ∷ rest))
+unfolding verdict refusalOf stageOr
+stage-refused xs rest r e n = e ∙ of (earliest xs) (λ z. n (ap (λ (q : Refusal). q .number) e ∙ z))
+  where
+    of : (o : Option Complaint) → (refusalOf o .number ≡ 0 → ⊥) → refusalOf o ≡ refusalOf (stageOr o (verdict rest))
+    of none m = absurd (m refl)
+    of (some c) m = refl
+
+pub stage-passed : (xs : List Complaint) (rest : List (List Complaint)) → xs ≡ [] → refusalOf (verdict (xs ∷ rest)) ≡ refusalOf (verdict rest)
+unfolding verdict earliest stageOr
+stage-passed xs rest e = rw e refl
+
+pub last-stage : (xs : List Complaint) → verdict (xs ∷ []) ≡ earliest xs
+unfolding verdict stageOr
+last-stage xs = of (earliest xs)
+  where
+    of : (o : Option Complaint) → stageOr o none ≡ o
+    of none = refl
+    of (some c) = refl
+
+-- A stage whose complaints are numbered has none where its refusal has number 0.
+pub stage-none : (xs : List Complaint) (r : Refusal) → Each Numbered xs → r ≡ refusalOf (earliest xs) → r .number ≡ 0 → xs ≡ []
+stage-none xs r h e z = refused-none xs h (ap (λ (q : Refusal). q .number) (sym e) ∙ z)
+
+-- The complaints of every stage are numbered.
+numbered-gather : {A : Type 0} (f : A → List Complaint) → ((x : A) → Each Numbered (f x)) → (xs : List A) → Each Numbered (gather f xs)
+unfolding gather Each
+numbered-gather f h [] = tt
+numbered-gather f h (x ∷ xs) = each-append Numbered (f x) (gather f xs) (h x) (numbered-gather f h xs)
+
+numbered-when : (b : Bool) (xs : List Complaint) → Each Numbered xs → Each Numbered (if b then xs else [])
+unfolding if_then_else_ Each
+numbered-when true xs h = h
+numbered-when false xs h = tt
+
+pub numbered-input : (s : List ℕ) → Each Numbered (inputFaults s)
+unfolding inputFaults if_then_else_ Each Numbered
+numbered-input s = by-cases (ltb mostBytes (length s))
+    (λ e. rw e (omega arith, tt))
+    (λ e. rw e (numbered-if (ltb (goodBytes 0 s) (length s)) 2 (lineOfPlace (goodBytes 0 s) s) (omega arith)))
+
+pub input-small : (s : List ℕ) → inputFaults s ≡ [] → length s ≤ 65536
+unfolding inputFaults if_then_else_ mostBytes
+input-small s h = by-cases (ltb 65536 (length s))
+    (λ e. let z : complaint 1 0 ∷ [] ≡ [] = rw e at h in nil-is-not-cons (sym z))
+    (λ e. ltb-false 65536 (length s) e)
+
+module _ (song : Song) where
+  numbered-row : (n l : ℕ) (r : Items) → Each Numbered (rowFaults n l r)
+  unfolding rowFaults
+  numbered-row n l r = each-append Numbered (complainIf (not (allFit n r)) 12 l) (complainIf (stray none r) 13 l) (numbered-if (not (allFit n r)) 12 l (omega arith)) (numbered-if (stray none r) 13 l (omega arith))
+
+  numbered-played : (n l : ℕ) (o : Option Items) → Each Numbered (playedFaults n l o)
+  unfolding playedFaults Each
+  numbered-played n l none = tt
+  numbered-played n l (some r) = numbered-row n l r
+
+  numbered-side : (n : ℕ) (o : Option Side) → Each Numbered (sideFaults n o)
+  unfolding sideFaults Each
+  numbered-side n none = tt
+  numbered-side n (some x) = numbered-row n (x .line) (x .items)
+
+  numbered-section : (x : Section) → Each Numbered (sectionMeter song x)
+  unfolding sectionMeter
+  numbered-section x =
+      let n = timeOf song x in
+      let a = playedFaults n (x .header) (patternItems (song .definitions) (x .pattern)) in
+      let b = sideFaults n (saidBy beforeSaid (x .modifiers)) in
+      let c = sideFaults n (saidBy afterSaid (x .modifiers)) in
+      each-append Numbered (a ++ b) c (each-append Numbered a b (numbered-played n (x .header) (patternItems (song .definitions) (x .pattern))) (numbered-side n (saidBy beforeSaid (x .modifiers)))) (numbered-side n (saidBy afterSaid (x .modifiers)))
+
+  pub numbered-meters : Each Numbered (meterFaults song)
+  unfolding meterFaults
+  numbered-meters = numbered-gather (sectionMeter song) numbered-section (song .sections)
+
+  numbered-cuts : (n h : ℕ) (ms : List Modifier) (o : Option Items) → Each Numbered (cutFaults n h ms o)
+  unfolding cutFaults
+  numbered-cuts n h ms none = numbered-if (not (isEmpty ms)) 15 h (omega arith)
+  numbered-cuts n h ms (some r) = numbered-if (isEmpty (keptMeasures n ms (some r))) 15 h (omega arith)
+
+  pub numbered-lengths : (sofar : ℕ) (xs : List Section) → Each Numbered (lengthFaults song sofar xs)
+  unfolding lengthFaults Each
+  numbered-lengths sofar [] = tt
+  numbered-lengths sofar (x ∷ xs) =
+      let a = complainIf (leb sofar mostMeasures && ltb mostMeasures (sofar + sectionCount song x)) 14 (x .header) in
+      let b = cutFaults (timeOf song x) (x .header) (x .modifiers) (patternItems (song .definitions) (x .pattern)) in
+      let c = lengthFaults song (sofar + sectionCount song x) xs in
+      each-append Numbered (a ++ b) c
+      (each-append Numbered a b (numbered-if (leb sofar mostMeasures && ltb mostMeasures (sofar + sectionCount song x)) 14 (x .header) (omega arith)) (numbered-cuts (timeOf song x) (x .header) (x .modifiers) (patternItems (song .definitions) (x .pattern))))
+      (numbered-lengths (sofar + sectionCount song x) xs)
+
+  pub numbered-counts : Each Numbered (countFaults song)
+  unfolding countFaults
+  numbered-counts = numbered-when (hasCounts song) (gather (λ l. complainIf (not (isCounted l)) 16 (l .number)) (linesTaken song)) (numbered-gather (λ (l : LyricLine). complainIf (not (isCounted l)) 16 (l .number)) (λ l. numbered-if (not (isCounted l)) 16 (l .number) (omega arith)) (linesTaken song))
+
+  numbered-sum : (x : Section) → Each Numbered (sumFault song x)
+  unfolding sumFault
+  numbered-sum x = numbered-if (isPlayed song x && not (isEmpty (x .lyrics)) && not (eqb (counted (x .lyrics)) (length (played song x)))) 17 (x .header) (omega arith)
+
+  pub numbered-sums : Each Numbered (sumFaults song)
+  unfolding sumFaults
+  numbered-sums = numbered-when (hasCounts song) (gather (sumFault song) (song .sections)) (numbered-gather (sumFault song) numbered-sum (song .sections))
+
+-- What is said where nothing is refused is not asked of a refusal.
+pub refused-says : {X : Type 0} (r : Totals) (q : Refusal) → r .refusal ≡ q → (q .number ≡ 0 → ⊥) → r .refusal .number ≡ 0 → X
+refused-says r q e n z = absurd (n (ap (λ (x : Refusal). x .number) (sym e) ∙ z))

@@ -1,0 +1,310 @@
+-- The sums over the sections of a song: what its tables hold, and the first section whose lyric lines do not sum to its measures.
+use Prim.Native.Nat.{ℕ, suc, _+_, _-_, _≤_}
+use mathlib.Core.Path.{_≡_, refl, sym, ap, _∙_, subst}
+use mathlib.Core.List.{List, [], _∷_, _++_, map}
+use mathlib.Core.Bool.{Bool, true, false, not, _&&_}
+use mathlib.Core.Option.{Option, none, some}
+use native.Mathlib.Omega.{arith}
+use native.Mathlib.Nat.{le-refl}
+use lib.Dec.{eqb, ltb}
+use lib.ListN.{length, length-map, length-append, length-take}
+use borrow.Author.Tests.{ne-eqb}
+use Rattle.songcode.specs.Lists.{if_then_else_, isEmpty, isSome, every, gather, when}
+use Rattle.songcode.specs.Complaints.{Complaint, complaint, complainIf, earliest, earlier}
+use Rattle.songcode.specs.Song.{Items, LyricLine, Section, Song}
+use Rattle.songcode.specs.References.{patternItems}
+use Rattle.songcode.specs.Playing.{Beat, played}
+use Rattle.songcode.specs.Performance.{total}
+use Rattle.songcode.specs.Lyrics.{isCounted, isPlayed, linesTaken, hasCounts, counted, sumFault, sumFaults, hasItems, prompts}
+use Rattle.songcode.specs.Tables.{sectionWords, allMeasures, measureWords, beatWord, itemWord, tables}
+use Rattle.songcode.specs.WrittenTables.{lyricsOf}
+use Rattle.songcode.specs.Answer.{songOf}
+use Rattle.songcode.proofs.ListLaws.{by-cases, both-pass, nil-is-not-cons, Each}
+use Rattle.songcode.proofs.TurnedRows.{total-append}
+use Rattle.songcode.specs.Sections.{lyricLine}
+use Rattle.text.specs.Refusals.{refusalOf}
+use Rattle.outlines.specs.Tables.{vacant}
+use Rattle.player.specs.declared.playing.Counts.{Counts}
+use Rattle.player.specs.declared.leaves.Definitions.{Definitions}
+use Rattle.sections.specs.Runs.{textLines, linesOf}
+use Rattle.sections.specs.declared.blocks.Place.{Place}
+use Rattle.sections.specs.Onward.{Later, sectionAt, sectionsFrom}
+use Rattle.scores.specs.declared.definitions.Score.{Score}
+use Rattle.scores.specs.declared.texts.Text.{Text}
+use Rattle.scores.specs.declared.texts.Opened.{Opened}
+use Rattle.judging.specs.declared.lyrics.Tally.{Tally}
+use Rattle.judging.specs.declared.sums.Sums.{Sums}
+use Rattle.scores.specs.Scores.{Carries, Opens}
+use Rattle.judging.specs.Lyrics.{firstLine, bareLine, tallied}
+use Rattle.judging.specs.Sums.{hasLines, hasPrompts, sumDiffers, withSection, totalsOf, Holds}
+use Rattle.scores.proofs.ComplaintLaws.{UpTo, first-wins, gather-behind}
+use Rattle.judging.proofs.LyricLaws.{prompts-length}
+use Rattle.judging.proofs.NumberLaws.{Numbered, lyrics-numbered}
+
+-- A text is empty where there are no items.
+empty-is : (ws : List ℕ) (d : Definitions) (t : Text) (o : Option Items) → Carries ws d t o → t .outline .empty ≡ not (isSome o)
+unfolding Carries isSome vacant
+empty-is ws d t none h = ap (λ x. x .empty) (h .0)
+empty-is ws d t (some r) h = h .0
+
+-- A section that is sung has lyric lines and a pattern that is not empty; it has items if all its lines have counts.
+abbrev isSung : Song → Section → Bool
+isSung s x = isPlayed s x && not (isEmpty (x .lyrics))
+
+abbrev pub isPrompted : Song → Section → Bool
+isPrompted s x = isPlayed s x && not (isEmpty (x .lyrics)) && every isCounted (x .lyrics)
+
+-- Its lines do not sum to its measures.
+abbrev pub offSum : Song → Section → Bool
+offSum s x = isPlayed s x && not (isEmpty (x .lyrics)) && not (eqb (counted (x .lyrics)) (length (played s x)))
+
+no-lines : (ls : List LyricLine) → eqb (length ls) 0 ≡ isEmpty ls
+unfolding isEmpty
+no-lines [] = refl
+no-lines (l ∷ ls) = ne-eqb (suc (length ls)) 0 (λ z. let y : ⊥ = omega arith in absurd y)
+
+-- Every line that has a number from 1 on has a count where no line is bare.
+first-some : (a b : ℕ) → 1 ≤ a → eqb (firstLine a b) 0 ≡ false
+unfolding firstLine if_then_else_
+first-some a b h =
+    let n : eqb a 0 ≡ false = ne-eqb a 0 (λ z. let y : ⊥ = omega arith in absurd y) in
+    by-cases (eqb b 0) (λ e. rw (n, e) n) (λ e. by-cases (ltb b a) (λ f. rw (n, e, f) e) (λ f. rw (n, e, f) n))
+
+bare-none : (ls : List LyricLine) → Numbered ls → eqb (bareLine ls) 0 ≡ every isCounted ls
+unfolding bareLine every if_then_else_ Each
+bare-none [] h = refl
+bare-none (l ∷ ls) h =
+    by-cases (isCounted l)
+    (λ e. rw e (bare-none ls (h .1)))
+    (λ e. rw e (first-some (l .number) (bareLine ls) (h .0)))
+
+-- What the tally of a section's lyric lines says of them.
+not-not : (b : Bool) → not (not b) ≡ b
+not-not true = refl
+not-not false = refl
+
+tallied-bare : (ls : List LyricLine) → Numbered ls → eqb (tallied ls .bare) 0 ≡ every isCounted ls
+unfolding tallied
+tallied-bare ls h = bare-none ls h
+
+tallied-sum : (ls : List LyricLine) → tallied ls .sum ≡ counted ls
+unfolding tallied
+tallied-sum ls = refl
+
+module _ (s : Song) (x : Section) (empty : Bool) (t : Tally) (e : empty ≡ not (isPlayed s x)) (u : t ≡ tallied (x .lyrics)) where
+  lines-said : hasLines empty t ≡ isSung s x
+  unfolding hasLines tallied
+  lines-said = rw (e, u, no-lines (x .lyrics), not-not (isPlayed s x))
+
+  prompts-said : Numbered (x .lyrics) → hasPrompts empty t ≡ isPrompted s x
+  unfolding hasPrompts
+  prompts-said h =
+      let b : eqb (t .bare) 0 ≡ every isCounted (x .lyrics) = ap (λ (y : Tally). eqb (y .bare) 0) u ∙ tallied-bare (x .lyrics) h in
+      rw (lines-said, b)
+
+  differs-said : (c : Bool) (k : ℕ) → k ≡ length (played s x) → sumDiffers c empty t k ≡ c && offSum s x
+  unfolding sumDiffers
+  differs-said c k h =
+      let w : t .sum ≡ counted (x .lyrics) = ap (λ (y : Tally). y .sum) u ∙ tallied-sum (x .lyrics) in
+      rw (lines-said, w, h)
+
+-- The tally of the lyric lines of a section that is opened.
+module _ {s vs : List ℕ} {score : Score} {p : Place} (x : Opened) (o : Opens s p vs score x) (t : Tally) (u : t ≡ tallied (map lyricLine (linesOf s (x .section .lyrics)))) where
+  opened-empty : x .texts .pattern .outline .empty ≡ not (isPlayed (songOf s) (sectionAt s p))
+  unfolding isPlayed
+  opened-empty = empty-is vs (score .definitions) (x .texts .pattern) (patternItems (songOf s .definitions) (sectionAt s p .pattern)) (o .texts .pattern)
+
+  opened-tally : t ≡ tallied (sectionAt s p .lyrics)
+  opened-tally = u ∙ ap tallied (o .met .says .lyrics)
+
+  opened-lined : Numbered (sectionAt s p .lyrics)
+  unfolding linesOf
+  opened-lined = subst (λ ls. Numbered ls) (o .met .says .lyrics) (lyrics-numbered s (x .section .lyrics .number) (x .section .lyrics .at) (x .section .lyrics .lines) (o .met .read .lyrics-placed .number))
+
+  opened-prompts : hasPrompts (x .texts .pattern .outline .empty) t ≡ isPrompted (songOf s) (sectionAt s p)
+  opened-prompts = prompts-said (songOf s) (sectionAt s p) _ t opened-empty opened-tally opened-lined
+
+  opened-differs : (c : Bool) (k : ℕ) → k ≡ length (played (songOf s) (sectionAt s p)) → sumDiffers c (x .texts .pattern .outline .empty) t k ≡ c && offSum (songOf s) (sectionAt s p)
+  opened-differs c k e = differs-said (songOf s) (sectionAt s p) _ t opened-empty opened-tally c k e
+
+  opened-lines : t .lines ≡ length (sectionAt s p .lyrics)
+  unfolding tallied
+  opened-lines = ap (λ (y : Tally). y .lines) opened-tally
+
+  pub opened-few : length s ≤ 65536 → t .lines ≤ 65536
+  unfolding tallied linesOf
+  opened-few h =
+      let r = x .section .lyrics in
+      let w = o .met .read .lyrics-placed in
+      let e : t .lines ≡ length (linesOf s r) = ap (λ (y : Tally). y .lines) u ∙ length-map (linesOf s r) lyricLine in
+      let f = length-take (r .lines) (textLines s (r .number) (r .at)) in
+      omega (arith, w .number, w .behind, w .ends)
+
+-- The complaints of stage 7 about the sections that are left.
+unfoldable pub faultsLeft : Song → List Section → List Complaint
+unfolding if_then_else_ gather sumFault
+faultsLeft s xs = if hasCounts s then gather (sumFault s) xs else []
+
+pub faults-start : (s : Song) → sumFaults s ≡ faultsLeft s (s .sections)
+unfolding sumFaults faultsLeft
+faults-start s = refl
+
+fault-line : (s : Song) (x : Section) → Each (λ c. c .line ≡ x .header) (sumFault s x)
+unfolding sumFault complainIf when Each
+fault-line s x = go (offSum s x)
+  where
+    go : (b : Bool) → Each (λ (c : Complaint). c .line ≡ x .header) (when b (complaint 17 (x .header)))
+    go true = (refl, tt)
+    go false = tt
+
+pub faults-end : (s : Song) → sumFaults s ≡ faultsLeft s [] → refusalOf (earliest (sumFaults s)) ≡ record { number = 0; line = 0 }
+unfolding faultsLeft gather if_then_else_ refusalOf earliest
+faults-end s h = by-cases (hasCounts s) (λ c. let w : sumFaults s ≡ [] = rw c at h in rw w) (λ c. let w : sumFaults s ≡ [] = rw c at h in rw w)
+
+module _ (s : Song) (x : Section) (xs : List Section) where
+  faults-pass : hasCounts s && offSum s x ≡ false → faultsLeft s (x ∷ xs) ≡ faultsLeft s xs
+  unfolding faultsLeft gather sumFault complainIf when if_then_else_
+  faults-pass e =
+      by-cases (hasCounts s)
+      (λ c. let f : offSum s x ≡ false = rw c at e in rw (c, f))
+      (λ c. rw c)
+
+  faults-stop : hasCounts s && offSum s x ≡ true → Later (x .header) xs → sumFaults s ≡ faultsLeft s (x ∷ xs) → refusalOf (earliest (sumFaults s)) ≡ record { number = 17; line = x .header }
+  unfolding faultsLeft gather sumFault complainIf when if_then_else_ refusalOf earliest earlier UpTo Each
+  faults-stop e l h =
+      let b = both-pass (hasCounts s) (offSum s x) e in
+      let here = complaint 17 (x .header) ∷ [] in
+      let w : sumFaults s ≡ here ++ gather (sumFault s) xs = h ∙ rw (b .0, b .1) in
+      ap refusalOf (ap earliest w ∙ first-wins (x .header) here (gather (sumFault s) xs) (le-refl (x .header), tt) (gather-behind (x .header) (sumFault s) (fault-line s) xs l) (λ z. nil-is-not-cons (sym z)))
+
+-- The sums so far, and what the sections that are left add to them.
+pub record Summed (s : Song) (rest : List Section) (x : Sums) : Type 0 where
+  pub sections : x .sections + length rest ≡ length (s .sections)
+  pub measures : x .measures + length (gather (played s) rest) ≡ length (allMeasures s)
+  pub beats : x .beats + total (gather (played s) rest) ≡ total (allMeasures s)
+  pub lines : x .lines + length (gather lyricsOf rest) ≡ length (gather lyricsOf (s .sections))
+  pub all : x .all && every (isPrompted s) rest ≡ hasItems s
+
+summed-start : (s : Song) → Summed s (s .sections) (record { sections = 0; measures = 0; beats = 0; lines = 0; all = true })
+unfolding allMeasures hasItems
+summed-start s =
+    record {
+      sections = omega arith;
+      measures = from-none (length (gather (played s) (s .sections)));
+      beats = from-none (total (gather (played s) (s .sections)));
+      lines = omega arith;
+      all = refl;
+    }
+  where
+    from-none : (k : ℕ) → 0 + k ≡ k
+    from-none k = omega arith
+
+pub summed-from : (s : Song) (xs : List Section) → xs ≡ s .sections → Summed s xs (record { sections = 0; measures = 0; beats = 0; lines = 0; all = true })
+summed-from s xs e = subst (λ ys. Summed s ys (record { sections = 0; measures = 0; beats = 0; lines = 0; all = true })) (sym e) (summed-start s)
+
+and-both : (a b c : Bool) → (a && b) && c ≡ a && (b && c)
+and-both true b c = refl
+and-both false b c = refl
+
+summed-next : (s : Song) (y : Section) (rest : List Section) (x : Sums) (c : Counts) (l : ℕ) (b : Bool) → c .measures ≡ length (played s y) → c .beats ≡ total (played s y) → l ≡ length (y .lyrics) → b ≡ isPrompted s y
+    → Summed s (y ∷ rest) x → Summed s rest (withSection x c l b)
+unfolding withSection gather every lyricsOf
+summed-next s y rest x c l b m t e p h =
+    let h0 = h .sections in
+    let h1 = h .measures in
+    let h2 = h .beats in
+    let h3 = h .lines in
+    let a1 = length-append (played s y) (gather (played s) rest) in
+    let a2 = total-append (played s y) (gather (played s) rest) in
+    let a3 = length-append (y .lyrics) (gather lyricsOf rest) in
+    record {
+      sections = omega arith;
+      measures = omega arith;
+      beats = omega arith;
+      lines = omega arith;
+      all = ap (λ (q : Bool). (x .all && q) && every (isPrompted s) rest) p ∙ and-both (x .all) (isPrompted s y) (every (isPrompted s) rest) ∙ h .all;
+    }
+
+-- A section that is opened: stage 7 refuses it, or goes on to the next.
+module _ {s vs : List ℕ} {score : Score} {p : Place} (x : Opened) (o : Opens s p vs score x) (t : Tally) (u : t ≡ tallied (map lyricLine (linesOf s (x .section .lyrics)))) where
+  pub opened-off : (c r : Bool) (k : ℕ) → c ≡ hasCounts (songOf s) → r ≡ sumDiffers c (x .texts .pattern .outline .empty) t k → k ≡ length (played (songOf s) (sectionAt s p))
+      → hasCounts (songOf s) && offSum (songOf s) (sectionAt s p) ≡ r
+  opened-off c r k e f g = ap (λ (b : Bool). b && offSum (songOf s) (sectionAt s p)) (sym e) ∙ sym (opened-differs x o t u c k g) ∙ sym f
+
+  pub opened-refused : hasCounts (songOf s) && offSum (songOf s) (sectionAt s p) ≡ true → sumFaults (songOf s) ≡ faultsLeft (songOf s) (sectionsFrom s p)
+      → refusalOf (earliest (sumFaults (songOf s))) ≡ record { number = 17; line = x .section .header }
+  opened-refused e h =
+      faults-stop (songOf s) (sectionAt s p) (sectionsFrom s (x .next)) e (o .met .later) (h ∙ ap (λ (xs : List Section). faultsLeft (songOf s) xs) (o .met .first))
+      ∙ ap (λ (k : ℕ). record { number = 17; line = k }) (sym (o .met .says .header))
+
+  pub opened-passed : hasCounts (songOf s) && offSum (songOf s) (sectionAt s p) ≡ false → sumFaults (songOf s) ≡ faultsLeft (songOf s) (sectionsFrom s p)
+      → sumFaults (songOf s) ≡ faultsLeft (songOf s) (sectionsFrom s (x .next))
+  opened-passed e h = h ∙ ap (λ (xs : List Section). faultsLeft (songOf s) xs) (o .met .first) ∙ faults-pass (songOf s) (sectionAt s p) (sectionsFrom s (x .next)) e
+
+  pub opened-summed : (y z : Sums) (c : Counts) (b : Bool) → z ≡ withSection y c (t .lines) b → b ≡ hasPrompts (x .texts .pattern .outline .empty) t → c .measures ≡ length (played (songOf s) (sectionAt s p)) → c .beats ≡ total (played (songOf s) (sectionAt s p))
+      → Summed (songOf s) (sectionsFrom s p) y → Summed (songOf s) (sectionsFrom s (x .next)) z
+  opened-summed y z c b w e m d h =
+      let g : Summed (songOf s) (sectionAt s p ∷ sectionsFrom s (x .next)) y = subst (λ xs. Summed (songOf s) xs y) (o .met .first) h in
+      subst (λ v. Summed (songOf s) (sectionsFrom s (x .next)) v) (sym w) (summed-next (songOf s) (sectionAt s p) (sectionsFrom s (x .next)) y c (t .lines) b m d (opened-lines x o t u) (e ∙ opened-prompts x o t u) g)
+
+pub with-counts : (z y : Sums) (c : Counts) (l : ℕ) (b : Bool) → z ≡ withSection y c l b → (z .sections ≡ y .sections + 1) × (z .measures ≡ y .measures + c .measures) × (z .beats ≡ y .beats + c .beats) × (z .lines ≡ y .lines + l)
+unfolding withSection
+with-counts z y c l b e = rw e (refl, refl, refl, refl)
+
+-- The words of the tables are as many.
+pub section-words-length : (s : Song) (first : ℕ) (xs : List Section) → length (sectionWords s first xs) ≡ length xs
+unfolding sectionWords
+section-words-length s first [] = refl
+section-words-length s first (x ∷ xs) = ap suc (section-words-length s (first + length (played s x)) xs)
+
+pub measure-words-length : (first : ℕ) (row : List (List Beat)) → length (measureWords first row) ≡ length row
+unfolding measureWords
+measure-words-length first [] = refl
+measure-words-length first (m ∷ row) = ap suc (measure-words-length (first + length m) row)
+
+pub beat-words-length : (row : List (List Beat)) → length (gather (map beatWord) row) ≡ total row
+unfolding gather total
+beat-words-length [] = refl
+beat-words-length (m ∷ row) = let h = beat-words-length row in let a = length-map m beatWord in rw length-append (omega arith)
+
+all-taken : (s : Song) (xs : List Section) → every (isPrompted s) xs ≡ true → gather (λ x. if isPlayed s x then x .lyrics else []) xs ≡ gather lyricsOf xs
+unfolding gather every if_then_else_ lyricsOf
+all-taken s [] e = refl
+all-taken s (x ∷ xs) e =
+    let a = both-pass (isPrompted s x) (every (isPrompted s) xs) e in
+    let b = both-pass (isSung s x) (every isCounted (x .lyrics)) (a .0) in
+    let d = both-pass (isPlayed s x) (not (isEmpty (x .lyrics))) (b .0) in
+    rw (d .0) (ap (λ (ls : List LyricLine). x .lyrics ++ ls) (all-taken s xs (a .1)))
+
+items-all : (s : Song) → hasItems s ≡ true → every (isPrompted s) (s .sections) ≡ true
+unfolding hasItems
+items-all s e = e
+
+items-length : (s : Song) → length (map itemWord (prompts s)) ≡ (if hasItems s then length (gather lyricsOf (s .sections)) else 0)
+unfolding prompts if_then_else_ linesTaken
+items-length s =
+    by-cases (hasItems s)
+    (λ e. rw e (prompts-length 0 (linesTaken s) ∙ ap length (all-taken s (s .sections) (items-all s e))))
+    (λ e. rw e)
+
+and-true : (a : Bool) → a && true ≡ a
+and-true true = refl
+and-true false = refl
+
+pub summed-end : (s : Song) (x : Sums) → Summed s [] x → Holds (tables s) (totalsOf x)
+unfolding tables totalsOf gather every total
+summed-end s x h =
+    let h0 = h .sections in
+    let h1 = h .measures in
+    let h2 = h .beats in
+    let h3 : x .lines ≡ length (gather lyricsOf (s .sections)) = let g = h .lines in omega arith in
+    let h4 : x .all ≡ hasItems s = sym (and-true (x .all)) ∙ h .all in
+    let a = section-words-length s 0 (s .sections) in
+    let b = measure-words-length 0 (allMeasures s) in
+    let d = beat-words-length (allMeasures s) in
+    record {
+      sections = omega arith;
+      measures = omega arith;
+      beats = omega arith;
+      items = rw (h3, h4) (sym (items-length s));
+    }

@@ -1,0 +1,100 @@
+use Rattle.judging.proofs.ReferenceLaws.{sectionFault, fault-at, first-section, next-section, sections-over}
+use Rattle.scores.specs.Scores.{Told}
+use Rattle.sections.specs.Onward.{sectionsFrom, sectionAt, Onward}
+use Rattle.songcode.specs.Lists.{gather}
+use Rattle.songcode.specs.Complaints.{Complaint, earliest}
+use Rattle.songcode.specs.Song.{Section}
+use Rattle.songcode.specs.Answer.{songOf}
+use Rattle.text.specs.declared.Refusal.{Refusal}
+use Rattle.text.specs.Refusals.{refusalOf}
+use lib.ListN.{length}
+use mathlib.Core.List.{List, []}
+use mathlib.Core.Path.{_≡_, refl, sym, ap, _∙_}
+use native.Mathlib.Omega.{arith}
+use Prim.Native.Nat.{_-_}
+use borrow.Author.Needs.{needs}
+use Rattle.judging.proofs.references.stage_three.Statement.{statement}
+use Rattle.judging.proofs.references.stage_three.Tie as tie
+use Rattle.judging.proofs.references.stage_three.Reads as reads
+use Rattle.judging.proofs.references.stage_three.Lts as lts
+use Rattle.judging.proofs.references.name_fault.Reads as name-fault-reads
+use Rattle.sections.proofs.meet.Reads as meet-reads
+
+abbrev Inv-loop : tie.InvT-loop
+Inv-loop s score place₀ place =
+    Onward s place × Told s score × (gather (sectionFault (songOf s .definitions)) (sectionsFrom s place) ≡ gather (sectionFault (songOf s .definitions)) (sectionsFrom s place₀))
+
+abbrev μ-loop : tie.MeasureT-loop
+μ-loop s score place₀ place = length s - place .at
+
+-- src/references.rt:45:5
+loop-holds : tie.Need-loop-holds Inv-loop μ-loop
+loop-holds c = let p = c .before .pre in (p .0, p .1, refl)
+
+-- src/references.rt:46:13
+meet-requires : tie.Need-meet-requires Inv-loop μ-loop
+meet-requires c κs = (c .before .before .loop .inv .0, c .if1 .taken)
+
+-- src/references.rt:48:13
+name-fault-requires : tie.Need-name-fault-requires Inv-loop μ-loop
+name-fault-requires c κs = let m = c .before in (m .meet .ensures .read .pattern-placed, m .before .before .before .loop .inv .1)
+
+-- src/references.rt:50:13
+returns : tie.Need-returns Inv-loop μ-loop
+unfolding sectionFault
+returns c =
+    let m = c .before .before .before .before in
+    let q = m .before .before .before in
+    let s = q .before .before .args .s .now in
+    let ds = songOf s .definitions in
+    let w = m .meet .ensures in
+    let r = c .before .before .name-fault .result in
+    let f = fault-at ds s (q .loop .place) (m .meet .result) r w (c .before .before .name-fault .ensures) in
+    first-section ds (sectionAt s (q .loop .place)) (sectionsFrom s (m .meet .result .next)) r (w .later) f (c .if2 .taken)
+    ∙ ap (λ (xs : List Section). refusalOf (earliest (gather (sectionFault ds) xs))) (sym (w .first))
+    ∙ ap (λ (cs : List Complaint). refusalOf (earliest cs)) (q .loop .inv .2)
+
+-- src/references.rt:45:5
+loop-less : tie.Need-loop-less Inv-loop μ-loop
+loop-less c = let w = c .before .before .before .before .before .meet .ensures in let a = w .further in let b = w .onward .inside in omega arith
+
+-- src/references.rt:45:5
+loop-again : tie.Need-loop-again Inv-loop μ-loop
+loop-again c =
+    let m = c .before .before .before .before .before in
+    let q = m .before .before .before in
+    let s = q .before .before .args .s .now in
+    let ds = songOf s .definitions in
+    let w = m .meet .ensures in
+    let r = c .before .before .before .name-fault .result in
+    let f = fault-at ds s (q .loop .place) (m .meet .result) r w (c .before .before .before .name-fault .ensures) in (
+      w .onward,
+      q .loop .inv .1,
+      sym (next-section ds (sectionAt s (q .loop .place)) (sectionsFrom s (m .meet .result .next)) r f (c .before .if2 .left))
+          ∙ ap (λ (xs : List Section). gather (sectionFault ds) xs) (sym (w .first))
+          ∙ q .loop .inv .2,
+    )
+
+-- src/references.rt:40:1
+returns-2 : tie.Need-returns-2 Inv-loop μ-loop
+unfolding sectionFault refusalOf earliest gather
+returns-2 c =
+    let q = c .before .before in
+    let s = q .before .before .args .s .now in
+    let ds = songOf s .definitions in
+    ap (λ (xs : List Section). refusalOf (earliest (gather (sectionFault ds) xs))) (sym (sections-over s (q .loop .place) (c .if1 .left)))
+    ∙ ap (λ (cs : List Complaint). refusalOf (earliest cs)) (q .loop .inv .2)
+
+pub stage-three-spec : {M : Type 1} → statement M
+stage-three-spec =
+    tie.close
+    (tie.spec
+    Inv-loop
+    μ-loop
+    loop-holds
+    meet-requires
+    name-fault-requires
+    returns
+    loop-less
+    loop-again
+    returns-2)

@@ -1,0 +1,64 @@
+-- A section played from its texts, and what the sections of a song hold in all.
+use Prim.Native.Nat.{ℕ, zero, suc, _+_, _*_, _≤_}
+use mathlib.Core.Path.{_≡_}
+use mathlib.Core.Bool.{Bool, true, false, not, _&&_}
+use mathlib.Core.List.{List, [], _∷_}
+use lib.Dec.{eqb}
+use lib.ListN.{length}
+use Rattle.songcode.specs.Lists.{if_then_else_, times}
+use Rattle.songcode.specs.Tables.{Tables}
+use Rattle.settings.specs.Cuts.{CutFits}
+use Rattle.player.specs.declared.playing.Counts.{Counts}
+use Rattle.player.specs.Walks.{rowOf}
+use Rattle.player.specs.Windows.{sectionRow}
+use Rattle.sections.specs.declared.values.Modifiers.{Modifiers}
+use Rattle.scores.specs.declared.definitions.Score.{Score}
+use Rattle.scores.specs.declared.texts.Texts.{Texts}
+use Rattle.judging.specs.declared.lyrics.Tally.{Tally}
+use Rattle.judging.specs.declared.sums.Sums.{Sums}
+use Rattle.judging.specs.declared.sums.Totals.{Totals}
+use Rattle.judging.specs.Lengths.{cutOrNone}
+
+-- The row that a section plays in n, as words.
+unfoldable pub rowOfTexts : List ℕ → Score → ℕ → Texts → Modifiers → List (List ℕ)
+rowOfTexts ws score n t m =
+    sectionRow (cutOrNone (m .front)) (cutOrNone (m .back)) (m .repeat)
+    (rowOf (score .definitions) n ws (t .lead .at)) (rowOf (score .definitions) n ws (t .pattern .at)) (rowOf (score .definitions) n ws (t .tail .at))
+
+-- The section's measures are known to be few enough before it is played.
+pub record PlaysWithin (ws : List ℕ) (score : Score) (n : ℕ) (t : Texts) (m : Modifiers) (base : ℕ) : Type 0 where
+  pub meter : n ≤ 32
+  pub cuts : CutFits (m .front)
+  pub measures : length (times (m .repeat) (rowOf (score .definitions) n ws (t .pattern .at))) ≤ 65535
+  pub room :
+      base + 32 * (length (rowOf (score .definitions) n ws (t .lead .at)) + length (times (m .repeat) (rowOf (score .definitions) n ws (t .pattern .at))) + length (rowOf (score .definitions) n ws (t .tail .at)))
+      ≤ 2097120
+
+-- Whether a section has lyric lines and a pattern that is not empty; whether, moreover, all its lines have counts; whether they sum to another number
+-- of measures, where the lines of the song have counts.
+unfoldable pub hasLines : Bool → Tally → Bool
+hasLines empty t = not empty && not (eqb (t .lines) 0)
+
+unfoldable pub hasPrompts : Bool → Tally → Bool
+unfolding hasLines
+hasPrompts empty t = hasLines empty t && eqb (t .bare) 0
+
+unfoldable pub sumDiffers : Bool → Bool → Tally → ℕ → Bool
+unfolding hasLines
+sumDiffers counted empty t measures = counted && (hasLines empty t && not (eqb (t .sum) measures))
+
+unfoldable pub withSection : Sums → Counts → ℕ → Bool → Sums
+withSection x c l b =
+    record { sections = x .sections + 1; measures = x .measures + c .measures; beats = x .beats + c .beats; lines = x .lines + l; all = x .all && b }
+
+unfoldable pub totalsOf : Sums → Totals
+unfolding if_then_else_
+totalsOf x =
+    record { refusal = record { number = 0; line = 0 }; sections = x .sections; measures = x .measures; beats = x .beats; items = if x .all then x .lines else 0 }
+
+-- The numbers are the lengths of the tables.
+pub record Holds (t : Tables) (r : Totals) : Type 0 where
+  pub sections : r .sections ≡ length (t .sections)
+  pub measures : r .measures ≡ length (t .measures)
+  pub beats : r .beats ≡ length (t .beats)
+  pub items : r .items ≡ length (t .items)

@@ -1,0 +1,15 @@
+// The stages of a chart one after another: which refusal is given, and where none is, what the song's tables will hold.
+mod charts;
+mod lengths;
+mod lyrics;
+mod meters;
+mod references;
+mod stages;
+mod sums;
+
+pub use charts::Chart;
+pub use charts::judge;
+pub use meters::meter_of;
+pub use stages::first_stages;
+pub use sums::Totals;
+pub use sums::play;

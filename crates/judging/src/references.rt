@@ -1,0 +1,55 @@
+// Stage 3 for sections: a pattern that names a definition which is not there.
+use scores::Score;
+use scores::is_missing;
+use scores::named_in;
+use sections::Place;
+use sections::Run;
+use sections::meet;
+use text::Refusal;
+ghost use mathlib.Core.Path.{_≡_};
+ghost use mathlib.Core.Option.{some};
+ghost use Rattle.songcode.specs.Lists.{gather};
+ghost use Rattle.songcode.specs.Complaints.{earliest};
+ghost use Rattle.songcode.specs.Song.{Pattern, Section};
+ghost use Rattle.songcode.specs.Sections.{patternIn};
+ghost use Rattle.songcode.specs.References.{sectionReference};
+ghost use Rattle.songcode.specs.Answer.{songOf};
+ghost use Rattle.text.specs.Refusals.{refusalOf};
+ghost use Rattle.sections.specs.Runs.{linesOf};
+ghost use Rattle.sections.specs.BlockParts.{Placed};
+ghost use Rattle.sections.specs.Onward.{Onward, sectionsFrom};
+ghost use Rattle.scores.specs.Scores.{Told};
+
+fn name_fault(s: &[u8], score: Score, pattern: Run, header: usize) -> Refusal
+    requires { ⌜ Placed (now s) pattern × Told (now s) score ⌝ }
+    ensures { λ r. ⌜ ((x : Pattern) → patternIn (linesOf (now (s .entry)) pattern) ≡ some x → r ≡ refusalOf (earliest (sectionReference (songOf (now (s .entry)) .definitions) x header))) ⌝ }
+{
+    let named = named_in(s, pattern);
+    if named == 0 {
+        return Refusal { number: 0, line: 0 };
+    }
+    if is_missing(score, named) {
+        return Refusal {
+            number: 10,
+            line: header,
+        };
+    }
+    Refusal { number: 0, line: 0 }
+}
+
+pub fn stage_three(s: &[u8], score: Score, first: Place) -> Refusal
+    requires { ⌜ Onward (now s) first × Told (now s) score ⌝ }
+    ensures { λ r. ⌜ r ≡ refusalOf (earliest (gather (λ (x : Section). sectionReference (songOf (now (s .entry)) .definitions) (x .pattern) (x .header)) (sectionsFrom (now (s .entry)) first))) ⌝ }
+{
+    let mut place = first;
+    while place.at < s.len() {
+        let x = meet(s, place);
+        let section = x.section;
+        let fault = name_fault(s, score, section.pattern, section.header);
+        if fault.number != 0 {
+            return fault;
+        }
+        place = x.next;
+    }
+    Refusal { number: 0, line: 0 }
+}

@@ -1,0 +1,105 @@
+// The stages one after another, up to the first that refuses.
+use super::lengths::stage_five;
+use super::lyrics::stage_six;
+use super::meters::stage_four;
+use super::references::stage_three;
+use super::sums::Totals;
+use super::sums::stage_seven;
+use scores::Loaded;
+use scores::Score;
+use sections::Place;
+use stage2::stage_two;
+use text::Refusal;
+use text::judge_input;
+ghost use mathlib.Core.Path.{_≡_};
+ghost use mathlib.Core.List.{List, [], _∷_};
+ghost use Prim.Native.Nat.{_≤_};
+ghost use lib.ListN.{length};
+ghost use Rattle.songcode.specs.Lists.{orElse};
+ghost use Rattle.songcode.specs.Complaints.{verdict};
+ghost use Rattle.songcode.specs.Playing.{timeAmong};
+ghost use Rattle.songcode.specs.Meter.{meterFaults, lengthFaults};
+ghost use Rattle.songcode.specs.Tables.{tables};
+ghost use Rattle.songcode.specs.SongText.{textFaults};
+ghost use Rattle.songcode.specs.Answer.{inputFaults, blocksOf, songOf};
+ghost use Rattle.text.specs.Refusals.{refusalOf};
+ghost use Rattle.scores.specs.Scores.{Begins, Loads, Ready};
+ghost use Rattle.judging.specs.Sums.{Holds};
+ghost use Rattle.judging.specs.Stages.{lyricFaults, playingFaults, laterFaults};
+
+// Stages 1 and 2.
+pub fn first_stages(s: &[u8]) -> Refusal
+    ensures { λ r. ⌜ r ≡ refusalOf (verdict (inputFaults (now (s .entry)) ∷ textFaults (blocksOf (now (s .entry))) ∷ [])) ⌝ }
+{
+    let r = judge_input(s);
+    if r.number != 0 {
+        return r;
+    }
+    stage_two(s)
+}
+
+fn refused(refusal: Refusal) -> Totals
+    ensures { λ r. ⌜ r ≡ record { refusal = refusal; sections = 0; measures = 0; beats = 0; items = 0 } ⌝ }
+{
+    Totals {
+        refusal,
+        sections: 0,
+        measures: 0,
+        beats: 0,
+        items: 0,
+    }
+}
+
+// Stages 6 and 7, where those before refuse nothing.
+fn lyric_stages(s: &[u8], score: Score, first: Place, time: usize, words: &mut [u32]) -> Totals
+    requires ready { ⌜ Begins (now s) first × Ready (now s) (now words) score × (score .fill ≤ first .at) × (time ≡ orElse (timeAmong (songOf (now s) .keys)) 0) × (time ≤ 32) ⌝ }
+    requires clear { ⌜ (meterFaults (songOf (now s)) ≡ []) × (lengthFaults (songOf (now s)) 0 (songOf (now s) .sections) ≡ []) ⌝ }
+    ensures refusal { λ r. ⌜ r .refusal ≡ refusalOf (verdict (lyricFaults (songOf (now (s .entry))))) ⌝ }
+    ensures holds { λ r. ⌜ (r .refusal .number ≡ 0 → Holds (tables (songOf (now (s .entry)))) r) ⌝ }
+    ensures ready { λ r. ⌜ (r .refusal .number ≡ 0 → Ready (now (s .entry)) (now (words .exit)) score) ⌝ }
+{
+    let six = stage_six(s, score, first);
+    let bare = six.refusal;
+    if bare.number != 0 {
+        return refused(bare);
+    }
+    stage_seven(s, score, first, time, six.counted, words)
+}
+
+// Stages 4 to 7.
+fn playing_stages(s: &[u8], score: Score, first: Place, time: usize, words: &mut [u32]) -> Totals
+    requires { ⌜ Begins (now s) first × Ready (now s) (now words) score × (score .fill ≤ first .at) × (time ≡ orElse (timeAmong (songOf (now s) .keys)) 0) × (time ≤ 32) ⌝ }
+    ensures refusal { λ r. ⌜ r .refusal ≡ refusalOf (verdict (playingFaults (songOf (now (s .entry))))) ⌝ }
+    ensures holds { λ r. ⌜ (r .refusal .number ≡ 0 → Holds (tables (songOf (now (s .entry)))) r) ⌝ }
+    ensures ready { λ r. ⌜ (r .refusal .number ≡ 0 → Ready (now (s .entry)) (now (words .exit)) score) ⌝ }
+{
+    let four = stage_four(s, score, first, time, words);
+    if four.number != 0 {
+        return refused(four);
+    }
+    let five = stage_five(s, score, first, time, words);
+    if five.number != 0 {
+        return refused(five);
+    }
+    lyric_stages(s, score, first, time, words)
+}
+
+// Stages 3 to 7; where none refuses, how many words the tables take.
+pub fn later_stages(s: &[u8], loaded: Loaded, time: usize, words: &mut [u32]) -> Totals
+    requires { ⌜ Loads (now s) (now words) loaded × (time ≡ orElse (timeAmong (songOf (now s) .keys)) 0) × (time ≤ 32) ⌝ }
+    ensures refusal { λ r. ⌜ r .refusal ≡ refusalOf (verdict (laterFaults (songOf (now (s .entry))))) ⌝ }
+    ensures holds { λ r. ⌜ (r .refusal .number ≡ 0 → Holds (tables (songOf (now (s .entry)))) r) ⌝ }
+    ensures ready { λ r. ⌜ (r .refusal .number ≡ 0 → (loaded .refusal .number ≡ 0) × Ready (now (s .entry)) (now (words .exit)) (loaded .score)) ⌝ }
+{
+    let early = loaded.refusal;
+    if early.number != 0 {
+        return refused(early);
+    }
+    let score = loaded.score;
+    let first = loaded.sections;
+    let three = stage_three(s, score, first);
+    if three.number != 0 {
+        return refused(three);
+    }
+    playing_stages(s, score, first, time, words)
+}

@@ -1,0 +1,249 @@
+-- What the tables and the buffer hold of a definition: how it is known, how it stays, how one comes, and what it plays.
+use Prim.Native.Nat.{ℕ, _+_, _≤_}
+use mathlib.Core.Path.{_≡_, refl, sym, ap, _∙_}
+use mathlib.Core.List.{List, [], _∷_, _++_}
+use mathlib.Core.Bool.{Bool, not}
+use mathlib.Core.Option.{Option, none, some}
+use native.Mathlib.Omega.{arith}
+use lib.ListN.{length, take, drop, length-take}
+use lib.Seq.{take-take, take-at, drop-at, take-append-add}
+use Rattle.songcode.specs.Complaints.{earliest}
+use Rattle.songcode.specs.Lists.{if_then_else_, isSome, andThen, orElse, gather}
+use Rattle.songcode.specs.Lines.{Line}
+use Rattle.songcode.specs.Song.{Items, one, named, Definition}
+use Rattle.songcode.specs.PatternText.{references}
+use Rattle.songcode.specs.References.{definitionOf, itemsOf, putInItem, putIn, patternItems, itemsFault, referenceFault, depthFault, definitionReferences}
+use Rattle.songcode.specs.Fits.{Refers, ReferAll}
+use Rattle.songcode.proofs.ListLaws.{Each, each-map, append-is-nil, gather-nil, nil-is-not-cons}
+use Rattle.songcode.proofs.PatternAgree.{none-referred}
+use Rattle.songcode.proofs.FaultLaws.{unless-exact}
+use Rattle.tokens.specs.TokenWords.{tokenWords}
+use Rattle.tokens.specs.Lexing.{laid}
+use Rattle.player.specs.declared.leaves.Definitions.{Definitions}
+use Rattle.player.specs.declared.leaves.Stretch.{Stretch}
+use Rattle.player.specs.Walks.{stretchOf}
+use Rattle.player.specs.Texts.{ItemsFit, Stands}
+use Rattle.player.proofs.PutInLaws.{putIn-same}
+use Rattle.player.proofs.Meaning.{row-meaning}
+use Rattle.player.proofs.Walkables as walkables
+use Rattle.player.proofs.Walkables.{refers-walkable, empty-row}
+use Rattle.outlines.specs.declared.readings.Outline.{Outline}
+use Rattle.outlines.specs.declared.tables.Outlines.{Outlines}
+use Rattle.outlines.specs.Tables.{vacant, lookUp, isMissing}
+use Rattle.outlines.specs.Readings.{outlined}
+use Rattle.outlines.specs.Faults.{allFaults, faultless, faultNumber, faultIn}
+use Rattle.outlines.specs.Told.{refusal, Tells, Told, KnowsItems, Knows, Known}
+use Rattle.outlines.proofs.OutlineAgree.{outline-tells}
+use Rattle.outlines.proofs.SketchLaws.{outline-sketches}
+use Rattle.outlines.proofs.KnownLaws.{empty-known}
+use Rattle.outlines.proofs.FaultAgree.{fault-given}
+use Rattle.scores.specs.declared.definitions.Score.{Score}
+use Rattle.scores.specs.Laying.{runTokens}
+use Rattle.scores.specs.Scores.{namedText, Carries}
+use Rattle.scores.specs.Loading.{HeldText, HeldItems, Held}
+use Rattle.scores.proofs.FitLaws.{Good, items-fit}
+use Rattle.scores.proofs.DefinitionLaws as definitions
+
+-- The words of a stretch stay where the first words of the buffer do.
+pub stands-kept : (ws vs : List ℕ) (fill : ℕ) (at : Stretch) (r : Items) → at .to ≤ fill → take fill vs ≡ take fill ws → Stands ws at r → Stands vs at r
+unfolding Stands
+stands-kept ws vs fill at r h e p =
+    let same : take (at .to) vs ≡ take (at .to) ws = sym (take-take (at .to) fill vs h) ∙ ap (take (at .to)) e ∙ take-take (at .to) fill ws h in
+    ap (drop (at .from)) same ∙ p
+
+-- New words stand in their stretch, and the words before it stay.
+pub laid-there : (fill : ℕ) (new ws : List ℕ) → fill ≤ length ws → drop fill (take (fill + length new) (laid fill new ws)) ≡ new
+laid-there fill new ws h =
+    let l : length (take fill ws) ≡ fill = length-take fill ws ∙ omega arith in
+    let a : take (length (take fill ws) + length new) (laid fill new ws) ≡ take fill ws ++ take (length new) (new ++ drop (fill + length new) ws) = take-append-add (take fill ws) (new ++ drop (fill + length new) ws) (length new) in
+    let b : take (length new) (new ++ drop (fill + length new) ws) ≡ new = take-at new (drop (fill + length new) ws) (length new) refl in
+    let c : take (fill + length new) (laid fill new ws) ≡ take fill ws ++ new = ap (λ (k : ℕ). take (k + length new) (laid fill new ws)) (sym l) ∙ a ∙ ap (λ ys. take fill ws ++ ys) b in
+    ap (drop fill) c ∙ drop-at (take fill ws) new fill l
+
+pub laid-before : (fill : ℕ) (new ws : List ℕ) → fill ≤ length ws → take fill (laid fill new ws) ≡ take fill ws
+laid-before fill new ws h = take-at (take fill ws) (new ++ drop (fill + length new) ws) fill (length-take fill ws ∙ omega arith)
+
+module _ (ds : List Definition) (ws : List ℕ) (fill : ℕ) where
+  -- What is held is known.
+  pub items-known : (i : Option Items) (at : Stretch) (o : Outline) → HeldItems ds ws fill at o i → KnowsItems i o
+  unfolding HeldItems KnowsItems
+  items-known none at o h = h .1
+  items-known (some r) at o h = (h .sketched, h .shallow, λ e. rw (putIn-same (itemsOf ds) r e) at (h .tells))
+
+  pub held-known : (c : Option Definition) (m : Bool) (at : Stretch) (o : Outline) → Held ds ws fill c m at o → Knows c m o
+  unfolding Held Knows
+  held-known none m at o h = (h .0, h .2)
+  held-known (some d) m at o h = (h .0, items-known (d .items) at o (h .1))
+
+  -- It stays held in more words.
+  module _ (vs : List ℕ) (more : ℕ) (wider : fill ≤ more) (same : take fill vs ≡ take fill ws) where
+    items-kept : (i : Option Items) (at : Stretch) (o : Outline) → HeldItems ds ws fill at o i → HeldItems ds vs more at o i
+    unfolding HeldItems
+    items-kept none at o h = h
+    items-kept (some r) at o h =
+        let k = h .within in
+        record {
+          within = omega arith;
+          stands = stands-kept ws vs fill at r (h .within) same (h .stands);
+          fits = h .fits;
+          shallow = h .shallow;
+          sketched = h .sketched;
+          refers = h .refers;
+          tells = h .tells;
+        }
+
+    pub held-kept : (c : Option Definition) (m : Bool) (at : Stretch) (o : Outline) → Held ds ws fill c m at o → Held ds vs more c m at o
+    unfolding Held
+    held-kept none m at o h = h
+    held-kept (some d) m at o h = (h .0, items-kept (d .items) at o (h .1))
+
+  -- A definition that is found is held, and so are its items.
+  pub found-held : (c : Option Definition) (m : Bool) (at : Stretch) (o : Outline) (d : Definition) (q : Items) → Held ds ws fill c m at o → c ≡ some d → d .items ≡ some q → HeldText ds ws fill at o q
+  unfolding Held HeldItems
+  found-held c m at o d q h e f = items (d .items) f (held c e h)
+    where
+      held : (b : Option Definition) → b ≡ some d → Held ds ws fill b m at o → HeldItems ds ws fill at o (d .items)
+      held b g w = let z : Held ds ws fill (some d) m at o = rw g at w in z .1
+
+      items : (i : Option Items) → i ≡ some q → HeldItems ds ws fill at o i → HeldText ds ws fill at o q
+      items i g w = let z : HeldItems ds ws fill at o (some q) = rw g at w in z
+
+-- The references of a definition without fault are to earlier definitions.
+refers-to : (ds : List Definition) (n head : ℕ) (o : Option Definition) → definitionOf n ds ≡ o → referenceFault o head ≡ [] → Refers ds n
+unfolding referenceFault itemsFault
+refers-to ds n head none e f = nil-is-not-cons (sym f)
+refers-to ds n head (some d) e f = of (d .items) refl f
+  where
+    of : (i : Option Items) → d .items ≡ i → itemsFault i head ≡ [] → Refers ds n
+    of none g h = nil-is-not-cons (sym h)
+    of (some r) g h = record { definition = d; items = r; found = e; filled = g; plain = unless-exact _ 11 head (none-referred r) .0 h }
+
+pub references-right : (ds : List Definition) (r : Items) (head : ℕ) → definitionReferences ds (some r) head ≡ [] → Each (Refers ds) (references r)
+unfolding definitionReferences
+references-right ds r head e =
+    each-map (λ n f. refers-to ds n head (definitionOf n ds) refl f) (references r)
+    (gather-nil (λ n. referenceFault (definitionOf n ds) head) (references r) (append-is-nil (gather (λ n. referenceFault (definitionOf n ds) head) (references r)) (depthFault ds r head) e .0))
+
+-- A new definition, where the earlier ones among all are held.
+module _ (ds earlier : List Definition) (d : Definitions) (o : Outlines) (ws : List ℕ) (fill : ℕ)
+    (held : (n : ℕ) → Held ds ws fill (definitionOf n earlier) (isMissing d o n) (stretchOf d n) (lookUp d o n))
+    (agree : (n : ℕ) (x : Definition) → definitionOf n earlier ≡ some x → definitionOf n ds ≡ some x) where
+  pub earlier-known : Known earlier (isMissing d o) (lookUp d o)
+  unfolding Known
+  earlier-known n = held-known ds ws fill (definitionOf n earlier) (isMissing d o n) (stretchOf d n) (lookUp d o n) (held n)
+
+  refers-all : (ns : List ℕ) → Each (Refers earlier) ns → ReferAll ds ns
+  unfolding Each ReferAll
+  refers-all [] h = tt
+  refers-all (n ∷ ns) h =
+      let w = h .0 in
+      (record { definition = w .definition; items = w .items; found = agree n (w .definition) (w .found); filled = w .filled; plain = w .plain }, refers-all ns (h .1))
+
+  refer-told : (n : ℕ) → Refers earlier n → Told (lookUp d o) (itemsOf ds) n
+  unfolding Told putInItem itemsOf andThen orElse
+  refer-told n w =
+      let t = found-held ds ws fill (definitionOf n earlier) (isMissing d o n) (stretchOf d n) (lookUp d o n) (w .definition) (w .items) (held n) (w .found) (w .filled) .tells in
+      let k : Tells (lookUp d o n) (w .items) = rw (putIn-same (itemsOf ds) (w .items) (w .plain)) at t in
+      rw (agree n (w .definition) (w .found), w .filled) k
+
+  -- The words of its lines stand in its stretch.
+  module _ (vs : List ℕ) (at : Stretch) (ls : List Line) (good : Each Good (runTokens ls)) (there : drop (at .from) (take (at .to) vs) ≡ tokenWords (runTokens ls)) (size : at .to ≡ at .from + length (tokenWords (runTokens ls))) (head : ℕ) where
+    stands : (r : Items) → definitions.Says ls (some r) → Stands vs at r
+    unfolding Stands definitions.Says
+    stands r w = there ∙ ap tokenWords (w .0)
+
+    fits : (r : Items) → definitions.Says ls (some r) → ItemsFit r
+    unfolding definitions.Says
+    fits r w = items-fit r (runTokens ls) (w .0) good
+
+    nothing-there : definitions.Says ls none → drop (at .from) (take (at .to) vs) ≡ []
+    unfolding definitions.Says tokenWords
+    nothing-there w = there ∙ rw w
+
+    -- Its fault is what stage 3 says of it.
+    pub fault-is : (i : Option Items) → definitions.Says ls i → refusal (faultIn (isMissing d o) (lookUp d o) (drop (at .from) (take (at .to) vs))) head ≡ earliest (definitionReferences earlier i head)
+    unfolding faultIn allFaults faultless faultNumber refusal earliest definitionReferences if_then_else_ definitions.Says
+    fault-is none w = rw (nothing-there w) refl
+    fault-is (some r) w = fault-given earlier (isMissing d o) (lookUp d o) earlier-known head vs at r (stands r w) (fits r w) (w .1)
+
+    pub items-new : (i : Option Items) → definitions.Says ls i → definitionReferences earlier i head ≡ [] → HeldItems ds vs (at .to) at (outlined (lookUp d o) (drop (at .from) (take (at .to) vs))) i
+    unfolding HeldItems KnowsItems definitions.Says tokenWords
+    items-new none w e = (let z : length (tokenWords (runTokens ls)) ≡ 0 = rw w in omega arith, empty-known (lookUp d o) vs at (nothing-there w))
+    items-new (some r) w e =
+        let right = references-right earlier r head e in
+        record {
+          within = omega arith;
+          stands = stands r w;
+          fits = fits r w;
+          shallow = w .1;
+          sketched = outline-sketches (lookUp d o) vs at r (stands r w) (fits r w);
+          refers = refers-all (references r) right;
+          tells = outline-tells (lookUp d o) (itemsOf ds) vs at r (stands r w) (fits r w) (w .1) (each-map refer-told (references r) right);
+        }
+
+-- Where all definitions are held, each number says what the song does.
+module _ (ds : List Definition) (ws : List ℕ) (score : Score)
+    (held : (n : ℕ) → Held ds ws (score .fill) (definitionOf n ds) (isMissing (score .definitions) (score .outlines) n) (stretchOf (score .definitions) n) (lookUp (score .definitions) (score .outlines) n)) where
+  abbrev d : Definitions
+  d = score .definitions
+
+  abbrev o : Outlines
+  o = score .outlines
+
+  pub missing-told : (n : ℕ) → isMissing d o n ≡ not (isSome (definitionOf n ds))
+  unfolding Held isSome
+  missing-told n = of (definitionOf n ds) (held n)
+    where
+      of : (c : Option Definition) → Held ds ws (score .fill) c (isMissing d o n) (stretchOf d n) (lookUp d o n) → isMissing d o n ≡ not (isSome c)
+      of none h = h .0
+      of (some x) h = h .0
+
+  pub filled-told : (n : ℕ) → namedText score n .outline .empty ≡ not (isSome (patternItems ds (named n)))
+  unfolding Held HeldItems isSome patternItems itemsOf andThen vacant namedText
+  filled-told n = of (definitionOf n ds) (held n)
+    where
+      items : (i : Option Items) → HeldItems ds ws (score .fill) (stretchOf d n) (lookUp d o n) i → lookUp d o n .empty ≡ not (isSome (andThen i (λ r. some (putIn (itemsOf ds) r))))
+      items none h = rw (h .1)
+      items (some r) h = h .sketched .filled
+
+      of : (c : Option Definition) → Held ds ws (score .fill) c (isMissing d o n) (stretchOf d n) (lookUp d o n) → lookUp d o n .empty ≡ not (isSome (andThen (andThen c (λ x. x .items)) (λ r. some (putIn (itemsOf ds) r))))
+      of none h = rw (h .2)
+      of (some x) h = items (x .items) (h .1)
+
+  module _ (vs : List ℕ) (same : take (score .fill) vs ≡ take (score .fill) ws) where
+    refers : (n : ℕ) → Refers ds n → walkables.Refers vs d (itemsOf ds) n
+    unfolding itemsOf andThen
+    refers n w =
+        let t = found-held ds ws (score .fill) (definitionOf n ds) (isMissing d o n) (stretchOf d n) (lookUp d o n) (w .definition) (w .items) (held n) (w .found) (w .filled) in
+        let k = t .shallow in
+        record {
+          items = w .items;
+          says = record { said = rw (w .found) (w .filled); plain = w .plain; stands = stands-kept ws vs (score .fill) (stretchOf d n) (w .items) (t .within) same (t .stands) };
+          fits = t .fits;
+          shallow = omega arith;
+        }
+
+    refers-each : (ns : List ℕ) → ReferAll ds ns → Each (walkables.Refers vs d (itemsOf ds)) ns
+    unfolding ReferAll Each
+    refers-each [] h = tt
+    refers-each (n ∷ ns) h = (refers n (h .0), refers-each ns (h .1))
+
+    pub carries-all : (n : ℕ) → Carries vs d (namedText score n) (patternItems ds (named n))
+    unfolding Held HeldItems patternItems itemsOf andThen Carries namedText
+    carries-all n = of (definitionOf n ds) (held n)
+      where
+        items : (i : Option Items) → HeldItems ds ws (score .fill) (stretchOf d n) (lookUp d o n) i → Carries vs d (namedText score n) (andThen i (λ r. some (putIn (itemsOf ds) r)))
+        items none h = (h .1, λ k. empty-row d k vs (stretchOf d n) (h .0))
+        items (some r) h =
+            let z = h .shallow in (
+              h .sketched .filled,
+              h .tells,
+              λ k.
+                  row-meaning vs d (itemsOf ds) k r (stretchOf d n)
+                  (refers-walkable vs d (itemsOf ds) r (h .fits) (omega arith) (refers-each (references r) (h .refers)))
+                  (stands-kept ws vs (score .fill) (stretchOf d n) r (h .within) same (h .stands)),
+            )
+
+        of : (c : Option Definition) → Held ds ws (score .fill) c (isMissing d o n) (stretchOf d n) (lookUp d o n) → Carries vs d (namedText score n) (andThen (andThen c (λ x. x .items)) (λ r. some (putIn (itemsOf ds) r)))
+        of none h = (h .2, λ k. empty-row d k vs (stretchOf d n) (h .1))
+        of (some x) h = items (x .items) (h .1)

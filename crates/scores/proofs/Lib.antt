@@ -1,0 +1,19 @@
+-- Laws that the proofs of the functions cite, and that callers use.
+pub mod ComplaintLaws
+pub mod LaidLaws
+pub mod LayingLaws
+pub mod WeightLaws
+pub mod ReachedLaws
+pub mod FitLaws
+pub mod NamedLaws
+pub mod SideLaws
+pub mod TextLaws
+pub mod OpenLaws
+pub mod CleanLaws
+pub mod LineNumberLaws
+pub mod MetadataLaws
+pub mod NumberedLaws
+pub mod DefinitionLaws
+pub mod HeldLaws
+pub mod FaultLineLaws
+pub mod LoadLaws

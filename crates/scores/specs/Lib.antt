@@ -1,0 +1,5 @@
+-- What the contracts on the texts of a chart say: how they are laid into the buffer, and what stands there.
+pub mod Laying
+pub mod Metadata
+pub mod Scores
+pub mod Loading

@@ -1,0 +1,84 @@
+-- When the buffer holds the definitions of a song, and the texts of a section.
+use Prim.Native.Nat.{ℕ, zero, suc, _+_, _<_, _≤_}
+use mathlib.Core.Path.{_≡_}
+use mathlib.Core.List.{List, [], _∷_}
+use mathlib.Core.Bool.{Bool, true, false, not}
+use mathlib.Core.Option.{Option, none, some}
+use lib.Dec.{leb}
+use lib.ListN.{length, take, set}
+use Rattle.songcode.specs.Lists.{if_then_else_, isSome, andThen, gather}
+use Rattle.songcode.specs.Complaints.{earliest}
+use Rattle.songcode.specs.Song.{Items, named, Definition, Section}
+use Rattle.songcode.specs.References.{definitionOf, patternItems, definitionsReferences, referenceFaults}
+use Rattle.songcode.specs.Playing.{Side, saidBy, beforeSaid, afterSaid, measuresOf}
+use Rattle.songcode.specs.Answer.{songOf}
+use Rattle.text.specs.Refusals.{refusalOf}
+use Rattle.player.specs.declared.leaves.Definitions.{Definitions}
+use Rattle.player.specs.declared.leaves.Stretch.{Stretch}
+use Rattle.player.specs.Walks.{stretchOf, rowOf}
+use Rattle.player.specs.Texts.{rowWords}
+use Rattle.outlines.specs.Tables.{vacant, lookUp, isMissing}
+use Rattle.outlines.specs.Told.{Tells}
+use Rattle.sections.specs.declared.blocks.Place.{Place}
+use Rattle.sections.specs.Onward.{sectionsFrom, Onward, sectionAt, Meets}
+use Rattle.scores.specs.declared.definitions.Score.{Score}
+use Rattle.scores.specs.declared.definitions.Loaded.{Loaded}
+use Rattle.scores.specs.declared.texts.Text.{Text}
+use Rattle.scores.specs.declared.texts.Texts.{Texts}
+use Rattle.scores.specs.declared.texts.Opened.{Opened}
+
+-- One more definition, its number and where its words stand.
+unfoldable pub numbered : Definitions → ℕ → Stretch → Definitions
+unfolding if_then_else_
+numbered d id t =
+    if leb 26 (d .count) then d
+    else record { count = d .count + 1; ids = set (d .ids) (d .count) id; from = set (d .from) (d .count) (t .from); to = set (d .to) (d .count) (t .to) }
+
+-- The text of the definition of that number, as it is found.
+unfoldable pub namedText : Score → ℕ → Text
+namedText score n = record { at = stretchOf (score .definitions) n; outline = lookUp (score .definitions) (score .outlines) n }
+
+-- A text in the buffer that plays these items, references put in, and whose outline tells of them; no items are an empty text.
+unfoldable pub Carries : List ℕ → Definitions → Text → Option Items → Type 0
+Carries ws d t none = (t .outline ≡ vacant) × ((n : ℕ) → rowOf d n ws (t .at) ≡ [])
+Carries ws d t (some r) = (t .outline .empty ≡ false) × Tells (t .outline) r × ((n : ℕ) → rowOf d n ws (t .at) ≡ rowWords (measuresOf n none r))
+
+-- What is known of a song's definitions without their words: which are there, and which are not empty.
+pub record Told (s : List ℕ) (score : Score) : Type 0 where
+  pub small : length s ≤ 65536
+  pub missing : (n : ℕ) → isMissing (score .definitions) (score .outlines) n ≡ not (isSome (definitionOf n (songOf s .definitions)))
+  pub filled : (n : ℕ) → namedText score n .outline .empty ≡ not (isSome (patternItems (songOf s .definitions) (named n)))
+
+-- The definitions of the song stand in the first words of the buffer, whatever stands behind them.
+pub record Ready (s : List ℕ) (ws : List ℕ) (score : Score) : Type 0 where
+  pub told : Told s score
+  pub room : length s ≤ length ws
+  pub carries : (n : ℕ) (vs : List ℕ) → take (score .fill) vs ≡ take (score .fill) ws → Carries vs (score .definitions) (namedText score n) (patternItems (songOf s .definitions) (named n))
+
+-- All sections of the song stand from the place on.
+pub record Begins (s : List ℕ) (p : Place) : Type 0 where
+  pub onward : Onward s p
+  pub sections : sectionsFrom s p ≡ songOf s .sections
+
+-- The definitions are loaded: what stage 3 refuses of them; where it refuses nothing, they are ready and the sections follow.
+pub record Loads (s : List ℕ) (ws : List ℕ) (r : Loaded) : Type 0 where
+  pub refused : (r .refusal .number ≡ 0 → ⊥) → r .refusal ≡ refusalOf (earliest (referenceFaults (songOf s)))
+  pub clear : r .refusal .number ≡ 0 → definitionsReferences [] (songOf s .definitions) ≡ []
+  pub ready : r .refusal .number ≡ 0 → Ready s ws (r .score)
+  pub begins : r .refusal .number ≡ 0 → Begins s (r .sections)
+  pub filled : r .refusal .number ≡ 0 → r .score .fill ≤ r .sections .at
+
+unfoldable pub sideItems : Option Side → Option Items
+unfolding andThen
+sideItems o = andThen o (λ x. some (x .items))
+
+-- The texts of a section in the buffer.
+pub record TextsAre (ds : List Definition) (x : Section) (ws : List ℕ) (d : Definitions) (t : Texts) : Type 0 where
+  pub lead : Carries ws d (t .lead) (sideItems (saidBy beforeSaid (x .modifiers)))
+  pub pattern : Carries ws d (t .pattern) (patternItems ds (x .pattern))
+  pub tail : Carries ws d (t .tail) (sideItems (saidBy afterSaid (x .modifiers)))
+
+-- The section at the place is opened.
+pub record Opens (s : List ℕ) (p : Place) (ws : List ℕ) (score : Score) (r : Opened) : Type 0 where
+  pub met : Meets s p (record { section = r .section; next = r .next })
+  pub texts : TextsAre (songOf s .definitions) (sectionAt s p) ws (score .definitions) (r .texts)
