@@ -3,6 +3,7 @@ ghost use Prim.Native.Nat.{_≤_};
 ghost use lib.ListN.{length};
 use super::answers::answer_chart;
 use super::charts::KEPT;
+use super::charts::least;
 use super::headers::plain_header;
 use super::output::ROOM;
 use super::output::flush;
@@ -84,18 +85,21 @@ fn answer_file(
     )
 }
 
+// The lines of the files that the arguments from the first to before the end name.
 fn answer_all(
+    first: usize,
+    end: usize,
     keys: &mut [u32],
     sections: &mut [u64],
     measures: &mut [u32],
     beats: &mut [u32],
     items: &mut [u64],
     out: &mut [u8; ROOM],
+    before: usize,
 ) -> usize {
-    let mut waiting = 0;
-    let count = os::arg_count();
-    let mut argument = 1;
-    while argument < count {
+    let mut waiting = before;
+    let mut argument = first;
+    while argument < end {
         waiting = answer_file(
             argument,
             keys,
@@ -111,24 +115,52 @@ fn answer_all(
     waiting
 }
 
-fn answer_large(out: &mut [u8; ROOM]) -> usize {
+// Where the next 1,000,000 arguments end.
+fn part_end(first: usize, end: usize) -> usize {
+    if end <= first {
+        return end;
+    }
+    first + least(end - first, 1000000)
+}
+
+// The same for all arguments, in rounds of 1,000,000 files. It calls itself, so the compiler does not put its tables into the frame
+// of its caller, which works with the small stack that programs are given.
+fn answer_large(
+    first: usize,
+    end: usize,
+    out: &mut [u8; ROOM],
+    before: usize,
+    rounds: u64,
+) -> usize {
+    if rounds == 0 {
+        return before;
+    }
+    let left = rounds - 1;
+    let middle = part_end(first, end);
     let mut keys = [0u32; 8];
     let mut sections = [0u64; 16384];
     let mut measures = [0u32; 65535];
     let mut beats = [0u32; 2097120];
     let mut items = [0u64; 65536];
-    answer_all(
+    let waiting = answer_all(
+        first,
+        middle,
         &mut keys,
         &mut sections,
         &mut measures,
         &mut beats,
         &mut items,
         out,
-    )
+        before,
+    );
+    if middle == end {
+        return waiting;
+    }
+    answer_large(middle, end, out, waiting, left)
 }
 
-pub fn answer_files() {
+pub fn answer_files(count: usize) {
     let mut out = [0u8; ROOM];
-    let waiting = answer_large(&mut out);
+    let waiting = answer_large(1, count, &mut out, 0, 1000000);
     flush(&out, waiting);
 }

@@ -140,14 +140,14 @@ fn step(
 }
 
 // The turns that are left to a walk: one less, or none where it stops.
-fn turns_left(turns: u64, at: Place) -> u64
+fn turns_left(turns: usize, at: Place) -> usize
     requires { ⌜ 0 < turns ⌝ }
     ensures { λ r. ⌜ r < turns ⌝ }
 {
     if at.onward { turns - 1 } else { 0 }
 }
 
-// Answers chart after chart. Nothing says that a list ends, so the walk has a number of turns that no list uses up.
+// Answers chart after chart, at most 1,000,000.
 fn walk(
     first: Place,
     keys: &mut [u32],
@@ -158,7 +158,7 @@ fn walk(
     out: &mut [u8; ROOM],
 ) -> Place {
     let mut at = first;
-    let mut turns = u64::MAX;
+    let mut turns = 1000000;
     while turns > 0 {
         at = step(at, keys, sections, measures, beats, items, out);
         turns = turns_left(turns, at);
@@ -188,14 +188,19 @@ fn finish(out: &[u8; ROOM], at: Place) {
     io::write_all(2, b"\n");
 }
 
-// With tables that hold the largest song and some words more.
-fn walk_large(first: Place, out: &mut [u8; ROOM]) -> Place {
+// With tables that hold the largest song and some words more, in rounds of 1,000,000 charts. It calls itself, so the compiler does
+// not put its tables into the frame of its caller, which works with the small stack that programs are given.
+fn walk_large(first: Place, out: &mut [u8; ROOM], rounds: u64) -> Place {
+    if rounds == 0 {
+        return first;
+    }
+    let left = rounds - 1;
     let mut keys = [0u32; 64];
     let mut sections = [0u64; 16400];
     let mut measures = [0u32; 65600];
     let mut beats = [0u32; 2097200];
     let mut items = [0u64; 65600];
-    walk(
+    let at = walk(
         first,
         &mut keys,
         &mut sections,
@@ -203,7 +208,11 @@ fn walk_large(first: Place, out: &mut [u8; ROOM]) -> Place {
         &mut beats,
         &mut items,
         out,
-    )
+    );
+    if !at.onward {
+        return at;
+    }
+    walk_large(at, out, left)
 }
 
 // With tables of a few kilobytes.
@@ -239,7 +248,7 @@ pub fn answer_list() {
     let found = at.found;
     match found {
         Found::Chart(_) => {
-            let end = walk_large(at, &mut out);
+            let end = walk_large(at, &mut out, 1000000);
             finish(&out, end);
         }
         _ => {

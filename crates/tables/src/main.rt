@@ -8,8 +8,9 @@ mod lists;
 mod output;
 
 fn main() {
-    if os::arg_count() > 1 {
-        files::answer_files();
+    let count = os::arg_count();
+    if count > 1 {
+        files::answer_files(count);
     } else {
         lists::answer_list();
     }

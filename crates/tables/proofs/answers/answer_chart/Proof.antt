@@ -1,3 +1,4 @@
+-- Safe: each table keeps its length when it is filled and when it is read into.
 use native.Mathlib.Omega.{arith}
 use borrow.Author.Needs.{needs}
 use Rattle.tables.proofs.answers.answer_chart.Statement.{statement}

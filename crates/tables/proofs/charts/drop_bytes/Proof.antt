@@ -1,3 +1,4 @@
+-- Safe, and the loop ends.
 use borrow.Author.Needs.{needs}
 use Rattle.tables.proofs.charts.drop_bytes.Statement.{statement}
 use Rattle.tables.proofs.charts.drop_bytes.Tie as tie

@@ -1,3 +1,4 @@
+-- Safe, and the loop ends; every table keeps its length.
 use Prim.Native.Nat.{_-_}
 use lib.ListN.{length}
 use mathlib.Core.Path.{_≡_}
@@ -6,62 +7,57 @@ use Rattle.tables.proofs.files.answer_all.Statement.{statement}
 use Rattle.tables.proofs.files.answer_all.Tie as tie
 use Rattle.tables.proofs.files.answer_all.Reads as reads
 use Rattle.tables.proofs.files.answer_all.Lts as lts
-use Rattle.os.proofs.arg_count.Reads as arg-count-reads
 use Rattle.tables.proofs.files.answer_file.Reads as answer-file-reads
 
 abbrev Inv-loop : tie.InvT-loop
-Inv-loop keys₀ sections₀ measures₀ beats₀ items₀ out₀ waiting₀ count argument₀ keys sections measures beats items out waiting argument =
+Inv-loop first end keys₀ sections₀ measures₀ beats₀ items₀ out₀ before waiting₀ argument₀ keys sections measures beats items out waiting argument =
     (length keys ≡ length keys₀) × (length sections ≡ length sections₀) × (length measures ≡ length measures₀) × (length beats ≡ length beats₀) × (length items ≡ length items₀)
 
 abbrev μ-loop : tie.MeasureT-loop
-μ-loop keys₀ sections₀ measures₀ beats₀ items₀ out₀ waiting₀ count argument₀ keys sections measures beats items out waiting argument =
-    count - argument
+μ-loop first end keys₀ sections₀ measures₀ beats₀ items₀ out₀ before waiting₀ argument₀ keys sections measures beats items out waiting argument =
+    end - argument
 
--- src/files.rt:96:9
-arg-count-requires : tie.Need-arg-count-requires Inv-loop μ-loop
-arg-count-requires c κs = search needs
-
--- src/files.rt:98:5
+-- src/files.rt:102:5
 loop-holds : tie.Need-loop-holds Inv-loop μ-loop
 loop-holds c = search needs
 
--- src/files.rt:99:9
+-- src/files.rt:103:9
 answer-file-requires : tie.Need-answer-file-requires Inv-loop μ-loop
 answer-file-requires c κs = search needs
 
--- src/files.rt:109:9
+-- src/files.rt:113:9
 add-argument : tie.Need-add-argument Inv-loop μ-loop
 add-argument c = search needs
 
--- src/files.rt:98:5
+-- src/files.rt:102:5
 loop-less : tie.Need-loop-less Inv-loop μ-loop
 loop-less c = search needs
 
--- src/files.rt:98:5
+-- src/files.rt:102:5
 loop-again : tie.Need-loop-again Inv-loop μ-loop
 loop-again c = search needs
 
--- src/files.rt:87:1
+-- src/files.rt:89:1
 same-length : tie.Need-same-length Inv-loop μ-loop
 same-length c = search needs
 
--- src/files.rt:87:1
+-- src/files.rt:89:1
 same-length-2 : tie.Need-same-length-2 Inv-loop μ-loop
 same-length-2 c = search needs
 
--- src/files.rt:87:1
+-- src/files.rt:89:1
 same-length-3 : tie.Need-same-length-3 Inv-loop μ-loop
 same-length-3 c = search needs
 
--- src/files.rt:87:1
+-- src/files.rt:89:1
 same-length-4 : tie.Need-same-length-4 Inv-loop μ-loop
 same-length-4 c = search needs
 
--- src/files.rt:87:1
+-- src/files.rt:89:1
 same-length-5 : tie.Need-same-length-5 Inv-loop μ-loop
 same-length-5 c = search needs
 
--- src/files.rt:87:1
+-- src/files.rt:89:1
 returns : tie.Need-returns Inv-loop μ-loop
 returns c = search needs
 
@@ -71,7 +67,6 @@ answer-all-spec =
     (tie.spec
     Inv-loop
     μ-loop
-    arg-count-requires
     loop-holds
     answer-file-requires
     add-argument

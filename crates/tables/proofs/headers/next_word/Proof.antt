@@ -1,3 +1,4 @@
+-- Safe, and the loop ends.
 use Prim.Native.Nat.{_≤_, _-_}
 use borrow.Author.Needs.{needs}
 use Rattle.tables.proofs.headers.next_word.Statement.{statement}

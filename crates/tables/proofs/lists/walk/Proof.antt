@@ -1,3 +1,4 @@
+-- Safe, and the loop ends; every table keeps its length.
 use Prim.Native.Nat.{_≤_}
 use lib.ListN.{length}
 use mathlib.Core.Path.{_≡_}

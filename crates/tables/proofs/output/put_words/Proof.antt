@@ -1,3 +1,4 @@
+-- Safe, and the loop ends.
 use Prim.Native.Nat.{_≤_, _-_}
 use lib.ListN.{length}
 use borrow.Author.Needs.{needs}
