@@ -1,6 +1,6 @@
 #!/usr/bin/env python3
-"""Prints a shell script that runs the project's programs by the second reader's commands: `[--whole] tables FILE...`, `packed` and
-`listing`. The tables program keeps its tables on the stack, so the script asks for a large one. Programs are for x86-64; on
+"""Prints a shell script that runs the project's programs by the second reader's commands: `[--whole] tables FILE...`, `packed`,
+`find BEAT WORD...` and `listing`. The tables program keeps its tables on the stack, so the script asks for a large one. Programs are for x86-64; on
 another processor they run under the toolchain's own emulator, as tools/run does it.
 
 usage: runner.py ROOT
@@ -19,6 +19,7 @@ shift
 case $command in
 tables) exec {run} {tables} "$@" ;;
 packed) exec {run} {tables} ;;
+find) exec {run} {tables} --find "$@" ;;
 listing) exec {run} {listing} ;;
 esac
 exit 2
