@@ -1,6 +1,6 @@
 #!/usr/bin/env python3
-"""Prints a shell script that runs the project's programs by the second reader's commands: `[--whole] tables FILE...`, `packed` and
-`listing`. The tables program keeps its tables on the stack, so the script asks for a large one. Programs are for x86-64; on
+"""Prints a shell script that runs the project's programs by the second reader's commands: `[--whole] tables FILE...`, `packed`,
+`find BEAT WORD...` and `listing`; and `checker FILE...`. The tables program keeps its tables on the stack, so the script asks for a large one. Programs are for x86-64; on
 another processor they run under the toolchain's own emulator, as tools/run does it.
 
 usage: runner.py ROOT
@@ -19,7 +19,9 @@ shift
 case $command in
 tables) exec {run} {tables} "$@" ;;
 packed) exec {run} {tables} ;;
+find) exec {run} {tables} --find "$@" ;;
 listing) exec {run} {listing} ;;
+checker) exec {run} {checker} "$@" ;;
 esac
 exit 2
 """
@@ -35,7 +37,7 @@ def emulator():
 
 
 def main():
-    programs = {name: shlex.quote(f"{sys.argv[1]}/target/bin/{name}") for name in ("tables", "listing")}
+    programs = {name: shlex.quote(f"{sys.argv[1]}/target/bin/{name}") for name in ("tables", "listing", "checker")}
     sys.stdout.write(SCRIPT.format(run=shlex.join(emulator()), **programs))
 
 
