@@ -32,11 +32,8 @@ use Rattle.sections.proofs.SaidLaws.{Told, Tells, modifier-among}
 use Rattle.sections.proofs.TellLaws.{repeat-tells, before-tells, after-tells}
 use Rattle.sections.proofs.OrderLaws.{modifiers-late}
 use Rattle.sections.proofs.SectionLaws.{clean-order}
+use Rattle.outlines.proofs.ChordLaws.{or-true}
 use Rattle.judging.specs.Lengths.{isCut, hasCut, isModified}
-
-or-true : (b : Bool) → b || true ≡ true
-or-true true = refl
-or-true false = refl
 
 -- A place that is no line says nothing; one that says something is on a line.
 line-there : (s : List ℕ) (r : Said) {x : Side} → andThen (settingAt s r) sideSaid ≡ some x → r .line ≡ 0 → ⊥

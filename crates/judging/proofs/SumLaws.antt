@@ -1,5 +1,5 @@
 -- The sums over the sections of a song: what its tables hold, and the first section whose lyric lines do not sum to its measures.
-use Prim.Native.Nat.{ℕ, suc, _+_, _-_, _≤_}
+use Prim.Native.Nat.{ℕ, suc, _+_, _≤_}
 use mathlib.Core.Path.{_≡_, refl, sym, ap, _∙_, subst}
 use mathlib.Core.List.{List, [], _∷_, _++_, map}
 use mathlib.Core.Bool.{Bool, true, false, not, _&&_}
@@ -40,6 +40,7 @@ use Rattle.judging.specs.Sums.{hasLines, hasPrompts, sumDiffers, withSec
 use Rattle.scores.proofs.ComplaintLaws.{UpTo, first-wins, gather-behind}
 use Rattle.judging.proofs.LyricLaws.{prompts-length}
 use Rattle.judging.proofs.NumberLaws.{Numbered, lyrics-numbered}
+use Rattle.judging.proofs.TakenLaws.{takenFrom}
 
 -- A text is empty where there are no items.
 empty-is : (ws : List ℕ) (d : Definitions) (t : Text) (o : Option Items) → Carries ws d t o → t .outline .empty ≡ not (isSome o)
@@ -267,24 +268,29 @@ unfolding gather total
 beat-words-length [] = refl
 beat-words-length (m ∷ row) = let h = beat-words-length row in let a = length-map m beatWord in rw length-append (omega arith)
 
-all-taken : (s : Song) (xs : List Section) → every (isPrompted s) xs ≡ true → gather (λ x. if isPlayed s x then x .lyrics else []) xs ≡ gather lyricsOf xs
+-- Where all sections have items, all their lines are taken.
+pub prompted-parts : (s : Song) (x : Section) → isPrompted s x ≡ true → (isPlayed s x ≡ true) × (not (isEmpty (x .lyrics)) ≡ true) × (every isCounted (x .lyrics) ≡ true)
+prompted-parts s x e =
+    let a = both-pass (isSung s x) (every isCounted (x .lyrics)) e in
+    let b = both-pass (isPlayed s x) (not (isEmpty (x .lyrics))) (a .0) in
+    (b .0, b .1, a .1)
+
+pub all-taken : (s : Song) (xs : List Section) → every (isPrompted s) xs ≡ true → takenFrom s xs ≡ gather lyricsOf xs
 unfolding gather every if_then_else_ lyricsOf
 all-taken s [] e = refl
 all-taken s (x ∷ xs) e =
     let a = both-pass (isPrompted s x) (every (isPrompted s) xs) e in
-    let b = both-pass (isSung s x) (every isCounted (x .lyrics)) (a .0) in
-    let d = both-pass (isPlayed s x) (not (isEmpty (x .lyrics))) (b .0) in
-    rw (d .0) (ap (λ (ls : List LyricLine). x .lyrics ++ ls) (all-taken s xs (a .1)))
+    rw (prompted-parts s x (a .0) .0) (ap (λ (ls : List LyricLine). x .lyrics ++ ls) (all-taken s xs (a .1)))
 
-items-all : (s : Song) → hasItems s ≡ true → every (isPrompted s) (s .sections) ≡ true
+pub all-prompted : (s : Song) → hasItems s ≡ true → every (isPrompted s) (s .sections) ≡ true
 unfolding hasItems
-items-all s e = e
+all-prompted s e = e
 
 items-length : (s : Song) → length (map itemWord (prompts s)) ≡ (if hasItems s then length (gather lyricsOf (s .sections)) else 0)
 unfolding prompts if_then_else_ linesTaken
 items-length s =
     by-cases (hasItems s)
-    (λ e. rw e (prompts-length 0 (linesTaken s) ∙ ap length (all-taken s (s .sections) (items-all s e))))
+    (λ e. rw e (prompts-length 0 (linesTaken s) ∙ ap length (all-taken s (s .sections) (all-prompted s e))))
     (λ e. rw e)
 
 and-true : (a : Bool) → a && true ≡ a
