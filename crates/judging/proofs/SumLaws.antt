@@ -2,7 +2,7 @@
 use Prim.Native.Nat.{ℕ, suc, _+_, _≤_}
 use mathlib.Core.Path.{_≡_, refl, sym, ap, _∙_, subst}
 use mathlib.Core.List.{List, [], _∷_, _++_, map}
-use mathlib.Core.Bool.{Bool, true, false, not, _&&_}
+use mathlib.Core.Bool.{Bool, true, false, not, _&&_, Bool·not-not, and-true, and-assoc}
 use mathlib.Core.Option.{Option, none, some}
 use native.Mathlib.Omega.{arith}
 use native.Mathlib.Nat.{le-refl}
@@ -38,6 +38,7 @@ use Rattle.scores.specs.Scores.{Carries, Opens}
 use Rattle.judging.specs.Lyrics.{firstLine, bareLine, tallied}
 use Rattle.judging.specs.Sums.{hasLines, hasPrompts, sumDiffers, withSection, totalsOf, Holds}
 use Rattle.scores.proofs.ComplaintLaws.{UpTo, first-wins, gather-behind}
+use Rattle.scores.proofs.FaultLineLaws.{line-if}
 use Rattle.judging.proofs.LyricLaws.{prompts-length}
 use Rattle.judging.proofs.NumberLaws.{Numbered, lyrics-numbered}
 use Rattle.judging.proofs.TakenLaws.{takenFrom}
@@ -80,10 +81,6 @@ bare-none (l ∷ ls) h =
     (λ e. rw e (first-some (l .number) (bareLine ls) (h .0)))
 
 -- What the tally of a section's lyric lines says of them.
-not-not : (b : Bool) → not (not b) ≡ b
-not-not true = refl
-not-not false = refl
-
 tallied-bare : (ls : List LyricLine) → Numbered ls → eqb (tallied ls .bare) 0 ≡ every isCounted ls
 unfolding tallied
 tallied-bare ls h = bare-none ls h
@@ -95,7 +92,7 @@ tallied-sum ls = refl
 module _ (s : Song) (x : Section) (empty : Bool) (t : Tally) (e : empty ≡ not (isPlayed s x)) (u : t ≡ tallied (x .lyrics)) where
   lines-said : hasLines empty t ≡ isSung s x
   unfolding hasLines tallied
-  lines-said = rw (e, u, no-lines (x .lyrics), not-not (isPlayed s x))
+  lines-said = rw (e, u, no-lines (x .lyrics), Bool·not-not (isPlayed s x))
 
   prompts-said : Numbered (x .lyrics) → hasPrompts empty t ≡ isPrompted s x
   unfolding hasPrompts
@@ -151,12 +148,8 @@ unfolding sumFaults faultsLeft
 faults-start s = refl
 
 fault-line : (s : Song) (x : Section) → Each (λ c. c .line ≡ x .header) (sumFault s x)
-unfolding sumFault complainIf when Each
-fault-line s x = go (offSum s x)
-  where
-    go : (b : Bool) → Each (λ (c : Complaint). c .line ≡ x .header) (when b (complaint 17 (x .header)))
-    go true = (refl, tt)
-    go false = tt
+unfolding sumFault
+fault-line s x = line-if (offSum s x) 17 (x .header)
 
 pub faults-end : (s : Song) → sumFaults s ≡ faultsLeft s [] → refusalOf (earliest (sumFaults s)) ≡ record { number = 0; line = 0 }
 unfolding faultsLeft gather if_then_else_ refusalOf earliest
@@ -203,10 +196,6 @@ summed-start s =
 pub summed-from : (s : Song) (xs : List Section) → xs ≡ s .sections → Summed s xs (record { sections = 0; measures = 0; beats = 0; lines = 0; all = true })
 summed-from s xs e = subst (λ ys. Summed s ys (record { sections = 0; measures = 0; beats = 0; lines = 0; all = true })) (sym e) (summed-start s)
 
-and-both : (a b c : Bool) → (a && b) && c ≡ a && (b && c)
-and-both true b c = refl
-and-both false b c = refl
-
 summed-next : (s : Song) (y : Section) (rest : List Section) (x : Sums) (c : Counts) (l : ℕ) (b : Bool) → c .measures ≡ length (played s y) → c .beats ≡ total (played s y) → l ≡ length (y .lyrics) → b ≡ isPrompted s y
     → Summed s (y ∷ rest) x → Summed s rest (withSection x c l b)
 unfolding withSection gather every lyricsOf
@@ -223,7 +212,7 @@ summed-next s y rest x c l b m t e p h =
       measures = omega arith;
       beats = omega arith;
       lines = omega arith;
-      all = ap (λ (q : Bool). (x .all && q) && every (isPrompted s) rest) p ∙ and-both (x .all) (isPrompted s y) (every (isPrompted s) rest) ∙ h .all;
+      all = ap (λ (q : Bool). (x .all && q) && every (isPrompted s) rest) p ∙ and-assoc (x .all) (isPrompted s y) (every (isPrompted s) rest) ∙ h .all;
     }
 
 -- A section that is opened: stage 7 refuses it, or goes on to the next.
@@ -292,10 +281,6 @@ items-length s =
     by-cases (hasItems s)
     (λ e. rw e (prompts-length 0 (linesTaken s) ∙ ap length (all-taken s (s .sections) (all-prompted s e))))
     (λ e. rw e)
-
-and-true : (a : Bool) → a && true ≡ a
-and-true true = refl
-and-true false = refl
 
 pub summed-end : (s : Song) (x : Sums) → Summed s [] x → Holds (tables s) (totalsOf x)
 unfolding tables totalsOf gather every total

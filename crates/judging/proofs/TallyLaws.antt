@@ -2,7 +2,7 @@
 use Prim.Native.Nat.{ℕ, zero, suc, _+_, _-_, _<_, min}
 use mathlib.Core.Path.{_≡_, refl, sym, ap, _∙_}
 use mathlib.Core.List.{List, [], _∷_}
-use mathlib.Core.Bool.{Bool, false, _||_}
+use mathlib.Core.Bool.{Bool, false, _||_, or-false, or-true}
 use native.Mathlib.Omega.{arith}
 use lib.Dec.{eqb, ltb}
 use lib.ListN.{length}
@@ -16,7 +16,6 @@ use Rattle.text.specs.declared.lines.Line.{Line}
 use Rattle.text.specs.Spans.{part, Found}
 use Rattle.settings.specs.declared.lyrics.Words.{Words}
 use Rattle.settings.specs.LyricParts.{countFrom, wordsFrom}
-use Rattle.outlines.proofs.ChordLaws.{or-false, or-true}
 use Rattle.judging.specs.declared.lyrics.Tally.{Tally}
 use Rattle.judging.specs.Lyrics.{firstLine, withLine, bareLine, tallied}
 use Rattle.judging.proofs.LyricLaws.{lyricsAt, lyricAt, lyrics-more, count-here}
