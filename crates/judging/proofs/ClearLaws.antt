@@ -1,17 +1,15 @@
 -- What a verdict of number 0 says of stages 3 to 7, and the song's own keys among its metadata.
-use Prim.Native.Nat.{ℕ, zero, suc, _+_, _<_, _≤_}
+use Prim.Native.Nat.{ℕ, _<_}
 use mathlib.Core.Path.{_≡_, refl, sym, ap, _∙_}
-use mathlib.Core.List.{List, [], _∷_, _++_, map}
-use mathlib.Core.Bool.{Bool, true, false, not, _||_, _&&_}
+use mathlib.Core.List.{List, [], _∷_}
+use mathlib.Core.Bool.{not}
 use mathlib.Core.Option.{Option, none, some}
 use native.Mathlib.Omega.{arith}
-use borrow.Author.Tests.{ltb-false}
-use lib.Dec.{eqb, leb, ltb}
-use lib.ListN.{length}
-use Rattle.songcode.specs.Lists.{gather, when, andThen, orElse}
+use lib.Dec.{leb}
+use Rattle.songcode.specs.Lists.{gather, andThen, orElse}
 use Rattle.songcode.specs.Bytes.{Byte}
-use Rattle.songcode.specs.Complaints.{Complaint, complaint, complainIf, earlier, earliest, stageOr, verdict}
-use Rattle.songcode.specs.Song.{Items, Definition, Song, Section, KeyName, time, bpm}
+use Rattle.songcode.specs.Complaints.{Complaint, complainIf, earlier, earliest, stageOr, verdict}
+use Rattle.songcode.specs.Song.{Items, Definition, Song, KeyName, time, bpm}
 use Rattle.songcode.specs.PatternText.{depth, loopsDeep, references, noReference}
 use Rattle.songcode.specs.Keys.{keyPlace, timeIn, bpmIn}
 use Rattle.songcode.specs.References.{putIn, itemsOf, definitionOf, itemsFault, referenceFault, depthFault, definitionReferences, definitionsReferences, referenceFaults}
@@ -19,27 +17,23 @@ use Rattle.songcode.specs.Playing as playing
 use Rattle.songcode.specs.Playing.{timeAmong, bpmAmong}
 use Rattle.songcode.specs.Meter.{meterFaults, lengthFaults}
 use Rattle.songcode.specs.Lyrics.{countFaults, sumFaults}
-use Rattle.songcode.specs.SongText.{textFaults, metadataLines, songIn}
-use Rattle.songcode.specs.Tables.{Tables, tables, keyWords, keyOrder}
+use Rattle.songcode.specs.SongText.{metadataLines, songIn}
 use Rattle.songcode.specs.Answer as songcode
-use Rattle.songcode.specs.Answer.{Room, inputFaults, blocksOf, songOf, roomFaults, stages, refused, accepted, answerBy, answer}
-use Rattle.songcode.proofs.ListLaws.{by-cases, Each, each-append, none-passes, pass-none}
+use Rattle.songcode.specs.Answer.{blocksOf, songOf}
+use Rattle.songcode.proofs.ListLaws.{Each, each-append}
 use Rattle.text.specs.declared.Refusal.{Refusal}
 use Rattle.text.specs.Refusals.{refusalOf}
 use Rattle.sections.specs.declared.blocks.Place.{Place}
-use Rattle.sections.specs.declared.runs.Run.{Run}
 use Rattle.sections.specs.declared.values.Keys.{Keys}
 use Rattle.sections.specs.Runs.{linesOf}
 use Rattle.sections.specs.Slots.{Setting, settingAmong}
 use Rattle.sections.specs.Values.{timeSaid, bpmSaid, KeysAre}
 use Rattle.sections.proofs.SaidLaws.{key-among}
 use Rattle.scores.specs.Metadata.{linesBefore, MetadataEnds}
-use Rattle.judging.specs.Sums.{Holds}
-use Rattle.judging.specs.Charts.{Clear, SongKeys, Roomy}
-use Rattle.judging.specs.declared.sums.Totals.{Totals}
+use Rattle.judging.specs.Charts.{Clear, SongKeys}
 use Rattle.scores.proofs.ComplaintLaws.{Numbered, numbered-if, refused-none}
 use Rattle.judging.proofs.ReferenceLaws.{sectionFault, all-numbered}
-use Rattle.judging.proofs.StageLaws.{stage-passed, last-stage, numbered-input, input-small, numbered-meters, numbered-lengths, numbered-counts, numbered-sums}
+use Rattle.judging.proofs.StageLaws.{stage-passed, numbered-meters, numbered-lengths, numbered-counts, numbered-sums}
 use Rattle.judging.specs.Stages.{lyricFaults, playingFaults, laterFaults}
 
 -- Complaints of references are numbered.

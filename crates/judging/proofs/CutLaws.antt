@@ -1,5 +1,5 @@
 -- Cuts that leave no beat: as the code finds them from the numbers of a plan, and as the definitions say.
-use Prim.Native.Nat.{ℕ, zero, suc, _-_, _*_, _≤_, min}
+use Prim.Native.Nat.{ℕ, suc, _-_, _*_, _≤_, min}
 use mathlib.Core.Path.{_≡_, refl, sym, ap, _∙_}
 use mathlib.Core.List.{List, [], _∷_, append-nil}
 use mathlib.Core.Bool.{true, false, not}
@@ -81,13 +81,10 @@ zero-times k c h =
     by-cases (eqb c 0)
     (λ e. let z = eqb-true c 0 e in rw (z, eq-eqb (k * 0) 0 (omega arith)))
     (λ e.
-    let one : 1 ≤ c = some-one c (eqb-false c 0 e) in
+    let some-there = eqb-false c 0 e in
+    let one : 1 ≤ c = omega arith in
     let q : 1 * 1 ≤ k * c = mul-le-mul h one in
     rw (ne-eqb (k * c) 0 (λ z. omega arith), ne-eqb (min 65536 c) 0 (λ z. omega arith)))
-  where
-    some-one : (c : ℕ) → (c ≡ 0 → ⊥) → 1 ≤ c
-    some-one zero n = absurd (n refl)
-    some-one (suc c) n = omega arith
 
 uncut-empty : (n k : ℕ) (r : Items) → 1 ≤ k → isEmpty (times k (measuresOf n none r)) ≡ eqb (min 65536 (count r)) 0
 uncut-empty n k r h = empty-length (times k (measuresOf n none r)) ∙ ap (λ x. eqb x 0) (times-length k (measuresOf n none r) ∙ ap (λ x. k * x) (length-items n none r)) ∙ zero-times k (count r) h

@@ -1,12 +1,11 @@
 -- Stage 4 from section to section: the refusal of the sections so far, and of those from a place on.
 use Prim.Native.Nat.{ℕ, _≤_}
 use mathlib.Core.Path.{_≡_, refl, sym, ap, _∙_}
-use mathlib.Core.List.{List, [], _∷_, _++_, map, append-assoc, append-nil}
+use mathlib.Core.List.{List, [], _∷_, _++_, append-assoc, append-nil}
 use lib.ListN.{length}
 use Rattle.songcode.specs.Lists.{gather, orElse}
 use Rattle.songcode.specs.Complaints.{Complaint, earliest}
 use Rattle.songcode.specs.Song.{Section}
-use Rattle.songcode.specs.Sections.{sectionIn}
 use Rattle.songcode.specs.Playing.{timeAmong}
 use Rattle.songcode.specs.Meter.{sectionMeter, meterFaults}
 use Rattle.songcode.specs.Answer.{songOf}
@@ -15,7 +14,7 @@ use Rattle.text.specs.declared.Refusal.{Refusal}
 use Rattle.text.specs.Refusals.{refusalOf}
 use Rattle.sections.specs.declared.blocks.Place.{Place}
 use Rattle.sections.specs.Onward.{sectionsFrom, sectionAt}
-use Rattle.sections.proofs.NextLaws.{blocks-over}
+use Rattle.sections.proofs.MeetLaws.{sections-over}
 use Rattle.scores.specs.declared.definitions.Score.{Score}
 use Rattle.scores.specs.declared.texts.Opened.{Opened}
 use Rattle.scores.specs.Scores.{Begins, Opens}
@@ -24,11 +23,6 @@ use Rattle.scores.proofs.ComplaintLaws.{Numbered}
 use Rattle.judging.proofs.SoonerLaws.{sooner-append}
 use Rattle.judging.proofs.MeterLaws.{meter-is, meter-range}
 use Rattle.judging.proofs.FaultLaws.{numbered-section, section-fault}
-
--- No section stands from the end of the text on.
-pub sections-over : (s : List ℕ) (p : Place) → length s ≤ p .at → sectionsFrom s p ≡ []
-unfolding sectionsFrom
-sections-over s p h = ap (map sectionIn) (blocks-over s (p .number) (p .at) h)
 
 -- The complaints so far, whose refusal is known, and those of the sections from the place on are all of the stage.
 unfoldable pub Judged : List ℕ → Place → Refusal → Type 0

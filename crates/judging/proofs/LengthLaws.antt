@@ -13,20 +13,19 @@ use Rattle.songcode.specs.Song.{Items, Modifier, Section, Song}
 use Rattle.songcode.specs.References.{patternItems}
 use Rattle.songcode.specs.Playing.{timeOf, keptMeasures}
 use Rattle.songcode.specs.Meter.{sectionCount, mostMeasures, cutFaults, lengthFaults}
-use Rattle.songcode.proofs.ListLaws.{Each, each-append, nil-is-not-cons}
+use Rattle.songcode.proofs.ListLaws.{Each, each-append, each-map, nil-is-not-cons}
 use Rattle.text.specs.Refusals.{refusalOf}
 use Rattle.sections.specs.Onward.{Later}
 use Rattle.scores.proofs.ComplaintLaws.{UpTo, Behind, first-wins}
+use Rattle.scores.proofs.FaultLineLaws.{line-if}
 
 here-if : (b : Bool) (n line : ℕ) → Each (UpTo line) (complainIf b n line)
-unfolding Each UpTo complainIf when
-here-if true n line = (omega arith, tt)
-here-if false n line = tt
+unfolding UpTo
+here-if b n line = each-map (λ c e. omega arith) (complainIf b n line) (line-if b n line)
 
 behind-if : (b : Bool) (n line header : ℕ) → line < header → Each (Behind line) (complainIf b n header)
-unfolding Each Behind complainIf when
-behind-if true n line header h = (h, tt)
-behind-if false n line header h = tt
+unfolding Behind
+behind-if b n line header h = each-map (λ c e. omega arith) (complainIf b n header) (line-if b n header)
 
 behind-cut : (n line header : ℕ) (ms : List Modifier) (o : Option Items) → line < header → Each (Behind line) (cutFaults n header ms o)
 unfolding cutFaults

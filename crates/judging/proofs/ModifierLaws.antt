@@ -2,7 +2,7 @@
 use Prim.Native.Nat.{ℕ, _+_, _<_, _≤_}
 use mathlib.Core.Path.{_≡_, refl, sym, ap, _∙_}
 use mathlib.Core.List.{List, [], _∷_}
-use mathlib.Core.Bool.{Bool, true, false, not, _||_}
+use mathlib.Core.Bool.{Bool, true, false, not, _||_, or-true}
 use mathlib.Core.Option.{Option, none, some}
 use native.Mathlib.Omega.{arith}
 use lib.Dec.{eqb}
@@ -33,10 +33,6 @@ use Rattle.sections.proofs.TellLaws.{repeat-tells, before-tells, after-tells}
 use Rattle.sections.proofs.OrderLaws.{modifiers-late}
 use Rattle.sections.proofs.SectionLaws.{clean-order}
 use Rattle.judging.specs.Lengths.{isCut, hasCut, isModified}
-
-or-true : (b : Bool) → b || true ≡ true
-or-true true = refl
-or-true false = refl
 
 -- A place that is no line says nothing; one that says something is on a line.
 line-there : (s : List ℕ) (r : Said) {x : Side} → andThen (settingAt s r) sideSaid ≡ some x → r .line ≡ 0 → ⊥

@@ -1,59 +1,25 @@
--- The numbers of lines: those of a text's lines from a line on, and of a section's lyric lines.
-use Prim.Native.Nat.{ℕ, zero, suc, _+_, _-_, _<_, _≤_}
-use mathlib.Core.Path.{_≡_, sym, subst}
+-- The numbers of a section's lyric lines.
+use Prim.Native.Nat.{ℕ, zero, suc, _+_, _<_, _≤_}
+use mathlib.Core.Path.{sym, subst}
 use mathlib.Core.List.{List, [], _∷_, map}
-use mathlib.Core.Bool.{Bool}
 use native.Mathlib.Omega.{arith}
 use lib.Dec.{ltb}
-use lib.ListN.{length, take, drop}
+use lib.ListN.{length, take}
 use borrow.Author.Tests.{ltb-true, ltb-false}
-use Rattle.songcode.specs.Lists.{if_then_else_, taken, left}
+use Rattle.songcode.specs.Lists.{taken, left}
 use Rattle.songcode.specs.Lines.{Line}
 use Rattle.songcode.specs.Song.{LyricLine}
 use Rattle.songcode.specs.Sections.{lyricLine, notDashes, ending}
 use Rattle.songcode.proofs.ListLaws.{by-cases, Each, each-map}
-use Rattle.text.specs.Spans.{lineOf, lineAt, lineText, spansFrom}
+use Rattle.text.specs.Spans.{lineOf, lineAt}
 use Rattle.sections.specs.declared.blocks.SectionRead.{SectionRead}
 use Rattle.sections.specs.declared.runs.Test.the-variants.{Full}
 use Rattle.sections.specs.Runs.{textLines, passing, linesOf}
 use Rattle.sections.specs.BlockParts.{blockAt, behindDashes, SectionAt}
-use Rattle.sections.specs.declared.blocks.Place.{Place}
-use Rattle.sections.specs.Onward.{sectionsFrom}
 use Rattle.sections.proofs.RunLaws.{lines-next, lines-over}
-use Rattle.sections.proofs.NextLaws.{blocks-over}
+use Rattle.sections.proofs.ListLaws.{each-take, each-taken, each-left}
+use Rattle.sections.proofs.MeetLaws.{From, from-lines}
 use Rattle.judging.proofs.LyricLaws.{lyricsAt}
-
-module _ {A : Type 0} (P : A → Type 0) where
-  each-take : (k : ℕ) (xs : List A) → Each P xs → Each P (take k xs)
-  unfolding Each
-  each-take zero xs e = tt
-  each-take (suc k) [] e = tt
-  each-take (suc k) (x ∷ xs) e = (e .0, each-take k xs (e .1))
-
-  each-taken : (p : A → Bool) (xs : List A) → Each P xs → Each P (taken p xs)
-  unfolding Each taken if_then_else_
-  each-taken p [] e = tt
-  each-taken p (x ∷ xs) e = by-cases (p x) (λ t. rw t (e .0, each-taken p xs (e .1))) (λ t. rw t tt)
-
-  each-left : (p : A → Bool) (xs : List A) → Each P xs → Each P (left p xs)
-  unfolding Each left if_then_else_
-  each-left p [] e = tt
-  each-left p (x ∷ xs) e = by-cases (p x) (λ t. rw t (each-left p xs (e .1))) (λ t. rw t e)
-
--- Lines numbered from n on.
-abbrev pub From : ℕ → Line → Type 0
-From n l = n ≤ l .number
-
-from-spans : (s : List ℕ) (n at k : ℕ) (bs : List ℕ) → Each (From n) (map (lineText s) (spansFrom n at k bs))
-unfolding Each spansFrom lineOf
-from-spans s n at k [] = tt
-from-spans s n at (suc k) (b ∷ bs) = from-spans s n (suc at) k bs
-from-spans s n at zero (b ∷ bs) =
-    (omega arith, each-map (λ l h. omega arith) (map (lineText s) (spansFrom (suc n) (suc at) (lineOf n at (b ∷ bs) .next - suc at) bs)) (from-spans s (suc n) (suc at) (lineOf n at (b ∷ bs) .next - suc at) bs))
-
-pub from-lines : (s : List ℕ) (n at : ℕ) → Each (From n) (textLines s n at)
-unfolding textLines
-from-lines s n at = from-spans s n at 0 (drop at s)
 
 each-lyrics : (n : ℕ) (ls : List Line) → Each (From n) ls → Each (λ (l : LyricLine). n ≤ l .number) (map lyricLine ls)
 unfolding Each lyricLine
@@ -96,8 +62,3 @@ lyrics-behind s n at r w h =
     let others = each-taken (From (n + 1)) (passing Full) all (from-lines s (n + 1) (lineAt s n at .next)) in
     let lyrics = each-behind (From (n + 1)) (left notDashes (taken (passing Full) all)) (each-left (From (n + 1)) notDashes (taken (passing Full) all) others) in
     first-number s (n + 1) (r .lyrics .number) (r .lyrics .at) (r .lyrics .lines) h (subst (Each (From (n + 1))) (sym (w .lyrics)) lyrics)
-
--- Behind the last section none is left.
-pub sections-over : (s : List ℕ) (p : Place) → length s ≤ p .at → sectionsFrom s p ≡ []
-unfolding sectionsFrom
-sections-over s p h = rw (blocks-over s (p .number) (p .at) h)

@@ -29,7 +29,7 @@ use Rattle.scores.specs.Scores.{Begins, Opens, sideItems}
 use Rattle.judging.specs.Meters.{meterOf}
 use Rattle.judging.specs.Lengths.{countOfTexts, cutAway}
 use Rattle.judging.proofs.MeterLaws.{meter-is, meter-range}
-use Rattle.judging.proofs.JudgedLaws.{sections-over}
+use Rattle.sections.proofs.MeetLaws.{sections-over}
 use Rattle.judging.proofs.CountLaws.{Counted, carried-fits, played-length, section-counted, pattern-within, count-small}
 use Rattle.judging.proofs.ModifierLaws.{modified-is}
 use Rattle.judging.proofs.CutLaws.{cut-away-is}

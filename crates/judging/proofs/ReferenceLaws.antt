@@ -1,27 +1,27 @@
 -- What stage 3 says of a section, from the number that its pattern names.
-use Prim.Native.Nat.{ℕ, zero, suc, _+_, _<_, _≤_}
+use Prim.Native.Nat.{ℕ, _≤_}
 use mathlib.Core.Path.{_≡_, refl, sym, ap, _∙_}
-use mathlib.Core.List.{List, [], _∷_, _++_, map}
+use mathlib.Core.List.{List, [], _∷_}
 use mathlib.Core.Bool.{Bool, true, false, not}
 use mathlib.Core.Option.{Option, none, some}
 use native.Mathlib.Omega.{arith}
-use lib.ListN.{length}
 use Rattle.songcode.specs.Lists.{isSome, gather}
 use Rattle.songcode.specs.Complaints.{Complaint, complaint, earlier, earliest}
 use Rattle.songcode.specs.Song.{Pattern, items, named, Definition, Section, Song}
 use Rattle.songcode.specs.Sections.{patternIn}
 use Rattle.songcode.specs.References.{definitionOf, namedFault, sectionReference, definitionsReferences, referenceFaults}
-use Rattle.songcode.proofs.ListLaws.{true-is-not-false, Each, each-append, each-map}
+use Rattle.songcode.proofs.ListLaws.{true-is-not-false, Each, each-map}
 use Rattle.text.specs.declared.Refusal.{Refusal}
 use Rattle.text.specs.Refusals.{refusalOf}
 use Rattle.sections.specs.declared.blocks.Place.{Place}
 use Rattle.sections.specs.declared.walking.Met.{Met}
 use Rattle.sections.specs.Runs.{linesOf}
-use Rattle.sections.specs.Onward.{sectionsFrom, sectionAt, Later, Meets}
-use Rattle.sections.proofs.NextLaws.{blocks-over}
+use Rattle.sections.specs.Onward.{sectionAt, Later, Meets}
 use Rattle.scores.specs.Laying.{Names}
 use Rattle.judging.specs.Meters.{nothingRefused}
-use Rattle.scores.proofs.ComplaintLaws.{Behind, UpTo, Numbered, first-wins, gather-behind, refused-none}
+use Rattle.scores.proofs.ComplaintLaws.{UpTo, Numbered, first-wins, gather-behind, refused-none}
+use Rattle.scores.proofs.FaultLineLaws.{section-line}
+use Rattle.judging.proofs.StageLaws.{numbered-gather}
 
 module _ (ds : List Definition) (header : ℕ) where
   -- A pattern of its own.
@@ -60,16 +60,8 @@ module _ (ds : List Definition) where
   sectionFault x = sectionReference ds (x .pattern) (x .header)
 
   on-header : (x : Section) → Each (λ c. c .line ≡ x .header) (sectionFault x)
-  unfolding sectionFault sectionReference namedFault Each
-  on-header x = of (x .pattern)
-    where
-      found : (o : Option Definition) → Each (λ c. c .line ≡ x .header) (namedFault o (x .header))
-      found none = (refl, tt)
-      found (some d) = tt
-
-      of : (p : Pattern) → Each (λ c. c .line ≡ x .header) (sectionReference ds p (x .header))
-      of (items r) = tt
-      of (named n) = found (definitionOf n ds)
+  unfolding sectionFault
+  on-header x = section-line ds x
 
   up-to : (x : Section) → Each (UpTo (x .header)) (sectionFault x)
   unfolding UpTo
@@ -88,9 +80,7 @@ module _ (ds : List Definition) where
       of (named n) = found (definitionOf n ds)
 
   pub all-numbered : (xs : List Section) → Each Numbered (gather sectionFault xs)
-  unfolding gather Each
-  all-numbered [] = tt
-  all-numbered (x ∷ xs) = each-append Numbered (sectionFault x) (gather sectionFault xs) (numbered x) (all-numbered xs)
+  all-numbered xs = numbered-gather sectionFault numbered xs
 
   -- A section's refusal is that of all from it on; where it has none, the next ones' is.
   pub first-section : (x : Section) (xs : List Section) (r : Refusal) → Later (x .header) xs → r ≡ refusalOf (earliest (sectionFault x)) → (r .number ≡ 0 → ⊥) → r ≡ refusalOf (earliest (gather sectionFault (x ∷ xs)))
@@ -111,11 +101,6 @@ module _ (ds : List Definition) where
       → r ≡ refusalOf (earliest (sectionFault (sectionAt s p)))
   unfolding sectionFault
   fault-at s p m r w f = f (sectionAt s p .pattern) (w .written) ∙ ap (λ (h : ℕ). refusalOf (earliest (sectionReference ds (sectionAt s p .pattern) h))) (w .says .header)
-
--- Behind the last section none is left.
-pub sections-over : (s : List ℕ) (p : Place) → length s ≤ p .at → sectionsFrom s p ≡ []
-unfolding sectionsFrom
-sections-over s p h = rw (blocks-over s (p .number) (p .at) h)
 
 -- Stage 3 of the whole song, where nothing is wrong with the definitions.
 module _ (song : Song) (clear : definitionsReferences [] (song .definitions) ≡ []) where

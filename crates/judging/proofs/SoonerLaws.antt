@@ -1,25 +1,20 @@
 -- The refusals of two lists of complaints, put together.
-use Prim.Native.Nat.{ℕ, zero, suc, _+_, _<_, _≤_}
-use mathlib.Core.Path.{_≡_, refl, sym, ap, _∙_, subst}
-use mathlib.Core.List.{List, [], _∷_, _++_}
-use mathlib.Core.Logic.{_⊎_, inl, inr, ⊎-elim}
-use mathlib.Core.Bool.{Bool, true, false, not, _||_, _&&_}
+use Prim.Native.Nat.{_<_, _≤_}
+use mathlib.Core.Path.{_≡_, refl, ap, _∙_}
+use mathlib.Core.List.{List, _++_}
+use mathlib.Core.Logic.{inl, inr, ⊎-elim}
+use mathlib.Core.Bool.{true, false}
 use mathlib.Core.Option.{Option, none, some}
 use native.Mathlib.Omega.{arith}
-use lib.Dec.{eqb, leb, ltb}
-use borrow.Author.Tests.{lt-ltb, le-ltb, le-leb, lt-leb, eq-eqb, ne-eqb, ltb-true, ltb-false, leb-true, leb-false, eqb-true, eqb-false}
-use Rattle.songcode.specs.Lists.{if_then_else_, gather, when}
-use Rattle.songcode.specs.Complaints.{Complaint, complaint, complainIf, goesFirst, earlier, earliest, stageOr, verdict}
+use lib.Dec.{ltb}
+use borrow.Author.Tests.{ne-eqb, ltb-true, ltb-false}
+use Rattle.songcode.specs.Lists.{if_then_else_}
+use Rattle.songcode.specs.Complaints.{Complaint, goesFirst, earlier, earliest}
 use Rattle.songcode.specs.Given.{Before}
-use Rattle.songcode.proofs.ListLaws.{by-cases, true-is-not-false, Each, each-append, each-map}
-use Rattle.text.specs.declared.Refusal.{Refusal}
+use Rattle.songcode.proofs.ListLaws.{by-cases, Each}
 use Rattle.text.specs.Refusals.{refusalOf}
-use Rattle.judging.specs.Meters.{nothingRefused, soonerOf}
+use Rattle.judging.specs.Meters.{soonerOf}
 use Rattle.scores.proofs.ComplaintLaws.{Numbered, goes-before, before-goes, firstOf, earliest-append, earliest-each}
-
-pub none-refused : refusalOf (earliest []) ≡ nothingRefused
-unfolding refusalOf earliest
-none-refused = refl
 
 -- Two complaints by their lines and numbers.
 not-before : (c d : Complaint) → d .line < c .line → Before c d → ⊥

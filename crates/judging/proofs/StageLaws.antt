@@ -1,8 +1,8 @@
 -- Stages one after another: the first that has a complaint gives it, and one that refuses nothing has none.
-use Prim.Native.Nat.{ℕ, zero, suc, _+_, _<_, _≤_}
+use Prim.Native.Nat.{ℕ, _+_, _≤_}
 use mathlib.Core.Path.{_≡_, refl, sym, ap, _∙_}
 use mathlib.Core.List.{List, [], _∷_, _++_}
-use mathlib.Core.Bool.{Bool, true, false, not, _||_, _&&_}
+use mathlib.Core.Bool.{Bool, true, false, not, _&&_}
 use mathlib.Core.Option.{Option, none, some}
 use native.Mathlib.Omega.{arith}
 use borrow.Author.Tests.{ltb-false}
@@ -11,9 +11,9 @@ use lib.ListN.{length}
 use Rattle.songcode.specs.Lists.{if_then_else_, gather, isEmpty}
 use Rattle.songcode.specs.Complaints.{Complaint, complaint, complainIf, earliest, stageOr, verdict}
 use Rattle.songcode.specs.Song.{Items, Modifier, Section, Song, LyricLine}
-use Rattle.songcode.specs.Playing.{Side, timeOf, saidBy, beforeSaid, afterSaid, keptMeasures, played}
+use Rattle.songcode.specs.Playing.{timeOf, keptMeasures, played}
 use Rattle.songcode.specs.References.{patternItems}
-use Rattle.songcode.specs.Meter.{allFit, stray, rowFaults, playedFaults, sideFaults, sectionMeter, meterFaults, sectionCount, mostMeasures, cutFaults, lengthFaults}
+use Rattle.songcode.specs.Meter.{sectionMeter, meterFaults, sectionCount, mostMeasures, cutFaults, lengthFaults}
 use Rattle.songcode.specs.Lyrics.{isCounted, isPlayed, counted, linesTaken, hasCounts, countFaults, sumFault, sumFaults}
 use Rattle.songcode.specs.Characters.{goodBytes}
 use Rattle.songcode.specs.Answer.{mostBytes, lineOfPlace, inputFaults}
@@ -22,6 +22,7 @@ use Rattle.text.specs.declared.Refusal.{Refusal}
 use Rattle.text.specs.Refusals.{refusalOf}
 use Rattle.judging.specs.declared.sums.Totals.{Totals}
 use Rattle.scores.proofs.ComplaintLaws.{Numbered, numbered-if, refused-none}
+use Rattle.judging.proofs.FaultLaws.{numbered-section}
 
 -- A stage that refuses gives the verdict; one that complains of nothing leaves it to the rest.
 pub stage-refused : (xs : List Complaint) (rest : List (List Complaint)) (r : Refusal) → r ≡ refusalOf (earliest xs) → (r .number ≡ 0 → ⊥) → r ≡ refusalOf (verdict (xs ∷ rest))
@@ -49,7 +50,7 @@ pub stage-none : (xs : List Complaint) (r : Refusal) → Each Numbered xs → r 
 stage-none xs r h e z = refused-none xs h (ap (λ (q : Refusal). q .number) (sym e) ∙ z)
 
 -- The complaints of every stage are numbered.
-numbered-gather : {A : Type 0} (f : A → List Complaint) → ((x : A) → Each Numbered (f x)) → (xs : List A) → Each Numbered (gather f xs)
+pub numbered-gather : {A : Type 0} (f : A → List Complaint) → ((x : A) → Each Numbered (f x)) → (xs : List A) → Each Numbered (gather f xs)
 unfolding gather Each
 numbered-gather f h [] = tt
 numbered-gather f h (x ∷ xs) = each-append Numbered (f x) (gather f xs) (h x) (numbered-gather f h xs)
@@ -72,32 +73,9 @@ input-small s h = by-cases (ltb 65536 (length s))
     (λ e. ltb-false 65536 (length s) e)
 
 module _ (song : Song) where
-  numbered-row : (n l : ℕ) (r : Items) → Each Numbered (rowFaults n l r)
-  unfolding rowFaults
-  numbered-row n l r = each-append Numbered (complainIf (not (allFit n r)) 12 l) (complainIf (stray none r) 13 l) (numbered-if (not (allFit n r)) 12 l (omega arith)) (numbered-if (stray none r) 13 l (omega arith))
-
-  numbered-played : (n l : ℕ) (o : Option Items) → Each Numbered (playedFaults n l o)
-  unfolding playedFaults Each
-  numbered-played n l none = tt
-  numbered-played n l (some r) = numbered-row n l r
-
-  numbered-side : (n : ℕ) (o : Option Side) → Each Numbered (sideFaults n o)
-  unfolding sideFaults Each
-  numbered-side n none = tt
-  numbered-side n (some x) = numbered-row n (x .line) (x .items)
-
-  numbered-section : (x : Section) → Each Numbered (sectionMeter song x)
-  unfolding sectionMeter
-  numbered-section x =
-      let n = timeOf song x in
-      let a = playedFaults n (x .header) (patternItems (song .definitions) (x .pattern)) in
-      let b = sideFaults n (saidBy beforeSaid (x .modifiers)) in
-      let c = sideFaults n (saidBy afterSaid (x .modifiers)) in
-      each-append Numbered (a ++ b) c (each-append Numbered a b (numbered-played n (x .header) (patternItems (song .definitions) (x .pattern))) (numbered-side n (saidBy beforeSaid (x .modifiers)))) (numbered-side n (saidBy afterSaid (x .modifiers)))
-
   pub numbered-meters : Each Numbered (meterFaults song)
   unfolding meterFaults
-  numbered-meters = numbered-gather (sectionMeter song) numbered-section (song .sections)
+  numbered-meters = numbered-gather (sectionMeter song) (numbered-section song) (song .sections)
 
   numbered-cuts : (n h : ℕ) (ms : List Modifier) (o : Option Items) → Each Numbered (cutFaults n h ms o)
   unfolding cutFaults

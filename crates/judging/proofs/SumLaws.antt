@@ -1,8 +1,8 @@
 -- The sums over the sections of a song: what its tables hold, and the first section whose lyric lines do not sum to its measures.
-use Prim.Native.Nat.{ℕ, suc, _+_, _-_, _≤_}
+use Prim.Native.Nat.{ℕ, suc, _+_, _≤_}
 use mathlib.Core.Path.{_≡_, refl, sym, ap, _∙_, subst}
 use mathlib.Core.List.{List, [], _∷_, _++_, map}
-use mathlib.Core.Bool.{Bool, true, false, not, _&&_}
+use mathlib.Core.Bool.{Bool, true, false, not, _&&_, Bool·not-not, and-true, and-assoc}
 use mathlib.Core.Option.{Option, none, some}
 use native.Mathlib.Omega.{arith}
 use native.Mathlib.Nat.{le-refl}
@@ -38,8 +38,10 @@ use Rattle.scores.specs.Scores.{Carries, Opens}
 use Rattle.judging.specs.Lyrics.{firstLine, bareLine, tallied}
 use Rattle.judging.specs.Sums.{hasLines, hasPrompts, sumDiffers, withSection, totalsOf, Holds}
 use Rattle.scores.proofs.ComplaintLaws.{UpTo, first-wins, gather-behind}
+use Rattle.scores.proofs.FaultLineLaws.{line-if}
 use Rattle.judging.proofs.LyricLaws.{prompts-length}
 use Rattle.judging.proofs.NumberLaws.{Numbered, lyrics-numbered}
+use Rattle.judging.proofs.TakenLaws.{takenFrom}
 
 -- A text is empty where there are no items.
 empty-is : (ws : List ℕ) (d : Definitions) (t : Text) (o : Option Items) → Carries ws d t o → t .outline .empty ≡ not (isSome o)
@@ -79,10 +81,6 @@ bare-none (l ∷ ls) h =
     (λ e. rw e (first-some (l .number) (bareLine ls) (h .0)))
 
 -- What the tally of a section's lyric lines says of them.
-not-not : (b : Bool) → not (not b) ≡ b
-not-not true = refl
-not-not false = refl
-
 tallied-bare : (ls : List LyricLine) → Numbered ls → eqb (tallied ls .bare) 0 ≡ every isCounted ls
 unfolding tallied
 tallied-bare ls h = bare-none ls h
@@ -94,7 +92,7 @@ tallied-sum ls = refl
 module _ (s : Song) (x : Section) (empty : Bool) (t : Tally) (e : empty ≡ not (isPlayed s x)) (u : t ≡ tallied (x .lyrics)) where
   lines-said : hasLines empty t ≡ isSung s x
   unfolding hasLines tallied
-  lines-said = rw (e, u, no-lines (x .lyrics), not-not (isPlayed s x))
+  lines-said = rw (e, u, no-lines (x .lyrics), Bool·not-not (isPlayed s x))
 
   prompts-said : Numbered (x .lyrics) → hasPrompts empty t ≡ isPrompted s x
   unfolding hasPrompts
@@ -150,12 +148,8 @@ unfolding sumFaults faultsLeft
 faults-start s = refl
 
 fault-line : (s : Song) (x : Section) → Each (λ c. c .line ≡ x .header) (sumFault s x)
-unfolding sumFault complainIf when Each
-fault-line s x = go (offSum s x)
-  where
-    go : (b : Bool) → Each (λ (c : Complaint). c .line ≡ x .header) (when b (complaint 17 (x .header)))
-    go true = (refl, tt)
-    go false = tt
+unfolding sumFault
+fault-line s x = line-if (offSum s x) 17 (x .header)
 
 pub faults-end : (s : Song) → sumFaults s ≡ faultsLeft s [] → refusalOf (earliest (sumFaults s)) ≡ record { number = 0; line = 0 }
 unfolding faultsLeft gather if_then_else_ refusalOf earliest
@@ -202,10 +196,6 @@ summed-start s =
 pub summed-from : (s : Song) (xs : List Section) → xs ≡ s .sections → Summed s xs (record { sections = 0; measures = 0; beats = 0; lines = 0; all = true })
 summed-from s xs e = subst (λ ys. Summed s ys (record { sections = 0; measures = 0; beats = 0; lines = 0; all = true })) (sym e) (summed-start s)
 
-and-both : (a b c : Bool) → (a && b) && c ≡ a && (b && c)
-and-both true b c = refl
-and-both false b c = refl
-
 summed-next : (s : Song) (y : Section) (rest : List Section) (x : Sums) (c : Counts) (l : ℕ) (b : Bool) → c .measures ≡ length (played s y) → c .beats ≡ total (played s y) → l ≡ length (y .lyrics) → b ≡ isPrompted s y
     → Summed s (y ∷ rest) x → Summed s rest (withSection x c l b)
 unfolding withSection gather every lyricsOf
@@ -222,7 +212,7 @@ summed-next s y rest x c l b m t e p h =
       measures = omega arith;
       beats = omega arith;
       lines = omega arith;
-      all = ap (λ (q : Bool). (x .all && q) && every (isPrompted s) rest) p ∙ and-both (x .all) (isPrompted s y) (every (isPrompted s) rest) ∙ h .all;
+      all = ap (λ (q : Bool). (x .all && q) && every (isPrompted s) rest) p ∙ and-assoc (x .all) (isPrompted s y) (every (isPrompted s) rest) ∙ h .all;
     }
 
 -- A section that is opened: stage 7 refuses it, or goes on to the next.
@@ -267,29 +257,30 @@ unfolding gather total
 beat-words-length [] = refl
 beat-words-length (m ∷ row) = let h = beat-words-length row in let a = length-map m beatWord in rw length-append (omega arith)
 
-all-taken : (s : Song) (xs : List Section) → every (isPrompted s) xs ≡ true → gather (λ x. if isPlayed s x then x .lyrics else []) xs ≡ gather lyricsOf xs
+-- Where all sections have items, all their lines are taken.
+pub prompted-parts : (s : Song) (x : Section) → isPrompted s x ≡ true → (isPlayed s x ≡ true) × (not (isEmpty (x .lyrics)) ≡ true) × (every isCounted (x .lyrics) ≡ true)
+prompted-parts s x e =
+    let a = both-pass (isSung s x) (every isCounted (x .lyrics)) e in
+    let b = both-pass (isPlayed s x) (not (isEmpty (x .lyrics))) (a .0) in
+    (b .0, b .1, a .1)
+
+pub all-taken : (s : Song) (xs : List Section) → every (isPrompted s) xs ≡ true → takenFrom s xs ≡ gather lyricsOf xs
 unfolding gather every if_then_else_ lyricsOf
 all-taken s [] e = refl
 all-taken s (x ∷ xs) e =
     let a = both-pass (isPrompted s x) (every (isPrompted s) xs) e in
-    let b = both-pass (isSung s x) (every isCounted (x .lyrics)) (a .0) in
-    let d = both-pass (isPlayed s x) (not (isEmpty (x .lyrics))) (b .0) in
-    rw (d .0) (ap (λ (ls : List LyricLine). x .lyrics ++ ls) (all-taken s xs (a .1)))
+    rw (prompted-parts s x (a .0) .0) (ap (λ (ls : List LyricLine). x .lyrics ++ ls) (all-taken s xs (a .1)))
 
-items-all : (s : Song) → hasItems s ≡ true → every (isPrompted s) (s .sections) ≡ true
+pub all-prompted : (s : Song) → hasItems s ≡ true → every (isPrompted s) (s .sections) ≡ true
 unfolding hasItems
-items-all s e = e
+all-prompted s e = e
 
 items-length : (s : Song) → length (map itemWord (prompts s)) ≡ (if hasItems s then length (gather lyricsOf (s .sections)) else 0)
 unfolding prompts if_then_else_ linesTaken
 items-length s =
     by-cases (hasItems s)
-    (λ e. rw e (prompts-length 0 (linesTaken s) ∙ ap length (all-taken s (s .sections) (items-all s e))))
+    (λ e. rw e (prompts-length 0 (linesTaken s) ∙ ap length (all-taken s (s .sections) (all-prompted s e))))
     (λ e. rw e)
-
-and-true : (a : Bool) → a && true ≡ a
-and-true true = refl
-and-true false = refl
 
 pub summed-end : (s : Song) (x : Sums) → Summed s [] x → Holds (tables s) (totalsOf x)
 unfolding tables totalsOf gather every total

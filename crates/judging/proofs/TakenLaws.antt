@@ -2,7 +2,7 @@
 use Prim.Native.Nat.{ℕ, zero, suc, _≤_, min}
 use mathlib.Core.Path.{_≡_, refl, sym, ap, _∙_}
 use mathlib.Core.List.{List, [], _∷_, _++_}
-use mathlib.Core.Bool.{Bool, true, false, not, _||_}
+use mathlib.Core.Bool.{Bool, true, false, not, _||_, or-assoc}
 use mathlib.Core.Option.{Option, none, some}
 use native.Mathlib.Omega.{arith}
 use lib.Dec.{eqb, ltb}
@@ -13,7 +13,6 @@ use Rattle.songcode.specs.Song.{LyricLine, Section, Song}
 use Rattle.songcode.specs.Lyrics.{isCounted, isPlayed, linesTaken, hasCounts, countFaults}
 use Rattle.songcode.proofs.ListLaws.{by-cases, any-append, Each, each-append}
 use Rattle.text.specs.Refusals.{refusalOf}
-use Rattle.outlines.proofs.ChordLaws.{or-assoc}
 use Rattle.judging.specs.declared.lyrics.Tally.{Tally}
 use Rattle.judging.specs.Lyrics.{firstLine, bareLine, tallied, takenWith, countFault}
 use Rattle.judging.proofs.TallyLaws.{first-zero, first-two, first-assoc}

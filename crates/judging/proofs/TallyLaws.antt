@@ -2,7 +2,7 @@
 use Prim.Native.Nat.{ℕ, zero, suc, _+_, _-_, _<_, min}
 use mathlib.Core.Path.{_≡_, refl, sym, ap, _∙_}
 use mathlib.Core.List.{List, [], _∷_}
-use mathlib.Core.Bool.{Bool, true, false, _||_}
+use mathlib.Core.Bool.{Bool, false, _||_, or-false, or-true}
 use native.Mathlib.Omega.{arith}
 use lib.Dec.{eqb, ltb}
 use lib.ListN.{length}
@@ -16,7 +16,6 @@ use Rattle.text.specs.declared.lines.Line.{Line}
 use Rattle.text.specs.Spans.{part, Found}
 use Rattle.settings.specs.declared.lyrics.Words.{Words}
 use Rattle.settings.specs.LyricParts.{countFrom, wordsFrom}
-use Rattle.outlines.proofs.ChordLaws.{or-false}
 use Rattle.judging.specs.declared.lyrics.Tally.{Tally}
 use Rattle.judging.specs.Lyrics.{firstLine, withLine, bareLine, tallied}
 use Rattle.judging.proofs.LyricLaws.{lyricsAt, lyricAt, lyrics-more, count-here}
@@ -61,17 +60,13 @@ pub none-joined : (u : Tally) → joined (record { lines = 0; sum = 0; counted =
 unfolding joined
 none-joined u = tally-is (omega arith) (omega arith) refl (zero-first (u .bare))
 
-or-true : (a b : Bool) → true ≡ a || (true || b)
-or-true true b = refl
-or-true false b = refl
-
 joined-more : (t : Tally) (l : LyricLine) (ls : List LyricLine) (k : ℕ) → countOf l ≡ countFrom k → joined (withLine t (l .number) k) (tallied ls) ≡ joined t (tallied (l ∷ ls))
 unfolding joined withLine tallied any counted bareLine isCounted isSome orElse countFrom if_then_else_
 joined-more t l ls zero e =
     tally-is (omega arith) (rw e (omega arith)) (rw e) (rw e (sym (first-assoc (t .bare) (l .number) (bareLine ls))))
 joined-more t l ls (suc k) e =
     rw (ne-eqb (suc k) 0 (λ (z : suc k ≡ 0). let y : ⊥ = omega arith in y))
-    (tally-is (omega arith) (rw e (omega arith)) (rw e (or-true (t .counted) (any isCounted ls))) (rw e))
+    (tally-is (omega arith) (rw e (omega arith)) (rw e (sym (or-true (t .counted)))) (rw e))
 
 pub with-lines : (t : Tally) (n k : ℕ) → withLine t n k .lines ≡ t .lines + 1
 unfolding withLine if_then_else_

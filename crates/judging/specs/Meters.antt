@@ -1,7 +1,7 @@
 -- What stage 4 finds of a section, from the outlines of its texts.
-use Prim.Native.Nat.{ℕ, zero, suc}
-use mathlib.Core.Bool.{Bool, true, false, not, _||_, _&&_}
-use lib.Dec.{eqb, leb, ltb}
+use Prim.Native.Nat.{ℕ}
+use mathlib.Core.Bool.{not}
+use lib.Dec.{eqb, ltb}
 use Rattle.songcode.specs.Lists.{if_then_else_}
 use Rattle.text.specs.declared.Refusal.{Refusal}
 use Rattle.outlines.specs.declared.readings.Outline.{Outline}

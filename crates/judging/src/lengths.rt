@@ -14,7 +14,7 @@ use text::Refusal;
 ghost use mathlib.Core.Path.{_≡_};
 ghost use mathlib.Core.List.{[]};
 ghost use mathlib.Core.Bool.{true};
-ghost use Prim.Native.Nat.{ℕ, _≤_, _*_};
+ghost use Prim.Native.Nat.{_≤_, _*_};
 ghost use lib.ListN.{length};
 ghost use Rattle.songcode.specs.Lists.{orElse, times};
 ghost use Rattle.songcode.specs.Complaints.{earliest};
@@ -24,7 +24,6 @@ ghost use Rattle.songcode.specs.Answer.{songOf};
 ghost use Rattle.text.specs.Refusals.{refusalOf};
 ghost use Rattle.settings.specs.Cuts.{CutFits};
 ghost use Rattle.player.specs.Walks.{rowOf};
-ghost use Rattle.player.specs.Windows.{firstBeat, lastBeat};
 ghost use Rattle.scores.specs.Scores.{Ready, Begins};
 ghost use Rattle.judging.specs.Lengths.{cutOrNone, countOfTexts, isCut, hasCut, isModified, cutAway};
 

@@ -20,19 +20,19 @@ use Rattle.outlines.specs.Tables.{placeBy, placeOf, vacant, rowAt, atPla
 use Rattle.outlines.specs.Told.{KnowsItems, Knows, Known, Roomy}
 
 -- The place among one more: the same, or the new one, or behind it.
-place-within : (k : ℕ) (ids : List ℕ) (i x : ℕ) → placeBy k ids i x ≤ i + k
+pub place-within : (k : ℕ) (ids : List ℕ) (i x : ℕ) → placeBy k ids i x ≤ i + k
 unfolding placeBy if_then_else_
 place-within zero ids i x = omega arith
 place-within (suc k) ids i x = by-cases (eqb (getD ids i 0) x) (λ e. rw e (omega arith)) (λ e. rw e (let h = place-within k ids (i + 1) x in omega arith))
 
-place-kept : (k : ℕ) (ids : List ℕ) (i x : ℕ) → placeBy k ids i x < i + k → placeBy (suc k) ids i x ≡ placeBy k ids i x
+pub place-kept : (k : ℕ) (ids : List ℕ) (i x : ℕ) → placeBy k ids i x < i + k → placeBy (suc k) ids i x ≡ placeBy k ids i x
 unfolding placeBy if_then_else_
 place-kept zero ids i x h = let z : ⊥ = omega arith in absurd z
 place-kept (suc k) ids i x h = by-cases (eqb (getD ids i 0) x)
     (λ e. rw e)
     (λ e. let g : placeBy k ids (i + 1) x < i + suc k = rw e at h in rw e (place-kept k ids (i + 1) x (omega arith)))
 
-place-added : (k : ℕ) (ids : List ℕ) (i x : ℕ) → placeBy k ids i x ≡ i + k → placeBy (suc k) ids i x ≡ (if eqb (getD ids (i + k) 0) x then i + k else i + k + 1)
+pub place-added : (k : ℕ) (ids : List ℕ) (i x : ℕ) → placeBy k ids i x ≡ i + k → placeBy (suc k) ids i x ≡ (if eqb (getD ids (i + k) 0) x then i + k else i + k + 1)
 unfolding placeBy if_then_else_
 place-added zero ids i x h = let e : i + 0 ≡ i = omega arith in rw e
 place-added (suc k) ids i x h = by-cases (eqb (getD ids i 0) x)
@@ -43,11 +43,11 @@ place-added (suc k) ids i x h = by-cases (eqb (getD ids i 0) x)
     rw (e, a) (place-added k ids (i + 1) x (omega arith)))
 
 -- The table with one more.
-count-added : (o : Outlines) (x : Outline) → o .count < 26 → extended o x .count ≡ o .count + 1
+pub count-added : (o : Outlines) (x : Outline) → o .count < 26 → extended o x .count ≡ o .count + 1
 unfolding extended if_then_else_
 count-added o x h = rw (lt-leb 26 (o .count) h)
 
-row-added : (o : Outlines) (x : Outline) → o .count < 26 → Roomy o → rowAt (extended o x) (o .count) ≡ x
+pub row-added : (o : Outlines) (x : Outline) → o .count < 26 → Roomy o → rowAt (extended o x) (o .count) ≡ x
 unfolding extended rowAt if_then_else_
 row-added o x h w =
     rw (
@@ -61,7 +61,7 @@ row-added o x h w =
       getD-set-same (o .measures) (o .count) (x .measures) 0 (rw (w .measures) h),
     )
 
-row-kept : (o : Outlines) (x : Outline) (i : ℕ) → o .count < 26 → (i ≡ o .count → ⊥) → rowAt (extended o x) i ≡ rowAt o i
+pub row-kept : (o : Outlines) (x : Outline) (i : ℕ) → o .count < 26 → (i ≡ o .count → ⊥) → rowAt (extended o x) i ≡ rowAt o i
 unfolding extended rowAt if_then_else_
 row-kept o x i h w =
     rw (

@@ -1,49 +1,32 @@
 -- The answer from the verdicts of its stages: the first two, the next five, and the room in the tables.
-use Prim.Native.Nat.{ℕ, zero, suc, _+_, _<_, _≤_}
+use Prim.Native.Nat.{ℕ, _≤_}
 use mathlib.Core.Path.{_≡_, refl, sym, ap, _∙_}
-use mathlib.Core.List.{List, [], _∷_, _++_, map}
-use mathlib.Core.Bool.{Bool, true, false, not, _||_, _&&_}
+use mathlib.Core.List.{List, [], _∷_, _++_}
+use mathlib.Core.Bool.{true, false, _||_}
 use mathlib.Core.Option.{Option, none, some}
-use native.Mathlib.Omega.{arith}
 use borrow.Author.Tests.{ltb-false}
-use lib.Dec.{eqb, leb, ltb}
+use lib.Dec.{ltb}
 use lib.ListN.{length}
-use Rattle.songcode.specs.Lists.{gather, when, andThen, orElse}
-use Rattle.songcode.specs.Bytes.{Byte}
+use Rattle.songcode.specs.Lists.{when}
 use Rattle.songcode.specs.Complaints.{Complaint, complaint, complainIf, earlier, earliest, stageOr, verdict}
-use Rattle.songcode.specs.Song.{Items, Definition, Song, Section, KeyName, time, bpm}
-use Rattle.songcode.specs.PatternText.{depth, loopsDeep, references, noReference}
-use Rattle.songcode.specs.Keys.{keyPlace, timeIn, bpmIn}
-use Rattle.songcode.specs.References.{putIn, itemsOf, definitionOf, itemsFault, referenceFault, depthFault, definitionReferences, definitionsReferences, referenceFaults}
+use Rattle.songcode.specs.Song.{Song}
+use Rattle.songcode.specs.PatternText.{references}
 use Rattle.songcode.specs.Playing as playing
-use Rattle.songcode.specs.Playing.{timeAmong, bpmAmong}
-use Rattle.songcode.specs.Meter.{meterFaults, lengthFaults}
-use Rattle.songcode.specs.Lyrics.{countFaults, sumFaults}
-use Rattle.songcode.specs.SongText.{textFaults, metadataLines, songIn}
+use Rattle.songcode.specs.SongText.{textFaults}
 use Rattle.songcode.specs.Tables.{Tables, tables, keyWords, keyOrder}
 use Rattle.songcode.specs.Answer.{Room, inputFaults, blocksOf, songOf, roomFaults, stages, refused, accepted, answerBy, answer}
-use Rattle.songcode.proofs.ListLaws.{by-cases, Each, each-append, none-passes, pass-none}
+use Rattle.songcode.proofs.ListLaws.{none-passes}
 use Rattle.text.specs.declared.Refusal.{Refusal}
 use Rattle.text.specs.Refusals.{refusalOf}
 use Rattle.stage2.proofs.SmallLines.{stage-clear}
-use Rattle.sections.specs.declared.blocks.Place.{Place}
-use Rattle.sections.specs.declared.runs.Run.{Run}
-use Rattle.sections.specs.declared.values.Keys.{Keys}
-use Rattle.sections.specs.Runs.{linesOf}
-use Rattle.sections.specs.Slots.{Setting, settingAmong}
-use Rattle.sections.specs.Values.{timeSaid, bpmSaid, KeysAre}
-use Rattle.sections.proofs.SaidLaws.{key-among}
-use Rattle.scores.specs.Metadata.{linesBefore, MetadataEnds}
 use Rattle.judging.specs.Sums.{Holds}
-use Rattle.judging.specs.Charts.{Clear, SongKeys, Roomy}
+use Rattle.judging.specs.Charts.{Clear, Roomy}
 use Rattle.judging.specs.declared.sums.Totals.{Totals}
 use Rattle.reader.specs.declared.Answer.{Answer}
 use Rattle.reader.specs.Answers.{isShort, written, answerOf, Lent, roomOf, stored, Promised}
 use Rattle.judging.specs.Stages.{lyricFaults, playingFaults, laterFaults}
-use Rattle.scores.proofs.ComplaintLaws.{Numbered, numbered-if, refused-none}
-use Rattle.judging.proofs.ReferenceLaws.{sectionFault, all-numbered}
 use Rattle.judging.proofs.ClearLaws.{verdict-clear}
-use Rattle.judging.proofs.StageLaws.{stage-passed, last-stage, numbered-input, input-small, numbered-meters, numbered-lengths, numbered-counts, numbered-sums}
+use Rattle.judging.proofs.StageLaws.{last-stage, numbered-input, input-small}
 
 -- Stages put together.
 verdict-append : (xs ys : List (List Complaint)) → verdict (xs ++ ys) ≡ stageOr (verdict xs) (verdict ys)

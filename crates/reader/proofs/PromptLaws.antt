@@ -2,7 +2,7 @@
 use Prim.Native.Nat.{ℕ, _+_, _≤_}
 use mathlib.Core.Path.{_≡_, refl, ap, _∙_, subst}
 use mathlib.Core.List.{List, [], _∷_, _++_, map}
-use mathlib.Core.Bool.{Bool, true, false, not, _&&_}
+use mathlib.Core.Bool.{true, false, not, _&&_}
 use native.Mathlib.Omega.{arith}
 use lib.Dec.{eqb}
 use lib.ListN.{length}
@@ -14,6 +14,7 @@ use Rattle.songcode.specs.Playing.{played}
 use Rattle.songcode.specs.Meter.{sectionCount, lengthFaults}
 use Rattle.songcode.specs.Lyrics.{countOf, isCounted, isPlayed, linesTaken, hasCounts, counted, sumFault, sumFaults, hasItems, promptsFrom, prompts, styled, wordsOf}
 use Rattle.songcode.specs.Tables.{itemWord, tables}
+use Rattle.songcode.specs.WrittenTables.{lyricsOf}
 use Rattle.songcode.proofs.ListLaws.{by-cases, both-pass, pass-both, every-append, gather-nil, Each, complainIf-nil}
 use Rattle.sections.specs.declared.blocks.Place.{Place}
 use Rattle.sections.specs.declared.walking.Met.{Met}
@@ -21,14 +22,11 @@ use Rattle.sections.specs.Runs.{linesOf}
 use Rattle.sections.specs.Onward.{sectionsFrom, sectionAt, Meets}
 use Rattle.judging.proofs.PlayedLaws.{played-short, lengths-step}
 use Rattle.judging.proofs.LyricLaws.{prompts-length}
-use Rattle.judging.proofs.TakenLaws.{takenFrom}
+use Rattle.judging.proofs.SumLaws.{isPrompted, prompted-parts, all-taken, all-prompted}
 
--- All lyric lines of these sections, and the words of their items from a measure on.
-abbrev pub lyricsOf : List Section → List LyricLine
-lyricsOf xs = gather (λ x. x .lyrics) xs
-
+-- The words of the items of these sections from a measure on.
 abbrev pub itemsFrom : ℕ → List Section → List ℕ
-itemsFrom m xs = map itemWord (promptsFrom m (lyricsOf xs))
+itemsFrom m xs = map itemWord (promptsFrom m (gather lyricsOf xs))
 
 prompts-append : (m : ℕ) (a b : List LyricLine) → map itemWord (promptsFrom m (a ++ b)) ≡ map itemWord (promptsFrom m a) ++ map itemWord (promptsFrom (m + counted a) b)
 unfolding promptsFrom counted
@@ -39,39 +37,22 @@ prompts-append m (l ∷ a) b =
     let rest = prompts-append (m + k) a b ∙ ap (λ (n : ℕ). map itemWord (promptsFrom (m + k) a) ++ map itemWord (promptsFrom n b)) e in
     ap (λ (ws : List ℕ). itemWord (record { words = styled (wordsOf (l .text) .text); first = m; measures = k }) ∷ ws) rest
 
--- A section that has items.
-abbrev sings : Song → Section → Bool
-sings s x = isPlayed s x && not (isEmpty (x .lyrics)) && every isCounted (x .lyrics)
-
-sings-parts : (s : Song) (x : Section) → sings s x ≡ true → (isPlayed s x ≡ true) × (not (isEmpty (x .lyrics)) ≡ true) × (every isCounted (x .lyrics) ≡ true)
-sings-parts s x e =
-    let a = both-pass (isPlayed s x && not (isEmpty (x .lyrics))) (every isCounted (x .lyrics)) e in
-    let b = both-pass (isPlayed s x) (not (isEmpty (x .lyrics))) (a .0) in
-    (b .0, b .1, a .1)
-
-all-taken : (s : Song) (xs : List Section) → every (sings s) xs ≡ true → takenFrom s xs ≡ lyricsOf xs
-unfolding gather every if_then_else_
-all-taken s [] e = refl
-all-taken s (x ∷ xs) e =
-    let h = both-pass (sings s x) (every (sings s) xs) e in
-    rw (sings-parts s x (h .0) .0, all-taken s xs (h .1))
-
-all-counted : (s : Song) (xs : List Section) → every (sings s) xs ≡ true → every isCounted (lyricsOf xs) ≡ true
-unfolding gather every
+all-counted : (s : Song) (xs : List Section) → every (isPrompted s) xs ≡ true → every isCounted (gather lyricsOf xs) ≡ true
+unfolding gather every lyricsOf
 all-counted s [] e = refl
 all-counted s (x ∷ xs) e =
-    let h = both-pass (sings s x) (every (sings s) xs) e in
-    every-append isCounted (x .lyrics) (lyricsOf xs) ∙ pass-both (sings-parts s x (h .0) .2) (all-counted s xs (h .1))
+    let h = both-pass (isPrompted s x) (every (isPrompted s) xs) e in
+    every-append isCounted (x .lyrics) (gather lyricsOf xs) ∙ pass-both (prompted-parts s x (h .0) .2) (all-counted s xs (h .1))
 
 some-counted : (ls : List LyricLine) → every isCounted ls ≡ true → (length ls ≡ 0 → ⊥) → any isCounted ls ≡ true
 unfolding every any
 some-counted [] e h = absurd (h refl)
 some-counted (l ∷ ls) e h = rw (both-pass (isCounted l) (every isCounted ls) e .0)
 
-summed : (s : Song) (x : Section) → sings s x ≡ true → sumFault s x ≡ [] → counted (x .lyrics) ≤ length (played s x)
+summed : (s : Song) (x : Section) → isPrompted s x ≡ true → sumFault s x ≡ [] → counted (x .lyrics) ≤ length (played s x)
 unfolding sumFault
 summed s x e h =
-    let p = sings-parts s x e in
+    let p = prompted-parts s x e in
     let none : isPlayed s x && not (isEmpty (x .lyrics)) && not (eqb (counted (x .lyrics)) (length (played s x))) ≡ false = complainIf-nil _ 17 (x .header) h in
     let same : not (eqb (counted (x .lyrics)) (length (played s x))) ≡ false = rw (p .0, p .1) at none in
     let z = eqb-true (counted (x .lyrics)) (length (played s x)) (not-false _ same) in
@@ -81,24 +62,24 @@ summed s x e h =
 abbrev Summed : Song → Section → Type 0
 Summed s x = counted (x .lyrics) ≤ length (played s x)
 
-all-summed : (s : Song) (xs : List Section) → every (sings s) xs ≡ true → Each (λ x. sumFault s x ≡ []) xs → Each (Summed s) xs
+all-summed : (s : Song) (xs : List Section) → every (isPrompted s) xs ≡ true → Each (λ x. sumFault s x ≡ []) xs → Each (Summed s) xs
 unfolding every Each
 all-summed s [] e h = tt
 all-summed s (x ∷ xs) e h =
-    let g = both-pass (sings s x) (every (sings s) xs) e in
+    let g = both-pass (isPrompted s x) (every (isPrompted s) xs) e in
     (summed s x (g .0) (h .0), all-summed s xs (g .1) (h .1))
 
 -- So many measures are passed, and the sections left have room for theirs.
-pub record Along (s : Song) (measure : ℕ) (xs : List Section) : Type 0 where
+pub record RoomLeft (s : Song) (measure : ℕ) (xs : List Section) : Type 0 where
   pub sofar : ℕ
   pub passed : measure ≤ sofar
   pub few : sofar ≤ 65535
   pub lengths : lengthFaults s sofar xs ≡ []
   pub sums : Each (Summed s) xs
 
-pub along-step : (s : Song) (m : ℕ) (x : Section) (xs : List Section) → Along s m (x ∷ xs) → (m + counted (x .lyrics) ≤ 65535) × Along s (m + counted (x .lyrics)) xs
+pub room-step : (s : Song) (m : ℕ) (x : Section) (xs : List Section) → RoomLeft s m (x ∷ xs) → (m + counted (x .lyrics) ≤ 65535) × RoomLeft s (m + counted (x .lyrics)) xs
 unfolding Each
-along-step s m x xs a =
+room-step s m x xs a =
     let h = lengths-step s (a .sofar) x xs (a .lengths) (a .few) in
     let p = played-short s x in
     let q = a .sums .0 in
@@ -112,31 +93,27 @@ module _ (s : Song) (some : length (tables s .items) ≡ 0 → ⊥) where
   unfolding tables prompts if_then_else_
   has-items = by-cases (hasItems s) (λ e. e) (λ e. absurd (some (rw e)))
 
-  all-sing : every (sings s) (s .sections) ≡ true
-  unfolding hasItems
-  all-sing = has-items
-
   pub items-all : tables s .items ≡ itemsFrom 0 (s .sections)
   unfolding tables prompts linesTaken if_then_else_
-  items-all = rw (has-items, all-taken s (s .sections) all-sing)
+  items-all = rw (has-items, all-taken s (s .sections) (all-prompted s has-items))
 
   counts-there : hasCounts s ≡ true
   unfolding hasCounts linesTaken
   counts-there =
-      ap (any isCounted) (all-taken s (s .sections) all-sing)
-      ∙ some-counted (lyricsOf (s .sections)) (all-counted s (s .sections) all-sing)
-      (λ z. some (ap (λ (ws : List ℕ). length ws) items-all ∙ prompts-length 0 (lyricsOf (s .sections)) ∙ z))
+      ap (any isCounted) (all-taken s (s .sections) (all-prompted s has-items))
+      ∙ some-counted (gather lyricsOf (s .sections)) (all-counted s (s .sections) (all-prompted s has-items))
+      (λ z. some (ap (λ (ws : List ℕ). length ws) items-all ∙ prompts-length 0 (gather lyricsOf (s .sections)) ∙ z))
 
-  pub along-start : lengthFaults s 0 (s .sections) ≡ [] → sumFaults s ≡ [] → Along s 0 (s .sections)
+  pub room-start : lengthFaults s 0 (s .sections) ≡ [] → sumFaults s ≡ [] → RoomLeft s 0 (s .sections)
   unfolding sumFaults if_then_else_
-  along-start h e =
+  room-start h e =
       let none : gather (sumFault s) (s .sections) ≡ [] = rw counts-there at e in
       record {
         sofar = 0;
         passed = omega arith;
         few = omega arith;
         lengths = h;
-        sums = all-summed s (s .sections) all-sing (gather-nil (sumFault s) (s .sections) none);
+        sums = all-summed s (s .sections) (all-prompted s has-items) (gather-nil (sumFault s) (s .sections) none);
       }
 
 -- The section that is met at a place.
@@ -145,12 +122,12 @@ module _ {s : List ℕ} {p : Place} {r : Met} (w : Meets s p r) (m : ℕ) where
   lyricsHere = map lyricLine (linesOf s (r .section .lyrics))
 
   pub items-split : itemsFrom m (sectionsFrom s p) ≡ map itemWord (promptsFrom m lyricsHere) ++ itemsFrom (m + counted lyricsHere) (sectionsFrom s (r .next))
-  unfolding gather
+  unfolding gather lyricsOf
   items-split =
       ap (itemsFrom m) (w .first)
-      ∙ prompts-append m (sectionAt s p .lyrics) (lyricsOf (sectionsFrom s (r .next)))
+      ∙ prompts-append m (sectionAt s p .lyrics) (gather lyricsOf (sectionsFrom s (r .next)))
       ∙ rw (w .says .lyrics)
 
-  pub along-here : {song : Song} → Along song m (sectionsFrom s p) → (m + counted lyricsHere ≤ 65535) × Along song (m + counted lyricsHere) (sectionsFrom s (r .next))
-  along-here {song} a =
-      rw (w .says .lyrics) (along-step song m (sectionAt s p) (sectionsFrom s (r .next)) (subst (λ (xs : List Section). Along song m xs) (w .first) a))
+  pub room-here : {song : Song} → RoomLeft song m (sectionsFrom s p) → (m + counted lyricsHere ≤ 65535) × RoomLeft song (m + counted lyricsHere) (sectionsFrom s (r .next))
+  room-here {song} a =
+      rw (w .says .lyrics) (room-step song m (sectionAt s p) (sectionsFrom s (r .next)) (subst (λ (xs : List Section). RoomLeft song m xs) (w .first) a))

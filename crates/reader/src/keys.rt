@@ -13,7 +13,7 @@ ghost use Rattle.songcode.specs.SongText.{textFaults};
 ghost use Rattle.songcode.specs.Tables.{tables};
 ghost use Rattle.sections.specs.Runs.{linesOf};
 ghost use Rattle.sections.specs.Slots.{settingAmong};
-ghost use Rattle.scores.specs.Metadata.{linesBefore, MetadataEnds};
+ghost use Rattle.scores.specs.Metadata.{MetadataEnds};
 ghost use Rattle.reader.specs.Answers.{written, wordOfSetting, ShortSetting};
 
 // The word of the key at a place of the table.

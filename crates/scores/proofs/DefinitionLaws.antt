@@ -32,7 +32,8 @@ use Rattle.sections.specs.Runs.{textLines, passing, linesOf, linesBehind}
 use Rattle.sections.specs.BlockParts.{blockAt, linesPast, DefinitionAt, NextAt}
 use Rattle.sections.specs.Onward.{Later}
 use Rattle.sections.proofs.SectionLaws.{definition-says}
-use Rattle.sections.proofs.MeetLaws.{Firsts, from-lines, from-left, blocks-from, firsts-later}
+use Rattle.sections.proofs.ListLaws.{each-left}
+use Rattle.sections.proofs.MeetLaws.{From, Firsts, from-lines, blocks-from, firsts-later}
 use Rattle.scores.specs.Laying.{runTokens}
 use Rattle.scores.specs.Loading.{blocksFrom, definitionsFrom, Leaves}
 
@@ -176,7 +177,7 @@ module _ (s : List ℕ) (count : ℕ) (seen : List ℕ) (p : Place) (w : Leaves 
     unfolding linesPast
     firsts-left =
         let n = p .number in
-        let f = blocks-from (n + 1) (linesPast s n (p .at)) (from-left (n + 1) (passing Full) (textLines s (n + 1) (lineAt s n (p .at) .next)) (from-lines s (n + 1) (lineAt s n (p .at) .next))) in
+        let f = blocks-from (n + 1) (linesPast s n (p .at)) (each-left (From (n + 1)) (passing Full) (textLines s (n + 1) (lineAt s n (p .at) .next)) (from-lines s (n + 1) (lineAt s n (p .at) .next))) in
         subst (Firsts (n + 1)) behind f
 
     pub heads-later : LaterHeads (e .head) (definitionsFrom s q)

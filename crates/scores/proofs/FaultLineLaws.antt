@@ -15,7 +15,8 @@ use Rattle.songcode.proofs.ListLaws.{Each, each-append, each-map}
 use Rattle.scores.proofs.ComplaintLaws.{Behind}
 use Rattle.scores.proofs.DefinitionLaws.{LaterHeads}
 
-line-if : (b : Bool) (number line : ℕ) → Each (λ c. c .line ≡ line) (complainIf b number line)
+-- The complaint of a test stands on its line.
+pub line-if : (b : Bool) (number line : ℕ) → Each (λ c. c .line ≡ line) (complainIf b number line)
 unfolding Each complainIf when
 line-if true number line = (refl, tt)
 line-if false number line = tt

@@ -10,7 +10,7 @@ use lib.Seq.{take-take, take-at, drop-at, take-append-add}
 use Rattle.songcode.specs.Complaints.{earliest}
 use Rattle.songcode.specs.Lists.{if_then_else_, isSome, andThen, orElse, gather}
 use Rattle.songcode.specs.Lines.{Line}
-use Rattle.songcode.specs.Song.{Items, one, named, Definition}
+use Rattle.songcode.specs.Song.{Items, named, Definition}
 use Rattle.songcode.specs.PatternText.{references}
 use Rattle.songcode.specs.References.{definitionOf, itemsOf, putInItem, putIn, patternItems, itemsFault, referenceFault, depthFault, definitionReferences}
 use Rattle.songcode.specs.Fits.{Refers, ReferAll}

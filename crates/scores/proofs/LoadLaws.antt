@@ -13,7 +13,7 @@ use Rattle.songcode.specs.Complaints.{Complaint, complaint, complainIf, earlies
 use Rattle.songcode.specs.Lines.{Block, blocks}
 use Rattle.songcode.specs.Song.{items, Definition}
 use Rattle.songcode.specs.Sections.{twice, sectionFaults, sectionIn}
-use Rattle.songcode.specs.SongText.{definition, section, blockKind, turn, blockOrder, definitionIf, definitionBlocks, sectionIf, sectionBlocks, headIn, headsFaults, firstLine, definitionItems, definitionFaults, definitionsFaults, definitionIn, textFaults, songIn}
+use Rattle.songcode.specs.SongText.{definition, blockKind, turn, blockOrder, definitionIf, definitionBlocks, sectionIf, sectionBlocks, headIn, headsFaults, firstLine, definitionItems, definitionFaults, definitionsFaults, definitionIn, textFaults, songIn}
 use Rattle.songcode.specs.References.{definitionOf, definitionReferences, definitionsReferences, sectionReference, referenceFaults}
 use Rattle.songcode.specs.WrittenSong.{idOf}
 use Rattle.songcode.specs.Answer.{blocksOf, songOf}

@@ -2,7 +2,7 @@
 use Prim.Native.Nat.{ℕ, _+_, _-_, _<_, _≤_}
 use mathlib.Core.Path.{_≡_, refl, sym, ap, _∙_, subst}
 use mathlib.Core.List.{List, [], _∷_, _++_, append-nil, head-eq-of-cons-eq}
-use mathlib.Core.Bool.{Bool, true, false, not}
+use mathlib.Core.Bool.{Bool, true, not, Bool·not-not}
 use mathlib.Core.Option.{some}
 use native.Mathlib.Omega.{arith}
 use borrow.Author.Tests.{ltb-true, ltb-false}
@@ -176,8 +176,4 @@ unfolding patternItems isSome
 plays-items ds p h = rw (named-nothing p h .1)
 
 pub plays-named : (ds : List Definition) (p : Pattern) (n : ℕ) → Names p n → (n ≡ 0 → ⊥) → {b : Bool} → b ≡ not (isSome (patternItems ds (named n))) → not b ≡ isSome (patternItems ds p)
-plays-named ds p n h k e = rw (named-some p n h k, e) (twice-not (isSome (patternItems ds (named n))))
-  where
-    twice-not : (b : Bool) → not (not b) ≡ b
-    twice-not true = refl
-    twice-not false = refl
+plays-named ds p n h k e = rw (named-some p n h k, e) (Bool·not-not (isSome (patternItems ds (named n))))

@@ -4,7 +4,7 @@ use mathlib.Core.Path.{_≡_, refl, sym, ap, _∙_}
 use mathlib.Core.List.{List}
 use mathlib.Core.Bool.{Bool, true, false}
 use native.Mathlib.Omega.{arith}
-use borrow.Author.Tests.{eq-eqb, ne-eqb, leb-false, le-leb, lt-leb}
+use borrow.Author.Tests.{eq-eqb, ne-eqb, leb-true, leb-false, le-leb, lt-leb}
 use lib.Dec.{eqb, leb}
 use lib.ListN.{getD, set, length-set}
 use lib.Seq.{getD-set-same, getD-set-other}
@@ -16,23 +16,23 @@ use Rattle.player.specs.Walks.{stretchBy, stretchOf}
 use Rattle.outlines.specs.declared.readings.Outline.{Outline}
 use Rattle.outlines.specs.declared.tables.Outlines.{Outlines}
 use Rattle.outlines.specs.Tables.{placeBy, placeOf, vacant, rowAt, atPlace, lookUp, isMissing, extended}
-use Rattle.outlines.proofs.TableLaws.{roomy-added}
+use Rattle.outlines.proofs.TableLaws.{place-within, place-kept, place-added, count-added, row-added, row-kept, roomy-added}
 use Rattle.scores.specs.Scores.{numbered}
 use Rattle.scores.specs.Loading.{Even}
 
 -- The place of a number among one more.
-place-kept : (k : ℕ) (ids : List ℕ) (c v i n : ℕ) → i + k ≤ c → placeBy k (set ids c v) i n ≡ placeBy k ids i n
+place-set : (k : ℕ) (ids : List ℕ) (c v i n : ℕ) → i + k ≤ c → placeBy k (set ids c v) i n ≡ placeBy k ids i n
 unfolding placeBy
-place-kept zero ids c v i n h = refl
-place-kept (suc k) ids c v i n h = rw (getD-set-other ids c i v 0 (λ e. let z : ⊥ = omega arith in z), place-kept k ids c v (i + 1) n (omega arith))
+place-set zero ids c v i n h = refl
+place-set (suc k) ids c v i n h = rw (getD-set-other ids c i v 0 (λ e. let z : ⊥ = omega arith in z), place-set k ids c v (i + 1) n (omega arith))
 
 place-more : (k : ℕ) (ids : List ℕ) (i n : ℕ) → placeBy (suc k) ids i n ≡ (if leb (i + k) (placeBy k ids i n) then (if eqb (getD ids (i + k) 0) n then i + k else i + k + 1) else placeBy k ids i n)
-unfolding placeBy if_then_else_
-place-more zero ids i n = let e : i + 0 ≡ i = omega arith in rw (e, le-leb i i (omega arith))
-place-more (suc k) ids i n =
-    by-cases (eqb (getD ids i 0) n)
-    (λ e. rw (e, lt-leb (i + suc k) i (omega arith)))
-    (λ e. let a : i + suc k ≡ i + 1 + k = omega arith in rw (e, a) (place-more k ids (i + 1) n))
+unfolding if_then_else_
+place-more k ids i n =
+    let w = place-within k ids i n in
+    by-cases (leb (i + k) (placeBy k ids i n))
+    (λ e. let h = leb-true (i + k) (placeBy k ids i n) e in rw e (place-added k ids i n (omega arith)))
+    (λ e. let h = leb-false (i + k) (placeBy k ids i n) e in rw e (place-kept k ids i n h))
 
 stretch-place : (k : ℕ) (ids from to : List ℕ) (i n : ℕ)
     → stretchBy k ids from to i n ≡ (if leb (i + k) (placeBy k ids i n) then record { from = 0; to = 0 } else record { from = getD from (placeBy k ids i n) 0; to = getD to (placeBy k ids i n) 0 })
@@ -90,40 +90,13 @@ module _ (d : Definitions) (o : Outlines) (id : ℕ) (t : Stretch) (x : Outline)
   numbered-is = rw (lt-leb 26 c few)
 
   count-is : extended o x .count ≡ c + 1
-  unfolding extended if_then_else_
-  count-is = let e = even .count in rw (lt-leb 26 (o .count) (omega arith)) (omega arith)
+  count-is = let e = even .count in count-added o x (omega arith) ∙ omega arith
 
   row-new : rowAt (extended o x) c ≡ x
-  unfolding extended rowAt if_then_else_
-  row-new =
-      let w = even .roomy in
-      rw (
-        ← (even .count),
-        lt-leb 26 (o .count) (rw (even .count) few),
-        getD-set-same (o .empty) (o .count) (x .empty) false (rw (w .empty, even .count) few),
-        getD-set-same (o .loops) (o .count) (x .loops) false (rw (w .loops, even .count) few),
-        getD-set-same (o .refers) (o .count) (x .refers) false (rw (w .refers, even .count) few),
-        getD-set-same (o .sizes) (o .count) (x .sizes) 0 (rw (w .sizes, even .count) few),
-        getD-set-same (o .wants) (o .count) (x .wants) false (rw (w .wants, even .count) few),
-        getD-set-same (o .chord) (o .count) (x .chord) false (rw (w .chord, even .count) few),
-        getD-set-same (o .measures) (o .count) (x .measures) 0 (rw (w .measures, even .count) few),
-      )
+  row-new = let e = even .count in ap (rowAt (extended o x)) (sym e) ∙ row-added o x (omega arith) (even .roomy)
 
-  row-kept : (i : ℕ) → i < c → rowAt (extended o x) i ≡ rowAt o i
-  unfolding extended rowAt if_then_else_
-  row-kept i h =
-      let e = even .count in
-      let w : i ≡ o .count → ⊥ = λ z. let y : ⊥ = omega arith in y in
-      rw (
-        lt-leb 26 (o .count) (omega arith),
-        getD-set-other (o .empty) (o .count) i (x .empty) false w,
-        getD-set-other (o .loops) (o .count) i (x .loops) false w,
-        getD-set-other (o .refers) (o .count) i (x .refers) false w,
-        getD-set-other (o .sizes) (o .count) i (x .sizes) 0 w,
-        getD-set-other (o .wants) (o .count) i (x .wants) false w,
-        getD-set-other (o .chord) (o .count) i (x .chord) false w,
-        getD-set-other (o .measures) (o .count) i (x .measures) 0 w,
-      )
+  row-before : (i : ℕ) → i < c → rowAt (extended o x) i ≡ rowAt o i
+  row-before i h = let e = even .count in row-kept o x i (omega arith) (λ z. let y : ⊥ = omega arith in y)
 
   pub even-added : Even (numbered d id t) (extended o x)
   even-added =
@@ -149,7 +122,7 @@ module _ (d : Definitions) (o : Outlines) (id : ℕ) (t : Stretch) (x : Outline)
         let a : c + 1 ≡ suc c = omega arith in
         let z : 0 + c ≡ c = omega arith in
         let g = getD-set-same (d .ids) c id 0 (rw (even .ids) few) in
-        ap (λ (k : ℕ). placeBy k (set (d .ids) c id) 0 n) a ∙ place-more c (set (d .ids) c id) 0 n ∙ rw (z, place-kept c (d .ids) c id 0 n (omega arith), g) refl
+        ap (λ (k : ℕ). placeBy k (set (d .ids) c id) 0 n) a ∙ place-more c (set (d .ids) c id) 0 n ∙ rw (z, place-set c (d .ids) c id 0 n (omega arith), g) refl
 
     there : leb (c + 1) after ≡ false → Seen d' (extended o x) n false (record { from = getD (set (d .from) c (t .from)) after 0; to = getD (set (d .to) c (t .to)) after 0 }) (rowAt (extended o x) after)
     there = seen-at d' (extended o x) (c + 1) refl count-is (omega arith) n
@@ -189,6 +162,6 @@ module _ (d : Definitions) (o : Outlines) (id : ℕ) (t : Stretch) (x : Outline)
         = record {
           missing-is = s .missing-is;
           at-is = s .at-is ∙ rw (p, getD-set-other (d .from) c before (t .from) 0 k, getD-set-other (d .to) c before (t .to) 0 k) refl;
-          outline-is = s .outline-is ∙ rw p (row-kept before l);
+          outline-is = s .outline-is ∙ rw p (row-before before l);
         } in
         alike moved (seen-at d o c refl (even .count) (even .few) n y)))

@@ -7,7 +7,7 @@ use mathlib.Core.Option.{Option, none, some}
 use native.Mathlib.Omega.{arith}
 use borrow.Author.Tests.{ltb-true, ltb-false, eqb-true}
 use lib.Dec.{eqb, ltb}
-use lib.ListN.{length, take, drop, getD, length-append, length-take, length-drop, take-append-drop}
+use lib.ListN.{length, take, drop, getD, length-append, length-take, length-drop}
 use Rattle.songcode.specs.Lists.{if_then_else_, taken, left}
 use Rattle.songcode.specs.Bytes.{Byte, placed, isBlank, notBlank}
 use Rattle.songcode.specs.Lines.{Line, cr, inside, ending}
@@ -42,11 +42,6 @@ weight-taken p ls = let h = weight-parts p ls in omega arith
 
 pub weight-left : (p : Line → Bool) (ls : List Line) → weight (left p ls) ≤ weight ls
 weight-left p ls = let h = weight-parts p ls in omega arith
-
-pub weight-take : (k : ℕ) (ls : List Line) → weight (take k ls) ≤ weight ls
-weight-take k ls =
-    let h : weight (take k ls) + weight (drop k ls) ≡ weight ls = sym (weight-append (take k ls) (drop k ls)) ∙ ap weight (take-append-drop k ls) in
-    omega arith
 
 -- The first line of a text and its line end lie in the text; a line without line end is the last.
 cr-width : (bs : List ℕ) → breakWidth cr (end (getD bs 0 0)) ≤ suc (length bs)

@@ -1,12 +1,12 @@
 -- When the buffer holds the definitions of a song, and the texts of a section.
-use Prim.Native.Nat.{ℕ, zero, suc, _+_, _<_, _≤_}
+use Prim.Native.Nat.{ℕ, _+_, _≤_}
 use mathlib.Core.Path.{_≡_}
-use mathlib.Core.List.{List, [], _∷_}
-use mathlib.Core.Bool.{Bool, true, false, not}
+use mathlib.Core.List.{List, []}
+use mathlib.Core.Bool.{false, not}
 use mathlib.Core.Option.{Option, none, some}
 use lib.Dec.{leb}
 use lib.ListN.{length, take, set}
-use Rattle.songcode.specs.Lists.{if_then_else_, isSome, andThen, gather}
+use Rattle.songcode.specs.Lists.{if_then_else_, isSome, andThen}
 use Rattle.songcode.specs.Complaints.{earliest}
 use Rattle.songcode.specs.Song.{Items, named, Definition, Section}
 use Rattle.songcode.specs.References.{definitionOf, patternItems, definitionsReferences, referenceFaults}

@@ -1,11 +1,12 @@
--- Laws of lists: the elements in front that pass a test, taken of those that pass another; and one element more.
-use Prim.Native.Nat.{ℕ, _+_}
+-- Laws of lists: the elements in front that pass a test, taken of those that pass another; one element more; and what holds of each element of a part.
+use Prim.Native.Nat.{ℕ, zero, suc, _+_}
 use mathlib.Core.Path.{_≡_, refl, sym, _∙_}
 use mathlib.Core.List.{List, [], _∷_, _++_}
 use mathlib.Core.Bool.{Bool, true, false, _&&_}
 use lib.ListN.{take, drop}
 use lib.Seq.{take-add, drop-drop}
 use Rattle.songcode.specs.Lists.{if_then_else_, taken, left}
+use Rattle.songcode.proofs.ListLaws.{Each}
 use Rattle.text.proofs.TestLaws.{by-cases}
 
 module _ {A : Type 0} where
@@ -37,3 +38,21 @@ module _ {A : Type 0} where
 
     pub drop-more : drop (k + 1) xs ≡ ys
     drop-more = sym (drop-drop 1 k xs) ∙ rw e
+
+  -- What holds of each element holds of each that is taken or left.
+  module _ (P : A → Type 0) where
+    pub each-take : (k : ℕ) (xs : List A) → Each P xs → Each P (take k xs)
+    unfolding Each
+    each-take zero xs e = tt
+    each-take (suc k) [] e = tt
+    each-take (suc k) (x ∷ xs) e = (e .0, each-take k xs (e .1))
+
+    pub each-taken : (p : A → Bool) (xs : List A) → Each P xs → Each P (taken p xs)
+    unfolding Each taken if_then_else_
+    each-taken p [] e = tt
+    each-taken p (x ∷ xs) e = by-cases (p x) (λ t. rw t (e .0, each-taken p xs (e .1))) (λ t. rw t tt)
+
+    pub each-left : (p : A → Bool) (xs : List A) → Each P xs → Each P (left p xs)
+    unfolding Each left if_then_else_
+    each-left p [] e = tt
+    each-left p (x ∷ xs) e = by-cases (p x) (λ t. rw t (each-left p xs (e .1))) (λ t. rw t e)

@@ -11,7 +11,7 @@ use Rattle.songcode.specs.Lines.{Line, Block, shut, join, runs, blocks}
 use Rattle.songcode.specs.Song.{Section, Pattern, named}
 use Rattle.songcode.specs.PatternText.{sectionText}
 use Rattle.songcode.specs.Sections.{sectionFaults, sectionIn, patternIn, patternFaults, patternRun, body}
-use Rattle.songcode.proofs.ListLaws.{append-is-nil, nil-is-not-cons, complainIf-nil, true-is-not-false}
+use Rattle.songcode.proofs.ListLaws.{Each, each-map, append-is-nil, nil-is-not-cons, complainIf-nil, true-is-not-false}
 use Rattle.text.specs.Spans.{lineOf, lineAt, lineText, spansFrom}
 use Rattle.text.specs.declared.lines.Line as text
 use Rattle.text.proofs.TestLaws.{by-cases}
@@ -23,49 +23,40 @@ use Rattle.sections.specs.Runs.{textLines, passing, passes, linesOf, lin
 use Rattle.sections.specs.BlockParts.{blockAt, linesPast, SectionAt, NextAt}
 use Rattle.sections.specs.SectionSays.{SectionSays}
 use Rattle.sections.specs.Onward.{sectionsFrom, Onward, sectionAt, Later, Meets}
+use Rattle.sections.proofs.ListLaws.{each-left}
+use Rattle.sections.proofs.NextLaws.{blocks-over}
 use Rattle.sections.proofs.SectionLaws.{clean-order, section-says}
 
 -- Lines, and the first lines of blocks, numbered from n on.
-unfoldable pub From : ℕ → List Line → Type 0
-From n [] = Unit {0}
-From n (l ∷ ls) = (n ≤ l .number) × From n ls
+abbrev pub From : ℕ → Line → Type 0
+From n l = n ≤ l .number
 
 unfoldable pub Firsts : ℕ → List Block → Type 0
 Firsts n [] = Unit {0}
 Firsts n (b ∷ bs) = (n ≤ b .first .number) × Firsts n bs
 
-from-wider : (m n : ℕ) → m ≤ n → (ls : List Line) → From n ls → From m ls
-unfolding From
-from-wider m n h [] w = tt
-from-wider m n h (l ∷ ls) w = let q = w .0 in (omega arith, from-wider m n h ls (w .1))
-
-from-spans : (s : List ℕ) (n at k : ℕ) (bs : List ℕ) → From n (map (lineText s) (spansFrom n at k bs))
-unfolding From spansFrom lineOf
+from-spans : (s : List ℕ) (n at k : ℕ) (bs : List ℕ) → Each (From n) (map (lineText s) (spansFrom n at k bs))
+unfolding Each spansFrom lineOf
 from-spans s n at k [] = tt
 from-spans s n at (suc k) (b ∷ bs) = from-spans s n (suc at) k bs
 from-spans s n at zero (b ∷ bs) =
-    (omega arith, from-wider n (suc n) (omega arith) (map (lineText s) (spansFrom (suc n) (suc at) (lineOf n at (b ∷ bs) .next - suc at) bs)) (from-spans s (suc n) (suc at) (lineOf n at (b ∷ bs) .next - suc at) bs))
+    (omega arith, each-map (λ l h. omega arith) (map (lineText s) (spansFrom (suc n) (suc at) (lineOf n at (b ∷ bs) .next - suc at) bs)) (from-spans s (suc n) (suc at) (lineOf n at (b ∷ bs) .next - suc at) bs))
 
-pub from-lines : (s : List ℕ) (n at : ℕ) → From n (textLines s n at)
+pub from-lines : (s : List ℕ) (n at : ℕ) → Each (From n) (textLines s n at)
 unfolding textLines
 from-lines s n at = from-spans s n at 0 (drop at s)
 
-pub from-left : (n : ℕ) (p : Line → Bool) (ls : List Line) → From n ls → From n (left p ls)
-unfolding From left if_then_else_
-from-left n p [] w = tt
-from-left n p (l ∷ ls) w = by-cases (p l) (λ e. rw e (from-left n p ls (w .1))) (λ e. rw e w)
-
 record RunsFrom (n : ℕ) (ls : List Line) : Type 0 where
-  front : From n (runs ls .front)
+  front : Each (From n) (runs ls .front)
   rest : Firsts n (runs ls .rest)
 
-shut-firsts : (n : ℕ) (ls : List Line) (bs : List Block) → From n ls → Firsts n bs → Firsts n (shut ls bs)
-unfolding From Firsts shut
+shut-firsts : (n : ℕ) (ls : List Line) (bs : List Block) → Each (From n) ls → Firsts n bs → Firsts n (shut ls bs)
+unfolding Each Firsts shut
 shut-firsts n [] bs w v = v
 shut-firsts n (l ∷ ls) bs w v = (w .0, v)
 
-runs-from : (n : ℕ) (ls : List Line) → From n ls → RunsFrom n ls
-unfolding From Firsts runs join
+runs-from : (n : ℕ) (ls : List Line) → Each (From n) ls → RunsFrom n ls
+unfolding Each Firsts runs join
 runs-from n [] w = record { front = tt; rest = tt }
 runs-from n (l ∷ ls) w =
     let r = runs-from n ls (w .1) in
@@ -73,7 +64,7 @@ runs-from n (l ∷ ls) w =
     (λ e. record { front = rw e tt; rest = rw e (shut-firsts n (runs ls .front) (runs ls .rest) (r .front) (r .rest)) })
     (λ e. record { front = rw e (w .0, r .front); rest = rw e (r .rest) })
 
-pub blocks-from : (n : ℕ) (ls : List Line) → From n ls → Firsts n (blocks ls)
+pub blocks-from : (n : ℕ) (ls : List Line) → Each (From n) ls → Firsts n (blocks ls)
 unfolding blocks
 blocks-from n ls w = let r = runs-from n ls w in shut-firsts n (runs ls .front) (runs ls .rest) (r .front) (r .rest)
 
@@ -81,6 +72,11 @@ pub firsts-later : (n : ℕ) (bs : List Block) → Firsts (n + 1) bs → Later n
 unfolding Firsts Later sectionIn
 firsts-later n [] w = tt
 firsts-later n (b ∷ bs) w = let q = w .0 in (omega arith, firsts-later n bs (w .1))
+
+-- No section stands from the end of the text on.
+pub sections-over : (s : List ℕ) (p : Place) → length s ≤ p .at → sectionsFrom s p ≡ []
+unfolding sectionsFrom
+sections-over s p h = ap (map sectionIn) (blocks-over s (p .number) (p .at) h)
 
 -- A section without fault has a pattern.
 pattern-there : (header : ℕ) (ls : List Line) → patternFaults header ls ≡ [] → patternIn ls ≡ some (orElse (patternIn ls) (named 0))
@@ -119,7 +115,7 @@ module _ (s : List ℕ) (p : Place) (x : SectionRead) (q : Place) (o : Onward s 
   unfolding sectionsFrom linesPast
   later =
       let n = p .number in
-      let f = blocks-from (n + 1) (linesPast s n (p .at)) (from-left (n + 1) (passing Full) (textLines s (n + 1) (lineAt s n (p .at) .next)) (from-lines s (n + 1) (lineAt s n (p .at) .next))) in
+      let f = blocks-from (n + 1) (linesPast s n (p .at)) (each-left (From (n + 1)) (passing Full) (textLines s (n + 1) (lineAt s n (p .at) .next)) (from-lines s (n + 1) (lineAt s n (p .at) .next))) in
       rw header-is (firsts-later n (blocks (textLines s (q .number) (q .at))) (subst (Firsts (n + 1)) behind f))
 
   has-pattern : patternIn (linesOf s (x .pattern)) ≡ some (sectionAt s p .pattern)

@@ -1,9 +1,5 @@
-use Rattle.reader.proofs.AnswerLaws.{early-refused, late-refused, short-refused, song-accepted, short-is, long-is, keys-room, tables-room, first-clear, promised-refused, promised-accepted}
+use Rattle.reader.proofs.AnswerLaws.{early-refused, first-clear, promised-refused}
 use Rattle.reader.specs.Answers.{Lent, roomOf}
-use Rattle.songcode.specs.Answer.{songOf}
-use Rattle.songcode.specs.Tables.{tables}
-use lib.ListN.{length}
-use mathlib.Core.Path.{_≡_, sym, _∙_}
 use borrow.Author.Needs.{needs}
 use Rattle.reader.proofs.read.Statement.{statement}
 use Rattle.reader.proofs.read.Tie as tie

@@ -6,7 +6,7 @@ use Rattle.sections.specs.Runs.{linesOf}
 use Rattle.sections.specs.Values.{KeysAre}
 use Rattle.songcode.specs.Answer.{songOf}
 use Rattle.text.specs.declared.Refusal.{Refusal}
-use mathlib.Core.Path.{_≡_, sym, ap, _∙_, subst}
+use mathlib.Core.Path.{sym, ap, _∙_, subst}
 use native.Mathlib.Omega.{arith}
 use borrow.Author.Needs.{needs}
 use Rattle.judging.proofs.charts.judge.Statement.{statement}

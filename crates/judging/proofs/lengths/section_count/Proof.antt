@@ -2,7 +2,6 @@ use Rattle.judging.specs.Lengths.{countOfTexts}
 use mathlib.Core.Path.{refl}
 use native.Mathlib.Omega.{arith}
 use native.Mathlib.Nat.{mul-le-mul}
-use borrow.Author.Needs.{needs}
 use Rattle.judging.proofs.lengths.section_count.Statement.{statement}
 use Rattle.judging.proofs.lengths.section_count.Tie as tie
 use Rattle.judging.proofs.lengths.section_count.Reads as reads

@@ -15,7 +15,8 @@ use Rattle.judging.specs.declared.lyrics.Tally.{Tally}
 use Rattle.judging.specs.declared.lyrics.Counted.{Counted}
 use Rattle.judging.specs.Lyrics.{firstLine, bareLine, tallied, takenWith, countFault}
 use Rattle.judging.proofs.TallyLaws.{first-zero}
-use Rattle.judging.proofs.NumberLaws.{Numbered, lyrics-numbered, sections-over}
+use Rattle.judging.proofs.NumberLaws.{Numbered, lyrics-numbered}
+use Rattle.sections.proofs.MeetLaws.{sections-over}
 use Rattle.judging.proofs.TakenLaws.{takenFrom, taken-numbered, taken-counted, taken-bare, count-refusal}
 use borrow.Author.Needs.{needs}
 use Rattle.judging.proofs.lyrics.stage_six.Statement.{statement}

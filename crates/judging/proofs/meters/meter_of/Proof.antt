@@ -1,7 +1,6 @@
 use borrow.Author.Tests.{eq-eqb, ne-eqb}
 use Rattle.songcode.specs.Lists.{if_then_else_}
 use Rattle.judging.specs.Meters.{meterOf}
-use borrow.Author.Needs.{needs}
 use Rattle.judging.proofs.meters.meter_of.Statement.{statement}
 use Rattle.judging.proofs.meters.meter_of.Tie as tie
 use Rattle.judging.proofs.meters.meter_of.Reads as reads

@@ -1,7 +1,6 @@
 use Rattle.judging.specs.Meters.{soonerOf}
 use Rattle.songcode.specs.Lists.{if_then_else_}
 use borrow.Author.Tests.{eq-eqb, ne-eqb, lt-ltb, le-ltb}
-use borrow.Author.Needs.{needs}
 use Rattle.judging.proofs.meters.sooner.Statement.{statement}
 use Rattle.judging.proofs.meters.sooner.Tie as tie
 use Rattle.judging.proofs.meters.sooner.Reads as reads

@@ -1,18 +1,17 @@
-use Rattle.judging.proofs.ReferenceLaws.{sectionFault, fault-at, first-section, next-section, sections-over}
+use Rattle.judging.proofs.ReferenceLaws.{sectionFault, fault-at, first-section, next-section}
+use Rattle.sections.proofs.MeetLaws.{sections-over}
 use Rattle.scores.specs.Scores.{Told}
 use Rattle.sections.specs.Onward.{sectionsFrom, sectionAt, Onward}
 use Rattle.songcode.specs.Lists.{gather}
 use Rattle.songcode.specs.Complaints.{Complaint, earliest}
 use Rattle.songcode.specs.Song.{Section}
 use Rattle.songcode.specs.Answer.{songOf}
-use Rattle.text.specs.declared.Refusal.{Refusal}
 use Rattle.text.specs.Refusals.{refusalOf}
 use lib.ListN.{length}
-use mathlib.Core.List.{List, []}
+use mathlib.Core.List.{List}
 use mathlib.Core.Path.{_≡_, refl, sym, ap, _∙_}
 use native.Mathlib.Omega.{arith}
 use Prim.Native.Nat.{_-_}
-use borrow.Author.Needs.{needs}
 use Rattle.judging.proofs.references.stage_three.Statement.{statement}
 use Rattle.judging.proofs.references.stage_three.Tie as tie
 use Rattle.judging.proofs.references.stage_three.Reads as reads

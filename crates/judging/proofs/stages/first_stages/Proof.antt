@@ -1,17 +1,9 @@
-use Rattle.judging.proofs.StageLaws.{stage-refused, stage-passed, last-stage, stage-none, numbered-input, input-small, numbered-meters, numbered-lengths, numbered-counts, numbered-sums}
-use Rattle.judging.specs.Stages.{lyricFaults, playingFaults, laterFaults}
-use Rattle.judging.specs.declared.sums.Totals.{Totals}
-use Rattle.songcode.specs.Complaints.{Complaint, earliest, verdict}
-use Rattle.songcode.specs.Answer.{songOf, inputFaults, blocksOf}
+use Rattle.judging.proofs.StageLaws.{stage-refused, stage-passed, last-stage, stage-none, numbered-input, input-small}
+use Rattle.songcode.specs.Answer.{inputFaults, blocksOf}
 use Rattle.songcode.specs.SongText.{textFaults}
-use Rattle.songcode.specs.References.{definitionsReferences, sectionReference, referenceFaults}
-use Rattle.songcode.specs.Meter.{meterFaults, lengthFaults}
-use Rattle.songcode.specs.Lyrics.{countFaults, sumFaults}
-use Rattle.text.specs.declared.Refusal.{Refusal}
 use Rattle.text.specs.Refusals.{refusalOf}
-use mathlib.Core.List.{List, [], _∷_}
-use mathlib.Core.Path.{_≡_, refl, sym, ap, _∙_}
-use native.Mathlib.Omega.{arith}
+use mathlib.Core.List.{[], _∷_}
+use mathlib.Core.Path.{sym, ap, _∙_}
 use borrow.Author.Needs.{needs}
 use Rattle.judging.proofs.stages.first_stages.Statement.{statement}
 use Rattle.judging.proofs.stages.first_stages.Tie as tie

@@ -5,7 +5,7 @@ use Rattle.judging.specs.declared.sums.Totals.{Totals}
 use Rattle.sections.specs.Onward.{sectionsFrom}
 use Rattle.songcode.specs.Answer.{songOf}
 use Rattle.songcode.specs.References.{referenceFaults}
-use mathlib.Core.Path.{_≡_, refl, sym, ap, _∙_}
+use mathlib.Core.Path.{sym, ap, _∙_}
 use borrow.Author.Needs.{needs}
 use Rattle.judging.proofs.stages.later_stages.Statement.{statement}
 use Rattle.judging.proofs.stages.later_stages.Tie as tie

@@ -1,13 +1,11 @@
-use Rattle.judging.proofs.StageLaws.{stage-refused, stage-passed, last-stage, stage-none, refused-says, numbered-meters, numbered-lengths, numbered-counts, numbered-sums}
-use Rattle.judging.specs.Stages.{lyricFaults, playingFaults, laterFaults}
+use Rattle.judging.proofs.StageLaws.{stage-refused, stage-passed, last-stage, stage-none, refused-says, numbered-counts}
+use Rattle.judging.specs.Stages.{lyricFaults}
 use Rattle.judging.specs.declared.sums.Totals.{Totals}
-use Rattle.songcode.specs.Complaints.{Complaint, earliest, verdict}
 use Rattle.songcode.specs.Answer.{songOf}
-use Rattle.songcode.specs.Meter.{meterFaults, lengthFaults}
 use Rattle.songcode.specs.Lyrics.{countFaults, sumFaults}
 use Rattle.text.specs.Refusals.{refusalOf}
-use mathlib.Core.List.{List, [], _∷_}
-use mathlib.Core.Path.{_≡_, refl, sym, ap, _∙_}
+use mathlib.Core.List.{[], _∷_}
+use mathlib.Core.Path.{sym, ap, _∙_}
 use borrow.Author.Needs.{needs}
 use Rattle.judging.proofs.stages.lyric_stages.Statement.{statement}
 use Rattle.judging.proofs.stages.lyric_stages.Tie as tie

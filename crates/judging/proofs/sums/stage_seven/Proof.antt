@@ -3,7 +3,7 @@ use mathlib.Core.Path.{_≡_, refl, sym, ap, _∙_, subst}
 use native.Mathlib.Omega.{arith}
 use lib.ListN.{length}
 use borrow.Author.Needs.{needs}
-use Rattle.songcode.specs.Playing.{timeOf, played}
+use Rattle.songcode.specs.Playing.{timeOf}
 use Rattle.songcode.specs.Lyrics.{sumFaults}
 use Rattle.songcode.specs.Tables.{tables}
 use Rattle.songcode.specs.Answer.{songOf}
@@ -12,7 +12,7 @@ use Rattle.judging.specs.declared.sums.Totals.{Totals}
 use Rattle.judging.specs.Sums.{totalsOf, Holds}
 use Rattle.judging.proofs.MeterLaws.{meter-is}
 use Rattle.judging.proofs.AlongLaws.{Along, along-start, along-same, along-within, along-measures, along-beats, along-next}
-use Rattle.judging.proofs.JudgedLaws.{sections-over}
+use Rattle.sections.proofs.MeetLaws.{sections-over}
 use Rattle.judging.proofs.SumLaws.{opened-few, opened-off, opened-refused, opened-passed, opened-summed, faultsLeft, faults-start, faults-end, Summed, summed-from, summed-end, with-counts}
 use Rattle.judging.proofs.sums.stage_seven.Statement.{statement}
 use Rattle.judging.proofs.sums.stage_seven.Tie as tie

@@ -12,8 +12,9 @@ use Rattle.songcode.specs.Answer.{songOf}
 use Rattle.sections.specs.Runs.{linesOf}
 use Rattle.sections.specs.Onward.{sectionsFrom, Onward}
 use Rattle.judging.proofs.LyricLaws.{prompts-length}
-use Rattle.judging.proofs.NumberLaws.{lyrics-behind, sections-over}
-use Rattle.reader.proofs.PromptLaws.{itemsFrom, Along, along-start, along-here, items-all, items-split}
+use Rattle.judging.proofs.NumberLaws.{lyrics-behind}
+use Rattle.sections.proofs.MeetLaws.{sections-over}
+use Rattle.reader.proofs.PromptLaws.{itemsFrom, RoomLeft, room-start, room-here, items-all, items-split}
 use Rattle.reader.proofs.WrittenLaws.{Wrote, wrote-start, wrote-left, wrote-length, wrote-end, wrote-lent, written-none}
 use borrow.Author.Needs.{needs}
 use Rattle.reader.proofs.items.write_items.Statement.{statement}
@@ -29,7 +30,7 @@ Inv-loop s count items₀ place₀ i₀ measure₀ items place i measure =
     × (length items ≡ length items₀)
     × (count ≡ length (tables (songOf s) .items))
     × (count ≤ length items₀)
-    × Along (songOf s) measure (sectionsFrom s place)
+    × RoomLeft (songOf s) measure (sectionsFrom s place)
     × Wrote items₀ i items (itemsFrom measure (sectionsFrom s place)) (tables (songOf s) .items)
 
 abbrev μ-loop : tie.MeasureT-loop
@@ -74,7 +75,7 @@ loop-holds c =
       refl,
       q .pre .2,
       q .pre .3,
-      subst (λ (xs : List Section). Along song 0 xs) all (along-start song none (q .pre .4) (q .pre .5)),
+      subst (λ (xs : List Section). RoomLeft song 0 xs) all (room-start song none (q .pre .4) (q .pre .5)),
       subst (λ (ws : List ℕ). Wrote (q .args .items .now) 0 (q .args .items .now) ws (tables song .items)) (items-all song none ∙ ap (itemsFrom 0) all) (wrote-start (q .args .items .now) (tables song .items)),
     )
 
@@ -111,7 +112,7 @@ write-lyrics-requires c κs =
       read .lyrics-placed,
       (λ h. let z = lyrics-behind s (l .place .number) (l .place .at) (met .result .section) read h in omega arith),
       q .before .before .before .before .pre .1,
-      along-here (met .ensures) (l .measure) (l .inv .4) .0,
+      room-here (met .ensures) (l .measure) (l .inv .4) .0,
       simp (length-take, length-drop) (omega arith),
     )
 
@@ -151,7 +152,7 @@ loop-again c =
       wrote-length (a .items .now) (l .i + k) _ rest all (omega arith) now-written,
       l .inv .2,
       l .inv .3,
-      subst (λ (n : ℕ). Along song n (sectionsFrom s (met .result .next))) measure-is (along-here (met .ensures) (l .measure) (l .inv .4) .1),
+      subst (λ (n : ℕ). RoomLeft song n (sectionsFrom s (met .result .next))) measure-is (room-here (met .ensures) (l .measure) (l .inv .4) .1),
       now-written,
     )
 

@@ -12,7 +12,7 @@ use Rattle.sections.specs.Onward.{sectionsFrom, sectionAt}
 use Rattle.reader.proofs.WrittenLaws.{Wrote, wrote-left, wrote-length}
 use Rattle.judging.proofs.MeterLaws.{meter-is, meter-range}
 use Rattle.judging.proofs.AlongLaws.{Along, along-start, along-same, along-within, along-measures, along-beats, along-next}
-use Rattle.judging.proofs.JudgedLaws.{sections-over}
+use Rattle.sections.proofs.MeetLaws.{sections-over}
 use Rattle.reader.proofs.SongLaws.{tempo-is, tempo-few, sections-start, measures-start, beats-start, sections-left, sections-next, measures-next, beats-next, sections-end, measures-end, beats-end}
 use Rattle.reader.proofs.songs.write_song.Statement.{statement}
 use Rattle.reader.proofs.songs.write_song.Tie as tie
