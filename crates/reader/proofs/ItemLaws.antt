@@ -1,19 +1,15 @@
 -- The word of a prompter item from the places of its text.
-use Prim.Native.Nat.{ℕ, suc, _+_, _-_, _*_, _^_, _<_, _≤_}
-use mathlib.Core.Path.{_≡_, refl, ap, _∙_}
+use Prim.Native.Nat.{ℕ, _+_, _-_, _*_, _^_, _<_, _≤_}
+use mathlib.Core.Path.{_≡_, refl, _∙_}
 use mathlib.Core.List.{List, [], _∷_}
 use native.Mathlib.Omega.{arith}
 use lib.ListN.{length}
 use Rattle.songcode.specs.Bytes.{placed}
 use Rattle.songcode.specs.Tables.{offset, itemWord}
 use Rattle.songcode.specs.Lyrics as songcode
+use Rattle.songcode.proofs.ByteLaws.{length-placed}
 use Rattle.text.specs.Spans.{part}
 use Rattle.text.proofs.WalkLaws.{part-length}
-
-pub placed-length : (a : ℕ) (w : List ℕ) → length (placed a w) ≡ length w
-unfolding placed
-placed-length a [] = refl
-placed-length a (b ∷ w) = ap suc (placed-length (suc a) w)
 
 -- A text from one place up to another.
 pub offset-part : (s : List ℕ) (a e : ℕ) → a < e → e ≤ length s → offset (placed a (part a e s)) ≡ a
@@ -25,7 +21,7 @@ offset-part s a e h f = first (part a e s) (let l = part-length s a e f in omega
     first (b ∷ w) z = refl
 
 pub length-part : (s : List ℕ) (a e : ℕ) → e ≤ length s → length (placed a (part a e s)) ≡ e - a
-length-part s a e f = placed-length a (part a e s) ∙ part-length s a e f
+length-part s a e f = length-placed a (part a e s) ∙ part-length s a e f
 
 pub nothing-part : (s : List ℕ) (a e : ℕ) → a ≡ e → placed a (part a e s) ≡ []
 unfolding placed

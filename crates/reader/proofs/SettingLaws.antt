@@ -9,7 +9,7 @@ use mathlib.Core.Option.{Option, none, some}
 use native.Mathlib.Omega.{arith}
 use lib.Dec.{eqb, leb}
 use lib.ListN.{length, length-append}
-use borrow.Author.Tests.{leb-true, eqb-true, eqb-false, not-false}
+use borrow.Author.Tests.{leb-true, eqb-true, eqb-false, not-false, not-true}
 use Rattle.songcode.specs.Lists.{if_then_else_, any, every, gather, taken, left, isSome}
 use Rattle.songcode.specs.Bytes.{Byte, values, ascii, same, is, isByte}
 use Rattle.songcode.specs.Characters.{characters}
@@ -56,17 +56,13 @@ decimal-short [] e = true-is-not-false e refl
 decimal-short (b ∷ []) e = (omega arith, omega arith)
 decimal-short (b ∷ c ∷ bs) e =
     let h = both-pass (not (eqb (b .value) (code "0"))) (digits (b ∷ c ∷ bs)) e in
-    let zero-not : eqb (b .value) (code "0") ≡ false = is-false _ (h .0) in
+    let zero-not : eqb (b .value) (code "0") ≡ false = not-true _ (h .0) in
     let differ = eqb-false (b .value) (code "0") zero-not in
     let digit = both-pass (isDigit b) (digits (c ∷ bs)) (h .1) .0 in
     let low = leb-true (code "0") (b .value) (both-pass (leb (code "0") (b .value)) (leb (b .value) (code "9")) digit .0) in
     let more : 1 ≤ b .value - code "0" = omega arith in
     let grow = digits-grow (0 * 10 + (b .value - code "0")) (c ∷ bs) (omega arith) in
     (omega arith, omega arith)
-  where
-    is-false : (b : Bool) → not b ≡ true → b ≡ false
-    is-false true z = true-is-not-false z refl
-    is-false false z = refl
 
 some-if : {A : Type 0} (t : Bool) (x : A) → isSome (if t then some x else none) ≡ true → t ≡ true
 unfolding isSome if_then_else_
