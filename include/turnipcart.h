@@ -1,0 +1,252 @@
+/* Turnipcart: a proved reader of SongCode chord charts, for C programs to link with libturnipcart.a (Linux on x86-64).
+
+   There are two calls, turnipcart_read and turnipcart_find. Both come to an end on every input, take every text and tables of every
+   length, use no heap, keep nothing between calls, call nothing but memcpy and memset, and may be called from several threads at
+   once with memory of their own. They write nothing but the memory lent to them, and only what is said below.
+   turnipcart_read takes about 280 KB of stack.
+
+   What the caller owes, which no call can look at:
+   - every pointer points to as many words as the length beside it says, aligned as C aligns them, and is not null, not even beside
+     the length 0;
+   - no two pieces of memory lent to one call overlap, and nothing else writes them, or for the written ones reads them, while the
+     call runs. */
+#ifndef TURNIPCART_H
+#define TURNIPCART_H
+
+#include <stddef.h>
+#include <stdint.h>
+
+#if !defined(__x86_64__) || defined(_WIN32)
+#error "libturnipcart.a is for x86-64 with the calling convention of Linux"
+#endif
+
+#ifdef __cplusplus
+extern "C" {
+#endif
+
+/* The refusals. In a chart the stages run one after another, each over the whole file; in a stage the earliest line wins, and on
+   one line the lowest number. */
+enum turnipcart_refusal {
+    TURNIPCART_ACCEPTED = 0,
+    TURNIPCART_TEXT_TOO_LONG = 1,        /* stage 1: over 65,536 bytes; line 0 */
+    TURNIPCART_BAD_TEXT = 2,             /* stage 1: bad UTF-8 or a zero byte; the line of the first such place */
+    TURNIPCART_BLOCK_ORDER = 3,          /* stage 2: a block's kind after a later kind; the block's first line */
+    TURNIPCART_KEY = 4,                  /* stage 2: a key unknown, twice, out of place, or not allowed here; its line */
+    TURNIPCART_SETTING = 5,              /* stage 2: the setting of a key, repeat or cut malformed or out of range; its line */
+    TURNIPCART_DEFINITION = 6,           /* stage 2: a definition's head malformed, twice, or the 27th; its line */
+    TURNIPCART_PATTERN = 7,              /* stage 2: pattern text against the rules; its first line, of a lead-in or tail its own */
+    TURNIPCART_LINE = 8,                 /* stage 2: another line out of place, an unknown or doubled modifier, a name empty or
+                                            long, no pattern line, or `--` without lyrics; its line, for the last two the header's
+                                            and the line of the `--` */
+    TURNIPCART_NO_SECTION = 9,           /* stage 2: no section, and nothing else; line 0 */
+    TURNIPCART_REFERENCE_UNDEFINED = 10, /* stage 3: a reference not defined earlier; the block's first line */
+    TURNIPCART_REFERENCE_KIND = 11,      /* stage 3: a reference too deep, making a loop in a loop, or from a definition to an empty
+                                            one; the block's first line */
+    TURNIPCART_DIVISION = 12,            /* stage 4: a measure's positions don't divide N; the header's line, of a lead-in or tail
+                                            its own */
+    TURNIPCART_NO_CHORD_BEFORE = 13,     /* stage 4: `%` with no chord before; lines as for 12 */
+    TURNIPCART_SONG_TOO_LONG = 14,       /* stage 5: over 65,535 measures before cuts; the header's line where the song passes them */
+    TURNIPCART_NOTHING_LEFT = 15,        /* stage 5: cuts leave no beat, or a modifier on an empty pattern; the header's line */
+    TURNIPCART_COUNT_MISSING = 16,       /* stage 6: some lyric lines have a count and this one has not; the first such line */
+    TURNIPCART_COUNT_SUM = 17,           /* stage 7: a section's counts don't sum to its measures; the header's line */
+    TURNIPCART_TABLE_TOO_SHORT = 18,     /* stage 8: the keys table under 8 words, or another table too short; line 0 */
+    TURNIPCART_BEAT_NOT_FOUND = 19       /* second call: no record holds the beat */
+};
+
+/* Lengths, in words, of tables that no song is too long for. A section takes at least five bytes of the text (the last one three),
+   and so does an item; a song has at most 65,535 measures of at most 32 beats. */
+enum {
+    TURNIPCART_TEXT_LIMIT = 65536, /* bytes of the longest text that is read */
+    TURNIPCART_KEYS = 8,
+    TURNIPCART_SECTIONS_ENOUGH = 13107,
+    TURNIPCART_MEASURES_ENOUGH = 65535,
+    TURNIPCART_BEATS_ENOUGH = 65535 * 32,
+    TURNIPCART_ITEMS_ENOUGH = 13107
+};
+
+/* The answer of turnipcart_read, six numbers in this order: refusal 0, line 0 and the song's counts, or a refusal with its line
+   (lines count from 1; 0 where the refusal has none) and counts of 0. */
+struct turnipcart_answer {
+    size_t refusal;
+    size_t line;
+    size_t sections;
+    size_t measures;
+    size_t beats;
+    size_t items;
+};
+
+/* Reads the chart of text_length bytes at text, and returns the answer's refusal.
+   Lent for reading: text. Lent for writing: the five tables, each with its length in words, and the answer.
+   - Refused (1 to 18, as listed above): the answer has the refusal and its line, counts of 0, and no word of any table changes.
+   - Accepted (0): the answer has the counts. Written are the first 8 words of keys, the first answer->sections words of sections,
+     the first answer->measures of measures, the first answer->beats of beats and the first answer->items of items, packed as the
+     functions below unpack them. Every word behind keeps what it held.
+   The answer is written in both cases, whatever it held. Offsets in the words are into this text, so keep it while they are used. */
+size_t turnipcart_read(const unsigned char *text, size_t text_length, uint32_t *keys, size_t keys_length, uint64_t *sections,
+                       size_t sections_length, uint32_t *measures, size_t measures_length, uint32_t *beats, size_t beats_length,
+                       uint64_t *items, size_t items_length, struct turnipcart_answer *answer);
+
+/* Finds the first record of the measures table that holds the beat with this number (beats count from 0 through the whole song).
+   Lent for reading: measures, any table of any length, its spare bits ignored. Lent for writing: place.
+   - Found: returns 0, and *place is the record's place in the table, from 0.
+   - No record holds the beat: returns 19, and *place is 0. */
+size_t turnipcart_find(const uint32_t *measures, size_t measures_length, uint32_t beat, size_t *place);
+
+#ifdef __cplusplus
+}
+#endif
+
+/* The fields of the words, most significant first; the bits not named are spare, lowest, and written as 0. */
+
+/* keys (32 bits): present 1, offset 16, length 9; spare 6. The word of a key that is absent is 0. */
+enum turnipcart_key {
+    TURNIPCART_KEY_NAME,
+    TURNIPCART_KEY_ARTIST,
+    TURNIPCART_KEY_ORIGINAL,
+    TURNIPCART_KEY_CAPO,
+    TURNIPCART_KEY_BPM,
+    TURNIPCART_KEY_TIME,
+    TURNIPCART_KEY_WARNING,
+    TURNIPCART_KEY_END
+};
+
+/* 1 where the song gives the key, else 0. */
+static inline unsigned turnipcart_key_present(uint32_t word)
+{
+    return word >> 31;
+}
+
+/* Where the setting begins in the text. */
+static inline size_t turnipcart_key_offset(uint32_t word)
+{
+    return word >> 15 & 0xFFFF;
+}
+
+/* How many bytes the setting has. */
+static inline size_t turnipcart_key_length(uint32_t word)
+{
+    return word >> 6 & 0x1FF;
+}
+
+/* sections (64 bits): header line 17, first measure 16, measures 16, N 6, bpm 9. */
+
+/* The bpm of a section where neither it nor the song gives one. */
+enum { TURNIPCART_NO_BPM = 511 };
+
+/* The line of the section's header, from 1. */
+static inline size_t turnipcart_section_line(uint64_t word)
+{
+    return word >> 47;
+}
+
+/* The place of its first record in the measures table. */
+static inline size_t turnipcart_section_first_measure(uint64_t word)
+{
+    return word >> 31 & 0xFFFF;
+}
+
+/* How many measures it plays; 0 where its pattern is empty. */
+static inline size_t turnipcart_section_measures(uint64_t word)
+{
+    return word >> 15 & 0xFFFF;
+}
+
+/* N, the beats of a whole measure, 1 to 32. */
+static inline unsigned turnipcart_section_time(uint64_t word)
+{
+    return (unsigned)(word >> 9 & 0x3F);
+}
+
+/* The section's bpm, else the song's, else TURNIPCART_NO_BPM. */
+static inline unsigned turnipcart_section_bpm(uint64_t word)
+{
+    return (unsigned)(word & 0x1FF);
+}
+
+/* measures (32 bits): first beat 21, beats 6; spare 5. */
+
+/* The place of its first word in the beats table. */
+static inline size_t turnipcart_measure_first_beat(uint32_t word)
+{
+    return word >> 11;
+}
+
+/* How many beats it has, 1 to 32. */
+static inline size_t turnipcart_measure_beats(uint32_t word)
+{
+    return word >> 5 & 0x3F;
+}
+
+/* beats (32 bits): base 6, extension offset 16, extension length 5, head 1; spare 4. */
+
+/* The base of a beat on which nothing sounds. */
+enum { TURNIPCART_BASES = 34, TURNIPCART_SILENCE = 63 };
+
+/* The number of its base chord, 0 to 33, or TURNIPCART_SILENCE. */
+static inline unsigned turnipcart_beat_base(uint32_t word)
+{
+    return word >> 26;
+}
+
+/* Where the chord's extension begins in the text; 0 if it is empty. */
+static inline size_t turnipcart_beat_extension_offset(uint32_t word)
+{
+    return word >> 10 & 0xFFFF;
+}
+
+/* How many bytes the extension has, 0 to 31. */
+static inline size_t turnipcart_beat_extension_length(uint32_t word)
+{
+    return word >> 5 & 0x1F;
+}
+
+/* 1 on the first beat of a position as written, else 0. */
+static inline unsigned turnipcart_beat_head(uint32_t word)
+{
+    return word >> 4 & 1;
+}
+
+/* The spelling of a base chord by its number; an empty one for every other number. */
+static inline const char *turnipcart_base_name(unsigned base)
+{
+    static const char names[TURNIPCART_BASES][4] = {
+        "A", "A#", "Ab", "Am", "A#m", "Abm", "B", "Bb", "Bm", "Bbm", "C", "C#", "Cm", "C#m", "D", "Db", "D#",
+        "Dm", "Dbm", "D#m", "E", "Eb", "Em", "Ebm", "F", "F#", "Fm", "F#m", "G", "Gb", "G#", "Gm", "Gbm", "G#m",
+    };
+    return base < TURNIPCART_BASES ? names[base] : "";
+}
+
+/* items (64 bits), the prompter's lines: text offset 16, length 16, first measure 16, measures 14, style 2. */
+enum turnipcart_style { TURNIPCART_PLAIN, TURNIPCART_INFO, TURNIPCART_CREW };
+
+/* Where the item's words begin in the text. */
+static inline size_t turnipcart_item_offset(uint64_t word)
+{
+    return word >> 48;
+}
+
+/* How many bytes they have. */
+static inline size_t turnipcart_item_length(uint64_t word)
+{
+    return word >> 32 & 0xFFFF;
+}
+
+/* The place, in the measures table, of the first measure that the item stands for. */
+static inline size_t turnipcart_item_first_measure(uint64_t word)
+{
+    return word >> 16 & 0xFFFF;
+}
+
+/* How many measures it stands for. */
+static inline size_t turnipcart_item_measures(uint64_t word)
+{
+    return word >> 2 & 0x3FFF;
+}
+
+/* TURNIPCART_PLAIN, TURNIPCART_INFO (written between `***`) or TURNIPCART_CREW (between `:::`). */
+static inline unsigned turnipcart_item_style(uint64_t word)
+{
+    return (unsigned)(word & 3);
+}
+
+#endif
