@@ -31,9 +31,9 @@ def emulator():
     """The words that stand before a program's name."""
     if platform.machine() == "x86_64":
         return []
-    kit = os.path.dirname(os.path.dirname(os.path.realpath(shutil.which("rt")))) + "/toolchain"
-    return ["env", "QEMU_STACK_SIZE=67108864", f"{kit}/bin/qemu-x86_64", f"{kit}/lib/ld-linux-x86-64.so.2",
-            "--library-path", f"{kit}/lib"]
+    kit = os.path.dirname(os.path.dirname(os.path.realpath(shutil.which("rt"))))
+    return ["env", "QEMU_STACK_SIZE=67108864", f"{kit}/on/{platform.machine()}/toolchain/bin/qemu-x86_64",
+            f"{kit}/toolchain/lib/ld-linux-x86-64.so.2", "--library-path", f"{kit}/toolchain/lib"]
 
 
 def main():
