@@ -22,7 +22,7 @@ use Rattle.text.proofs.WalkLaws.{part-length}
 use Rattle.sections.specs.declared.slots.Said.{Said}
 use Rattle.sections.specs.Slots.{Setting, settingAmong, settingAt}
 use Rattle.sections.proofs.SaidLaws.{key-among}
-use Rattle.reader.specs.Answers.{wordOfSetting, ShortSetting}
+use Rattle.reader.specs.Writing.{wordOfSetting, ShortSetting}
 use Rattle.reader.proofs.ItemLaws.{offset-part, length-part}
 use Rattle.reader.proofs.GoodLaws.{part-short, input-good}
 

@@ -26,7 +26,7 @@ use Rattle.songcode.proofs.ListLaws.{by-cases, true-is-not-false, nil-is-not-co
 use Rattle.settings.proofs.PartLaws.{same-lengths}
 use Rattle.sections.specs.Slots.{slotOf, settingAmong}
 use Rattle.sections.proofs.SaidLaws.{by-kind}
-use Rattle.reader.specs.Answers.{ShortSetting}
+use Rattle.reader.specs.Writing.{ShortSetting}
 use Rattle.reader.proofs.GoodLaws.{characters-le}
 
 -- Not empty, and at most 511 bytes or at most 100 characters.

@@ -28,7 +28,8 @@ use Rattle.scores.specs.declared.definitions.Score.{Score}
 use Rattle.scores.specs.declared.texts.Opened.{Opened}
 use Rattle.scores.specs.Scores.{Ready, Opens}
 use Rattle.judging.specs.Sums.{rowOfTexts}
-use Rattle.reader.specs.Answers.{written, tempoOf}
+use Rattle.reader.specs.Answers.{written}
+use Rattle.reader.specs.Writing.{tempoOf}
 use Rattle.reader.proofs.WrittenLaws.{Wrote, wrote-start, wrote-put, wrote-left, wrote-lent, wrote-end}
 use Rattle.judging.proofs.AlongLaws.{Along, along-row}
 use Rattle.judging.proofs.SumLaws.{section-words-length, measure-words-length, beat-words-length}

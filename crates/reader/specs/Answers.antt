@@ -1,20 +1,11 @@
 -- The answer of the call, and the final content of the tables: written where the song is accepted, as they were where it is refused.
-use Prim.Native.Nat.{ℕ, _<_, _≤_}
+use Prim.Native.Nat.{ℕ}
 use mathlib.Core.Path.{_≡_}
-use mathlib.Core.Bool.{Bool, _||_}
-use mathlib.Core.Logic.{_⊎_}
 use mathlib.Core.List.{List, _++_}
-use mathlib.Core.Option.{Option, none, some}
-use lib.Dec.{eqb, ltb}
 use lib.ListN.{length, drop}
-use Rattle.songcode.specs.Lists.{if_then_else_}
-use Rattle.songcode.specs.Characters.{characters}
-use Rattle.songcode.specs.Tables.{keyWord}
 use Rattle.songcode.specs.Answer as songcode
 use Rattle.songcode.specs.Answer.{refused, accepted}
-use Rattle.sections.specs.Slots.{Setting}
 use Rattle.reader.specs.declared.Answer.{Answer}
-use Rattle.judging.specs.declared.sums.Totals.{Totals}
 
 -- "Lent memory past what a call writes keeps what it held".
 unfoldable pub written : List ℕ → List ℕ → List ℕ
@@ -55,22 +46,3 @@ stored (accepted t) old =
 pub record Promised (text : List ℕ) (before : Lent) (r : Answer) (after : Lent) : Type 0 where
   pub answer : r ≡ answerOf (songcode.answer (roomOf before) text)
   pub tables : after ≡ stored (songcode.answer (roomOf before) text) before
-
--- A table that is too short for these totals.
-unfoldable pub isShort : Totals → ℕ → ℕ → ℕ → ℕ → ℕ → Bool
-isShort t k s m b i = ltb k 8 || ltb s (t .sections) || ltb m (t .measures) || ltb b (t .beats) || ltb i (t .items)
-
-unfoldable pub tempoOf : ℕ → ℕ → ℕ
-unfolding if_then_else_
-tempoOf own song = if eqb own 511 then song else own
-
--- The word of a key's setting, where it is found.
-unfoldable pub wordOfSetting : Option Setting → ℕ
-unfolding keyWord
-wordOfSetting none = 0
-wordOfSetting (some x) = keyWord (some (x .text))
-
--- A setting that is there is not empty, and has at most 511 bytes or at most 100 characters.
-unfoldable pub ShortSetting : Option Setting → Type 0
-ShortSetting none = Unit {0}
-ShortSetting (some x) = (0 < length (x .text)) × ((length (x .text) < 512) ⊎ (characters (x .text) ≤ 100))

@@ -14,7 +14,8 @@ ghost use Rattle.songcode.specs.Tables.{tables};
 ghost use Rattle.sections.specs.Runs.{linesOf};
 ghost use Rattle.sections.specs.Slots.{settingAmong};
 ghost use Rattle.scores.specs.Metadata.{MetadataEnds};
-ghost use Rattle.reader.specs.Answers.{written, wordOfSetting, ShortSetting};
+ghost use Rattle.reader.specs.Answers.{written};
+ghost use Rattle.reader.specs.Writing.{wordOfSetting, ShortSetting};
 
 // The word of the key at a place of the table.
 fn key_at(s: &[u8], metadata: Run, k: usize) -> u32

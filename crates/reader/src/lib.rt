@@ -12,7 +12,8 @@ ghost use mathlib.Core.Path.{_≡_};
 ghost use mathlib.Core.List.{[]};
 ghost use Rattle.songcode.specs.SongText.{textFaults};
 ghost use Rattle.songcode.specs.Answer.{inputFaults, blocksOf};
-ghost use Rattle.reader.specs.Answers.{isShort, Promised};
+ghost use Rattle.reader.specs.Answers.{Promised};
+ghost use Rattle.reader.specs.Writing.{isShort};
 
 // Refusal and line, both 0 where the song is accepted, and how many words of each table are its own.
 pub struct Answer {

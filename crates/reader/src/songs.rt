@@ -16,7 +16,8 @@ ghost use Rattle.songcode.specs.Meter.{meterFaults, lengthFaults};
 ghost use Rattle.songcode.specs.Tables.{tables};
 ghost use Rattle.songcode.specs.Answer.{songOf};
 ghost use Rattle.scores.specs.Scores.{Ready, Begins};
-ghost use Rattle.reader.specs.Answers.{tempoOf, written};
+ghost use Rattle.reader.specs.Answers.{written};
+ghost use Rattle.reader.specs.Writing.{tempoOf};
 
 // "bpm (section's, else song's, else 511)"
 fn tempo_of(own: usize, song: usize) -> usize

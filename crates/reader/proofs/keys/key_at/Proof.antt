@@ -1,6 +1,6 @@
 use Prim.Native.Nat.{_-_, _<_}
 use mathlib.Core.Path.{sym, ap, _∙_, subst}
-use Rattle.reader.specs.Answers.{wordOfSetting, ShortSetting}
+use Rattle.reader.specs.Writing.{wordOfSetting, ShortSetting}
 use Rattle.reader.proofs.KeyLaws.{absent-word, key-fits, key-word-is}
 use borrow.Author.Needs.{needs}
 use Rattle.reader.proofs.keys.key_at.Statement.{statement}

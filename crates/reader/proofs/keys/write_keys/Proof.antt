@@ -10,7 +10,7 @@ use Rattle.sections.specs.declared.runs.Run.{Run}
 use Rattle.sections.specs.Runs.{linesOf}
 use Rattle.sections.specs.Slots.{settingAmong}
 use Rattle.scores.specs.Metadata.{linesBefore}
-use Rattle.reader.specs.Answers.{wordOfSetting, ShortSetting}
+use Rattle.reader.specs.Writing.{wordOfSetting, ShortSetting}
 use Rattle.reader.proofs.KeyLaws.{wordsFrom, words-more, words-over}
 use Rattle.reader.proofs.SettingLaws.{metadata-short}
 use Rattle.reader.proofs.WrittenLaws.{Wrote, wrote-start, wrote-put, wrote-length, wrote-end}

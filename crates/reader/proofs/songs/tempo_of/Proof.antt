@@ -1,6 +1,6 @@
 use borrow.Author.Tests.{eq-eqb, ne-eqb}
 use Rattle.songcode.specs.Lists.{if_then_else_}
-use Rattle.reader.specs.Answers.{tempoOf}
+use Rattle.reader.specs.Writing.{tempoOf}
 use Rattle.reader.proofs.songs.tempo_of.Statement.{statement}
 use Rattle.reader.proofs.songs.tempo_of.Tie as tie
 use Rattle.reader.proofs.songs.tempo_of.Reads as reads
