@@ -26,7 +26,7 @@ pub struct Chart {
 }
 
 pub fn judge(s: &[u8], words: &mut [u32]) -> Chart
-    requires { ⌜ (inputFaults (now s) ≡ []) × (textFaults (blocksOf (now s)) ≡ []) × (65536 ≤ length (now words)) ⌝ }
+    requires { ⌜ (inputFaults (now s) ≡ []) × (textFaults (blocksOf (now s)) ≡ []) × (length (now s) ≤ length (now words)) ⌝ }
     ensures { λ r. ⌜ Judges (now (s .entry)) (now (words .exit)) r ⌝ }
 {
     let end = metadata_end(s);

@@ -10,6 +10,8 @@ use judging::judge;
 use writing::write_tables;
 ghost use mathlib.Core.Path.{_≡_};
 ghost use mathlib.Core.List.{[]};
+ghost use Prim.Native.Nat.{_≤_};
+ghost use lib.ListN.{length};
 ghost use Rattle.songcode.specs.SongText.{textFaults};
 ghost use Rattle.songcode.specs.Answer.{inputFaults, blocksOf};
 ghost use Rattle.reader.specs.Answers.{Promised};
@@ -64,20 +66,20 @@ fn is_short(
     items < t.items
 }
 
-// A chart that stages 1 and 2 have passed.
+// A chart that stages 1 and 2 have passed; `words` holds its pattern text as token words, at most one for each byte.
 fn read_song(
     text: &[u8],
+    words: &mut [u32],
     keys: &mut [u32],
     sections: &mut [u64],
     measures: &mut [u32],
     beats: &mut [u32],
     items: &mut [u64],
 ) -> Answer
-    requires { ⌜ (inputFaults (now text) ≡ []) × (textFaults (blocksOf (now text)) ≡ []) ⌝ }
+    requires { ⌜ (inputFaults (now text) ≡ []) × (textFaults (blocksOf (now text)) ≡ []) × (length (now text) ≤ length (now words)) ⌝ }
     ensures { λ r. ⌜ Promised (now (text .entry)) (record { keys = now (keys .entry); sections = now (sections .entry); measures = now (measures .entry); beats = now (beats .entry); items = now (items .entry) }) r (record { keys = now (keys .exit); sections = now (sections .exit); measures = now (measures .exit); beats = now (beats .exit); items = now (items .exit) }) ⌝ }
 {
-    let mut words = [0u32; 65536];
-    let chart = judge(text, &mut words);
+    let chart = judge(text, words);
     let totals = chart.totals;
     let late = totals.refusal;
     if late.number != 0 {
@@ -93,16 +95,7 @@ fn read_song(
     ) {
         return refused(18, 0);
     }
-    write_tables(
-        text,
-        chart,
-        &mut words,
-        keys,
-        sections,
-        measures,
-        beats,
-        items,
-    );
+    write_tables(text, chart, words, keys, sections, measures, beats, items);
     Answer {
         refusal: 0,
         line: 0,
@@ -111,6 +104,38 @@ fn read_song(
         beats: totals.beats,
         items: totals.items,
     }
+}
+
+// The same for a chart of at most 4,096 bytes, as nearly all are: a small buffer is soon cleared.
+fn read_short(
+    text: &[u8],
+    keys: &mut [u32],
+    sections: &mut [u64],
+    measures: &mut [u32],
+    beats: &mut [u32],
+    items: &mut [u64],
+) -> Answer
+    requires { ⌜ (inputFaults (now text) ≡ []) × (textFaults (blocksOf (now text)) ≡ []) × (length (now text) ≤ 4096) ⌝ }
+    ensures { λ r. ⌜ Promised (now (text .entry)) (record { keys = now (keys .entry); sections = now (sections .entry); measures = now (measures .entry); beats = now (beats .entry); items = now (items .entry) }) r (record { keys = now (keys .exit); sections = now (sections .exit); measures = now (measures .exit); beats = now (beats .exit); items = now (items .exit) }) ⌝ }
+{
+    let mut words = [0u32; 4096];
+    read_song(text, &mut words, keys, sections, measures, beats, items)
+}
+
+// The same for any chart that stage 1 has passed.
+fn read_long(
+    text: &[u8],
+    keys: &mut [u32],
+    sections: &mut [u64],
+    measures: &mut [u32],
+    beats: &mut [u32],
+    items: &mut [u64],
+) -> Answer
+    requires { ⌜ (inputFaults (now text) ≡ []) × (textFaults (blocksOf (now text)) ≡ []) × (length (now text) ≤ 65536) ⌝ }
+    ensures { λ r. ⌜ Promised (now (text .entry)) (record { keys = now (keys .entry); sections = now (sections .entry); measures = now (measures .entry); beats = now (beats .entry); items = now (items .entry) }) r (record { keys = now (keys .exit); sections = now (sections .exit); measures = now (measures .exit); beats = now (beats .exit); items = now (items .exit) }) ⌝ }
+{
+    let mut words = [0u32; 65536];
+    read_song(text, &mut words, keys, sections, measures, beats, items)
 }
 
 // Every text of every length and every length of every table is answered.
@@ -128,5 +153,8 @@ pub fn read(
     if early.number != 0 {
         return refused(early.number, early.line);
     }
-    read_song(text, keys, sections, measures, beats, items)
+    if text.len() <= 4096 {
+        return read_short(text, keys, sections, measures, beats, items);
+    }
+    read_long(text, keys, sections, measures, beats, items)
 }

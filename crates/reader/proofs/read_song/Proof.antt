@@ -14,62 +14,62 @@ use Rattle.reader.proofs.is_short.Reads as is-short-reads
 use Rattle.reader.proofs.refused.Reads as refused-reads
 use Rattle.reader.proofs.writing.write_tables.Reads as write-tables-reads
 
--- src/lib.rt:96:29
-slice-aggregate-judge : tie.Need-slice-aggregate-judge
-slice-aggregate-judge c = search needs
-
--- src/lib.rt:96:9
+-- src/lib.rt:82:9
 judge-requires : tie.Need-judge-requires
 judge-requires c κs = search needs
 
--- src/lib.rt:100:9
+-- src/lib.rt:86:9
 refused-requires : tie.Need-refused-requires
 refused-requires c κs = search needs
 
--- src/lib.rt:100:9
+-- src/lib.rt:86:9
+same-length : tie.Need-same-length
+same-length c = search needs
+
+-- src/lib.rt:86:9
 returns : tie.Need-returns
 unfolding roomOf
 returns c =
-    let entry = c .before .before .before .before .before .before .before .before .before .before .before .before .before .before in
-    let a = entry .args in
-    let bs = a .text .now in
-    let lent : Lent = record { keys = a .keys .now; sections = a .sections .now; measures = a .measures .now; beats = a .beats .now; items = a .items .now } in
-    let late = c .before .before .before .before .before .before .judge .result .totals .refusal in
-    let is = late-refused (roomOf lent) bs (entry .pre .0) (entry .pre .1) late (c .before .before .before .before .before .before .judge .ensures .refusal) (c .before .if1 .taken) in
-    promised-refused bs lent (late .number) (late .line) (c .refused .result) is (c .refused .ensures)
-
--- src/lib.rt:102:8
-is-short-requires : tie.Need-is-short-requires
-is-short-requires c κs = search needs
-
--- src/lib.rt:110:9
-refused-requires-2 : tie.Need-refused-requires-2
-refused-requires-2 c κs = search needs
-
--- src/lib.rt:110:9
-returns-2 : tie.Need-returns-2
-unfolding roomOf
-returns-2 c =
     let entry = c .before .before .before .before .before .before .before .before .before .before .before .before .before .before .before .before in
     let a = entry .args in
     let bs = a .text .now in
     let lent : Lent = record { keys = a .keys .now; sections = a .sections .now; measures = a .measures .now; beats = a .beats .now; items = a .items .now } in
-    let judge = c .before .before .before .before .before .before .before .before .judge in
+    let late = c .before .before .before .before .before .before .before .judge .result .totals .refusal in
+    let is = late-refused (roomOf lent) bs (entry .pre .0) (entry .pre .1) late (c .before .before .before .before .before .before .before .judge .ensures .refusal) (c .before .if1 .taken) in
+    promised-refused bs lent (late .number) (late .line) (c .refused .result) is (c .refused .ensures)
+
+-- src/lib.rt:88:8
+is-short-requires : tie.Need-is-short-requires
+is-short-requires c κs = search needs
+
+-- src/lib.rt:96:9
+refused-requires-2 : tie.Need-refused-requires-2
+refused-requires-2 c κs = search needs
+
+-- src/lib.rt:96:9
+same-length-2 : tie.Need-same-length-2
+same-length-2 c = search needs
+
+-- src/lib.rt:96:9
+returns-2 : tie.Need-returns-2
+unfolding roomOf
+returns-2 c =
+    let entry = c .before .before .before .before .before .before .before .before .before .before .before .before .before .before .before .before .before .before in
+    let a = entry .args in
+    let bs = a .text .now in
+    let lent : Lent = record { keys = a .keys .now; sections = a .sections .now; measures = a .measures .now; beats = a .beats .now; items = a .items .now } in
+    let judge = c .before .before .before .before .before .before .before .before .before .judge in
     let w = judge .ensures .writable (c .before .before .before .if1 .left) in
     let short = short-is (roomOf lent) (songOf bs) (judge .result .totals) (w .holds) (sym (c .before .before .is-short .ensures) ∙ c .before .if2 .taken) in
     let is = short-refused (roomOf lent) bs (entry .pre .0) (entry .pre .1) (w .clear) short in
     promised-refused bs lent 18 0 (c .refused2 .result) is (c .refused2 .ensures)
 
--- src/lib.rt:115:9
-slice-aggregate-write-tables : tie.Need-slice-aggregate-write-tables
-slice-aggregate-write-tables c = search needs
-
--- src/lib.rt:112:5
+-- src/lib.rt:98:5
 write-tables-requires : tie.Need-write-tables-requires
 write-tables-requires c κs =
-    let entry = c .before .before .before .before .before .before .before .before .before .before .before .before .before .before .before .before .before .before .before .before .before in
+    let entry = c .before .before .before .before .before .before .before .before .before .before .before .before .before .before .before .before .before .before .before .before .before .before .before in
     let a = entry .args in
-    let judge = c .before .before .before .before .before .before .before .before .before .before .before .before .before .judge in
+    let judge = c .before .before .before .before .before .before .before .before .before .before .before .before .before .before .judge in
     let w = judge .ensures .writable (c .before .before .before .before .before .before .before .before .if1 .left) in
     let long = sym (c .before .before .before .before .before .before .before .is-short .ensures) ∙ c .before .before .before .before .before .before .if2 .left in (
       (entry .pre .0, entry .pre .1, w),
@@ -79,57 +79,62 @@ write-tables-requires c κs =
       ),
     )
 
--- src/lib.rt:79:1
-same-length : tie.Need-same-length
-same-length c = search needs
-
--- src/lib.rt:79:1
-same-length-2 : tie.Need-same-length-2
-same-length-2 c = search needs
-
--- src/lib.rt:79:1
+-- src/lib.rt:70:1
 same-length-3 : tie.Need-same-length-3
 same-length-3 c = search needs
 
--- src/lib.rt:79:1
+-- src/lib.rt:70:1
 same-length-4 : tie.Need-same-length-4
 same-length-4 c = search needs
 
--- src/lib.rt:79:1
+-- src/lib.rt:70:1
 same-length-5 : tie.Need-same-length-5
 same-length-5 c = search needs
 
--- src/lib.rt:79:1
+-- src/lib.rt:70:1
+same-length-6 : tie.Need-same-length-6
+same-length-6 c = search needs
+
+-- src/lib.rt:70:1
+same-length-7 : tie.Need-same-length-7
+same-length-7 c = search needs
+
+-- src/lib.rt:70:1
+same-length-8 : tie.Need-same-length-8
+same-length-8 c = search needs
+
+-- src/lib.rt:70:1
 returns-3 : tie.Need-returns-3
 unfolding roomOf
 returns-3 c =
-    let entry = c .before .before .before .before .before .before .before .before .before .before .before .before .before .before .before .before .before .before .before .before .before .before .before .before .before .before .before .before .before .before .before .before .before in
+    let entry = c .before .before .before .before .before .before .before .before .before .before .before .before .before .before .before .before .before .before .before .before .before .before .before .before .before .before .before .before .before .before .before .before .before .before .before .before in
     let a = entry .args in
     let bs = a .text .now in
     let lent : Lent = record { keys = a .keys .now; sections = a .sections .now; measures = a .measures .now; beats = a .beats .now; items = a .items .now } in
-    let judge = c .before .before .before .before .before .before .before .before .before .before .before .before .before .before .before .before .before .before .before .before .before .before .before .before .before .judge in
-    let w = judge .ensures .writable (c .before .before .before .before .before .before .before .before .before .before .before .before .before .before .before .before .before .before .before .before .if1 .left) in
-    let long = long-is (roomOf lent) (songOf bs) (judge .result .totals) (w .holds) (sym (c .before .before .before .before .before .before .before .before .before .before .before .before .before .before .before .before .before .before .before .is-short .ensures) ∙ c .before .before .before .before .before .before .before .before .before .before .before .before .before .before .before .before .before .before .if2 .left) in
+    let judge = c .before .before .before .before .before .before .before .before .before .before .before .before .before .before .before .before .before .before .before .before .before .before .before .before .before .before .before .judge in
+    let w = judge .ensures .writable (c .before .before .before .before .before .before .before .before .before .before .before .before .before .before .before .before .before .before .before .before .before .if1 .left) in
+    let long = long-is (roomOf lent) (songOf bs) (judge .result .totals) (w .holds) (sym (c .before .before .before .before .before .before .before .before .before .before .before .before .before .before .before .before .before .before .before .before .is-short .ensures) ∙ c .before .before .before .before .before .before .before .before .before .before .before .before .before .before .before .before .before .before .before .if2 .left) in
     let is = song-accepted (roomOf lent) bs (entry .pre .0) (entry .pre .1) (w .clear) long in
-    let wrote = c .before .before .before .before .before .before .before .before .before .before .before .write-tables .ensures in
+    let wrote = c .before .before .before .before .before .before .before .before .before .before .before .before .write-tables .ensures in
     promised-accepted bs lent _ (tables (songOf bs)) (judge .result .totals) is (w .holds) (wrote .0) (wrote .1 .0) (wrote .1 .1 .0) (wrote .1 .1 .1 .0) (wrote .1 .1 .1 .1)
 
 pub read-song-spec : {M : Type 1} → statement M
 read-song-spec =
     tie.close
     (tie.spec
-    slice-aggregate-judge
     judge-requires
     refused-requires
+    same-length
     returns
     is-short-requires
     refused-requires-2
-    returns-2
-    slice-aggregate-write-tables
-    write-tables-requires
-    same-length
     same-length-2
+    returns-2
+    write-tables-requires
     same-length-3
     same-length-4
     same-length-5
+    same-length-6
+    same-length-7
+    same-length-8
     returns-3)
