@@ -106,7 +106,7 @@ fn read_song(
     }
 }
 
-// The same for a chart of at most 4,096 bytes, as nearly all are: a small buffer is soon cleared.
+// The same for a chart of at most 2,048 bytes, as nearly all are: a small buffer is soon cleared.
 fn read_short(
     text: &[u8],
     keys: &mut [u32],
@@ -115,10 +115,10 @@ fn read_short(
     beats: &mut [u32],
     items: &mut [u64],
 ) -> Answer
-    requires { ⌜ (inputFaults (now text) ≡ []) × (textFaults (blocksOf (now text)) ≡ []) × (length (now text) ≤ 4096) ⌝ }
+    requires { ⌜ (inputFaults (now text) ≡ []) × (textFaults (blocksOf (now text)) ≡ []) × (length (now text) ≤ 2048) ⌝ }
     ensures { λ r. ⌜ Promised (now (text .entry)) (record { keys = now (keys .entry); sections = now (sections .entry); measures = now (measures .entry); beats = now (beats .entry); items = now (items .entry) }) r (record { keys = now (keys .exit); sections = now (sections .exit); measures = now (measures .exit); beats = now (beats .exit); items = now (items .exit) }) ⌝ }
 {
-    let mut words = [0u32; 4096];
+    let mut words = [0u32; 2048];
     read_song(text, &mut words, keys, sections, measures, beats, items)
 }
 
@@ -153,7 +153,7 @@ pub fn read(
     if early.number != 0 {
         return refused(early.number, early.line);
     }
-    if text.len() <= 4096 {
+    if text.len() <= 2048 {
         return read_short(text, keys, sections, measures, beats, items);
     }
     read_long(text, keys, sections, measures, beats, items)
