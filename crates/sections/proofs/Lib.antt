@@ -4,6 +4,7 @@ pub mod RunLaws
 pub mod TestLaws
 pub mod SlotLaws
 pub mod ValueLaws
+pub mod GatherLaws
 pub mod PartLaws
 pub mod BlockLaws
 pub mod NextLaws

@@ -1,6 +1,6 @@
--- The number of the setting that a line says, and the first setting among lines, line by line.
+-- The number of the setting that a line says, the setting at its places, and the first setting among lines, line by line.
 use Prim.Native.Nat.{ℕ, zero, suc, _+_, _-_, _<_, _≤_}
-use mathlib.Core.Path.{_≡_, refl, sym, ap, _∙_}
+use mathlib.Core.Path.{_≡_, refl, ap, _∙_}
 use mathlib.Core.List.{List, [], _∷_}
 use mathlib.Core.Option.{Option, none, some}
 use native.Mathlib.Omega.{arith}
@@ -13,15 +13,17 @@ use Rattle.songcode.specs.Keys.{nameIn, settingIn, keyNamed, keyPlace}
 use Rattle.songcode.specs.Modifiers as modifiers
 use Rattle.songcode.specs.Modifiers.{modifierNamed, modifierPlace}
 use Rattle.songcode.specs.Sections.{kindOf, keyLine, modifierLine, patternLine, kindOfLine, keyNameOf, modifierNameOf, settingOf}
-use Rattle.text.specs.declared.lines.Line.{Line}
-use Rattle.text.specs.Spans.{part, lineText, Found}
+use Rattle.songcode.specs.Lines.{Line}
+use Rattle.text.specs.declared.lines.Line as text
+use Rattle.text.specs.Spans.{part, Found}
 use Rattle.settings.specs.declared.keys.KeyName.{KeyName}
 use Rattle.settings.specs.declared.modifiers.ModifierName.{ModifierName}
 use Rattle.settings.specs.Names.{keyIs, modifierIs}
 use Rattle.settings.proofs.ValueLaws.{kindOf-placeless}
 use Rattle.settings.proofs.OfLineLaws.{lineFrom, key-name-of-line, modifier-name-of-line, setting-of-line}
+use Rattle.sections.specs.declared.slots.Said.{Said}
 use Rattle.sections.specs.Runs.{textLines}
-use Rattle.sections.specs.Slots.{keyNumber, modifierNumber, slotBy, slotOf, Setting, settingAmong, settingAt}
+use Rattle.sections.specs.Slots.{keyNumber, modifierNumber, slotBy, slotOf, settingAmong, settingAt}
 use Rattle.sections.proofs.RunLaws.{lines-found, lines-over}
 
 -- Names that were read have the numbers of the names that they are.
@@ -73,39 +75,51 @@ module _ (n : ℕ) (s : List ℕ) (a e : ℕ) where
         j ∙ ap modifierNumber i ∙ modifier-number (keyNameOf (lineFrom n s a e)) (modifierNamed (placed 0 (part (a + 1) q s)))
         ∙ rw (kind-of-line, h, modifier-name-of-line n s a e q name)
 
--- The setting at no line is none.
-pub nothing-said : (s : List ℕ) → settingAt s (record { line = 0; start = 0; stop = 0 }) ≡ none
-unfolding settingAt if_then_else_
-nothing-said s = refl
+-- The setting at its places; at no line there is none.
+module _ (s : List ℕ) (said : Said) where
+  pub setting-none : said .line ≡ 0 → settingAt s said ≡ none
+  unfolding settingAt if_then_else_
+  setting-none h = rw (eq-eqb _ _ h)
 
-module _ (slot : ℕ) (s : List ℕ) (n at left : ℕ) where
-  pub found-none : left ≡ 0 → settingAmong slot (take left (textLines s n at)) ≡ none
-  unfolding settingAmong
-  found-none e = rw e
+  pub setting-some : (said .line ≡ 0 → ⊥) → settingAt s said ≡ some (record { line = said .line; text = placed (said .start) (part (said .start) (said .stop) s) })
+  unfolding settingAt if_then_else_
+  setting-some h = rw (ne-eqb _ _ h)
 
-  pub found-over : length s ≤ at → settingAmong slot (take left (textLines s n at)) ≡ none
-  unfolding settingAmong
-  found-over h = rw (lines-over s n at h) (nil left)
+-- The setting at the places of a line's setting.
+pub says-line : (s : List ℕ) (n a e q : ℕ) → 1 ≤ n → settingIn (placed (a + 1) (part (a + 1) e s)) ≡ placed q (part q e s)
+    → settingAt s (record { line = n; start = q; stop = e }) ≡ some (record { line = n; text = settingOf (lineFrom n s a e) })
+says-line s n a e q one setting =
+    setting-some s (record { line = n; start = q; stop = e }) (λ (j : n ≡ 0). let w : ⊥ = omega arith in w)
+    ∙ rw (setting-of-line n s a e q setting)
+
+-- The first setting of a number, where the first line says it, and where it does not.
+module _ (slot : ℕ) {l : Line} {ls rest : List Line} (here : ls ≡ l ∷ rest) where
+  pub among-here : slotOf l ≡ slot → settingAmong slot ls ≡ some (record { line = l .number; text = settingOf l })
+  unfolding settingAmong if_then_else_
+  among-here e = rw (here, eq-eqb _ _ e)
+
+  pub among-later : (slotOf l ≡ slot → ⊥) → settingAmong slot ls ≡ settingAmong slot rest
+  unfolding settingAmong if_then_else_
+  among-later e = rw (here, ne-eqb _ _ e)
+
+pub among-none : (slot : ℕ) {ls : List Line} → ls ≡ [] → settingAmong slot ls ≡ none
+unfolding settingAmong
+among-none slot e = rw e
+
+-- The lines of a run that are left: none, or the line at the place and those behind it.
+module _ (s : List ℕ) (n at left : ℕ) where
+  pub left-none : left ≡ 0 → take left (textLines s n at) ≡ []
+  left-none e = rw e
+
+  pub left-over : length s ≤ at → take left (textLines s n at) ≡ []
+  left-over h = rw (lines-over s n at h) (nil left)
     where
-      nil : (k : ℕ) → settingAmong slot (take k []) ≡ none
+      nil : (k : ℕ) → take {A = Line} k [] ≡ []
       nil zero = refl
       nil (suc k) = refl
 
-  module _ {l : Line} (f : Found s n at l) (h : at < length s) (some-left : left ≡ 0 → ⊥) where
-    here : take left (textLines s n at) ≡ lineFrom n s (l .start) (l .stop) ∷ take (left - 1) (textLines s (n + 1) (l .next))
-    here =
-        let e : left ≡ suc (left - 1) = omega arith in
-        ap (λ (k : ℕ). take k (textLines s n at)) e ∙ rw (lines-found f h, f .number)
-
-    pub found-more : {r : ℕ} → r ≡ slotOf (lineFrom n s (l .start) (l .stop)) → (r ≡ slot → ⊥)
-        → settingAmong slot (take left (textLines s n at)) ≡ settingAmong slot (take (left - 1) (textLines s (n + 1) (l .next)))
-    unfolding settingAmong if_then_else_
-    found-more e ne = rw (here, ← e, ne-eqb _ _ ne)
-
-    pub found-here : {r : ℕ} (q : ℕ) → r ≡ slotOf (lineFrom n s (l .start) (l .stop)) → r ≡ slot → 1 ≤ n
-        → settingIn (placed (l .start + 1) (part (l .start + 1) (l .stop) s)) ≡ placed q (part q (l .stop) s)
-        → settingAt s (record { line = n; start = q; stop = l .stop }) ≡ settingAmong slot (take left (textLines s n at))
-    unfolding settingAmong settingAt if_then_else_
-    found-here q e i one setting =
-        let z = ne-eqb n 0 (λ (j : n ≡ 0). let w : ⊥ = omega arith in w) in
-        rw (here, ← e, eq-eqb _ _ i, z, setting-of-line n s (l .start) (l .stop) q setting)
+  pub left-found : {l : text.Line} → Found s n at l → at < length s → (left ≡ 0 → ⊥)
+      → take left (textLines s n at) ≡ lineFrom n s (l .start) (l .stop) ∷ take (left - 1) (textLines s (n + 1) (l .next))
+  left-found f h some-left =
+      let e : left ≡ suc (left - 1) = omega arith in
+      ap (λ (k : ℕ). take k (textLines s n at)) e ∙ rw (lines-found f h, f .number)

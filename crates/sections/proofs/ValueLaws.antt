@@ -6,11 +6,10 @@ use mathlib.Core.Bool.{not}
 use mathlib.Core.Option.{Option, none, some}
 use native.Mathlib.Omega.{arith}
 use Prim.Native.Char.{code}
-use borrow.Author.Tests.{eq-eqb, ne-eqb}
 use Rattle.songcode.specs.Lists.{if_then_else_, taken, left, andThen, orElse}
 use Rattle.songcode.specs.Bytes.{Byte, placed, is, isByte}
 use Rattle.songcode.specs.Keys.{timeIn, bpmIn}
-use Rattle.songcode.specs.Numbers.{numberIn, repeatIn}
+use Rattle.songcode.specs.Numbers.{repeatIn}
 use Rattle.songcode.specs.Modifiers.{cutIn}
 use Rattle.text.specs.Spans.{part}
 use Rattle.text.proofs.TestLaws.{by-cases}
@@ -23,8 +22,9 @@ use Rattle.settings.proofs.PlaceLaws.{Placeless}
 use Rattle.settings.proofs.NumberLaws.{numberIn-range}
 use Rattle.settings.proofs.CutLaws.{cutIn-placeless}
 use Rattle.sections.specs.declared.slots.Said.{Said}
-use Rattle.sections.specs.Slots.{Setting, settingAt}
+use Rattle.sections.specs.Slots.{settingAt}
 use Rattle.sections.specs.Values.{numberOr, cutSaid}
+use Rattle.sections.proofs.SlotLaws.{setting-none, setting-some}
 
 pub number-or : (o : Option ℕ) (d : ℕ) → numberOr (numberOf o) d ≡ orElse o d
 unfolding numberOr numberOf orElse
@@ -38,18 +38,10 @@ or-holds P none d p f = p
 or-holds P (some n) d p f = f n refl
 
 module _ (s : List ℕ) (said : Said) where
-  setting-none : said .line ≡ 0 → settingAt s said ≡ none
-  unfolding settingAt if_then_else_
-  setting-none h = rw (eq-eqb _ _ h)
-
-  setting-some : (said .line ≡ 0 → ⊥) → settingAt s said ≡ some (record { line = said .line; text = placed (said .start) (part (said .start) (said .stop) s) })
-  unfolding settingAt if_then_else_
-  setting-some h = rw (ne-eqb _ _ h)
-
   module _ (f : List Byte → Option ℕ) (d : ℕ) where
     pub said-otherwise : said .line ≡ 0 → d ≡ orElse (andThen (settingAt s said) (λ x. f (x .text))) d
     unfolding andThen orElse
-    said-otherwise h = rw (setting-none h)
+    said-otherwise h = rw (setting-none s said h)
 
     pub said-number : (P : ℕ → Type 0) → Placeless f → P d → ((bs : List Byte) (n : ℕ) → f bs ≡ some n → P n) → (said .line ≡ 0 → ⊥) → {m : Number} {r : ℕ}
         → m ≡ numberOf (f (placed 0 (part (said .start) (said .stop) s))) → r ≡ numberOr m d
@@ -58,15 +50,15 @@ module _ (s : List ℕ) (said : Said) where
     said-number P h p g line {m} {r} e i =
         let o = f (placed 0 (part (said .start) (said .stop) s)) in
         let k : r ≡ orElse o d = i ∙ ap (λ (x : Number). numberOr x d) e ∙ number-or o d in
-        (k ∙ rw (setting-some line, h (said .start) (part (said .start) (said .stop) s)), subst P (sym k) (or-holds P o d p (g (placed 0 (part (said .start) (said .stop) s)))))
+        (k ∙ rw (setting-some s said line, h (said .start) (part (said .start) (said .stop) s)), subst P (sym k) (or-holds P o d p (g (placed 0 (part (said .start) (said .stop) s)))))
 
   pub no-cut : said .line ≡ 0 → (read.Not ≡ cutSaid (settingAt s said)) × CutFits read.Not
   unfolding cutSaid cutIs andThen CutFits
-  no-cut h = (rw (setting-none h), tt)
+  no-cut h = (rw (setting-none s said h), tt)
 
   pub a-cut : (said .line ≡ 0 → ⊥) → {r : CutRead} → r ≡ cutIs (cutIn (placed 0 (part (said .start) (said .stop) s))) → r ≡ cutSaid (settingAt s said)
   unfolding cutSaid andThen
-  a-cut line e = e ∙ rw (setting-some line, cutIn-placeless (said .start) (part (said .start) (said .stop) s))
+  a-cut line e = e ∙ rw (setting-some s said line, cutIn-placeless (said .start) (part (said .start) (said .stop) s))
 
 -- The ranges of what is read.
 pub time-range : (bs : List Byte) (n : ℕ) → timeIn bs ≡ some n → n ≤ 32

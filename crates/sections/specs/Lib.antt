@@ -2,6 +2,7 @@
 pub mod Runs
 pub mod Slots
 pub mod Values
+pub mod Gathering
 pub mod BlockParts
 pub mod SectionSays
 pub mod Onward

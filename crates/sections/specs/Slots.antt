@@ -1,5 +1,5 @@
 -- The settings of key and modifier lines: which line says one, and its text.
-use Prim.Native.Nat.{ℕ, _+_, _≤_}
+use Prim.Native.Nat.{ℕ, _+_, _<_, _≤_}
 use mathlib.Core.Path.{_≡_}
 use mathlib.Core.List.{List, [], _∷_}
 use mathlib.Core.Option.{Option, none, some}
@@ -74,3 +74,9 @@ settingAmong k (l ∷ ls) = if eqb (slotOf l) k then some (record { line = l .nu
 unfoldable pub settingAt : List ℕ → Said → Option Setting
 unfolding if_then_else_
 settingAt s r = if eqb (r .line) 0 then none else some (record { line = r .line; text = placed (r .start) (part (r .start) (r .stop) s) })
+
+-- The setting that a line of this number says; 13 and above say none.
+pub record SaysLine (s : List ℕ) (slot : ℕ) (l : Line) (r : Said) : Type 0 where
+  pub setting : slot < 13 → settingAt s r ≡ some (record { line = l .number; text = settingOf l })
+  pub start : r .start ≤ r .stop
+  pub stop : r .stop ≤ length s

@@ -1,5 +1,6 @@
 // The blocks of a chart: where they begin and end, and what each says, as numbers and places.
 mod blocks;
+mod gathering;
 mod runs;
 mod slots;
 mod values;

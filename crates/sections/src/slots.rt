@@ -14,13 +14,24 @@ ghost use Prim.Native.Nat.{_+_, _-_, _*_, _≤_, _<_};
 ghost use lib.ListN.{length};
 ghost use Rattle.settings.proofs.OfLineLaws.{lineFrom};
 ghost use Rattle.sections.specs.Runs.{linesOf};
-ghost use Rattle.sections.specs.Slots.{slotOf, keyNumber, modifierNumber, settingAmong, settingAt};
+ghost use Rattle.sections.specs.Slots.{slotOf, keyNumber, modifierNumber, SaysLine, settingAmong, settingAt};
 
 // A setting's line, and the places of its first byte and behind its last; line 0 where there is none.
 pub struct Said {
     pub line: usize,
     pub start: usize,
     pub stop: usize,
+}
+
+// No setting.
+pub fn nothing_said() -> Said
+    ensures { λ r. ⌜ (r .line ≡ 0) × (r .start ≡ 0) × (r .stop ≡ 0) ⌝ }
+{
+    Said {
+        line: 0,
+        start: 0,
+        stop: 0,
+    }
 }
 
 // Keys have the numbers of their places in the answer, modifiers those behind them; 13 is none.
@@ -69,6 +80,21 @@ pub fn slot_of(s: &[u8], n: usize, a: usize, e: usize) -> usize
     }
 }
 
+// The setting that a line says whose number is `slot`; none where the number is 13.
+pub fn said_on(s: &[u8], n: usize, a: usize, e: usize, slot: usize) -> Said
+    requires { ⌜ (a ≤ e) × (e ≤ length (now s)) × (1 ≤ n) × (13 ≤ slot + 13 * (e - a)) ⌝ }
+    ensures { λ r. ⌜ SaysLine (now (s .entry)) slot (lineFrom n (now (s .entry)) a e) r ⌝ }
+{
+    if 13 <= slot {
+        return nothing_said();
+    }
+    Said {
+        line: n,
+        start: setting_start(s, a + 1, e),
+        stop: e,
+    }
+}
+
 // The first setting of a number among the lines of a run.
 pub fn find(s: &[u8], slot: usize, run: Run) -> Said
     requires { ⌜ (1 ≤ run .number) × (run .number ≤ run .at + 1) × (run .at ≤ length (now s)) × (slot < 13) ⌝ }
@@ -79,29 +105,17 @@ pub fn find(s: &[u8], slot: usize, run: Run) -> Said
     let mut left = run.lines;
     while at < s.len() {
         if left == 0 {
-            return Said {
-                line: 0,
-                start: 0,
-                stop: 0,
-            };
+            return nothing_said();
         }
         let line = line_at(s, n, at);
         let a = line.start;
         let e = line.stop;
         if slot_of(s, n, a, e) == slot {
-            return Said {
-                line: n,
-                start: setting_start(s, a + 1, e),
-                stop: e,
-            };
+            return said_on(s, n, a, e, slot);
         }
         n += 1;
         at = line.next;
         left -= 1;
     }
-    Said {
-        line: 0,
-        start: 0,
-        stop: 0,
-    }
+    nothing_said()
 }

@@ -1,7 +1,7 @@
 // What settings say: the time and bpm among keys; repeats, cuts, lead-in and tail among modifiers.
+use super::gathering::gather;
 use super::runs::Run;
 use super::slots::Said;
-use super::slots::find;
 use settings::CutRead;
 use settings::bpm_in;
 use settings::cut_in;
@@ -93,9 +93,10 @@ pub fn keys_of(s: &[u8], run: Run) -> Keys
     requires { ⌜ (1 ≤ run .number) × (run .number ≤ run .at + 1) × (run .at ≤ length (now s)) ⌝ }
     ensures { λ r. ⌜ KeysAre (linesOf (now (s .entry)) run) r ⌝ }
 {
+    let found = gather(s, run);
     Keys {
-        time: time_said(s, find(s, 5, run)),
-        bpm: bpm_said(s, find(s, 4, run)),
+        time: time_said(s, found.time),
+        bpm: bpm_said(s, found.bpm),
     }
 }
 
@@ -104,11 +105,14 @@ pub fn modifiers_of(s: &[u8], run: Run) -> Modifiers
     requires { ⌜ (1 ≤ run .number) × (run .number ≤ run .at + 1) × (run .at ≤ length (now s)) ⌝ }
     ensures { λ r. ⌜ ModifiersAre (now (s .entry)) (linesOf (now (s .entry)) run) r ⌝ }
 {
+    let found = gather(s, run);
+    let before = found.before;
+    let after = found.after;
     Modifiers {
-        repeat: repeat_said(s, find(s, 8, run)),
-        front: cut_said(s, find(s, 9, run)),
-        back: cut_said(s, find(s, 10, run)),
-        before: find(s, 11, run),
-        after: find(s, 12, run),
+        repeat: repeat_said(s, found.repeat),
+        front: cut_said(s, found.front),
+        back: cut_said(s, found.back),
+        before,
+        after,
     }
 }
