@@ -1,12 +1,11 @@
 -- Words of a table copied behind themselves: one law for each way through the loop, and what a copy of stored words is.
-use Prim.Native.Nat.{ℕ, zero, suc, _+_, _-_, _*_, _%_, _^_, _<_, _≤_, min}
-use mathlib.Core.Path.{_≡_, refl, sym, ap, _∙_, subst}
+use Prim.Native.Nat.{ℕ, suc, _+_, _-_, _*_, _<_, _≤_, min}
+use mathlib.Core.Path.{_≡_, refl, sym, _∙_, subst}
 use mathlib.Core.List.{List, [], _∷_, _++_, map, append-assoc}
-use mathlib.Core.Bool.{Bool, true, false}
 use native.Mathlib.Omega.{arith}
 use borrow.Author.Tests.{leb-true, leb-false}
 use lib.Dec.{leb}
-use lib.ListN.{length, take, drop, set, getD, length-take, length-map}
+use lib.ListN.{length, take, drop, set, getD}
 use lib.Seq.{sets, sets-eq, length-sets, set-out, drop-cons, drop-set-add, take-set-le, length-take-le, take-append-seam, drop-at}
 use Rattle.songcode.specs.Tables.{measureWord}
 use Rattle.songcode.specs.Performance.{total}

@@ -4,12 +4,12 @@ use super::leaves::minus;
 use super::pens::Pen;
 ghost use mathlib.Core.Path.{_≡_};
 ghost use mathlib.Core.Bool.{true};
-ghost use Prim.Native.Nat.{ℕ, _+_, _-_, _*_, _≤_, _<_};
-ghost use lib.ListN.{length};
+ghost use Prim.Native.Nat.{_+_, _-_, _*_, _≤_, _<_};
 ghost use Rattle.player.specs.Page.{Fine};
 ghost use Rattle.player.specs.Again.{Skips, Copies, skippedOf, copiedOf, copyOf, same, later};
 
-// Whether the pass that took the pen from `p` to `q` was passed over as a whole, and k more will be. Products fit.
+// Whether the pass that took the pen from `p` to `q` was passed over as a whole, and k more will be.
+// A pen has 65,536 measures and 2^32 - 1 beats to pass over at most, and a loop 2^26 passes, so that the products fit.
 pub fn skips(p: Pen, q: Pen, k: usize) -> bool
     ensures { λ r. ⌜ (r ≡ true → Skips p q k) ⌝ }
 {

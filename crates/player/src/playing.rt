@@ -43,7 +43,7 @@ pub fn rounds(
     requires { ⌜ Fine p × (n ≤ 32) ⌝ }
     ensures { λ q. ⌜ _≡_ {A = Page} (record { pen = q; ms = now (ms .exit); bs = now (bs .exit) }) (play (times r (rowOf d n (now (words .entry)) s)) (record { pen = p; ms = now (ms .entry); bs = now (bs .entry) })) ⌝ }
 {
-    if r == 0 {
+    if r == 0 || p.todo == 0 {
         return p;
     }
     let w = items(words, d, n, s.to, s.from, 4227858432, 8, p, ms, bs);

@@ -1,6 +1,6 @@
 use Rattle.player.proofs.CopyLaws.{copying, copy-start, copy-next, copy-over}
-use Rattle.player.specs.Again.{copyOf, same, later}
-use lib.ListN.{length, set, length-set}
+use Rattle.player.specs.Again.{copyOf, same}
+use lib.ListN.{length, length-set}
 use mathlib.Core.Path.{_≡_, refl, _∙_}
 use native.Mathlib.Omega.{arith}
 use Prim.Native.Nat.{_≤_, _+_, _-_, min}

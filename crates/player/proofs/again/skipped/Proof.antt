@@ -1,6 +1,5 @@
 use Rattle.player.specs.Again.{skippedOf}
 use native.Mathlib.Omega.{arith}
-use mathlib.Core.Path.{_≡_, refl}
 use Prim.Native.Nat.{_≤_, _*_}
 use borrow.Author.Needs.{needs}
 use Rattle.player.proofs.again.skipped.Statement.{statement}

@@ -1,3 +1,9 @@
+use Rattle.player.proofs.PageLaws.{play-none}
+use Rattle.player.specs.Page.{Page}
+use Rattle.songcode.specs.Lists.{times}
+use borrow.Author.Tests.{eqb-true}
+use mathlib.Core.Path.{sym}
+use mathlib.Core.Logic.{⊎-elim}
 use Rattle.player.proofs.WalkLaws.{fine-end, end-page, rounds-none, rounds-some}
 use Rattle.player.specs.Walks.{level, rowOf}
 use native.Mathlib.Omega.{arith}
@@ -11,7 +17,11 @@ use Rattle.player.proofs.walks.items.Reads as items-reads
 
 -- src/playing.rt:47:9
 returns : tie.Need-returns
-returns c = let a = c .before .before .before .before .args in rounds-none (rowOf (a .d) (a .n) (a .words .now) (a .s)) (a .r) (record { pen = a .p; ms = a .ms .now; bs = a .bs .now }) (c .if1 .taken)
+returns c =
+    let a = c .before .before .before .before .args in
+    let row = rowOf (a .d) (a .n) (a .words .now) (a .s) in
+    let g : Page = record { pen = a .p; ms = a .ms .now; bs = a .bs .now } in
+    ⊎-elim (λ w. rounds-none row (a .r) g (w .taken)) (λ w. sym (play-none (times (a .r) row) g (eqb-true (a .p .todo) 0 (w .2 .taken)))) (c .if1 .came)
 
 -- src/playing.rt:49:9
 items-requires : tie.Need-items-requires
@@ -23,7 +33,7 @@ sub-again c = search needs
 
 -- src/playing.rt:50:5
 again-requires : tie.Need-again-requires
-again-requires c κs = let q = c .before .before .before .before .before .before .before .before .before .before .before .before .before in let a = q .args in let l = (level 8 (a .d) (a .n) (a .words .now) (a .s .to) (a .s .from) 4227858432) in let e = c .before .before .before .before .before .before .items .ensures .0 in (fine-end _ l (record { pen = a .p; ms = a .ms .now; bs = a .bs .now }) e (q .pre .0), omega arith, q .pre .1, omega arith, record { ms-before = a .ms .now; bs-before = a .bs .now; pass = end-page _ l (record { pen = a .p; ms = a .ms .now; bs = a .bs .now }) e })
+again-requires c κs = let q = c .before .before .before .before .before .before .before .before .before .before .before .before .before .before .before in let a = q .args in let l = (level 8 (a .d) (a .n) (a .words .now) (a .s .to) (a .s .from) 4227858432) in let e = c .before .before .before .before .before .before .items .ensures .0 in (fine-end _ l (record { pen = a .p; ms = a .ms .now; bs = a .bs .now }) e (q .pre .0), omega arith, q .pre .1, omega arith, record { ms-before = a .ms .now; bs-before = a .bs .now; pass = end-page _ l (record { pen = a .p; ms = a .ms .now; bs = a .bs .now }) e })
 
 -- src/playing.rt:33:1
 same-length : tie.Need-same-length
@@ -36,7 +46,7 @@ same-length-2 c = search needs
 -- src/playing.rt:33:1
 returns-2 : tie.Need-returns-2
 unfolding rowOf
-returns-2 c = let q = c .before .before .before .before .before .before .before .before .before .before .before .before .before .before .before .before .before .before in let a = q .args in let l = (level 8 (a .d) (a .n) (a .words .now) (a .s .to) (a .s .from) 4227858432) in rounds-some (l .row) (a .r) (record { pen = a .p; ms = a .ms .now; bs = a .bs .now }) _ _ (c .before .before .before .before .before .before .before .before .before .before .before .before .before .before .if1 .left) (end-page _ l (record { pen = a .p; ms = a .ms .now; bs = a .bs .now }) (c .before .before .before .before .before .before .before .before .before .before .before .items .ensures .0)) (c .before .before .before .before .again .ensures)
+returns-2 c = let q = c .before .before .before .before .before .before .before .before .before .before .before .before .before .before .before .before .before .before .before .before in let a = q .args in let l = (level 8 (a .d) (a .n) (a .words .now) (a .s .to) (a .s .from) 4227858432) in rounds-some (l .row) (a .r) (record { pen = a .p; ms = a .ms .now; bs = a .bs .now }) _ _ (c .before .before .before .before .before .before .before .before .before .before .before .before .before .before .before .before .if1 .left) (end-page _ l (record { pen = a .p; ms = a .ms .now; bs = a .bs .now }) (c .before .before .before .before .before .before .before .before .before .before .before .items .ensures .0)) (c .before .before .before .before .again .ensures)
 
 pub rounds-spec : {M : Type 1} → statement M
 rounds-spec =
