@@ -5,12 +5,13 @@ use mathlib.Core.List.{List, [], _∷_, _++_}
 use mathlib.Core.Bool.{Bool, true, false}
 use native.Mathlib.Omega.{arith}
 use native.Mathlib.Numerals.{add-one}
-use borrow.Author.Tests.{eq-eqb, ne-eqb}
-use lib.Dec.{eqb}
+use borrow.Author.Tests.{eq-eqb, ne-eqb, leb-true, leb-false}
+use lib.Dec.{eqb, leb}
 use lib.ListN.{length, take, drop, set, length-append}
 use lib.Seq.{sets, take-nil, drop-nil}
 use Rattle.songcode.specs.Playing.{keep}
 use Rattle.songcode.specs.Performance.{total}
+use Rattle.songcode.proofs.ListLaws.{by-cases}
 use Rattle.player.specs.Windows.{window, flat, heads}
 use Rattle.player.specs.declared.pens.Pen.{Pen}
 use Rattle.player.proofs.PageLaws.{measure-none, play-none}
@@ -104,8 +105,10 @@ measure-step x g n = stepped-by x (g .pen .base) (g .pen .todo) (g .pen .skip) (
 
 -- the whole row
 pub record Done (g h : Page) (row : List (List ℕ)) : Type 0 where
+  pub base : h .pen .base ≡ g .pen .base
   pub todo : h .pen .todo ≡ g .pen .todo - length row
   pub skip : h .pen .skip ≡ g .pen .skip - total (take (g .pen .todo) row)
+  pub left : h .pen .left ≡ g .pen .left - (total (take (g .pen .todo) row) - g .pen .skip)
   pub m : h .pen .m ≡ g .pen .m + length (window (g .pen .skip) (g .pen .left) (take (g .pen .todo) row))
   pub b : h .pen .b ≡ g .pen .b + total (window (g .pen .skip) (g .pen .left) (take (g .pen .todo) row))
   pub ms : h .ms ≡ sets (g .ms) (g .pen .m) (heads (g .pen .base + g .pen .b) (window (g .pen .skip) (g .pen .left) (take (g .pen .todo) row)))
@@ -113,7 +116,20 @@ pub record Done (g h : Page) (row : List (List ℕ)) : Type 0 where
 
 done-none : (g : Page) (row : List (List ℕ)) (n : ℕ) → take (g .pen .todo) row ≡ [] → g .pen .todo ≡ g .pen .todo - length row → Done g g row
 unfolding window heads flat total
-done-none g row n e k = record { todo = k; skip = rw e (omega arith); m = rw e (omega arith); b = rw e (omega arith); ms = rw e; bs = rw e }
+done-none g row n e k = record { base = refl; todo = k; skip = rw e (omega arith); left = rw e (omega arith); m = rw e (omega arith); b = rw e (omega arith); ms = rw e; bs = rw e }
+
+-- What is to be passed over and to be written behind n beats, and then behind t more.
+skip-after : (s s' n t : ℕ) → s ≡ s' - n → s - t ≡ s' - (n + t)
+skip-after s s' n t e = omega arith
+
+left-after : (s s' l l' n t : ℕ) → s ≡ s' - n → l ≡ l' - (n - s') → l - (t - s) ≡ l' - (n + t - s')
+left-after s s' l l' n t e f =
+    by-cases (leb n s')
+    (λ q. let h = leb-true n s' q in let a : l ≡ l' = omega arith in let b : t - s ≡ n + t - s' = omega arith in rw (a, b))
+    (λ q. let h = leb-false n s' q in let a : s ≡ 0 = omega arith in let b : n + t - s' ≡ n - s' + t = omega arith in rw (a, b, f) (both l' (n - s') t))
+  where
+    both : (l n t : ℕ) → l - n - (t - 0) ≡ l - (n + t)
+    both l n t = omega arith
 
 done-cons : (x : List ℕ) (xs : List (List ℕ)) (t : ℕ) (g k h : Page) → g .pen .todo ≡ suc t → Stepped x g k → Done k h xs → Done g h (x ∷ xs)
 unfolding window total Piece
@@ -127,10 +143,13 @@ done-cons x xs t g k h e p d =
     let dms : h .ms ≡ sets (k .ms) (k .pen .m) (heads (g .pen .base + k .pen .b) w) = rw (v, p .base) at (d .ms) in
     let dbs : h .bs ≡ sets (k .bs) (k .pen .b) (flat w) = rw v at (d .bs) in
     let ds : h .pen .skip ≡ k .pen .skip - total (take t xs) = rw q at (d .skip) in
-    let s1 = p .skip in let t1 = d .todo in let t2 = p .todo in
+    let dl : h .pen .left ≡ k .pen .left - (total (take t xs) - k .pen .skip) = rw q at (d .left) in
+    let t1 = d .todo in let t2 = p .todo in
     record {
+      base = d .base ∙ p .base;
       todo = omega arith;
-      skip = rw e (omega arith);
+      skip = rw e (ds ∙ skip-after _ _ (length x) (total (take t xs)) (p .skip));
+      left = rw e (dl ∙ left-after _ _ _ _ (length x) (total (take t xs)) (p .skip) (p .left));
       m = rw e (dm ∙ sym (o .0));
       b = rw e (db ∙ sym (o .1));
       ms = rw e (dms ∙ sym (o .2));

@@ -3,6 +3,8 @@ pub mod SignLaws
 pub mod StretchLaws
 pub mod PageLaws
 pub mod LookLaws
+pub mod CopyLaws
+pub mod AgainLaws
 pub mod WalkLaws
 pub mod ContentLaws
 pub mod ShortLaws

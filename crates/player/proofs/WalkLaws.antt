@@ -21,6 +21,10 @@ pub fine-end : (e : End) (r : Read) (g : Page) → e ≡ finish r g → Fine (g 
 unfolding finish
 fine-end e r g k f = rw k (fine-play (r .row) g f)
 
+pub end-page : (e : End) (r : Read) (g : Page) → e ≡ finish r g → e .page ≡ play (r .row) g
+unfolding finish
+end-page e r g k = rw k
+
 pub stop-test : (ws : List ℕ) (to i w k : ℕ) (r t : Bool) → w ≡ wordOf ws to i → k ≡ kindOf w → r ≡ isStop k → r ≡ t → isStop (kindOf (wordOf ws to i)) ≡ t
 stop-test ws to i w k r t a b d e = rw (← a, ← b, ← d) e
 
@@ -101,11 +105,11 @@ level-more zero d n ws to at last e = absurd (e refl)
 level-more (suc k) d n ws to at last e = let z : suc k - 1 ≡ k = omega arith in rw z
 
 -- The passes of a loop, and the rounds of a pattern.
-pub loop-next : (row : List (List ℕ)) (n i : ℕ) (g : Page) (e : End) (r : Read) (goal : Page) → i < n → r .row ≡ row → e ≡ finish r g → play (times (n - i) row) g ≡ goal → play (times (n - (i + 1)) row) (e .page) ≡ goal
-unfolding times finish
-loop-next row n i g e r goal h q k l =
+pub loop-next : (row : List (List ℕ)) (n i : ℕ) (g h goal : Page) → i < n → h ≡ play row g → play (times (n - i) row) g ≡ goal → play (times (n - (i + 1)) row) h ≡ goal
+unfolding times
+loop-next row n i g h goal l k e =
     let s : n - i ≡ suc (n - (i + 1)) = omega arith in
-    rw (k, q) (sym (play-append row (times (n - (i + 1)) row) g) ∙ rw s at l)
+    rw k (sym (play-append row (times (n - (i + 1)) row) g) ∙ rw s at e)
 
 pub loop-over : (row : List (List ℕ)) (n i : ℕ) (g goal : Page) → n ≤ i → play (times (n - i) row) g ≡ goal → g ≡ goal
 unfolding times play
@@ -113,6 +117,16 @@ loop-over row n i g goal h l = let s : n - i ≡ 0 = omega arith in rw s at l
 
 pub loop-early : (row : List (List ℕ)) (n : ℕ) (g goal : Page) → g .pen .todo ≡ 0 → play (times n row) g ≡ goal → g ≡ goal
 loop-early row n g goal h l = sym (play-none (times n row) g h) ∙ l
+
+pub rounds-none : (row : List (List ℕ)) (r : ℕ) (g : Page) → r ≡ 0 → g ≡ play (times r row) g
+unfolding times play
+rounds-none row zero g e = refl
+rounds-none row (suc r) g e = let z : ⊥ = omega arith in absurd z
+
+pub rounds-some : (row : List (List ℕ)) (r : ℕ) (g h k : Page) → (r ≡ 0 → ⊥) → h ≡ play row g → k ≡ play (times (r - 1) row) h → k ≡ play (times r row) g
+unfolding times
+rounds-some row zero g h k n e f = absurd (n refl)
+rounds-some row (suc r) g h k n e f = let z : suc r - 1 ≡ r = omega arith in let f' : k ≡ play (times r row) h = rw z at f in f' ∙ rw (e, play-append row (times r row) g)
 
 -- A walk goes on: an item is behind its first word.
 abbrev pub Onward : (ℕ → ℕ → ℕ → Read) → Type 0

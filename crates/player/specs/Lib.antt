@@ -1,6 +1,7 @@
 -- What the contracts of the player say.
 pub mod Signs
 pub mod Page
+pub mod Again
 pub mod Walks
 pub mod Windows
 pub mod Examples

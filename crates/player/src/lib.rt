@@ -1,4 +1,5 @@
 // Plays a pattern that stands as token words in a buffer into lent tables of measures and beats, in a section's N.
+mod again;
 mod counts;
 mod leaves;
 mod measures;

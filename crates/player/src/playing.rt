@@ -4,6 +4,7 @@ use super::leaves::Stretch;
 use super::leaves::least;
 use super::leaves::minus;
 use super::pens::Pen;
+use super::walks::again;
 use super::walks::items;
 use settings::Cut;
 ghost use mathlib.Core.Path.{_≡_};
@@ -42,17 +43,24 @@ pub fn rounds(
     requires { ⌜ Fine p × (n ≤ 32) ⌝ }
     ensures { λ q. ⌜ _≡_ {A = Page} (record { pen = q; ms = now (ms .exit); bs = now (bs .exit) }) (play (times r (rowOf d n (now (words .entry)) s)) (record { pen = p; ms = now (ms .entry); bs = now (bs .entry) })) ⌝ }
 {
-    let mut q = p;
-    let mut i: usize = 0;
-    while i < r {
-        if q.todo == 0 {
-            return q;
-        }
-        let v = items(words, d, n, s.to, s.from, 4227858432, 8, q, ms, bs);
-        q = v.pen;
-        i += 1;
+    if r == 0 || p.todo == 0 {
+        return p;
     }
-    q
+    let w = items(words, d, n, s.to, s.from, 4227858432, 8, p, ms, bs);
+    again(
+        words,
+        d,
+        n,
+        s.to,
+        s.from,
+        4227858432,
+        8,
+        r - 1,
+        p,
+        w.pen,
+        ms,
+        bs,
+    )
 }
 
 // How many of the first k measures of a stretch there are, repeated r times, and their beats: the same walk with every beat passed over.

@@ -1,4 +1,8 @@
 // The walk along a row: measures, loops and references. Loops and references are the same walk one level down.
+use super::again::copied;
+use super::again::copies;
+use super::again::skipped;
+use super::again::skips;
 use super::leaves::Definitions;
 use super::leaves::behind;
 use super::leaves::is_separator;
@@ -15,7 +19,9 @@ ghost use mathlib.Core.Path.{_≡_};
 ghost use mathlib.Core.Bool.{false};
 ghost use Prim.Native.Nat.{ℕ, _+_, _-_, _*_, _≤_, _<_};
 ghost use Rattle.player.specs.Signs.{kindOf, numberOf, wordOf, isStop};
-ghost use Rattle.player.specs.Page.{Page, Fine};
+ghost use Rattle.songcode.specs.Lists.{times};
+ghost use Rattle.player.specs.Page.{Page, Fine, play};
+ghost use Rattle.player.specs.Again.{Took};
 ghost use Rattle.player.specs.Walks.{End, finish, level, itemOf, loopOf, refOf};
 
 // Items up to the end of the text or a closing bracket.
@@ -130,23 +136,73 @@ pub fn loop_(
     let w = items(words, d, n, to, at, last, depth, p, ms, bs);
     let k = passes(words, to, w.at);
     let end = behind(words, to, w.at);
-    let mut q = w.pen;
-    let mut i: usize = 0;
-    while i < k {
-        if q.todo == 0 {
-            return Walk {
-                at: end,
-                last: w.last,
-                pen: q,
-            };
-        }
-        let v = items(words, d, n, to, at, last, depth, q, ms, bs);
-        q = v.pen;
-        i += 1;
-    }
+    let pen = again(words, d, n, to, at, last, depth, k, p, w.pen, ms, bs);
     Walk {
         at: end,
         last: w.last,
-        pen: q,
+        pen,
     }
+}
+
+// The items that took the pen from `p` to `q`, k times more; nothing more is looked at once no measure is to be looked at.
+pub fn again(
+    words: &[u32],
+    d: Definitions,
+    n: usize,
+    to: usize,
+    at: usize,
+    last: u32,
+    depth: usize,
+    k: usize,
+    p: Pen,
+    q: Pen,
+    ms: &mut [u32],
+    bs: &mut [u32],
+) -> Pen
+    requires { ⌜ Fine q × (last ≤ 4227858432) × (n ≤ 32) × (depth < 1000) × Took (level depth d n (now words) to at last .row) p q (now ms) (now bs) ⌝ }
+    ensures { λ r. ⌜ _≡_ {A = Page} (record { pen = r; ms = now (ms .exit); bs = now (bs .exit) }) (play (times k (level depth d n (now (words .entry)) to at last .row)) (record { pen = q; ms = now (ms .entry); bs = now (bs .entry) })) ⌝ }
+{
+    if skips(p, q, k) {
+        return skipped(p, q, k);
+    }
+    let mut before = p;
+    let mut after = q;
+    let mut i: usize = 0;
+    while i < k {
+        if after.todo == 0 {
+            return after;
+        }
+        let next = once_more(words, d, n, to, at, last, depth, before, after, ms, bs);
+        before = after;
+        after = next;
+        i += 1;
+    }
+    after
+}
+
+// Once more: passed over, copied, or read again.
+pub fn once_more(
+    words: &[u32],
+    d: Definitions,
+    n: usize,
+    to: usize,
+    at: usize,
+    last: u32,
+    depth: usize,
+    p: Pen,
+    q: Pen,
+    ms: &mut [u32],
+    bs: &mut [u32],
+) -> Pen
+    requires { ⌜ Fine q × (last ≤ 4227858432) × (n ≤ 32) × (depth < 1000) × Took (level depth d n (now words) to at last .row) p q (now ms) (now bs) ⌝ }
+    ensures { λ r. ⌜ _≡_ {A = Page} (record { pen = r; ms = now (ms .exit); bs = now (bs .exit) }) (play (level depth d n (now (words .entry)) to at last .row) (record { pen = q; ms = now (ms .entry); bs = now (bs .entry) })) ⌝ }
+{
+    if skips(p, q, 1) {
+        return skipped(p, q, 1);
+    }
+    if copies(p, q) {
+        return copied(p, q, ms, bs);
+    }
+    let w = items(words, d, n, to, at, last, depth, q, ms, bs);
+    w.pen
 }

@@ -1,7 +1,10 @@
-use Rattle.player.proofs.WalkLaws.{fine-end, stop-test, rows-stop, rows-next, rows-end, level-none, level-more, item-loop, item-refer, item-separator, item-one, refer-done, loop-done, loop-next, loop-over, loop-early, item-onward, level-onward, end-onward}
+use Rattle.player.proofs.WalkLaws.{fine-end, end-page, stop-test, rows-stop, rows-next, rows-end, level-none, level-more, item-loop, item-refer, item-separator, item-one, refer-done, loop-done, loop-next, loop-over, loop-early, item-onward, level-onward, end-onward}
 use Rattle.player.proofs.SignLaws.{stop-inside}
+use Rattle.player.proofs.SectionLaws.{fine-rounds}
+use Rattle.player.proofs.AgainLaws.{skipped-again, skipped-once, took-onward, copied-again}
 use Rattle.player.specs.Walks.{Read, End, finish, itemOf, rowsBy, level}
 use Rattle.player.specs.Page.{Page, Fine, play}
+use Rattle.player.specs.Again.{Took}
 use Rattle.songcode.specs.Lists.{times}
 use lib.ListN.{length}
 use native.Mathlib.Nat.{sub-zero}
@@ -12,18 +15,28 @@ use borrow.Author.Needs.{needs}
 use Prim.Native.Nat.{ℕ, _<_}
 use borrow.Fn.Kinds.{In}
 use borrow.Fn.PlainCycle.{Measures, is, falls, and}
+use Rattle.player.proofs.walks.again.Reads as again
+use Rattle.player.proofs.walks.again.Kinds as again-kinds
+use Rattle.player.proofs.walks.+again+item+items+jump+loop_+once_more.Lts-again as again-lts
 use Rattle.player.proofs.walks.item.Reads as item
 use Rattle.player.proofs.walks.item.Kinds as item-kinds
-use Rattle.player.proofs.walks.+item+items+jump+loop_.Lts-item as item-lts
+use Rattle.player.proofs.walks.+again+item+items+jump+loop_+once_more.Lts-item as item-lts
 use Rattle.player.proofs.walks.items.Reads as items
 use Rattle.player.proofs.walks.items.Kinds as items-kinds
-use Rattle.player.proofs.walks.+item+items+jump+loop_.Lts-items as items-lts
+use Rattle.player.proofs.walks.+again+item+items+jump+loop_+once_more.Lts-items as items-lts
 use Rattle.player.proofs.walks.jump.Reads as jump
 use Rattle.player.proofs.walks.jump.Kinds as jump-kinds
-use Rattle.player.proofs.walks.+item+items+jump+loop_.Lts-jump as jump-lts
+use Rattle.player.proofs.walks.+again+item+items+jump+loop_+once_more.Lts-jump as jump-lts
 use Rattle.player.proofs.walks.loop_.Reads as loop-
 use Rattle.player.proofs.walks.loop_.Kinds as loop--kinds
-use Rattle.player.proofs.walks.+item+items+jump+loop_.Lts-loop_ as loop--lts
+use Rattle.player.proofs.walks.+again+item+items+jump+loop_+once_more.Lts-loop_ as loop--lts
+use Rattle.player.proofs.walks.once_more.Reads as once-more
+use Rattle.player.proofs.walks.once_more.Kinds as once-more-kinds
+use Rattle.player.proofs.walks.+again+item+items+jump+loop_+once_more.Lts-once_more as once-more-lts
+use Rattle.player.proofs.again.copied.Reads as copied-reads
+use Rattle.player.proofs.again.copies.Reads as copies-reads
+use Rattle.player.proofs.again.skipped.Reads as skipped-reads
+use Rattle.player.proofs.again.skips.Reads as skips-reads
 use Rattle.player.proofs.leaves.behind.Reads as behind-reads
 use Rattle.player.proofs.leaves.is_separator.Reads as is-separator-reads
 use Rattle.player.proofs.leaves.is_stop.Reads as is-stop-reads
@@ -33,20 +46,32 @@ use Rattle.player.proofs.leaves.passes.Reads as passes-reads
 use Rattle.player.proofs.leaves.stretch_of.Reads as stretch-of-reads
 use Rattle.player.proofs.leaves.word_at.Reads as word-at-reads
 use Rattle.player.proofs.measures.measure.Reads as measure-reads
-use Rattle.player.proofs.walks.+item+items+jump+loop_.{statement}
-use Rattle.player.proofs.walks.+item+items+jump+loop_.Tie.{close}
+use Rattle.player.proofs.walks.+again+item+items+jump+loop_+once_more.{statement}
+use Rattle.player.proofs.walks.+again+item+items+jump+loop_+once_more.Tie.{close}
+
+abbrev μ-again : Measures 3 again-kinds.ps ℕ
+μ-again κs a = 5 * (a .1 .1 .1 .1 .1 .1 .0) + 2
 
 abbrev μ-item : Measures 3 item-kinds.ps ℕ
-μ-item κs a = 3 * (a .1 .1 .1 .1 .1 .1 .0) + 2
+μ-item κs a = 5 * (a .1 .1 .1 .1 .1 .1 .0) + 4
 
 abbrev μ-items : Measures 3 items-kinds.ps ℕ
-μ-items κs a = 3 * (a .1 .1 .1 .1 .1 .1 .0)
+μ-items κs a = 5 * (a .1 .1 .1 .1 .1 .1 .0)
 
 abbrev μ-jump : Measures 3 jump-kinds.ps ℕ
-μ-jump κs a = 3 * (a .1 .1 .1 .1 .1 .1 .0) + 1
+μ-jump κs a = 5 * (a .1 .1 .1 .1 .1 .1 .0) + 3
 
 abbrev μ-loop- : Measures 3 loop--kinds.ps ℕ
-μ-loop- κs a = 3 * (a .1 .1 .1 .1 .1 .1 .0) + 1
+μ-loop- κs a = 5 * (a .1 .1 .1 .1 .1 .1 .0) + 3
+
+abbrev μ-once-more : Measures 3 once-more-kinds.ps ℕ
+μ-once-more κs a = 5 * (a .1 .1 .1 .1 .1 .1 .0) + 1
+
+abbrev again-at : ℕ → In 3 again-kinds.ps
+again-at t = and 3 again-kinds.ps (is 3 again-kinds.ps μ-again t) again.Pre
+
+abbrev again-below : ℕ → In 3 again-kinds.ps
+again-below t = and 3 again-kinds.ps (falls 3 again-kinds.ps _<_ μ-again t) again.Pre
 
 abbrev item-at : ℕ → In 3 item-kinds.ps
 item-at t = and 3 item-kinds.ps (is 3 item-kinds.ps μ-item t) item.Pre
@@ -72,7 +97,174 @@ loop--at t = and 3 loop--kinds.ps (is 3 loop--kinds.ps μ-loop- t) loop-.Pre
 abbrev loop--below : ℕ → In 3 loop--kinds.ps
 loop--below t = and 3 loop--kinds.ps (falls 3 loop--kinds.ps _<_ μ-loop- t) loop-.Pre
 
--- src/walks.rt:46:9
+abbrev once-more-at : ℕ → In 3 once-more-kinds.ps
+once-more-at t = and 3 once-more-kinds.ps (is 3 once-more-kinds.ps μ-once-more t) once-more.Pre
+
+abbrev once-more-below : ℕ → In 3 once-more-kinds.ps
+once-more-below t =
+    and 3 once-more-kinds.ps (falls 3 once-more-kinds.ps _<_ μ-once-more t) once-more.Pre
+
+abbrev again-Inv-loop : again-lts.InvT-loop
+again-Inv-loop words d n to at last depth k ms₀ bs₀ before₀ after₀ i₀ ms bs before after i = (i ≤ k) × Fine after × (length ms ≡ length ms₀) × (length bs ≡ length bs₀) × Took (level depth d n words to at last .row) before after ms bs × (_≡_ {A = Page} (play (times (k - i) (level depth d n words to at last .row)) (record { pen = after; ms = ms; bs = bs })) (play (times k (level depth d n words to at last .row)) (record { pen = after₀; ms = ms₀; bs = bs₀ })))
+
+abbrev again-μ-loop : again-lts.MeasureT-loop
+again-μ-loop words d n to at last depth k ms₀ bs₀ before₀ after₀ i₀ ms bs before after i = k - i
+
+-- src/walks.rt:165:8
+again-skips-requires : (t : ℕ) → again-lts.Need-skips-requires (
+  skips-reads.Asked,
+  skips-reads.Learnt,
+  skipped-reads.Asked,
+  skipped-reads.Learnt,
+  once-more-below t,
+  once-more.Post,
+) (again-at t) again.Post again-Inv-loop again-μ-loop
+again-skips-requires t c κs = search needs
+
+-- src/walks.rt:166:9
+again-skipped-requires : (t : ℕ) → again-lts.Need-skipped-requires (
+  skips-reads.Asked,
+  skips-reads.Learnt,
+  skipped-reads.Asked,
+  skipped-reads.Learnt,
+  once-more-below t,
+  once-more.Post,
+) (again-at t) again.Post again-Inv-loop again-μ-loop
+again-skipped-requires t c κs = c .before .skips .ensures (c .if1 .taken)
+
+-- src/walks.rt:166:9
+again-returns : (t : ℕ) → again-lts.Need-returns (
+  skips-reads.Asked,
+  skips-reads.Learnt,
+  skipped-reads.Asked,
+  skipped-reads.Learnt,
+  once-more-below t,
+  once-more.Post,
+) (again-at t) again.Post again-Inv-loop again-μ-loop
+again-returns t c = let q = c .before .before .before .before .before .before in let a = q .args in let r = (level (a .depth) (a .d) (a .n) (a .words .now) (a .to) (a .at) (a .last)) in skipped-again (r .row) (a .p) (a .q) _ (a .k) (a .ms .now) (a .bs .now) (q .pre .1 .4) (c .before .before .skips .ensures (c .before .if1 .taken)) (c .skipped .ensures)
+
+-- src/walks.rt:171:5
+again-loop-holds : (t : ℕ) → again-lts.Need-loop-holds (
+  skips-reads.Asked,
+  skips-reads.Learnt,
+  skipped-reads.Asked,
+  skipped-reads.Learnt,
+  once-more-below t,
+  once-more.Post,
+) (again-at t) again.Post again-Inv-loop again-μ-loop
+again-loop-holds t c = let q = c .before .before .before .before .before in let a = q .args in let r = (level (a .depth) (a .d) (a .n) (a .words .now) (a .to) (a .at) (a .last)) in (omega arith, q .pre .1 .0, refl, refl, q .pre .1 .4, rw (sub-zero (a .k)))
+
+-- src/walks.rt:173:13
+again-same-length : (t : ℕ) → again-lts.Need-same-length (
+  skips-reads.Asked,
+  skips-reads.Learnt,
+  skipped-reads.Asked,
+  skipped-reads.Learnt,
+  once-more-below t,
+  once-more.Post,
+) (again-at t) again.Post again-Inv-loop again-μ-loop
+again-same-length t c = search needs
+
+-- src/walks.rt:173:13
+again-same-length-2 : (t : ℕ) → again-lts.Need-same-length-2 (
+  skips-reads.Asked,
+  skips-reads.Learnt,
+  skipped-reads.Asked,
+  skipped-reads.Learnt,
+  once-more-below t,
+  once-more.Post,
+) (again-at t) again.Post again-Inv-loop again-μ-loop
+again-same-length-2 t c = search needs
+
+-- src/walks.rt:173:13
+again-returns-2 : (t : ℕ) → again-lts.Need-returns-2 (
+  skips-reads.Asked,
+  skips-reads.Learnt,
+  skipped-reads.Asked,
+  skipped-reads.Learnt,
+  once-more-below t,
+  once-more.Post,
+) (again-at t) again.Post again-Inv-loop again-μ-loop
+again-returns-2 t c = let q = c .before .before .before .before .before .before .before .before .before in let a = q .args in let r = (level (a .depth) (a .d) (a .n) (a .words .now) (a .to) (a .at) (a .last)) in let l = c .before .before .before .loop in let g : Page = record { pen = l .after; ms = l .ms; bs = l .bs } in loop-early (r .row) _ g _ (c .if2 .taken) (l .inv .5)
+
+-- src/walks.rt:175:13
+again-once-more-requires : (t : ℕ) → again-lts.Need-once-more-requires (
+  skips-reads.Asked,
+  skips-reads.Learnt,
+  skipped-reads.Asked,
+  skipped-reads.Learnt,
+  once-more-below t,
+  once-more.Post,
+) (again-at t) again.Post again-Inv-loop again-μ-loop
+again-once-more-requires t c κs = search needs
+
+-- src/walks.rt:178:9
+again-add-i : (t : ℕ) → again-lts.Need-add-i (
+  skips-reads.Asked,
+  skips-reads.Learnt,
+  skipped-reads.Asked,
+  skipped-reads.Learnt,
+  once-more-below t,
+  once-more.Post,
+) (again-at t) again.Post again-Inv-loop again-μ-loop
+again-add-i t c = search needs
+
+-- src/walks.rt:171:5
+again-loop-less : (t : ℕ) → again-lts.Need-loop-less (
+  skips-reads.Asked,
+  skips-reads.Learnt,
+  skipped-reads.Asked,
+  skipped-reads.Learnt,
+  once-more-below t,
+  once-more.Post,
+) (again-at t) again.Post again-Inv-loop again-μ-loop
+again-loop-less t c = search needs
+
+-- src/walks.rt:171:5
+again-loop-again : (t : ℕ) → again-lts.Need-loop-again (
+  skips-reads.Asked,
+  skips-reads.Learnt,
+  skipped-reads.Asked,
+  skipped-reads.Learnt,
+  once-more-below t,
+  once-more.Post,
+) (again-at t) again.Post again-Inv-loop again-μ-loop
+again-loop-again t c = let q = c .before .before .before .before .before .before .before .before .before .before .before .before .before .before .before .before in let a = q .args in let r = (level (a .depth) (a .d) (a .n) (a .words .now) (a .to) (a .at) (a .last)) in let l = c .before .before .before .before .before .before .before .before .before .before .loop in let g : Page = record { pen = l .after; ms = l .ms; bs = l .bs } in let e = c .before .before .before .before .once-more .ensures in (omega arith, fine-rounds (r .row) g _ _ _ e (l .inv .1), search needs, search needs, record { ms-before = l .ms; bs-before = l .bs; pass = e }, loop-next (r .row) (a .k) (l .i) g _ _ (c .before .before .before .before .before .before .before .before .before .loop-test .taken) e (l .inv .5))
+
+-- src/walks.rt:148:1
+again-same-length-3 : (t : ℕ) → again-lts.Need-same-length-3 (
+  skips-reads.Asked,
+  skips-reads.Learnt,
+  skipped-reads.Asked,
+  skipped-reads.Learnt,
+  once-more-below t,
+  once-more.Post,
+) (again-at t) again.Post again-Inv-loop again-μ-loop
+again-same-length-3 t c = search needs
+
+-- src/walks.rt:148:1
+again-same-length-4 : (t : ℕ) → again-lts.Need-same-length-4 (
+  skips-reads.Asked,
+  skips-reads.Learnt,
+  skipped-reads.Asked,
+  skipped-reads.Learnt,
+  once-more-below t,
+  once-more.Post,
+) (again-at t) again.Post again-Inv-loop again-μ-loop
+again-same-length-4 t c = search needs
+
+-- src/walks.rt:148:1
+again-returns-3 : (t : ℕ) → again-lts.Need-returns-3 (
+  skips-reads.Asked,
+  skips-reads.Learnt,
+  skipped-reads.Asked,
+  skipped-reads.Learnt,
+  once-more-below t,
+  once-more.Post,
+) (again-at t) again.Post again-Inv-loop again-μ-loop
+again-returns-3 t c = let q = c .before .before .before .before .before .before .before in let a = q .args in let r = (level (a .depth) (a .d) (a .n) (a .words .now) (a .to) (a .at) (a .last)) in let l = c .before .loop in let g : Page = record { pen = l .after; ms = l .ms; bs = l .bs } in loop-over (r .row) (a .k) (l .i) g _ (c .loop-test .left) (l .inv .5)
+
+-- src/walks.rt:74:9
 item-word-at-requires : (t : ℕ) → item-lts.Need-word-at-requires (
   word-at-reads.Asked,
   word-at-reads.Learnt,
@@ -91,7 +283,7 @@ item-word-at-requires : (t : ℕ) → item-lts.Need-word-at-requires (
 ) (item-at t) item.Post
 item-word-at-requires t c κs = search needs
 
--- src/walks.rt:47:9
+-- src/walks.rt:75:9
 item-kind-requires : (t : ℕ) → item-lts.Need-kind-requires (
   word-at-reads.Asked,
   word-at-reads.Learnt,
@@ -110,7 +302,7 @@ item-kind-requires : (t : ℕ) → item-lts.Need-kind-requires (
 ) (item-at t) item.Post
 item-kind-requires t c κs = search needs
 
--- src/walks.rt:49:39
+-- src/walks.rt:77:39
 item-add-loop- : (t : ℕ) → item-lts.Need-add-loop- (
   word-at-reads.Asked,
   word-at-reads.Learnt,
@@ -129,7 +321,7 @@ item-add-loop- : (t : ℕ) → item-lts.Need-add-loop- (
 ) (item-at t) item.Post
 item-add-loop- t c = search needs
 
--- src/walks.rt:49:9
+-- src/walks.rt:77:9
 item-loop--requires : (t : ℕ) → item-lts.Need-loop--requires (
   word-at-reads.Asked,
   word-at-reads.Learnt,
@@ -148,7 +340,7 @@ item-loop--requires : (t : ℕ) → item-lts.Need-loop--requires (
 ) (item-at t) item.Post
 item-loop--requires t c κs = search needs
 
--- src/walks.rt:49:9
+-- src/walks.rt:77:9
 item-same-length : (t : ℕ) → item-lts.Need-same-length (
   word-at-reads.Asked,
   word-at-reads.Learnt,
@@ -167,7 +359,7 @@ item-same-length : (t : ℕ) → item-lts.Need-same-length (
 ) (item-at t) item.Post
 item-same-length t c = search needs
 
--- src/walks.rt:49:9
+-- src/walks.rt:77:9
 item-same-length-2 : (t : ℕ) → item-lts.Need-same-length-2 (
   word-at-reads.Asked,
   word-at-reads.Learnt,
@@ -186,7 +378,7 @@ item-same-length-2 : (t : ℕ) → item-lts.Need-same-length-2 (
 ) (item-at t) item.Post
 item-same-length-2 t c = search needs
 
--- src/walks.rt:49:9
+-- src/walks.rt:77:9
 item-returns : (t : ℕ) → item-lts.Need-returns (
   word-at-reads.Asked,
   word-at-reads.Learnt,
@@ -205,7 +397,7 @@ item-returns : (t : ℕ) → item-lts.Need-returns (
 ) (item-at t) item.Post
 item-returns t c = let q = c .before .before .before .before .before .before .before .before .before .before .before .before .before in let a = q .args in let ws = a .words .now in let g : Page = record { pen = a .p; ms = a .ms .now; bs = a .bs .now } in let inner = level (a .depth) (a .d) (a .n) ws in (item-loop inner (a .d) (a .n) ws (a .to) (a .at) (a .last) _ _ _ g (c .before .before .before .before .before .before .before .before .before .word-at .ensures) (c .before .before .before .before .before .before .before .before .kind .ensures) (c .before .before .before .before .before .before .before .if1 .taken) (c .before .before .before .before .loop- .ensures .0), c .before .before .before .before .loop- .ensures .1)
 
--- src/walks.rt:52:34
+-- src/walks.rt:80:34
 item-number-requires : (t : ℕ) → item-lts.Need-number-requires (
   word-at-reads.Asked,
   word-at-reads.Learnt,
@@ -224,7 +416,7 @@ item-number-requires : (t : ℕ) → item-lts.Need-number-requires (
 ) (item-at t) item.Post
 item-number-requires t c κs = search needs
 
--- src/walks.rt:52:9
+-- src/walks.rt:80:9
 item-jump-requires : (t : ℕ) → item-lts.Need-jump-requires (
   word-at-reads.Asked,
   word-at-reads.Learnt,
@@ -243,7 +435,7 @@ item-jump-requires : (t : ℕ) → item-lts.Need-jump-requires (
 ) (item-at t) item.Post
 item-jump-requires t c κs = search needs
 
--- src/walks.rt:52:9
+-- src/walks.rt:80:9
 item-same-length-3 : (t : ℕ) → item-lts.Need-same-length-3 (
   word-at-reads.Asked,
   word-at-reads.Learnt,
@@ -262,7 +454,7 @@ item-same-length-3 : (t : ℕ) → item-lts.Need-same-length-3 (
 ) (item-at t) item.Post
 item-same-length-3 t c = search needs
 
--- src/walks.rt:52:9
+-- src/walks.rt:80:9
 item-same-length-4 : (t : ℕ) → item-lts.Need-same-length-4 (
   word-at-reads.Asked,
   word-at-reads.Learnt,
@@ -281,7 +473,7 @@ item-same-length-4 : (t : ℕ) → item-lts.Need-same-length-4 (
 ) (item-at t) item.Post
 item-same-length-4 t c = search needs
 
--- src/walks.rt:52:9
+-- src/walks.rt:80:9
 item-returns-2 : (t : ℕ) → item-lts.Need-returns-2 (
   word-at-reads.Asked,
   word-at-reads.Learnt,
@@ -300,7 +492,7 @@ item-returns-2 : (t : ℕ) → item-lts.Need-returns-2 (
 ) (item-at t) item.Post
 item-returns-2 t c = let q = c .before .before .before .before .before .before .before .before .before .before .before .before .before .before .before in let a = q .args in let ws = a .words .now in let g : Page = record { pen = a .p; ms = a .ms .now; bs = a .bs .now } in let inner = level (a .depth) (a .d) (a .n) ws in (item-refer inner (a .d) (a .n) ws (a .to) (a .at) (a .last) _ _ _ _ g (c .before .before .before .before .before .before .before .before .before .before .before .word-at .ensures) (c .before .before .before .before .before .before .before .before .before .before .kind .ensures) (c .before .before .before .before .before .before .before .before .before .if1 .left) (c .before .before .before .before .before .before .before .before .if2 .taken) (c .before .before .before .before .before .before .before .number .ensures .0) (c .before .before .before .before .jump .ensures .0), c .before .before .before .before .jump .ensures .1)
 
--- src/walks.rt:54:8
+-- src/walks.rt:82:8
 item-is-separator-requires : (t : ℕ) → item-lts.Need-is-separator-requires (
   word-at-reads.Asked,
   word-at-reads.Learnt,
@@ -319,7 +511,7 @@ item-is-separator-requires : (t : ℕ) → item-lts.Need-is-separator-requires (
 ) (item-at t) item.Post
 item-is-separator-requires t c κs = search needs
 
--- src/walks.rt:55:27
+-- src/walks.rt:84:17
 item-add-t25 : (t : ℕ) → item-lts.Need-add-t25 (
   word-at-reads.Asked,
   word-at-reads.Learnt,
@@ -338,7 +530,7 @@ item-add-t25 : (t : ℕ) → item-lts.Need-add-t25 (
 ) (item-at t) item.Post
 item-add-t25 t c = search needs
 
--- src/walks.rt:55:9
+-- src/walks.rt:83:9
 item-returns-3 : (t : ℕ) → item-lts.Need-returns-3 (
   word-at-reads.Asked,
   word-at-reads.Learnt,
@@ -357,7 +549,7 @@ item-returns-3 : (t : ℕ) → item-lts.Need-returns-3 (
 ) (item-at t) item.Post
 item-returns-3 t c = let q = c .before .before .before .before .before .before .before .before .before in let a = q .args in let ws = a .words .now in let g : Page = record { pen = a .p; ms = a .ms .now; bs = a .bs .now } in let inner = level (a .depth) (a .d) (a .n) ws in (item-separator inner (a .d) (a .n) ws (a .to) (a .at) (a .last) _ _ _ g (c .before .before .before .before .before .word-at .ensures) (c .before .before .before .before .kind .ensures) (c .before .before .before .if1 .left) (c .before .before .if2 .left) (c .before .is-separator .ensures) (c .if3 .taken), q .pre .1 .1)
 
--- src/walks.rt:57:5
+-- src/walks.rt:89:5
 item-measure-requires : (t : ℕ) → item-lts.Need-measure-requires (
   word-at-reads.Asked,
   word-at-reads.Learnt,
@@ -376,7 +568,7 @@ item-measure-requires : (t : ℕ) → item-lts.Need-measure-requires (
 ) (item-at t) item.Post
 item-measure-requires t c κs = search needs
 
--- src/walks.rt:41:1
+-- src/walks.rt:58:1
 item-same-length-5 : (t : ℕ) → item-lts.Need-same-length-5 (
   word-at-reads.Asked,
   word-at-reads.Learnt,
@@ -395,7 +587,7 @@ item-same-length-5 : (t : ℕ) → item-lts.Need-same-length-5 (
 ) (item-at t) item.Post
 item-same-length-5 t c = search needs
 
--- src/walks.rt:41:1
+-- src/walks.rt:58:1
 item-same-length-6 : (t : ℕ) → item-lts.Need-same-length-6 (
   word-at-reads.Asked,
   word-at-reads.Learnt,
@@ -414,7 +606,7 @@ item-same-length-6 : (t : ℕ) → item-lts.Need-same-length-6 (
 ) (item-at t) item.Post
 item-same-length-6 t c = search needs
 
--- src/walks.rt:41:1
+-- src/walks.rt:58:1
 item-returns-4 : (t : ℕ) → item-lts.Need-returns-4 (
   word-at-reads.Asked,
   word-at-reads.Learnt,
@@ -439,7 +631,7 @@ items-Inv-loop words d n to at last depth ms₀ bs₀ w₀ ms bs w = (f : ℕ) �
 abbrev items-μ-loop : items-lts.MeasureT-loop
 items-μ-loop words d n to at last depth ms₀ bs₀ w₀ ms bs w = to - w .at
 
--- src/walks.rt:29:9
+-- src/walks.rt:46:9
 items-returns : (t : ℕ) → items-lts.Need-returns (
   word-at-reads.Asked,
   word-at-reads.Learnt,
@@ -452,7 +644,7 @@ items-returns : (t : ℕ) → items-lts.Need-returns (
 ) (items-at t) items.Post items-Inv-loop items-μ-loop
 items-returns t c = let q = c .before .before .before .before in let a = q .args in let ws = a .words .now in let g : Page = record { pen = a .p; ms = a .ms .now; bs = a .bs .now } in let inner = level (a .depth) (a .d) (a .n) ws in (level-none (a .depth) (a .d) (a .n) ws (a .to) (a .at) (a .last) g (c .if1 .taken), q .pre .1 .1)
 
--- src/walks.rt:31:5
+-- src/walks.rt:48:5
 items-loop-holds : (t : ℕ) → items-lts.Need-loop-holds (
   word-at-reads.Asked,
   word-at-reads.Learnt,
@@ -465,7 +657,7 @@ items-loop-holds : (t : ℕ) → items-lts.Need-loop-holds (
 ) (items-at t) items.Post items-Inv-loop items-μ-loop
 items-loop-holds t c = let q = c .before .before .before .before in let a = q .args in let ws = a .words .now in let g : Page = record { pen = a .p; ms = a .ms .now; bs = a .bs .now } in let inner = level (a .depth) (a .d) (a .n) ws in (a .to, omega arith, q .pre .1 .1, q .pre .1 .0, refl, refl, ap (λ (r : Read). finish r g) (level-more (a .depth) (a .d) (a .n) ws (a .to) (a .at) (a .last) (c .if1 .left)))
 
--- src/walks.rt:33:25
+-- src/walks.rt:50:25
 items-word-at-requires : (t : ℕ) → items-lts.Need-word-at-requires (
   word-at-reads.Asked,
   word-at-reads.Learnt,
@@ -478,7 +670,7 @@ items-word-at-requires : (t : ℕ) → items-lts.Need-word-at-requires (
 ) (items-at t) items.Post items-Inv-loop items-μ-loop
 items-word-at-requires t c κs = search needs
 
--- src/walks.rt:33:20
+-- src/walks.rt:50:20
 items-kind-requires : (t : ℕ) → items-lts.Need-kind-requires (
   word-at-reads.Asked,
   word-at-reads.Learnt,
@@ -491,7 +683,7 @@ items-kind-requires : (t : ℕ) → items-lts.Need-kind-requires (
 ) (items-at t) items.Post items-Inv-loop items-μ-loop
 items-kind-requires t c κs = search needs
 
--- src/walks.rt:33:12
+-- src/walks.rt:50:12
 items-is-stop-requires : (t : ℕ) → items-lts.Need-is-stop-requires (
   word-at-reads.Asked,
   word-at-reads.Learnt,
@@ -504,7 +696,7 @@ items-is-stop-requires : (t : ℕ) → items-lts.Need-is-stop-requires (
 ) (items-at t) items.Post items-Inv-loop items-μ-loop
 items-is-stop-requires t c κs = search needs
 
--- src/walks.rt:34:13
+-- src/walks.rt:51:13
 items-same-length : (t : ℕ) → items-lts.Need-same-length (
   word-at-reads.Asked,
   word-at-reads.Learnt,
@@ -517,7 +709,7 @@ items-same-length : (t : ℕ) → items-lts.Need-same-length (
 ) (items-at t) items.Post items-Inv-loop items-μ-loop
 items-same-length t c = search needs
 
--- src/walks.rt:34:13
+-- src/walks.rt:51:13
 items-same-length-2 : (t : ℕ) → items-lts.Need-same-length-2 (
   word-at-reads.Asked,
   word-at-reads.Learnt,
@@ -530,7 +722,7 @@ items-same-length-2 : (t : ℕ) → items-lts.Need-same-length-2 (
 ) (items-at t) items.Post items-Inv-loop items-μ-loop
 items-same-length-2 t c = search needs
 
--- src/walks.rt:34:13
+-- src/walks.rt:51:13
 items-returns-2 : (t : ℕ) → items-lts.Need-returns-2 (
   word-at-reads.Asked,
   word-at-reads.Learnt,
@@ -543,7 +735,7 @@ items-returns-2 : (t : ℕ) → items-lts.Need-returns-2 (
 ) (items-at t) items.Post items-Inv-loop items-μ-loop
 items-returns-2 t c = let a = c .before .before .before .before .before .before .before .before .before .args in let ws = a .words .now in let l = c .before .before .before .before .loop in let g : Page = record { pen = l .w .pen; ms = l .ms; bs = l .bs } in let inner = level (a .depth - 1) (a .d) (a .n) ws in let t = stop-test ws (a .to) (l .w .at) _ _ (c .before .is-stop .result) _ (c .before .before .before .word-at .ensures) (c .before .before .kind .ensures) (c .before .is-stop .ensures) (c .if2 .taken) in (rows-end _ (l .w .at) (l .w .last) g _ (rows-stop inner (a .d) (a .n) ws (l .inv .0) (a .to) (l .w .at) (l .w .last) t) (l .inv .6), l .inv .2)
 
--- src/walks.rt:36:46
+-- src/walks.rt:53:46
 items-sub-item : (t : ℕ) → items-lts.Need-sub-item (
   word-at-reads.Asked,
   word-at-reads.Learnt,
@@ -556,7 +748,7 @@ items-sub-item : (t : ℕ) → items-lts.Need-sub-item (
 ) (items-at t) items.Post items-Inv-loop items-μ-loop
 items-sub-item t c = search needs
 
--- src/walks.rt:36:9
+-- src/walks.rt:53:9
 items-item-requires : (t : ℕ) → items-lts.Need-item-requires (
   word-at-reads.Asked,
   word-at-reads.Learnt,
@@ -569,7 +761,7 @@ items-item-requires : (t : ℕ) → items-lts.Need-item-requires (
 ) (items-at t) items.Post items-Inv-loop items-μ-loop
 items-item-requires t c κs = let a = c .before .before .before .before .before .before .before .before .before .before .before .args in let ws = a .words .now in let l = c .before .before .before .before .before .before .loop in let g : Page = record { pen = l .w .pen; ms = l .ms; bs = l .bs } in let inner = level (a .depth - 1) (a .d) (a .n) ws in let t = stop-test ws (a .to) (l .w .at) _ _ (c .before .before .before .is-stop .result) _ (c .before .before .before .before .before .word-at .ensures) (c .before .before .before .before .kind .ensures) (c .before .before .before .is-stop .ensures) (c .before .before .if2 .left) in let h = stop-inside ws (a .to) (l .w .at) t in search needs
 
--- src/walks.rt:31:5
+-- src/walks.rt:48:5
 items-loop-less : (t : ℕ) → items-lts.Need-loop-less (
   word-at-reads.Asked,
   word-at-reads.Learnt,
@@ -582,7 +774,7 @@ items-loop-less : (t : ℕ) → items-lts.Need-loop-less (
 ) (items-at t) items.Post items-Inv-loop items-μ-loop
 items-loop-less t c = let a = c .before .before .before .before .before .before .before .before .before .before .before .before .before .before .before .before .args in let ws = a .words .now in let l = c .before .before .before .before .before .before .before .before .before .before .before .loop in let g : Page = record { pen = l .w .pen; ms = l .ms; bs = l .bs } in let inner = level (a .depth - 1) (a .d) (a .n) ws in let t = stop-test ws (a .to) (l .w .at) _ _ (c .before .before .before .before .before .before .before .before .is-stop .result) _ (c .before .before .before .before .before .before .before .before .before .before .word-at .ensures) (c .before .before .before .before .before .before .before .before .before .kind .ensures) (c .before .before .before .before .before .before .before .before .is-stop .ensures) (c .before .before .before .before .before .before .before .if2 .left) in let h = stop-inside ws (a .to) (l .w .at) t in let e = end-onward (l .w .at + 1) _ (itemOf inner (a .d) (a .n) ws (a .to) (l .w .at) (l .w .last)) g (c .before .before .before .before .item .ensures .0) (item-onward inner (a .d) (a .n) ws (a .to) (l .w .at) (l .w .last) (level-onward (a .depth - 1) (a .d) (a .n) ws) t) in omega (arith, e, h)
 
--- src/walks.rt:31:5
+-- src/walks.rt:48:5
 items-loop-again : (t : ℕ) → items-lts.Need-loop-again (
   word-at-reads.Asked,
   word-at-reads.Learnt,
@@ -596,7 +788,7 @@ items-loop-again : (t : ℕ) → items-lts.Need-loop-again (
 items-loop-again t c = let a = c .before .before .before .before .before .before .before .before .before .before .before .before .before .before .before .before .args in let ws = a .words .now in let l = c .before .before .before .before .before .before .before .before .before .before .before .loop in let g : Page = record { pen = l .w .pen; ms = l .ms; bs = l .bs } in let inner = level (a .depth - 1) (a .d) (a .n) ws in let t = stop-test ws (a .to) (l .w .at) _ _ (c .before .before .before .before .before .before .before .before .is-stop .result) _ (c .before .before .before .before .before .before .before .before .before .before .word-at .ensures) (c .before .before .before .before .before .before .before .before .before .kind .ensures) (c .before .before .before .before .before .before .before .before .is-stop .ensures) (c .before .before .before .before .before .before .before .if2 .left) in let h = stop-inside ws (a .to) (l .w .at) t in let e = end-onward (l .w .at + 1) _ (itemOf inner (a .d) (a .n) ws (a .to) (l .w .at) (l .w .last)) g (c .before .before .before .before .item .ensures .0) (item-onward inner (a .d) (a .n) ws (a .to) (l .w .at) (l .w .last) (level-onward (a .depth - 1) (a .d) (a .n) ws) t) in
     (l .inv .0 - 1, omega (arith, e, h, l .inv .1), c .before .before .before .before .item .ensures .1, fine-end _ (itemOf inner (a .d) (a .n) ws (a .to) (l .w .at) (l .w .last)) g (c .before .before .before .before .item .ensures .0) (l .inv .3), search needs, search needs, rows-next inner (a .d) (a .n) ws (l .inv .0) (a .to) (l .w .at) (l .w .last) g _ _ (omega (arith, h, l .inv .1)) t (c .before .before .before .before .item .ensures .0) (l .inv .6))
 
--- src/walks.rt:66:9
+-- src/walks.rt:109:9
 jump-stretch-of-requires : (t : ℕ) → jump-lts.Need-stretch-of-requires (
   stretch-of-reads.Asked,
   stretch-of-reads.Learnt,
@@ -605,7 +797,7 @@ jump-stretch-of-requires : (t : ℕ) → jump-lts.Need-stretch-of-requires (
 ) (jump-at t) jump.Post
 jump-stretch-of-requires t c κs = search needs
 
--- src/walks.rt:67:9
+-- src/walks.rt:110:9
 jump-items-requires : (t : ℕ) → jump-lts.Need-items-requires (
   stretch-of-reads.Asked,
   stretch-of-reads.Learnt,
@@ -614,7 +806,7 @@ jump-items-requires : (t : ℕ) → jump-lts.Need-items-requires (
 ) (jump-at t) jump.Post
 jump-items-requires t c κs = search needs
 
--- src/walks.rt:70:13
+-- src/walks.rt:113:13
 jump-add-t18 : (t : ℕ) → jump-lts.Need-add-t18 (
   stretch-of-reads.Asked,
   stretch-of-reads.Learnt,
@@ -623,7 +815,7 @@ jump-add-t18 : (t : ℕ) → jump-lts.Need-add-t18 (
 ) (jump-at t) jump.Post
 jump-add-t18 t c = search needs
 
--- src/walks.rt:61:1
+-- src/walks.rt:93:1
 jump-same-length : (t : ℕ) → jump-lts.Need-same-length (
   stretch-of-reads.Asked,
   stretch-of-reads.Learnt,
@@ -632,7 +824,7 @@ jump-same-length : (t : ℕ) → jump-lts.Need-same-length (
 ) (jump-at t) jump.Post
 jump-same-length t c = search needs
 
--- src/walks.rt:61:1
+-- src/walks.rt:93:1
 jump-same-length-2 : (t : ℕ) → jump-lts.Need-same-length-2 (
   stretch-of-reads.Asked,
   stretch-of-reads.Learnt,
@@ -641,7 +833,7 @@ jump-same-length-2 : (t : ℕ) → jump-lts.Need-same-length-2 (
 ) (jump-at t) jump.Post
 jump-same-length-2 t c = search needs
 
--- src/walks.rt:61:1
+-- src/walks.rt:93:1
 jump-returns : (t : ℕ) → jump-lts.Need-returns (
   stretch-of-reads.Asked,
   stretch-of-reads.Learnt,
@@ -650,13 +842,7 @@ jump-returns : (t : ℕ) → jump-lts.Need-returns (
 ) (jump-at t) jump.Post
 jump-returns t c = let q = c .before .before .before .before .before .before .before .before .before .before .before .before in let a = q .args in let ws = a .words .now in let g : Page = record { pen = a .p; ms = a .ms .now; bs = a .bs .now } in let inner = level (a .depth) (a .d) (a .n) ws in (refer-done inner (a .d) (a .n) ws (a .x) (a .at) (a .last) _ _ g (c .before .before .before .before .before .before .before .before .stretch-of .ensures) (c .before .before .before .before .before .items .ensures .0), c .before .before .before .before .before .items .ensures .1)
 
-abbrev loop--Inv-loop : loop--lts.InvT-loop
-loop--Inv-loop words d n to at last depth ms₀ bs₀ w k end q₀ i₀ ms bs q i = (i ≤ k) × Fine q × (length ms ≡ length ms₀) × (length bs ≡ length bs₀) × (_≡_ {A = Page} (play (times (k - i) (level depth d n words to at last .row)) (record { pen = q; ms = ms; bs = bs })) (play (times k (level depth d n words to at last .row)) (record { pen = q₀; ms = ms₀; bs = bs₀ })))
-
-abbrev loop--μ-loop : loop--lts.MeasureT-loop
-loop--μ-loop words d n to at last depth ms₀ bs₀ w k end q₀ i₀ ms bs q i = k - i
-
--- src/walks.rt:82:9
+-- src/walks.rt:136:9
 loop--items-requires : (t : ℕ) → loop--lts.Need-items-requires (
   items-below t,
   items.Post,
@@ -664,10 +850,12 @@ loop--items-requires : (t : ℕ) → loop--lts.Need-items-requires (
   passes-reads.Learnt,
   behind-reads.Asked,
   behind-reads.Learnt,
-) (loop--at t) loop-.Post loop--Inv-loop loop--μ-loop
+  again-below t,
+  again.Post,
+) (loop--at t) loop-.Post
 loop--items-requires t c κs = search needs
 
--- src/walks.rt:83:9
+-- src/walks.rt:137:9
 loop--passes-requires : (t : ℕ) → loop--lts.Need-passes-requires (
   items-below t,
   items.Post,
@@ -675,10 +863,12 @@ loop--passes-requires : (t : ℕ) → loop--lts.Need-passes-requires (
   passes-reads.Learnt,
   behind-reads.Asked,
   behind-reads.Learnt,
-) (loop--at t) loop-.Post loop--Inv-loop loop--μ-loop
+  again-below t,
+  again.Post,
+) (loop--at t) loop-.Post
 loop--passes-requires t c κs = search needs
 
--- src/walks.rt:84:9
+-- src/walks.rt:138:9
 loop--behind-requires : (t : ℕ) → loop--lts.Need-behind-requires (
   items-below t,
   items.Post,
@@ -686,21 +876,25 @@ loop--behind-requires : (t : ℕ) → loop--lts.Need-behind-requires (
   passes-reads.Learnt,
   behind-reads.Asked,
   behind-reads.Learnt,
-) (loop--at t) loop-.Post loop--Inv-loop loop--μ-loop
+  again-below t,
+  again.Post,
+) (loop--at t) loop-.Post
 loop--behind-requires t c κs = search needs
 
--- src/walks.rt:87:5
-loop--loop-holds : (t : ℕ) → loop--lts.Need-loop-holds (
+-- src/walks.rt:139:9
+loop--again-requires : (t : ℕ) → loop--lts.Need-again-requires (
   items-below t,
   items.Post,
   passes-reads.Asked,
   passes-reads.Learnt,
   behind-reads.Asked,
   behind-reads.Learnt,
-) (loop--at t) loop-.Post loop--Inv-loop loop--μ-loop
-loop--loop-holds t c = let q = c .before .before .before .before .before .before .before .before .before .before .before .before .before in let a = q .args in let ws = a .words .now in let g : Page = record { pen = a .p; ms = a .ms .now; bs = a .bs .now } in let inner = level (a .depth) (a .d) (a .n) ws in (omega arith, fine-end _ (level (a .depth) (a .d) (a .n) ws (a .to) (a .at) (a .last)) g (c .before .before .before .before .before .before .before .items .ensures .0) (q .pre .1 .0), refl, refl, rw (sub-zero (c .before .before .passes .result)))
+  again-below t,
+  again.Post,
+) (loop--at t) loop-.Post
+loop--again-requires t c κs = let q = c .before .before .before .before .before .before .before .before .before .before .before .before .before .before in let a = q .args in let r = (level (a .depth) (a .d) (a .n) (a .words .now) (a .to) (a .at) (a .last)) in let e = c .before .before .before .before .before .before .before .before .items .ensures .0 in (omega (arith, q .pre .0), (fine-end _ r (record { pen = a .p; ms = a .ms .now; bs = a .bs .now }) e (q .pre .1 .0), q .pre .1 .1, q .pre .1 .2, q .pre .1 .3, record { ms-before = a .ms .now; bs-before = a .bs .now; pass = end-page _ r (record { pen = a .p; ms = a .ms .now; bs = a .bs .now }) e }))
 
--- src/walks.rt:89:13
+-- src/walks.rt:120:1
 loop--same-length : (t : ℕ) → loop--lts.Need-same-length (
   items-below t,
   items.Post,
@@ -708,10 +902,12 @@ loop--same-length : (t : ℕ) → loop--lts.Need-same-length (
   passes-reads.Learnt,
   behind-reads.Asked,
   behind-reads.Learnt,
-) (loop--at t) loop-.Post loop--Inv-loop loop--μ-loop
+  again-below t,
+  again.Post,
+) (loop--at t) loop-.Post
 loop--same-length t c = search needs
 
--- src/walks.rt:89:13
+-- src/walks.rt:120:1
 loop--same-length-2 : (t : ℕ) → loop--lts.Need-same-length-2 (
   items-below t,
   items.Post,
@@ -719,10 +915,12 @@ loop--same-length-2 : (t : ℕ) → loop--lts.Need-same-length-2 (
   passes-reads.Learnt,
   behind-reads.Asked,
   behind-reads.Learnt,
-) (loop--at t) loop-.Post loop--Inv-loop loop--μ-loop
+  again-below t,
+  again.Post,
+) (loop--at t) loop-.Post
 loop--same-length-2 t c = search needs
 
--- src/walks.rt:89:13
+-- src/walks.rt:120:1
 loop--returns : (t : ℕ) → loop--lts.Need-returns (
   items-below t,
   items.Post,
@@ -730,103 +928,235 @@ loop--returns : (t : ℕ) → loop--lts.Need-returns (
   passes-reads.Learnt,
   behind-reads.Asked,
   behind-reads.Learnt,
-) (loop--at t) loop-.Post loop--Inv-loop loop--μ-loop
-loop--returns t c = let a = c .before .before .before .before .before .before .before .before .before .before .before .before .before .before .before .before .before .args in let ws = a .words .now in let l = c .before .before .before .loop in let g : Page = record { pen = l .q; ms = l .ms; bs = l .bs } in let row = (level (a .depth) (a .d) (a .n) ws (a .to) (a .at) (a .last)) .row in (loop-done (level (a .depth) (a .d) (a .n) ws) (a .d) (a .n) ws (a .to) (a .at) (a .last) _ _ _ (record { pen = a .p; ms = a .ms .now; bs = a .bs .now }) g (c .before .before .before .before .before .before .before .before .before .before .before .items .ensures .0) (c .before .before .before .before .before .before .passes .ensures .0) (c .before .before .before .before .before .behind .ensures .0) (loop-early row _ g _ (c .if1 .taken) (l .inv .4)), c .before .before .before .before .before .before .before .before .before .before .before .items .ensures .1)
+  again-below t,
+  again.Post,
+) (loop--at t) loop-.Post
+loop--returns t c = let a = c .before .before .before .before .before .before .before .before .before .before .before .before .before .before .before .before .before .before .before .args in let ws = a .words .now in let e = c .before .before .before .before .before .before .before .before .before .before .before .before .before .items .ensures in (loop-done (level (a .depth) (a .d) (a .n) ws) (a .d) (a .n) ws (a .to) (a .at) (a .last) _ _ _ (record { pen = a .p; ms = a .ms .now; bs = a .bs .now }) _ (e .0) (c .before .before .before .before .before .before .before .before .passes .ensures .0) (c .before .before .before .before .before .before .before .behind .ensures .0) (c .before .before .before .before .again .ensures), e .1)
 
--- src/walks.rt:91:13
-loop--items-requires-2 : (t : ℕ) → loop--lts.Need-items-requires-2 (
+-- src/walks.rt:200:8
+once-more-skips-requires : (t : ℕ) → once-more-lts.Need-skips-requires (
+  skips-reads.Asked,
+  skips-reads.Learnt,
+  skipped-reads.Asked,
+  skipped-reads.Learnt,
+  copies-reads.Asked,
+  copies-reads.Learnt,
+  copied-reads.Asked,
+  copied-reads.Learnt,
   items-below t,
   items.Post,
-  passes-reads.Asked,
-  passes-reads.Learnt,
-  behind-reads.Asked,
-  behind-reads.Learnt,
-) (loop--at t) loop-.Post loop--Inv-loop loop--μ-loop
-loop--items-requires-2 t c κs = search needs
+) (once-more-at t) once-more.Post
+once-more-skips-requires t c κs = search needs
 
--- src/walks.rt:93:9
-loop--add-i : (t : ℕ) → loop--lts.Need-add-i (
+-- src/walks.rt:201:9
+once-more-skipped-requires : (t : ℕ) → once-more-lts.Need-skipped-requires (
+  skips-reads.Asked,
+  skips-reads.Learnt,
+  skipped-reads.Asked,
+  skipped-reads.Learnt,
+  copies-reads.Asked,
+  copies-reads.Learnt,
+  copied-reads.Asked,
+  copied-reads.Learnt,
   items-below t,
   items.Post,
-  passes-reads.Asked,
-  passes-reads.Learnt,
-  behind-reads.Asked,
-  behind-reads.Learnt,
-) (loop--at t) loop-.Post loop--Inv-loop loop--μ-loop
-loop--add-i t c = search needs
+) (once-more-at t) once-more.Post
+once-more-skipped-requires t c κs = c .before .skips .ensures (c .if1 .taken)
 
--- src/walks.rt:87:5
-loop--loop-less : (t : ℕ) → loop--lts.Need-loop-less (
+-- src/walks.rt:201:9
+once-more-returns : (t : ℕ) → once-more-lts.Need-returns (
+  skips-reads.Asked,
+  skips-reads.Learnt,
+  skipped-reads.Asked,
+  skipped-reads.Learnt,
+  copies-reads.Asked,
+  copies-reads.Learnt,
+  copied-reads.Asked,
+  copied-reads.Learnt,
   items-below t,
   items.Post,
-  passes-reads.Asked,
-  passes-reads.Learnt,
-  behind-reads.Asked,
-  behind-reads.Learnt,
-) (loop--at t) loop-.Post loop--Inv-loop loop--μ-loop
-loop--loop-less t c = search needs
+) (once-more-at t) once-more.Post
+once-more-returns t c = let q = c .before .before .before .before .before .before in let a = q .args in let r = (level (a .depth) (a .d) (a .n) (a .words .now) (a .to) (a .at) (a .last)) in skipped-once (r .row) (a .p) (a .q) _ (a .ms .now) (a .bs .now) (q .pre .1 .4) (c .before .before .skips .ensures (c .before .if1 .taken)) (c .skipped .ensures)
 
--- src/walks.rt:87:5
-loop--loop-again : (t : ℕ) → loop--lts.Need-loop-again (
+-- src/walks.rt:203:8
+once-more-copies-requires : (t : ℕ) → once-more-lts.Need-copies-requires (
+  skips-reads.Asked,
+  skips-reads.Learnt,
+  skipped-reads.Asked,
+  skipped-reads.Learnt,
+  copies-reads.Asked,
+  copies-reads.Learnt,
+  copied-reads.Asked,
+  copied-reads.Learnt,
   items-below t,
   items.Post,
-  passes-reads.Asked,
-  passes-reads.Learnt,
-  behind-reads.Asked,
-  behind-reads.Learnt,
-) (loop--at t) loop-.Post loop--Inv-loop loop--μ-loop
-loop--loop-again t c = let a = c .before .before .before .before .before .before .before .before .before .before .before .before .before .before .before .before .before .before .before .before .before .before .before .before .before .args in let ws = a .words .now in let l = c .before .before .before .before .before .before .before .before .before .before .before .loop in let g : Page = record { pen = l .q; ms = l .ms; bs = l .bs } in let row = (level (a .depth) (a .d) (a .n) ws (a .to) (a .at) (a .last)) .row in (omega arith, fine-end _ (level (a .depth) (a .d) (a .n) ws (a .to) (a .at) (a .last)) g (c .before .before .before .before .before .items2 .ensures .0) (l .inv .1), search needs, search needs, loop-next row (c .before .before .before .before .before .before .before .before .before .before .before .before .before .before .passes .result) (l .i) g _ (level (a .depth) (a .d) (a .n) ws (a .to) (a .at) (a .last)) _ (c .before .before .before .before .before .before .before .before .before .before .loop-test .taken) refl (c .before .before .before .before .before .items2 .ensures .0) (l .inv .4))
+) (once-more-at t) once-more.Post
+once-more-copies-requires t c κs = search needs
 
--- src/walks.rt:77:1
-loop--same-length-3 : (t : ℕ) → loop--lts.Need-same-length-3 (
+-- src/walks.rt:204:9
+once-more-copied-requires : (t : ℕ) → once-more-lts.Need-copied-requires (
+  skips-reads.Asked,
+  skips-reads.Learnt,
+  skipped-reads.Asked,
+  skipped-reads.Learnt,
+  copies-reads.Asked,
+  copies-reads.Learnt,
+  copied-reads.Asked,
+  copied-reads.Learnt,
   items-below t,
   items.Post,
-  passes-reads.Asked,
-  passes-reads.Learnt,
-  behind-reads.Asked,
-  behind-reads.Learnt,
-) (loop--at t) loop-.Post loop--Inv-loop loop--μ-loop
-loop--same-length-3 t c = search needs
+) (once-more-at t) once-more.Post
+once-more-copied-requires t c κs = let q = c .before .before .before .before .before .before .before .before .before in let a = q .args in let r = (level (a .depth) (a .d) (a .n) (a .words .now) (a .to) (a .at) (a .last)) in let o = took-onward (r .row) (a .p) (a .q) (a .ms .now) (a .bs .now) (q .pre .1 .4) in (q .pre .1 .0, c .before .before .before .copies .ensures (c .before .before .if2 .taken), o .0, o .1)
 
--- src/walks.rt:77:1
-loop--same-length-4 : (t : ℕ) → loop--lts.Need-same-length-4 (
+-- src/walks.rt:204:9
+once-more-same-length : (t : ℕ) → once-more-lts.Need-same-length (
+  skips-reads.Asked,
+  skips-reads.Learnt,
+  skipped-reads.Asked,
+  skipped-reads.Learnt,
+  copies-reads.Asked,
+  copies-reads.Learnt,
+  copied-reads.Asked,
+  copied-reads.Learnt,
   items-below t,
   items.Post,
-  passes-reads.Asked,
-  passes-reads.Learnt,
-  behind-reads.Asked,
-  behind-reads.Learnt,
-) (loop--at t) loop-.Post loop--Inv-loop loop--μ-loop
-loop--same-length-4 t c = search needs
+) (once-more-at t) once-more.Post
+once-more-same-length t c = search needs
 
--- src/walks.rt:77:1
-loop--returns-2 : (t : ℕ) → loop--lts.Need-returns-2 (
+-- src/walks.rt:204:9
+once-more-same-length-2 : (t : ℕ) → once-more-lts.Need-same-length-2 (
+  skips-reads.Asked,
+  skips-reads.Learnt,
+  skipped-reads.Asked,
+  skipped-reads.Learnt,
+  copies-reads.Asked,
+  copies-reads.Learnt,
+  copied-reads.Asked,
+  copied-reads.Learnt,
   items-below t,
   items.Post,
-  passes-reads.Asked,
-  passes-reads.Learnt,
-  behind-reads.Asked,
-  behind-reads.Learnt,
-) (loop--at t) loop-.Post loop--Inv-loop loop--μ-loop
-loop--returns-2 t c = let a = c .before .before .before .before .before .before .before .before .before .before .before .before .before .before .before .args in let ws = a .words .now in let l = c .before .loop in let g : Page = record { pen = l .q; ms = l .ms; bs = l .bs } in let row = (level (a .depth) (a .d) (a .n) ws (a .to) (a .at) (a .last)) .row in (loop-done (level (a .depth) (a .d) (a .n) ws) (a .d) (a .n) ws (a .to) (a .at) (a .last) _ _ _ (record { pen = a .p; ms = a .ms .now; bs = a .bs .now }) g (c .before .before .before .before .before .before .before .before .before .items .ensures .0) (c .before .before .before .before .passes .ensures .0) (c .before .before .before .behind .ensures .0) (loop-over row (c .before .before .before .before .passes .result) (l .i) g _ (c .loop-test .left) (l .inv .4)), c .before .before .before .before .before .before .before .before .before .items .ensures .1)
+) (once-more-at t) once-more.Post
+once-more-same-length-2 t c = search needs
 
-pub +item+items+jump+loop--spec : {M : Type 1} → statement M
-+item+items+jump+loop--spec = close μ-item μ-items μ-jump μ-loop- (λ t. item-lts.spec (
-  word-at-reads.Asked,
-  word-at-reads.Learnt,
-  kind-reads.Asked,
-  kind-reads.Learnt,
-  loop--below t,
-  loop-.Post,
-  number-reads.Asked,
-  number-reads.Learnt,
-  jump-below t,
-  jump.Post,
-  is-separator-reads.Asked,
-  is-separator-reads.Learnt,
-  measure-reads.Asked,
-  measure-reads.Learnt,
-)
+-- src/walks.rt:204:9
+once-more-returns-2 : (t : ℕ) → once-more-lts.Need-returns-2 (
+  skips-reads.Asked,
+  skips-reads.Learnt,
+  skipped-reads.Asked,
+  skipped-reads.Learnt,
+  copies-reads.Asked,
+  copies-reads.Learnt,
+  copied-reads.Asked,
+  copied-reads.Learnt,
+  items-below t,
+  items.Post,
+) (once-more-at t) once-more.Post
+once-more-returns-2 t c = let q = c .before .before .before .before .before .before .before .before .before .before .before .before .before .before in let a = q .args in let r = (level (a .depth) (a .d) (a .n) (a .words .now) (a .to) (a .at) (a .last)) in let e = c .before .before .before .before .copied .ensures in copied-again (r .row) (a .p) (a .q) _ (a .ms .now) (a .bs .now) _ _ (q .pre .1 .0) (q .pre .1 .4) (c .before .before .before .before .before .before .before .before .copies .ensures (c .before .before .before .before .before .before .before .if2 .taken)) (e .0) (e .1 .0) (e .1 .1)
+
+-- src/walks.rt:206:9
+once-more-items-requires : (t : ℕ) → once-more-lts.Need-items-requires (
+  skips-reads.Asked,
+  skips-reads.Learnt,
+  skipped-reads.Asked,
+  skipped-reads.Learnt,
+  copies-reads.Asked,
+  copies-reads.Learnt,
+  copied-reads.Asked,
+  copied-reads.Learnt,
+  items-below t,
+  items.Post,
+) (once-more-at t) once-more.Post
+once-more-items-requires t c κs = search needs
+
+-- src/walks.rt:184:1
+once-more-same-length-3 : (t : ℕ) → once-more-lts.Need-same-length-3 (
+  skips-reads.Asked,
+  skips-reads.Learnt,
+  skipped-reads.Asked,
+  skipped-reads.Learnt,
+  copies-reads.Asked,
+  copies-reads.Learnt,
+  copied-reads.Asked,
+  copied-reads.Learnt,
+  items-below t,
+  items.Post,
+) (once-more-at t) once-more.Post
+once-more-same-length-3 t c = search needs
+
+-- src/walks.rt:184:1
+once-more-same-length-4 : (t : ℕ) → once-more-lts.Need-same-length-4 (
+  skips-reads.Asked,
+  skips-reads.Learnt,
+  skipped-reads.Asked,
+  skipped-reads.Learnt,
+  copies-reads.Asked,
+  copies-reads.Learnt,
+  copied-reads.Asked,
+  copied-reads.Learnt,
+  items-below t,
+  items.Post,
+) (once-more-at t) once-more.Post
+once-more-same-length-4 t c = search needs
+
+-- src/walks.rt:184:1
+once-more-returns-3 : (t : ℕ) → once-more-lts.Need-returns-3 (
+  skips-reads.Asked,
+  skips-reads.Learnt,
+  skipped-reads.Asked,
+  skipped-reads.Learnt,
+  copies-reads.Asked,
+  copies-reads.Learnt,
+  copied-reads.Asked,
+  copied-reads.Learnt,
+  items-below t,
+  items.Post,
+) (once-more-at t) once-more.Post
+once-more-returns-3 t c = let q = c .before .before .before .before .before .before .before .before .before .before .before .before .before .before .before in let a = q .args in let r = (level (a .depth) (a .d) (a .n) (a .words .now) (a .to) (a .at) (a .last)) in end-page _ r (record { pen = a .q; ms = a .ms .now; bs = a .bs .now }) (c .before .before .before .before .before .items .ensures .0)
+
+pub +again+item+items+jump+loop-+once-more-spec : {M : Type 1} → statement M
++again+item+items+jump+loop-+once-more-spec =
+    close μ-again μ-item μ-items μ-jump μ-loop- μ-once-more (λ t. again-lts.spec (
+      skips-reads.Asked,
+      skips-reads.Learnt,
+      skipped-reads.Asked,
+      skipped-reads.Learnt,
+      once-more-below t,
+      once-more.Post,
+    )
+    (again-at t)
+    again.Post
+    again-Inv-loop
+    again-μ-loop
+    (again-skips-requires t)
+    (again-skipped-requires t)
+    (again-returns t)
+    (again-loop-holds t)
+    (again-same-length t)
+    (again-same-length-2 t)
+    (again-returns-2 t)
+    (again-once-more-requires t)
+    (again-add-i t)
+    (again-loop-less t)
+    (again-loop-again t)
+    (again-same-length-3 t)
+    (again-same-length-4 t)
+    (again-returns-3 t))
+    (λ t. item-lts.spec (
+      word-at-reads.Asked,
+      word-at-reads.Learnt,
+      kind-reads.Asked,
+      kind-reads.Learnt,
+      loop--below t,
+      loop-.Post,
+      number-reads.Asked,
+      number-reads.Learnt,
+      jump-below t,
+      jump.Post,
+      is-separator-reads.Asked,
+      is-separator-reads.Learnt,
+      measure-reads.Asked,
+      measure-reads.Learnt,
+    )
     (item-at t)
     item.Post
     (item-word-at-requires t)
@@ -888,29 +1218,48 @@ pub +item+items+jump+loop--spec : {M : Type 1} → statement M
     (jump-same-length t)
     (jump-same-length-2 t)
     (jump-returns t))
-    λ t. loop--lts.spec (
+    (λ t. loop--lts.spec (
       items-below t,
       items.Post,
       passes-reads.Asked,
       passes-reads.Learnt,
       behind-reads.Asked,
       behind-reads.Learnt,
+      again-below t,
+      again.Post,
     )
     (loop--at t)
     loop-.Post
-    loop--Inv-loop
-    loop--μ-loop
     (loop--items-requires t)
     (loop--passes-requires t)
     (loop--behind-requires t)
-    (loop--loop-holds t)
+    (loop--again-requires t)
     (loop--same-length t)
     (loop--same-length-2 t)
-    (loop--returns t)
-    (loop--items-requires-2 t)
-    (loop--add-i t)
-    (loop--loop-less t)
-    (loop--loop-again t)
-    (loop--same-length-3 t)
-    (loop--same-length-4 t)
-    (loop--returns-2 t)
+    (loop--returns t))
+    λ t. once-more-lts.spec (
+      skips-reads.Asked,
+      skips-reads.Learnt,
+      skipped-reads.Asked,
+      skipped-reads.Learnt,
+      copies-reads.Asked,
+      copies-reads.Learnt,
+      copied-reads.Asked,
+      copied-reads.Learnt,
+      items-below t,
+      items.Post,
+    )
+    (once-more-at t)
+    once-more.Post
+    (once-more-skips-requires t)
+    (once-more-skipped-requires t)
+    (once-more-returns t)
+    (once-more-copies-requires t)
+    (once-more-copied-requires t)
+    (once-more-same-length t)
+    (once-more-same-length-2 t)
+    (once-more-returns-2 t)
+    (once-more-items-requires t)
+    (once-more-same-length-3 t)
+    (once-more-same-length-4 t)
+    (once-more-returns-3 t)
