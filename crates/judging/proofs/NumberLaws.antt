@@ -12,10 +12,10 @@ use Rattle.songcode.specs.Song.{LyricLine}
 use Rattle.songcode.specs.Sections.{lyricLine, notDashes, ending}
 use Rattle.songcode.proofs.ListLaws.{by-cases, Each, each-map}
 use Rattle.text.specs.Spans.{lineOf, lineAt}
-use Rattle.sections.specs.declared.blocks.SectionRead.{SectionRead}
+use Rattle.sections.specs.declared.blocks.Parts.{Parts}
 use Rattle.sections.specs.declared.runs.Test.the-variants.{Full}
 use Rattle.sections.specs.Runs.{textLines, passing, linesOf}
-use Rattle.sections.specs.BlockParts.{blockAt, behindDashes, SectionAt}
+use Rattle.sections.specs.BlockParts.{blockAt, behindDashes, PartsAt}
 use Rattle.sections.proofs.RunLaws.{lines-next, lines-over}
 use Rattle.sections.proofs.ListLaws.{each-take, each-taken, each-left}
 use Rattle.sections.proofs.MeetLaws.{From, from-lines}
@@ -55,7 +55,7 @@ each-behind P [] e = tt
 each-behind P (l ∷ ls) e = e .1
 
 -- A section's lyric lines stand behind its header.
-pub lyrics-behind : (s : List ℕ) (n at : ℕ) (r : SectionRead) → SectionAt s n at r → 0 < length (linesOf s (r .lyrics)) → n + 1 ≤ r .lyrics .number
+pub lyrics-behind : (s : List ℕ) (n at : ℕ) (r : Parts) → PartsAt s n at r → 0 < length (linesOf s (r .lyrics)) → n + 1 ≤ r .lyrics .number
 unfolding linesOf blockAt ending
 lyrics-behind s n at r w h =
     let all = textLines s (n + 1) (lineAt s n at .next) in

@@ -14,9 +14,9 @@ use Rattle.songcode.proofs.ListLaws.{true-is-not-false, Each, each-map}
 use Rattle.text.specs.declared.Refusal.{Refusal}
 use Rattle.text.specs.Refusals.{refusalOf}
 use Rattle.sections.specs.declared.blocks.Place.{Place}
-use Rattle.sections.specs.declared.walking.Met.{Met}
+use Rattle.sections.specs.declared.walking.Passed.{Passed}
 use Rattle.sections.specs.Runs.{linesOf}
-use Rattle.sections.specs.Onward.{sectionAt, Later, Meets}
+use Rattle.sections.specs.Onward.{sectionAt, Later, Passes}
 use Rattle.scores.specs.Laying.{Names}
 use Rattle.judging.specs.Meters.{nothingRefused}
 use Rattle.scores.proofs.ComplaintLaws.{UpTo, Numbered, first-wins, gather-behind, refused-none}
@@ -96,7 +96,7 @@ module _ (ds : List Definition) where
   next-section x xs r e z = rw (refused-none (sectionFault x) (numbered x) (ap (λ (q : Refusal). q .number) (sym e) ∙ z)) refl
 
   -- The fault of the section that is met at a place.
-  pub fault-at : (s : List ℕ) (p : Place) (m : Met) (r : Refusal) → Meets s p m
+  pub fault-at : (s : List ℕ) (p : Place) (m : Passed) (r : Refusal) → Passes s p m
       → ((x : Pattern) → patternIn (linesOf s (m .section .pattern)) ≡ some x → r ≡ refusalOf (earliest (sectionReference ds x (m .section .header))))
       → r ≡ refusalOf (earliest (sectionFault (sectionAt s p)))
   unfolding sectionFault

@@ -3,7 +3,7 @@ use scores::Score;
 use scores::is_played;
 use sections::Place;
 use sections::Run;
-use sections::meet;
+use sections::pass;
 use settings::lyric_words;
 use text::Refusal;
 use text::line_at;
@@ -151,7 +151,7 @@ pub fn stage_six(s: &[u8], score: Score, first: Place) -> Counted
         bare: 0,
     };
     while place.at < s.len() {
-        let x = meet(s, place);
+        let x = pass(s, place);
         let section = x.section;
         let played = is_played(s, section.pattern, score);
         t = taken_with(played, t.counted, t.bare, tally_lyrics(s, section.lyrics));

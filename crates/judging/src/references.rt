@@ -4,7 +4,7 @@ use scores::is_missing;
 use scores::named_in;
 use sections::Place;
 use sections::Run;
-use sections::meet;
+use sections::pass;
 use text::Refusal;
 ghost use mathlib.Core.Path.{_≡_};
 ghost use mathlib.Core.Option.{some};
@@ -43,7 +43,7 @@ pub fn stage_three(s: &[u8], score: Score, first: Place) -> Refusal
 {
     let mut place = first;
     while place.at < s.len() {
-        let x = meet(s, place);
+        let x = pass(s, place);
         let section = x.section;
         let fault = name_fault(s, score, section.pattern, section.header);
         if fault.number != 0 {

@@ -17,9 +17,9 @@ use Rattle.songcode.specs.Tables.{itemWord, tables}
 use Rattle.songcode.specs.WrittenTables.{lyricsOf}
 use Rattle.songcode.proofs.ListLaws.{by-cases, both-pass, pass-both, every-append, gather-nil, Each, complainIf-nil}
 use Rattle.sections.specs.declared.blocks.Place.{Place}
-use Rattle.sections.specs.declared.walking.Met.{Met}
+use Rattle.sections.specs.declared.walking.Passed.{Passed}
 use Rattle.sections.specs.Runs.{linesOf}
-use Rattle.sections.specs.Onward.{sectionsFrom, sectionAt, Meets}
+use Rattle.sections.specs.Onward.{sectionsFrom, sectionAt, Passes}
 use Rattle.judging.proofs.PlayedLaws.{played-short, lengths-step}
 use Rattle.judging.proofs.LyricLaws.{prompts-length}
 use Rattle.judging.proofs.SumLaws.{isPrompted, prompted-parts, all-taken, all-prompted}
@@ -117,7 +117,7 @@ module _ (s : Song) (some : length (tables s .items) ≡ 0 → ⊥) where
       }
 
 -- The section that is met at a place.
-module _ {s : List ℕ} {p : Place} {r : Met} (w : Meets s p r) (m : ℕ) where
+module _ {s : List ℕ} {p : Place} {r : Passed} (w : Passes s p r) (m : ℕ) where
   abbrev pub lyricsHere : List LyricLine
   lyricsHere = map lyricLine (linesOf s (r .section .lyrics))
 

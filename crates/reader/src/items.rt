@@ -2,7 +2,7 @@
 use packing::item_word;
 use sections::Place;
 use sections::Run;
-use sections::meet;
+use sections::pass;
 use settings::lyric_words;
 use settings::style_of;
 use text::line_at;
@@ -85,7 +85,7 @@ pub fn write_items(s: &[u8], first: Place, count: usize, items: &mut [u64])
     let mut i = 0;
     let mut measure = 0;
     while place.at < s.len() {
-        let x = meet(s, place);
+        let x = pass(s, place);
         let section = x.section;
         let behind = write_lyrics(s, section.lyrics, measure, &mut items[i..]);
         measure = behind.measure;

@@ -115,13 +115,14 @@ module _ (s : List ℕ) (n at : ℕ) (one : 1 ≤ n) (fits : n ≤ at + 1) (with
     unfolding linesBehind
     behind-late = l .behind ∙ ap (left (passing Body)) behind-pattern ∙ all-left rest
 
-    pub parts-are : PartsAt s n at (record { early = early; pattern = pattern; late = late; lyrics = lyrics })
+    pub parts-are : PartsAt s n at (record { header = n; early = early; pattern = pattern; late = late; lyrics = lyrics })
     parts-are =
         let o = f .onward in
         let ep = longest-placed e (omega arith) (omega arith) in
         let pp = longest-placed p (omega (arith, ep .number)) (omega (arith, ep .behind)) in
         let lp = longest-placed l (omega (arith, pp .number)) (omega (arith, pp .behind)) in
         record {
+          header = refl;
           early-placed = ep;
           early = e .lines ∙ sym (ap earlyLines body-are ∙ early-is rest);
           pattern-placed = pp;

@@ -16,16 +16,18 @@ use Rattle.text.specs.Spans.{lineOf, lineAt, lineText, spansFrom}
 use Rattle.text.specs.declared.lines.Line as text
 use Rattle.text.proofs.TestLaws.{by-cases}
 use Rattle.sections.specs.declared.blocks.Place.{Place}
+use Rattle.sections.specs.declared.blocks.Parts.{Parts}
 use Rattle.sections.specs.declared.blocks.SectionRead.{SectionRead}
-use Rattle.sections.specs.declared.walking.Met.{Met}
+use Rattle.sections.specs.declared.walking.Passed.{Passed}
+use Rattle.sections.specs.declared.runs.Run.{Run}
 use Rattle.sections.specs.declared.runs.Test.the-variants.{Full}
 use Rattle.sections.specs.Runs.{textLines, passing, passes, linesOf, linesBehind}
-use Rattle.sections.specs.BlockParts.{blockAt, linesPast, SectionAt, NextAt}
+use Rattle.sections.specs.BlockParts.{blockAt, linesPast, PartsAt, PartsRead, NextAt}
 use Rattle.sections.specs.SectionSays.{SectionSays}
-use Rattle.sections.specs.Onward.{sectionsFrom, Onward, sectionAt, Later, Meets}
+use Rattle.sections.specs.Onward.{sectionsFrom, Onward, sectionAt, Later, Passes, Meets}
 use Rattle.sections.proofs.ListLaws.{each-left}
 use Rattle.sections.proofs.NextLaws.{blocks-over}
-use Rattle.sections.proofs.SectionLaws.{clean-order, section-says}
+use Rattle.sections.proofs.SectionLaws.{clean-order, parts-say, parts-read, section-says}
 
 -- Lines, and the first lines of blocks, numbered from n on.
 abbrev pub From : ℕ → Line → Type 0
@@ -88,7 +90,7 @@ pattern-there header (l ∷ ls) h = some-there (sectionText l ls) (complainIf-ni
     some-there none e = true-is-not-false refl e
     some-there (some q) e = refl
 
-module _ (s : List ℕ) (p : Place) (x : SectionRead) (q : Place) (o : Onward s p) (inside : p .at < length s) (w : SectionAt s (p .number) (p .at) x) (e : NextAt s (x .lyrics .number + x .lyrics .lines) (x .lyrics .next) q) where
+module _ (s : List ℕ) (p : Place) (x : Parts) (q : Place) (o : Onward s p) (inside : p .at < length s) (w : PartsAt s (p .number) (p .at) x) (e : NextAt s (x .lyrics .number + x .lyrics .lines) (x .lyrics .next) q) where
   block : Block
   block = blockAt s (p .number) (p .at)
 
@@ -125,17 +127,34 @@ module _ (s : List ℕ) (p : Place) (x : SectionRead) (q : Place) (o : Onward s 
       let ls = patternRun (body b) in
       ap patternIn (w .pattern) ∙ pattern-there (b .first .number) ls (clean-order b (no-faults .0) .2)
 
-  pub meets : Meets s p (record { section = x; next = q })
+  pub section-passes : Passes s p (record { section = x; next = q })
   unfolding sectionsFrom sectionAt block
-  meets =
+  section-passes =
       let a = w .onward in
       let b = e .onward in
       record {
         read = w;
-        says = section-says s (p .number) (p .at) x w (no-faults .0);
+        says = parts-say s (p .number) (p .at) x w;
         written = has-pattern;
         first = ap (map sectionIn) opened;
         onward = next-onward;
         further = omega arith;
         later = later;
       }
+
+-- A section that is passed and read.
+pub section-meets : (s : List ℕ) (p : Place) (x : Passed) (r : SectionRead) → Onward s p → p .at < length s → Passes s p x → PartsRead s (x .section) r → Meets s p (record { section = r; next = x .next })
+unfolding gather sectionAt
+section-meets s p x r o inside w e =
+    let b = blockAt s (p .number) (p .at) in
+    let clean = append-is-nil (sectionFaults b) (gather sectionFaults (blocks (linesPast s (p .number) (p .at)))) (ap (gather sectionFaults) (sym (o .opens inside)) ∙ o .fair) .0 in
+    let at = parts-read s (p .number) (p .at) (x .section) r (w .read) e in
+    record {
+      read = at;
+      says = section-says s (p .number) (p .at) r at clean;
+      written = ap (λ (k : Run). patternIn (linesOf s k)) (e .pattern) ∙ w .written;
+      first = w .first;
+      onward = w .onward;
+      further = w .further;
+      later = w .later;
+    }

@@ -1,6 +1,6 @@
 -- A section without fault is read as songcode reads it; so is every definition.
 use Prim.Native.Nat.{ℕ, _+_}
-use mathlib.Core.Path.{_≡_, refl, sym, ap, _∙_}
+use mathlib.Core.Path.{_≡_, refl, sym, ap, _∙_, subst}
 use mathlib.Core.List.{List, [], _∷_, _++_, map}
 use mathlib.Core.Option.{Option}
 use Rattle.songcode.specs.Lists.{gather, collect, andThen, orElse}
@@ -18,13 +18,15 @@ use Rattle.songcode.specs.Playing.{timeAmong, bpmAmong, saidBy, repeats, Side, 
 use Rattle.songcode.proofs.ListLaws.{append-is-nil}
 use Rattle.text.specs.Spans.{lineOf}
 use Rattle.settings.specs.Cuts.{cutIs}
+use Rattle.sections.specs.declared.blocks.Parts.{Parts}
 use Rattle.sections.specs.declared.blocks.SectionRead.{SectionRead}
 use Rattle.sections.specs.declared.blocks.DefinitionRead.{DefinitionRead}
-use Rattle.sections.specs.Runs.{linesOf}
+use Rattle.sections.specs.Runs.{linesOf, linesBehind}
 use Rattle.sections.specs.Slots.{Setting, settingAmong, settingAt}
 use Rattle.sections.specs.Values as values
-use Rattle.sections.specs.BlockParts.{blockAt, earlyLines, lateLines, behindDashes, SectionAt, DefinitionAt}
-use Rattle.sections.specs.SectionSays.{sideSaid, SectionSays}
+use Rattle.sections.specs.Values.{KeysAre, ModifiersAre}
+use Rattle.sections.specs.BlockParts.{blockAt, earlyLines, lateLines, behindDashes, Placed, PartsAt, PartsRead, SectionAt, DefinitionAt}
+use Rattle.sections.specs.SectionSays.{sideSaid, PartsSay, SectionSays}
 use Rattle.sections.proofs.SaidLaws.{key-among, Tells, modifier-among}
 use Rattle.sections.proofs.TellLaws.{repeat-tells, cut-start-tells, cut-end-tells, before-tells, after-tells}
 use Rattle.sections.proofs.OrderLaws.{keys-early, modifiers-late}
@@ -56,6 +58,31 @@ lyrics-said : (ls : List Line) → map lyricLine (behindDashes ls) ≡ lyricsIn 
 unfolding behindDashes lyricsIn
 lyrics-said [] = refl
 lyrics-said (d ∷ ls) = refl
+
+-- The parts, and what is read of them, tell the section.
+pub parts-say : (s : List ℕ) (n at : ℕ) (r : Parts) → PartsAt s n at r → PartsSay s (sectionIn (blockAt s n at)) r
+unfolding sectionIn
+parts-say s n at r w =
+    record {
+      header = w .header ∙ sym (first-number s n at);
+      lyrics = ap (map lyricLine) (w .lyrics) ∙ lyrics-said (ending (blockAt s n at));
+    }
+
+pub parts-read : (s : List ℕ) (n at : ℕ) (p : Parts) (r : SectionRead) → PartsAt s n at p → PartsRead s p r → SectionAt s n at r
+parts-read s n at p r w e =
+    let k : KeysAre (earlyLines (body (blockAt s n at))) (r .keys) = subst (λ (ls : List Line). KeysAre ls (r .keys)) (w .early) (e .keys) in
+    let m : ModifiersAre s (lateLines (body (blockAt s n at))) (r .modifiers) = subst (λ (ls : List Line). ModifiersAre s ls (r .modifiers)) (w .late) (e .modifiers) in
+    record {
+      header = e .header ∙ w .header;
+      keys = k;
+      modifiers = m;
+      pattern-placed = subst (Placed s) (sym (e .pattern)) (w .pattern-placed);
+      pattern = ap (linesOf s) (e .pattern) ∙ w .pattern;
+      lyrics-placed = subst (Placed s) (sym (e .lyrics)) (w .lyrics-placed);
+      lyrics = ap (linesOf s) (e .lyrics) ∙ w .lyrics;
+      past = ap (linesBehind s) (e .lyrics) ∙ w .past;
+      onward = rw (e .lyrics) (w .onward);
+    }
 
 pub section-says : (s : List ℕ) (n at : ℕ) (r : SectionRead) → SectionAt s n at r → sectionFaults (blockAt s n at) ≡ [] → SectionSays s (sectionIn (blockAt s n at)) r
 unfolding sectionIn timeAmong bpmAmong repeats values.timeSaid values.bpmSaid values.repeatSaid values.cutSaid keyPlace modifierPlace

@@ -60,6 +60,7 @@ pub record LyricsAt (s : List ℕ) (n at : ℕ) (r : Run) : Type 0 where
 
 -- The parts of the section's block at a place.
 pub record PartsAt (s : List ℕ) (n at : ℕ) (r : Parts) : Type 0 where
+  pub header : r .header ≡ n
   pub early-placed : Placed s (r .early)
   pub early : linesOf s (r .early) ≡ earlyLines (body (blockAt s n at))
   pub pattern-placed : Placed s (r .pattern)
@@ -70,6 +71,14 @@ pub record PartsAt (s : List ℕ) (n at : ℕ) (r : Parts) : Type 0 where
   pub lyrics : linesOf s (r .lyrics) ≡ behindDashes (ending (blockAt s n at))
   pub past : linesBehind s (r .lyrics) ≡ linesPast s n at
   pub onward : at + 1 ≤ r .lyrics .next
+
+-- What is read of a section's parts.
+pub record PartsRead (s : List ℕ) (p : Parts) (r : SectionRead) : Type 0 where
+  pub header : r .header ≡ p .header
+  pub keys : KeysAre (linesOf s (p .early)) (r .keys)
+  pub modifiers : ModifiersAre s (linesOf s (p .late)) (r .modifiers)
+  pub pattern : r .pattern ≡ p .pattern
+  pub lyrics : r .lyrics ≡ p .lyrics
 
 -- What the section's block at a place says.
 pub record SectionAt (s : List ℕ) (n at : ℕ) (r : SectionRead) : Type 0 where

@@ -9,10 +9,11 @@ use Rattle.songcode.specs.Lines.{blocks}
 use Rattle.songcode.specs.Song.{Section}
 use Rattle.songcode.specs.Sections.{sectionFaults, sectionIn, patternIn}
 use Rattle.sections.specs.declared.blocks.Place.{Place}
+use Rattle.sections.specs.declared.walking.Passed.{Passed}
 use Rattle.sections.specs.declared.walking.Met.{Met}
 use Rattle.sections.specs.Runs.{textLines, linesOf}
-use Rattle.sections.specs.BlockParts.{blockAt, linesPast, SectionAt}
-use Rattle.sections.specs.SectionSays.{SectionSays}
+use Rattle.sections.specs.BlockParts.{blockAt, linesPast, PartsAt, SectionAt}
+use Rattle.sections.specs.SectionSays.{PartsSay, SectionSays}
 
 unfoldable pub sectionsFrom : List ℕ → Place → List Section
 sectionsFrom s p = map sectionIn (blocks (textLines s (p .number) (p .at)))
@@ -34,7 +35,17 @@ unfoldable pub Later : ℕ → List Section → Type 0
 Later n [] = Unit {0}
 Later n (x ∷ xs) = (n < x .header) × Later n xs
 
--- The section at the place is read, and the sections behind it stand from the next place on.
+-- The section at the place is passed, and the sections behind it stand from the next place on.
+pub record Passes (s : List ℕ) (p : Place) (r : Passed) : Type 0 where
+  pub read : PartsAt s (p .number) (p .at) (r .section)
+  pub says : PartsSay s (sectionAt s p) (r .section)
+  pub written : patternIn (linesOf s (r .section .pattern)) ≡ some (sectionAt s p .pattern)
+  pub first : sectionsFrom s p ≡ sectionAt s p ∷ sectionsFrom s (r .next)
+  pub onward : Onward s (r .next)
+  pub further : p .at < r .next .at
+  pub later : Later (sectionAt s p .header) (sectionsFrom s (r .next))
+
+-- It is read.
 pub record Meets (s : List ℕ) (p : Place) (r : Met) : Type 0 where
   pub read : SectionAt s (p .number) (p .at) (r .section)
   pub says : SectionSays s (sectionAt s p) (r .section)

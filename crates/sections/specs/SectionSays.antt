@@ -9,6 +9,7 @@ use Rattle.songcode.specs.PatternText.{sideText}
 use Rattle.songcode.specs.Sections.{patternIn, lyricLine}
 use Rattle.songcode.specs.Playing.{timeAmong, bpmAmong, saidBy, repeats, cutStartSaid, cutEndSaid, Side, beforeSaid, afterSaid}
 use Rattle.settings.specs.Cuts.{cutIs}
+use Rattle.sections.specs.declared.blocks.Parts.{Parts}
 use Rattle.sections.specs.declared.blocks.SectionRead.{SectionRead}
 use Rattle.sections.specs.Runs.{linesOf}
 use Rattle.sections.specs.Slots.{Setting, settingAt}
@@ -21,6 +22,11 @@ sideOn n o = andThen o (λ r. some (record { line = n; items = r }))
 unfoldable pub sideSaid : Setting → Option Side
 unfolding sideOn sideText
 sideSaid x = sideOn (x .line) (sideText (x .text))
+
+-- The parts of a section tell its header and its lyrics.
+pub record PartsSay (s : List ℕ) (x : Section) (r : Parts) : Type 0 where
+  pub header : r .header ≡ x .header
+  pub lyrics : map lyricLine (linesOf s (r .lyrics)) ≡ x .lyrics
 
 pub record SectionSays (s : List ℕ) (x : Section) (r : SectionRead) : Type 0 where
   pub header : r .header ≡ x .header

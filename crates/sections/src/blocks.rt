@@ -16,7 +16,7 @@ ghost use Prim.Native.Nat.{_+_, _≤_, _<_};
 ghost use lib.ListN.{length};
 ghost use Rattle.songcode.specs.SongText.{blockKind};
 ghost use Rattle.settings.specs.Kinds.{blockKindIs};
-ghost use Rattle.sections.specs.BlockParts.{blockAt, NextAt, LyricsAt, PartsAt, SectionAt, DefinitionAt};
+ghost use Rattle.sections.specs.BlockParts.{blockAt, Placed, NextAt, LyricsAt, PartsAt, PartsRead, DefinitionAt};
 
 // A line's number and place.
 pub struct Place {
@@ -24,8 +24,10 @@ pub struct Place {
     pub at: usize,
 }
 
-// The lines of a section before its pattern, of its pattern, behind it, and of its lyrics; the next block stands behind these.
+// The number of a section's header, and the lines before its pattern, of its pattern, behind it, and of its lyrics; the next block stands
+// behind these.
 pub struct Parts {
+    pub header: usize,
     pub early: Run,
     pub pattern: Run,
     pub late: Run,
@@ -90,7 +92,7 @@ fn lyrics_from(s: &[u8], number: usize, at: usize) -> Run
 }
 
 // The parts of the section whose header begins at a place.
-fn section_parts(s: &[u8], number: usize, at: usize) -> Parts
+pub fn section_parts(s: &[u8], number: usize, at: usize) -> Parts
     requires { ⌜ (1 ≤ number) × (number ≤ at + 1) × (at < length (now s)) ⌝ }
     ensures { λ r. ⌜ PartsAt (now (s .entry)) number at r ⌝ }
 {
@@ -100,6 +102,7 @@ fn section_parts(s: &[u8], number: usize, at: usize) -> Parts
     let late = run_of(s, Test::Body, pattern.number + pattern.lines, pattern.next);
     let lyrics = lyrics_from(s, late.number + late.lines, late.next);
     Parts {
+        header: number,
         early,
         pattern,
         late,
@@ -107,18 +110,17 @@ fn section_parts(s: &[u8], number: usize, at: usize) -> Parts
     }
 }
 
-// The section whose header begins at a place.
-pub fn read_section(s: &[u8], number: usize, at: usize) -> SectionRead
-    requires { ⌜ (1 ≤ number) × (number ≤ at + 1) × (at < length (now s)) ⌝ }
-    ensures { λ r. ⌜ SectionAt (now (s .entry)) number at r ⌝ }
+// What the parts of a section say.
+pub fn read_parts(s: &[u8], parts: Parts) -> SectionRead
+    requires { ⌜ Placed (now s) (parts .early) × Placed (now s) (parts .late) ⌝ }
+    ensures { λ r. ⌜ PartsRead (now (s .entry)) parts r ⌝ }
 {
-    let parts = section_parts(s, number, at);
     let early = parts.early;
     let late = parts.late;
     let pattern = parts.pattern;
     let lyrics = parts.lyrics;
     SectionRead {
-        header: number,
+        header: parts.header,
         keys: keys_of(s, early),
         modifiers: modifiers_of(s, late),
         pattern,

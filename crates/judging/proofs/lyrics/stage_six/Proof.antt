@@ -27,7 +27,7 @@ use Rattle.judging.proofs.lyrics.count_fault.Reads as count-fault-reads
 use Rattle.judging.proofs.lyrics.taken_with.Reads as taken-with-reads
 use Rattle.judging.proofs.lyrics.tally_lyrics.Reads as tally-lyrics-reads
 use Rattle.scores.proofs.is_played.Reads as is-played-reads
-use Rattle.sections.proofs.meet.Reads as meet-reads
+use Rattle.sections.proofs.pass.Reads as pass-reads
 
 abbrev Inv-loop : tie.InvT-loop
 Inv-loop s score place₀ t₀ place t =
@@ -53,8 +53,8 @@ loop-holds c =
     )
 
 -- src/lyrics.rt:154:13
-meet-requires : tie.Need-meet-requires Inv-loop μ-loop
-meet-requires c κs = search needs
+pass-requires : tie.Need-pass-requires Inv-loop μ-loop
+pass-requires c κs = search needs
 
 -- src/lyrics.rt:156:13
 is-played-requires : tie.Need-is-played-requires Inv-loop μ-loop
@@ -80,7 +80,7 @@ loop-again c =
     let l = q .loop in
     let s = q .before .before .args .s .now in
     let song = songOf s in
-    let met = c .before .before .before .before .before .meet in
+    let met = c .before .before .before .before .before .pass in
     let m = met .ensures in
     let x = sectionAt s (l .place) in
     let xs = sectionsFrom s (met .result .next) in
@@ -125,7 +125,7 @@ stage-six-spec =
     Inv-loop
     μ-loop
     loop-holds
-    meet-requires
+    pass-requires
     is-played-requires
     tally-lyrics-requires
     taken-with-requires

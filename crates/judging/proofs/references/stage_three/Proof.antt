@@ -17,7 +17,7 @@ use Rattle.judging.proofs.references.stage_three.Tie as tie
 use Rattle.judging.proofs.references.stage_three.Reads as reads
 use Rattle.judging.proofs.references.stage_three.Lts as lts
 use Rattle.judging.proofs.references.name_fault.Reads as name-fault-reads
-use Rattle.sections.proofs.meet.Reads as meet-reads
+use Rattle.sections.proofs.pass.Reads as pass-reads
 
 abbrev Inv-loop : tie.InvT-loop
 Inv-loop s score place₀ place =
@@ -31,12 +31,12 @@ loop-holds : tie.Need-loop-holds Inv-loop μ-loop
 loop-holds c = let p = c .before .pre in (p .0, p .1, refl)
 
 -- src/references.rt:46:13
-meet-requires : tie.Need-meet-requires Inv-loop μ-loop
-meet-requires c κs = (c .before .before .loop .inv .0, c .if1 .taken)
+pass-requires : tie.Need-pass-requires Inv-loop μ-loop
+pass-requires c κs = (c .before .before .loop .inv .0, c .if1 .taken)
 
 -- src/references.rt:48:13
 name-fault-requires : tie.Need-name-fault-requires Inv-loop μ-loop
-name-fault-requires c κs = let m = c .before in (m .meet .ensures .read .pattern-placed, m .before .before .before .loop .inv .1)
+name-fault-requires c κs = let m = c .before in (m .pass .ensures .read .pattern-placed, m .before .before .before .loop .inv .1)
 
 -- src/references.rt:50:13
 returns : tie.Need-returns Inv-loop μ-loop
@@ -46,16 +46,16 @@ returns c =
     let q = m .before .before .before in
     let s = q .before .before .args .s .now in
     let ds = songOf s .definitions in
-    let w = m .meet .ensures in
+    let w = m .pass .ensures in
     let r = c .before .before .name-fault .result in
-    let f = fault-at ds s (q .loop .place) (m .meet .result) r w (c .before .before .name-fault .ensures) in
-    first-section ds (sectionAt s (q .loop .place)) (sectionsFrom s (m .meet .result .next)) r (w .later) f (c .if2 .taken)
+    let f = fault-at ds s (q .loop .place) (m .pass .result) r w (c .before .before .name-fault .ensures) in
+    first-section ds (sectionAt s (q .loop .place)) (sectionsFrom s (m .pass .result .next)) r (w .later) f (c .if2 .taken)
     ∙ ap (λ (xs : List Section). refusalOf (earliest (gather (sectionFault ds) xs))) (sym (w .first))
     ∙ ap (λ (cs : List Complaint). refusalOf (earliest cs)) (q .loop .inv .2)
 
 -- src/references.rt:45:5
 loop-less : tie.Need-loop-less Inv-loop μ-loop
-loop-less c = let w = c .before .before .before .before .before .meet .ensures in let a = w .further in let b = w .onward .inside in omega arith
+loop-less c = let w = c .before .before .before .before .before .pass .ensures in let a = w .further in let b = w .onward .inside in omega arith
 
 -- src/references.rt:45:5
 loop-again : tie.Need-loop-again Inv-loop μ-loop
@@ -64,12 +64,12 @@ loop-again c =
     let q = m .before .before .before in
     let s = q .before .before .args .s .now in
     let ds = songOf s .definitions in
-    let w = m .meet .ensures in
+    let w = m .pass .ensures in
     let r = c .before .before .before .name-fault .result in
-    let f = fault-at ds s (q .loop .place) (m .meet .result) r w (c .before .before .before .name-fault .ensures) in (
+    let f = fault-at ds s (q .loop .place) (m .pass .result) r w (c .before .before .before .name-fault .ensures) in (
       w .onward,
       q .loop .inv .1,
-      sym (next-section ds (sectionAt s (q .loop .place)) (sectionsFrom s (m .meet .result .next)) r f (c .before .if2 .left))
+      sym (next-section ds (sectionAt s (q .loop .place)) (sectionsFrom s (m .pass .result .next)) r f (c .before .if2 .left))
           ∙ ap (λ (xs : List Section). gather (sectionFault ds) xs) (sym (w .first))
           ∙ q .loop .inv .2,
     )
@@ -91,7 +91,7 @@ stage-three-spec =
     Inv-loop
     μ-loop
     loop-holds
-    meet-requires
+    pass-requires
     name-fault-requires
     returns
     loop-less

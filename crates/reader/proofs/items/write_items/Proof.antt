@@ -22,7 +22,7 @@ use Rattle.reader.proofs.items.write_items.Tie as tie
 use Rattle.reader.proofs.items.write_items.Reads as reads
 use Rattle.reader.proofs.items.write_items.Lts as lts
 use Rattle.reader.proofs.items.write_lyrics.Reads as write-lyrics-reads
-use Rattle.sections.proofs.meet.Reads as meet-reads
+use Rattle.sections.proofs.pass.Reads as pass-reads
 
 abbrev Inv-loop : tie.InvT-loop
 Inv-loop s count items₀ place₀ i₀ measure₀ items place i measure =
@@ -41,13 +41,13 @@ small : (c : tie.After-section Inv-loop μ-loop) → length (c .before .before .
 small c = omega arith
 
 -- The section's items have room.
-room : (c : tie.After-section Inv-loop μ-loop) → c .before .before .before .before .loop .i + length (linesOf (c .before .before .before .before .before .before .before .before .args .s .now) (c .before .meet .result .section .lyrics)) ≤ length (c .before .before .before .before .loop .items)
+room : (c : tie.After-section Inv-loop μ-loop) → c .before .before .before .before .loop .i + length (linesOf (c .before .before .before .before .before .before .before .before .args .s .now) (c .before .pass .result .section .lyrics)) ≤ length (c .before .before .before .before .loop .items)
 room c =
     let q = c .before .before .before .before in
     let l = q .loop in
     let a = q .before .before .before .before .args in
     let s = a .s .now in
-    let met = c .before .meet in
+    let met = c .before .pass in
     let run = met .result .section .lyrics in
     let rest = itemsFrom (l .measure + counted (map lyricLine (linesOf s run))) (sectionsFrom s (met .result .next)) in
     let split = ap (λ (ws : List ℕ). length ws) (items-split (met .ensures) (l .measure)) ∙ length-append (map itemWord (promptsFrom (l .measure) (map lyricLine (linesOf s run)))) rest in
@@ -80,8 +80,8 @@ loop-holds c =
     )
 
 -- src/items.rt:90:13
-meet-requires : tie.Need-meet-requires Inv-loop μ-loop
-meet-requires c κs = search needs
+pass-requires : tie.Need-pass-requires Inv-loop μ-loop
+pass-requires c κs = search needs
 
 -- src/items.rt:92:63
 mul-write-lyrics : tie.Need-mul-write-lyrics Inv-loop μ-loop
@@ -105,7 +105,7 @@ write-lyrics-requires c κs =
     let q = c .before .before .before .before .before in
     let l = q .loop in
     let s = q .before .before .before .before .args .s .now in
-    let met = c .before .before .meet in
+    let met = c .before .before .pass in
     let read = met .ensures .read in
     let one = l .inv .0 .number in
     let fits = room (c .before) in (
@@ -134,7 +134,7 @@ loop-again c =
     let a = q .before .before .before .before .args in
     let s = a .s .now in
     let song = songOf s in
-    let met = c .before .before .before .before .before .before .before .meet in
+    let met = c .before .before .before .before .before .before .before .pass in
     let wrote = c .before .before .before .before .write-lyrics in
     let run = met .result .section .lyrics in
     let here = map itemWord (promptsFrom (l .measure) (map lyricLine (linesOf s run))) in
@@ -180,7 +180,7 @@ write-items-spec =
     μ-loop
     returns
     loop-holds
-    meet-requires
+    pass-requires
     mul-write-lyrics
     sub-write-lyrics
     part-write-lyrics-start
