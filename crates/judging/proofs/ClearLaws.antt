@@ -78,6 +78,12 @@ verdict-clear xs rest h z =
     of none z = refl
     of (some c) z = z
 
+pub measures-clear : (song : Song) (r : Refusal) → r ≡ refusalOf (verdict (meterFaults song ∷ lengthFaults song 0 (song .sections) ∷ [])) → r .number ≡ 0 → (meterFaults song ≡ []) × (lengthFaults song 0 (song .sections) ≡ [])
+measures-clear song r e z =
+    let a = verdict-clear (meterFaults song) (lengthFaults song 0 (song .sections) ∷ []) (numbered-meters song) (ap (λ (q : Refusal). q .number) (sym e) ∙ z) in
+    let b = verdict-clear (lengthFaults song 0 (song .sections)) [] (numbered-lengths song 0 (song .sections)) (a .1) in
+    (a .0, b .0)
+
 pub song-clear : (song : Song) → refusalOf (verdict (laterFaults song)) .number ≡ 0 → Clear song
 unfolding laterFaults playingFaults lyricFaults
 song-clear song z =

@@ -9,6 +9,7 @@ pub mod ModifierLaws
 pub mod CutLaws
 pub mod LengthLaws
 pub mod OpenedLaws
+pub mod LengthsAreLaws
 pub mod ClearLaws
 pub mod PlayedLaws
 pub mod LyricLaws

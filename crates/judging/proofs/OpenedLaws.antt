@@ -3,12 +3,12 @@ use Prim.Native.Nat.{ℕ, _+_, _*_, _<_, _≤_}
 use mathlib.Core.Path.{_≡_, sym, ap, _∙_, subst}
 use mathlib.Core.List.{List, [], _∷_}
 use mathlib.Core.Logic.{⊎-elim}
-use mathlib.Core.Bool.{Bool, true, false, not}
+use mathlib.Core.Bool.{true, false, not}
 use mathlib.Core.Option.{none, some}
 use native.Mathlib.Omega.{arith}
 use lib.ListN.{length}
 use borrow.Author.Tests.{not-false}
-use Rattle.songcode.specs.Lists.{gather, orElse, times}
+use Rattle.songcode.specs.Lists.{gather, orElse}
 use Rattle.songcode.specs.Complaints.{Complaint, complainIf, earliest}
 use Rattle.songcode.specs.Song.{Items, Section, Song}
 use Rattle.songcode.specs.References.{patternItems}
@@ -17,8 +17,6 @@ use Rattle.songcode.specs.Meter.{allFit, stray, rowFaults, playedFaults, sideFa
 use Rattle.songcode.specs.Answer.{songOf}
 use Rattle.songcode.proofs.ListLaws.{append-is-nil, complainIf-nil}
 use Rattle.text.specs.Refusals.{refusalOf}
-use Rattle.settings.specs.Cuts.{CutFits}
-use Rattle.player.specs.Walks.{rowOf}
 use Rattle.sections.specs.declared.blocks.Place.{Place}
 use Rattle.sections.specs.declared.values.Modifiers.{Modifiers}
 use Rattle.sections.specs.Onward.{sectionsFrom, Onward, sectionAt}
@@ -27,10 +25,10 @@ use Rattle.scores.specs.declared.texts.Texts.{Texts}
 use Rattle.scores.specs.declared.texts.Opened.{Opened}
 use Rattle.scores.specs.Scores.{Begins, Opens, sideItems}
 use Rattle.judging.specs.Meters.{meterOf}
-use Rattle.judging.specs.Lengths.{countOfTexts, cutAway}
+use Rattle.judging.specs.Lengths.{countOfTexts, cutAway, Measurable}
 use Rattle.judging.proofs.MeterLaws.{meter-is, meter-range}
 use Rattle.sections.proofs.MeetLaws.{sections-over}
-use Rattle.judging.proofs.CountLaws.{Counted, carried-fits, played-length, section-counted, pattern-within, count-small}
+use Rattle.judging.proofs.CountLaws.{Counted, carried-fits, played-length, section-counted, pattern-within}
 use Rattle.judging.proofs.ModifierLaws.{modified-is}
 use Rattle.judging.proofs.CutLaws.{cut-away-is}
 use Rattle.judging.proofs.LengthLaws.{length-passes, length-cut, length-on}
@@ -62,10 +60,6 @@ pattern-fits song x e r h =
     let b = append-is-nil (playedFaults n (x .header) (patternItems (song .definitions) (x .pattern))) (sideFaults n (saidBy beforeSaid (x .modifiers))) a .0 in
     row-fits n (x .header) r (ap (playedFaults n (x .header)) (sym h) ∙ b)
 
--- What is found of cuts in N.
-pub found-away : (ws : List ℕ) (score : Score) (m : Modifiers) (t : Texts) {n k : ℕ} {r b : Bool} → n ≡ k → r ≡ cutAway ws score n m t → r ≡ b → cutAway ws score k m t ≡ b
-found-away ws score m t e f g = ap (λ (j : ℕ). cutAway ws score j m t) (sym e) ∙ sym f ∙ g
-
 module _ (s ws : List ℕ) (p : Place) (score : Score) (r : Opened) (w : Opens s p ws score r) where
   abbrev song : Song
   song = songOf s
@@ -75,18 +69,6 @@ module _ (s ws : List ℕ) (p : Place) (score : Score) (r : Opened) (w : Opens s
 
   abbrev m : Modifiers
   m = r .section .modifiers
-
-  -- What counting its measures asks for.
-  pub opened-small : (m .repeat ≤ 9999) × (r .texts .lead .outline .measures ≤ 65536) × (r .texts .pattern .outline .measures ≤ 65536) × (r .texts .tail .outline .measures ≤ 65536)
-  opened-small = (
-    w .met .read .modifiers .repeat-fits .1,
-    carried-fits ws (score .definitions) (r .texts .lead) (sideItems (saidBy beforeSaid (x .modifiers))) (w .texts .lead),
-    carried-fits ws (score .definitions) (r .texts .pattern) (patternItems (song .definitions) (x .pattern)) (w .texts .pattern),
-    carried-fits ws (score .definitions) (r .texts .tail) (sideItems (saidBy afterSaid (x .modifiers))) (w .texts .tail),
-  )
-
-  pub opened-count : countOfTexts m (r .texts) ≤ 655425536
-  opened-count = let q = opened-small in count-small m (r .texts) (q .0) (q .1) (q .2) (q .3)
 
   counted : Counted (countOfTexts m (r .texts)) (sectionCount song x)
   counted = section-counted song x ws (score .definitions) m (r .texts) (w .texts) (w .met .says .repeat) (w .met .read .modifiers .repeat-fits .0)
@@ -98,56 +80,63 @@ module _ (s ws : List ℕ) (p : Place) (score : Score) (r : Opened) (w : Opens s
   too-many : (k : ℕ) → 65535 < k + countOfTexts m (r .texts) → 65535 < k + sectionCount song x
   too-many k h = ⊎-elim (λ e. omega arith) (λ e. let q = e .1 in omega arith) counted
 
-  module _ (o : Onward s p) (inside : p .at < length s) {time : ℕ} (t : time ≡ orElse (timeAmong (songOf s .keys)) 0) (k : ℕ) (small : k ≤ 65535) (measured : Measured s p k) where
+  module _ {time : ℕ} (t : time ≡ orElse (timeAmong (songOf s .keys)) 0) where
     abbrev n : ℕ
     n = meterOf (r .section .keys .time) time
 
     n-is : n ≡ timeOf song x
     n-is = meter-is song x (w .met .says .time) t
 
-    metered : (sectionMeter song x ≡ []) × (gather (sectionMeter song) (sectionsFrom s (r .next)) ≡ [])
-    unfolding Measured gather
-    metered = append-is-nil (sectionMeter song x) (gather (sectionMeter song) (sectionsFrom s (r .next))) (ap (gather (sectionMeter song)) (sym (w .met .first)) ∙ measured .1)
+    -- What counting its measures and looking at its cuts asks for.
+    pub opened-measurable : Measurable ws score n m (r .texts)
+    opened-measurable =
+        record {
+          meter = subst (λ (j : ℕ). j ≤ 32) (sym n-is) (meter-range song x .1);
+          cuts = w .met .read .modifiers .front-fits;
+          repeat = w .met .read .modifiers .repeat-fits .1;
+          lead = carried-fits ws (score .definitions) (r .texts .lead) (sideItems (saidBy beforeSaid (x .modifiers))) (w .texts .lead);
+          pattern = carried-fits ws (score .definitions) (r .texts .pattern) (patternItems (song .definitions) (x .pattern)) (w .texts .pattern);
+          tail = carried-fits ws (score .definitions) (r .texts .tail) (sideItems (saidBy afterSaid (x .modifiers))) (w .texts .tail);
+          played = λ h.
+              let e = all-counted 0 (omega arith) in
+              let l = played-length ws (score .definitions) (r .texts .pattern) (patternItems (song .definitions) (x .pattern)) n (m .repeat) (w .texts .pattern) in
+              let often = ap (λ (j : ℕ). j * countOf (patternItems (song .definitions) (x .pattern))) (w .met .says .repeat) in
+              let within = pattern-within song x in
+              omega arith;
+        }
 
-    cuts : cutFaults (timeOf song x) (x .header) (x .modifiers) (patternItems (song .definitions) (x .pattern)) ≡ complainIf (cutAway ws score n m (r .texts)) 15 (x .header)
-    cuts =
-        let says = w .met .says in
-        let read = w .met .read .modifiers in
-        rw n-is
-        (cut-away-is ws score (timeOf song x) (x .header) (x .modifiers) m (r .texts) (says .repeat) (read .repeat-fits .0) (says .front) (says .back)
-        (patternItems (song .definitions) (x .pattern)) (w .texts .pattern) (meter-range song x .0) (pattern-fits song x (metered .0)) (modified-is s p o inside (r .section) read says))
+    module _ (o : Onward s p) (inside : p .at < length s) (k : ℕ) (small : k ≤ 65535) (measured : Measured s p k) where
+      metered : (sectionMeter song x ≡ []) × (gather (sectionMeter song) (sectionsFrom s (r .next)) ≡ [])
+      unfolding Measured gather
+      metered = append-is-nil (sectionMeter song x) (gather (sectionMeter song) (sectionsFrom s (r .next))) (ap (gather (sectionMeter song)) (sym (w .met .first)) ∙ measured .1)
 
-    whole : refusalOf (earliest (lengthFaults song k (x ∷ sectionsFrom s (r .next)))) ≡ refusalOf (earliest (lengthFaults song 0 (song .sections)))
-    unfolding Measured
-    whole = ap (λ (xs : List Section). refusalOf (earliest (lengthFaults song k xs))) (sym (w .met .first)) ∙ measured .0
+      cuts : cutFaults (timeOf song x) (x .header) (x .modifiers) (patternItems (song .definitions) (x .pattern)) ≡ complainIf (cutAway ws score n m (r .texts)) 15 (x .header)
+      cuts =
+          let says = w .met .says in
+          let read = w .met .read .modifiers in
+          rw n-is
+          (cut-away-is ws score (timeOf song x) (x .header) (x .modifiers) m (r .texts) (says .repeat) (read .repeat-fits .0) (says .front) (says .back)
+          (patternItems (song .definitions) (x .pattern)) (w .texts .pattern) (meter-range song x .0) (pattern-fits song x (metered .0)) (modified-is s p o inside (r .section) read says))
 
-    pub opened-passes : 65535 < k + countOfTexts m (r .texts) → record { number = 14; line = r .section .header } ≡ refusalOf (earliest (lengthFaults song 0 (song .sections)))
-    opened-passes h =
-        rw (w .met .says .header)
-        (sym (length-passes song k x (sectionsFrom s (r .next)) (cutAway ws score n m (r .texts)) small cuts (too-many k h) (w .met .later)) ∙ whole)
+      whole : refusalOf (earliest (lengthFaults song k (x ∷ sectionsFrom s (r .next)))) ≡ refusalOf (earliest (lengthFaults song 0 (song .sections)))
+      unfolding Measured
+      whole = ap (λ (xs : List Section). refusalOf (earliest (lengthFaults song k xs))) (sym (w .met .first)) ∙ measured .0
 
-    -- What looking at its cuts asks for.
-    pub opened-fits : k + countOfTexts m (r .texts) ≤ 65535 → (n ≤ 32) × CutFits (m .front) × (length (times (m .repeat) (rowOf (score .definitions) n ws (r .texts .pattern .at))) ≤ 65535)
-    opened-fits h =
-        let e = all-counted k h in
-        let l = played-length ws (score .definitions) (r .texts .pattern) (patternItems (song .definitions) (x .pattern)) n (m .repeat) (w .texts .pattern) in
-        let often = ap (λ (j : ℕ). j * countOf (patternItems (song .definitions) (x .pattern))) (w .met .says .repeat) in
-        let within = pattern-within song x in (
-          subst (λ (j : ℕ). j ≤ 32) (sym n-is) (meter-range song x .1),
-          w .met .read .modifiers .front-fits,
-          omega arith,
-        )
+      pub opened-passes : 65535 < k + countOfTexts m (r .texts) → record { number = 14; line = r .section .header } ≡ refusalOf (earliest (lengthFaults song 0 (song .sections)))
+      opened-passes h =
+          rw (w .met .says .header)
+          (sym (length-passes song k x (sectionsFrom s (r .next)) (cutAway ws score n m (r .texts)) small cuts (too-many k h) (w .met .later)) ∙ whole)
 
-    pub opened-cut : k + countOfTexts m (r .texts) ≤ 65535 → cutAway ws score n m (r .texts) ≡ true → record { number = 15; line = r .section .header } ≡ refusalOf (earliest (lengthFaults song 0 (song .sections)))
-    opened-cut h e =
-        let c = all-counted k h in
-        rw (w .met .says .header)
-        (sym (length-cut song k x (sectionsFrom s (r .next)) (cutAway ws score n m (r .texts)) small cuts (omega arith) e (w .met .later)) ∙ whole)
+      pub opened-cut : k + countOfTexts m (r .texts) ≤ 65535 → cutAway ws score n m (r .texts) ≡ true → record { number = 15; line = r .section .header } ≡ refusalOf (earliest (lengthFaults song 0 (song .sections)))
+      opened-cut h e =
+          let c = all-counted k h in
+          rw (w .met .says .header)
+          (sym (length-cut song k x (sectionsFrom s (r .next)) (cutAway ws score n m (r .texts)) small cuts (omega arith) e (w .met .later)) ∙ whole)
 
-    pub opened-on : k + countOfTexts m (r .texts) ≤ 65535 → cutAway ws score n m (r .texts) ≡ false → Measured s (r .next) (k + countOfTexts m (r .texts))
-    unfolding Measured
-    opened-on h e =
-        let c = all-counted k h in (
-          rw c (ap (λ (xs : List Complaint). refusalOf (earliest xs)) (sym (length-on song k x (sectionsFrom s (r .next)) (cutAway ws score n m (r .texts)) small cuts (omega arith) e)) ∙ whole),
-          metered .1,
-        )
+      pub opened-on : k + countOfTexts m (r .texts) ≤ 65535 → cutAway ws score n m (r .texts) ≡ false → Measured s (r .next) (k + countOfTexts m (r .texts))
+      unfolding Measured
+      opened-on h e =
+          let c = all-counted k h in (
+            rw c (ap (λ (xs : List Complaint). refusalOf (earliest xs)) (sym (length-on song k x (sectionsFrom s (r .next)) (cutAway ws score n m (r .texts)) small cuts (omega arith) e)) ∙ whole),
+            metered .1,
+          )

@@ -33,6 +33,16 @@ stage-refused xs rest r e n = e ∙ of (earliest xs) (λ z. n (ap (λ (q : Refus
     of none m = absurd (m refl)
     of (some c) m = refl
 
+-- Stages that refuse give the verdict, whatever comes behind them.
+pub stages-refused : (xs rest : List (List Complaint)) (r : Refusal) → r ≡ refusalOf (verdict xs) → (r .number ≡ 0 → ⊥) → r ≡ refusalOf (verdict (xs ++ rest))
+unfolding verdict refusalOf stageOr
+stages-refused [] rest r e n = absurd (n (ap (λ (q : Refusal). q .number) e))
+stages-refused (x ∷ xs) rest r e n = of (earliest x) (λ q. stages-refused xs rest r q n) e
+  where
+    of : (o : Option Complaint) → (r ≡ refusalOf (verdict xs) → r ≡ refusalOf (verdict (xs ++ rest))) → r ≡ refusalOf (stageOr o (verdict xs)) → r ≡ refusalOf (stageOr o (verdict (xs ++ rest)))
+    of none go q = go q
+    of (some c) go q = q
+
 pub stage-passed : (xs : List Complaint) (rest : List (List Complaint)) → xs ≡ [] → refusalOf (verdict (xs ∷ rest)) ≡ refusalOf (verdict rest)
 unfolding verdict earliest stageOr
 stage-passed xs rest e = rw e refl

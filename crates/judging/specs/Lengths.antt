@@ -1,9 +1,12 @@
 -- What stage 5 finds of a section: its measures before cuts, and whether its cuts leave a beat.
-use Prim.Native.Nat.{ℕ, _+_, _-_, _*_}
+use Prim.Native.Nat.{ℕ, _+_, _-_, _*_, _≤_}
 use mathlib.Core.Bool.{Bool, true, false, not, _||_}
 use mathlib.Core.List.{List}
-use lib.Dec.{eqb}
+use lib.Dec.{eqb, ltb}
+use lib.ListN.{length}
 use Rattle.songcode.specs.Lists.{if_then_else_, times}
+use Rattle.text.specs.declared.Refusal.{Refusal}
+use Rattle.settings.specs.Cuts.{CutFits}
 use Rattle.settings.specs.declared.cuts.Cut.{Cut}
 use Rattle.settings.specs.declared.cuts.CutRead.{CutRead}
 use Rattle.settings.specs.declared.cuts.CutRead.the-variants as read
@@ -12,6 +15,8 @@ use Rattle.player.specs.Windows.{firstBeat, lastBeat}
 use Rattle.sections.specs.declared.values.Modifiers.{Modifiers}
 use Rattle.scores.specs.declared.definitions.Score.{Score}
 use Rattle.scores.specs.declared.texts.Texts.{Texts}
+use Rattle.judging.specs.declared.lengths.Lengths.{Lengths}
+use Rattle.judging.specs.Meters.{nothingRefused}
 
 unfoldable pub cutOrNone : CutRead → Cut
 cutOrNone (read.Cut c) = c
@@ -43,3 +48,27 @@ cutAway ws score n m t =
     - firstBeat (cutOrNone (m .front)) (times (m .repeat) (rowOf (score .definitions) n ws (t .pattern .at))))
     0
     else eqb (t .pattern .outline .measures) 0)
+
+-- What is refused of a section played in n, where the song has so many measures up to its end.
+unfoldable pub lengthFault : List ℕ → Score → ℕ → ℕ → Modifiers → Texts → ℕ → Refusal
+unfolding if_then_else_
+lengthFault ws score n header m t measures =
+    if ltb 65535 measures then record { number = 14; line = header }
+    else (if cutAway ws score n m t then record { number = 15; line = header } else nothingRefused)
+
+-- With one more section; where one is refused, those behind it are not asked.
+unfoldable pub withLengths : List ℕ → Score → ℕ → ℕ → Modifiers → Texts → Lengths → Lengths
+unfolding if_then_else_ lengthFault
+withLengths ws score n header m t x =
+    if eqb (x .refusal .number) 0 then record { refusal = lengthFault ws score n header m t (x .measures + countOfTexts m t); measures = x .measures + countOfTexts m t }
+    else x
+
+-- The numbers of a section are small, and where its measures are few enough, all that its pattern plays are counted.
+pub record Measurable (ws : List ℕ) (score : Score) (n : ℕ) (m : Modifiers) (t : Texts) : Type 0 where
+  pub meter : n ≤ 32
+  pub cuts : CutFits (m .front)
+  pub repeat : m .repeat ≤ 9999
+  pub lead : t .lead .outline .measures ≤ 65536
+  pub pattern : t .pattern .outline .measures ≤ 65536
+  pub tail : t .tail .outline .measures ≤ 65536
+  pub played : countOfTexts m t ≤ 65535 → length (times (m .repeat) (rowOf (score .definitions) n ws (t .pattern .at))) ≤ 65535

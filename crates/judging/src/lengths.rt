@@ -1,31 +1,20 @@
-// Stage 5: the song's measures, and cuts that leave a beat.
-use super::meters::meter_of;
+// Stage 5 of a section: the song's measures up to its end, and cuts that leave a beat.
 use player::planned;
 use scores::Score;
 use scores::Texts;
-use scores::open_section;
 use sections::Modifiers;
-use sections::Place;
 use settings::Beats;
 use settings::Cut;
 use settings::CutRead;
 use settings::Measures;
 use text::Refusal;
 ghost use mathlib.Core.Path.{_≡_};
-ghost use mathlib.Core.List.{[]};
-ghost use mathlib.Core.Bool.{true};
-ghost use Prim.Native.Nat.{_≤_, _*_};
+ghost use Prim.Native.Nat.{_≤_};
 ghost use lib.ListN.{length};
-ghost use Rattle.songcode.specs.Lists.{orElse, times};
-ghost use Rattle.songcode.specs.Complaints.{earliest};
-ghost use Rattle.songcode.specs.Playing.{timeAmong};
-ghost use Rattle.songcode.specs.Meter.{meterFaults, lengthFaults};
-ghost use Rattle.songcode.specs.Answer.{songOf};
-ghost use Rattle.text.specs.Refusals.{refusalOf};
+ghost use Rattle.songcode.specs.Lists.{times};
 ghost use Rattle.settings.specs.Cuts.{CutFits};
 ghost use Rattle.player.specs.Walks.{rowOf};
-ghost use Rattle.scores.specs.Scores.{Ready, Begins};
-ghost use Rattle.judging.specs.Lengths.{cutOrNone, countOfTexts, isCut, hasCut, isModified, cutAway};
+ghost use Rattle.judging.specs.Lengths.{cutOrNone, countOfTexts, isCut, hasCut, isModified, cutAway, lengthFault, Measurable, withLengths};
 
 // A cut that takes nothing where there is none.
 pub fn cut_or_none(c: CutRead) -> Cut
@@ -117,37 +106,60 @@ fn is_cut_away(words: &[u32], score: Score, n: usize, m: Modifiers, t: Texts) ->
     plan.left == 0
 }
 
-pub fn stage_five(s: &[u8], score: Score, first: Place, time: usize, words: &mut [u32]) -> Refusal
-    requires { ⌜ Begins (now s) first × Ready (now s) (now words) score × (score .fill ≤ first .at) × (time ≡ orElse (timeAmong (songOf (now s) .keys)) 0) × (time ≤ 32) × (meterFaults (songOf (now s)) ≡ []) ⌝ }
-    ensures refusal { λ r. ⌜ r ≡ refusalOf (earliest (lengthFaults (songOf (now (s .entry))) 0 (songOf (now (s .entry)) .sections))) ⌝ }
-    ensures ready { λ r. ⌜ Ready (now (s .entry)) (now (words .exit)) score × (length (now (words .exit)) ≡ length (now (words .entry))) ⌝ }
+// What is refused of a section played in n, where the song has so many measures up to its end: 14 if they are more than 65,535, 15 for its cuts.
+fn length_fault(
+    words: &[u32],
+    score: Score,
+    n: usize,
+    header: usize,
+    m: Modifiers,
+    t: Texts,
+    measures: usize,
+) -> Refusal
+    requires { ⌜ Measurable (now words) score n m t × (countOfTexts m t ≤ measures) ⌝ }
+    ensures { λ r. ⌜ r ≡ lengthFault (now (words .entry)) score n header m t measures ⌝ }
 {
-    let mut place = first;
-    let mut measures = 0;
-    while place.at < s.len() {
-        let x = open_section(s, place, score, words);
-        let section = x.section;
-        let keys = section.keys;
-        measures += section_count(section.modifiers, x.texts);
-        if 65535 < measures {
-            return Refusal {
-                number: 14,
-                line: section.header,
-            };
-        }
-        if is_cut_away(
-            words,
-            score,
-            meter_of(keys.time, time),
-            section.modifiers,
-            x.texts,
-        ) {
-            return Refusal {
-                number: 15,
-                line: section.header,
-            };
-        }
-        place = x.next;
+    if 65535 < measures {
+        return Refusal {
+            number: 14,
+            line: header,
+        };
+    }
+    if is_cut_away(words, score, n, m, t) {
+        return Refusal {
+            number: 15,
+            line: header,
+        };
     }
     Refusal { number: 0, line: 0 }
+}
+
+// What is refused of the sections so far, number 0 if nothing, and their measures.
+pub struct Lengths {
+    pub refusal: Refusal,
+    pub measures: usize,
+}
+
+// With one more section; where one is refused, those behind it are not asked.
+pub fn with_lengths(
+    words: &[u32],
+    score: Score,
+    n: usize,
+    header: usize,
+    m: Modifiers,
+    t: Texts,
+    x: Lengths,
+) -> Lengths
+    requires { ⌜ Measurable (now words) score n m t × (x .refusal .number ≡ 0 → x .measures ≤ 65535) ⌝ }
+    ensures { λ r. ⌜ r ≡ withLengths (now (words .entry)) score n header m t x ⌝ }
+{
+    let found = x.refusal;
+    if found.number != 0 {
+        return x;
+    }
+    let measures = x.measures + section_count(m, t);
+    Lengths {
+        refusal: length_fault(words, score, n, header, m, t, measures),
+        measures,
+    }
 }

@@ -2,6 +2,7 @@
 mod charts;
 mod lengths;
 mod lyrics;
+mod measures;
 mod meters;
 mod references;
 mod stages;

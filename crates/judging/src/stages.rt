@@ -1,7 +1,6 @@
 // The stages one after another, up to the first that refuses.
-use super::lengths::stage_five;
 use super::lyrics::stage_six;
-use super::meters::stage_four;
+use super::measures::measure_stages;
 use super::references::stage_three;
 use super::sums::Totals;
 use super::sums::stage_seven;
@@ -72,13 +71,9 @@ fn playing_stages(s: &[u8], score: Score, first: Place, time: usize, words: &mut
     ensures holds { λ r. ⌜ (r .refusal .number ≡ 0 → Holds (tables (songOf (now (s .entry)))) r) ⌝ }
     ensures ready { λ r. ⌜ (r .refusal .number ≡ 0 → Ready (now (s .entry)) (now (words .exit)) score) ⌝ }
 {
-    let four = stage_four(s, score, first, time, words);
-    if four.number != 0 {
-        return refused(four);
-    }
-    let five = stage_five(s, score, first, time, words);
-    if five.number != 0 {
-        return refused(five);
+    let refusal = measure_stages(s, score, first, time, words);
+    if refusal.number != 0 {
+        return refused(refusal);
     }
     lyric_stages(s, score, first, time, words)
 }

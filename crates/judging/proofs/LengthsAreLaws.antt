@@ -1,0 +1,77 @@
+-- Stage 5 from section to section, beside stage 4: what is found so far is the stage's answer where stage 4 complains of nothing.
+use Prim.Native.Nat.{ℕ, _+_, _≤_, _<_}
+use mathlib.Core.Path.{_≡_, refl, ap, _∙_}
+use mathlib.Core.List.{List, []}
+use mathlib.Core.Logic.{_⊎_, inl, inr, ⊎-elim}
+use native.Mathlib.Omega.{arith}
+use lib.Dec.{ltb}
+use lib.ListN.{length}
+use borrow.Author.Tests.{eq-eqb, ne-eqb, ltb-true, ltb-false}
+use Rattle.songcode.specs.Lists.{if_then_else_, orElse}
+use Rattle.songcode.specs.Complaints.{earliest}
+use Rattle.songcode.specs.Playing.{timeAmong}
+use Rattle.songcode.specs.Meter.{meterFaults, lengthFaults}
+use Rattle.songcode.specs.Answer.{songOf}
+use Rattle.songcode.proofs.ListLaws.{by-cases}
+use Rattle.text.specs.declared.Refusal.{Refusal}
+use Rattle.text.specs.Refusals.{refusalOf}
+use Rattle.sections.specs.declared.blocks.Place.{Place}
+use Rattle.sections.specs.declared.values.Modifiers.{Modifiers}
+use Rattle.sections.specs.Onward.{Onward}
+use Rattle.scores.specs.declared.definitions.Score.{Score}
+use Rattle.scores.specs.declared.texts.Opened.{Opened}
+use Rattle.scores.specs.Scores.{Begins, Opens}
+use Rattle.judging.specs.declared.lengths.Lengths.{Lengths}
+use Rattle.judging.specs.Meters.{meterOf, nothingRefused}
+use Rattle.judging.specs.Lengths.{countOfTexts, cutAway, lengthFault, withLengths}
+use Rattle.judging.proofs.OpenedLaws.{Measured, measured-start, measured-end, opened-passes, opened-cut, opened-on}
+
+-- Nothing is refused of the sections before the place, which have so many measures; or the first refusal is found.
+unfoldable pub LengthsAre : List ℕ → Place → Lengths → Type 0
+LengthsAre s p x =
+    ((x .refusal ≡ nothingRefused) × (x .measures ≤ 65535) × (meterFaults (songOf s) ≡ [] → Measured s p (x .measures)))
+    ⊎ ((x .refusal .number ≡ 0 → ⊥) × (meterFaults (songOf s) ≡ [] → x .refusal ≡ refusalOf (earliest (lengthFaults (songOf s) 0 (songOf s .sections)))))
+
+pub lengths-start : (s : List ℕ) (p : Place) → Begins s p → LengthsAre s p (record { refusal = nothingRefused; measures = 0 })
+unfolding LengthsAre
+lengths-start s p b = inl (refl, omega arith, measured-start s p b)
+
+pub lengths-small : (s : List ℕ) (p : Place) (x : Lengths) → LengthsAre s p x → x .refusal .number ≡ 0 → x .measures ≤ 65535
+unfolding LengthsAre
+lengths-small s p x w z = ⊎-elim (λ a. a .1) (λ b. absurd (b .0 z)) w
+
+pub lengths-end : (s : List ℕ) (p : Place) (x : Lengths) → length s ≤ p .at → LengthsAre s p x → meterFaults (songOf s) ≡ [] → x .refusal ≡ refusalOf (earliest (lengthFaults (songOf s) 0 (songOf s .sections)))
+unfolding LengthsAre
+lengths-end s p x h w e = ⊎-elim (λ a. a .0 ∙ measured-end s p (x .measures) h (a .2 e)) (λ b. b .1 e) w
+
+-- One more section is opened.
+module _ (s ws : List ℕ) (p : Place) (score : Score) (r : Opened) (w : Opens s p ws score r) {time : ℕ} (t : time ≡ orElse (timeAmong (songOf s .keys)) 0) (o : Onward s p) (inside : p .at < length s) (x : Lengths) where
+  abbrev m : Modifiers
+  m = r .section .modifiers
+
+  abbrev n : ℕ
+  n = meterOf (r .section .keys .time) time
+
+  abbrev all : ℕ
+  all = x .measures + countOfTexts m (r .texts)
+
+  abbrev next : Refusal → Type 0
+  next f = LengthsAre s (r .next) (record { refusal = f; measures = all })
+
+  fault-next : x .measures ≤ 65535 → (meterFaults (songOf s) ≡ [] → Measured s p (x .measures)) → next (lengthFault ws score n (r .section .header) m (r .texts) all)
+  unfolding LengthsAre lengthFault if_then_else_
+  fault-next small measured =
+      by-cases (ltb 65535 all)
+      (λ e. rw e (inr ((λ z. let q : ⊥ = omega arith in q), (λ f. opened-passes s ws p score r w t o inside (x .measures) small (measured f) (ltb-true _ _ e)))))
+      (λ e.
+      let few = ltb-false 65535 all e in
+      by-cases (cutAway ws score n m (r .texts))
+      (λ c. rw (e, c) (inr ((λ z. let q : ⊥ = omega arith in q), (λ f. opened-cut s ws p score r w t o inside (x .measures) small (measured f) few c))))
+      (λ c. rw (e, c) (inl (refl, few, (λ f. opened-on s ws p score r w t o inside (x .measures) small (measured f) few c)))))
+
+  pub lengths-next : LengthsAre s p x → LengthsAre s (r .next) (withLengths ws score n (r .section .header) m (r .texts) x)
+  unfolding LengthsAre withLengths if_then_else_
+  lengths-next =
+      ⊎-elim
+      (λ a. rw (eq-eqb (x .refusal .number) 0 (ap (λ (f : Refusal). f .number) (a .0))) (fault-next (a .1) (a .2)))
+      (λ b. rw (ne-eqb (x .refusal .number) 0 (b .0)) (inr b))

@@ -1,0 +1,65 @@
+// Stages 4 and 5 in one walk over the sections.
+use super::lengths::Lengths;
+use super::lengths::with_lengths;
+use super::meters::meter_fault;
+use super::meters::meter_of;
+use super::meters::sooner;
+use scores::Score;
+use scores::open_section;
+use sections::Place;
+use text::Refusal;
+ghost use mathlib.Core.Path.{_≡_};
+ghost use mathlib.Core.List.{[], _∷_};
+ghost use Prim.Native.Nat.{_≤_};
+ghost use lib.ListN.{length};
+ghost use Rattle.songcode.specs.Lists.{orElse};
+ghost use Rattle.songcode.specs.Complaints.{verdict};
+ghost use Rattle.songcode.specs.Playing.{timeAmong};
+ghost use Rattle.songcode.specs.Meter.{meterFaults, lengthFaults};
+ghost use Rattle.songcode.specs.Answer.{songOf};
+ghost use Rattle.text.specs.Refusals.{refusalOf};
+ghost use Rattle.scores.specs.Scores.{Ready, Begins};
+
+// The sections are opened once; what stage 5 finds is given only where stage 4 refuses nothing in the whole song.
+pub fn measure_stages(
+    s: &[u8],
+    score: Score,
+    first: Place,
+    time: usize,
+    words: &mut [u32],
+) -> Refusal
+    requires { ⌜ Begins (now s) first × Ready (now s) (now words) score × (score .fill ≤ first .at) × (time ≡ orElse (timeAmong (songOf (now s) .keys)) 0) ⌝ }
+    ensures refusal { λ r. ⌜ r ≡ refusalOf (verdict (meterFaults (songOf (now (s .entry))) ∷ lengthFaults (songOf (now (s .entry))) 0 (songOf (now (s .entry)) .sections) ∷ [])) ⌝ }
+    ensures ready { λ r. ⌜ Ready (now (s .entry)) (now (words .exit)) score × (length (now (words .exit)) ≡ length (now (words .entry))) ⌝ }
+{
+    let mut place = first;
+    let mut best = Refusal { number: 0, line: 0 };
+    let mut lengths = Lengths {
+        refusal: Refusal { number: 0, line: 0 },
+        measures: 0,
+    };
+    while place.at < s.len() {
+        let x = open_section(s, place, score, words);
+        let section = x.section;
+        let keys = section.keys;
+        let n = meter_of(keys.time, time);
+        best = sooner(
+            best,
+            meter_fault(section.header, section.modifiers, x.texts, n),
+        );
+        lengths = with_lengths(
+            words,
+            score,
+            n,
+            section.header,
+            section.modifiers,
+            x.texts,
+            lengths,
+        );
+        place = x.next;
+    }
+    if best.number != 0 {
+        return best;
+    }
+    lengths.refusal
+}
