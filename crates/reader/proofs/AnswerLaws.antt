@@ -23,8 +23,9 @@ use Rattle.judging.specs.Sums.{Holds}
 use Rattle.judging.specs.Charts.{Clear, Roomy}
 use Rattle.judging.specs.declared.sums.Totals.{Totals}
 use Rattle.reader.specs.declared.Answer.{Answer}
-use Rattle.reader.specs.Answers.{written, answerOf, Lent, roomOf, stored, Promised}
-use Rattle.reader.specs.Writing.{isShort}
+use Rattle.writing.specs.Written.{written}
+use Rattle.reader.specs.Answers.{answerOf, Lent, roomOf, stored, Promised}
+use Rattle.reader.specs.Room.{isShort}
 use Rattle.judging.specs.Stages.{lyricFaults, playingFaults, laterFaults}
 use Rattle.judging.proofs.ClearLaws.{verdict-clear}
 use Rattle.judging.proofs.StageLaws.{last-stage, numbered-input, input-small}

@@ -1,15 +1,12 @@
 -- The answer of the call, and the final content of the tables: written where the song is accepted, as they were where it is refused.
 use Prim.Native.Nat.{ℕ}
 use mathlib.Core.Path.{_≡_}
-use mathlib.Core.List.{List, _++_}
-use lib.ListN.{length, drop}
+use mathlib.Core.List.{List}
+use lib.ListN.{length}
 use Rattle.songcode.specs.Answer as songcode
 use Rattle.songcode.specs.Answer.{refused, accepted}
+use Rattle.writing.specs.Written.{written}
 use Rattle.reader.specs.declared.Answer.{Answer}
-
--- "Lent memory past what a call writes keeps what it held".
-unfoldable pub written : List ℕ → List ℕ → List ℕ
-written new old = new ++ drop (length new) old
 
 -- "The result gives refusal 0, line 0 and the counts of sections, measures, beats and items"; "A refusal returns its number and line, counts 0".
 unfoldable pub answerOf : songcode.Answer → Answer

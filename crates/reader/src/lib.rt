@@ -1,9 +1,4 @@
 // The reader: a chart and five lent tables; one refusal and nothing stored, or every word of every table.
-mod items;
-mod keys;
-mod songs;
-mod writing;
-
 use judging::Totals;
 use judging::first_stages;
 use judging::judge;
@@ -15,7 +10,7 @@ ghost use lib.ListN.{length};
 ghost use Rattle.songcode.specs.SongText.{textFaults};
 ghost use Rattle.songcode.specs.Answer.{inputFaults, blocksOf};
 ghost use Rattle.reader.specs.Answers.{Promised};
-ghost use Rattle.reader.specs.Writing.{isShort};
+ghost use Rattle.reader.specs.Room.{isShort};
 
 // Refusal and line, both 0 where the song is accepted, and how many words of each table are its own.
 pub struct Answer {

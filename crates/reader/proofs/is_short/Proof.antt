@@ -1,4 +1,4 @@
-use Rattle.reader.specs.Writing.{isShort}
+use Rattle.reader.specs.Room.{isShort}
 use borrow.Author.Tests.{lt-ltb, le-ltb}
 use Rattle.reader.proofs.is_short.Statement.{statement}
 use Rattle.reader.proofs.is_short.Tie as tie

@@ -1,5 +1,5 @@
 use Rattle.reader.proofs.AnswerLaws.{early-refused, first-clear, promised-refused}
-use Rattle.reader.proofs.GoodLaws.{input-good}
+use Rattle.judging.proofs.StageLaws.{input-small}
 use Rattle.reader.specs.Answers.{Lent, roomOf}
 use borrow.Author.Needs.{needs}
 use Rattle.reader.proofs.read.Statement.{statement}
@@ -66,7 +66,7 @@ read-long-requires c κs =
     let s = c .before .before .before .before .before .before .before .before .before .before .before .before .before .before .before .args .text .now in
     let early = c .before .before .before .before .before .before .before .before .first-stages in
     let clear = first-clear s (early .result) (early .ensures) (c .before .before .before .before .before .before .if1 .left) in
-    (clear .0, clear .1, input-good s (clear .0) .0)
+    (clear .0, clear .1, input-small s (clear .0))
 
 -- src/lib.rt:142:1
 same-length-6 : tie.Need-same-length-6

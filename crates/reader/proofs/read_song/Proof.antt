@@ -12,7 +12,7 @@ use Rattle.reader.proofs.read_song.Lts as lts
 use Rattle.judging.proofs.judge.Reads as judge-reads
 use Rattle.reader.proofs.is_short.Reads as is-short-reads
 use Rattle.reader.proofs.refused.Reads as refused-reads
-use Rattle.reader.proofs.writing.write_tables.Reads as write-tables-reads
+use Rattle.writing.proofs.write_tables.Reads as write-tables-reads
 
 -- src/lib.rt:82:9
 judge-requires : tie.Need-judge-requires

@@ -1,0 +1,98 @@
+-- The words of the keys table, from the settings that the code finds.
+use Prim.Native.Nat.{ℕ, zero, suc, _+_, _-_, _*_, _^_, _<_, _≤_}
+use mathlib.Core.Path.{_≡_, refl, ap, subst}
+use mathlib.Core.List.{List, [], _∷_, map}
+use mathlib.Core.Logic.{_⊎_, ⊎-elim}
+use mathlib.Core.Option.{Option, none, some}
+use native.Mathlib.Omega.{arith}
+use lib.ListN.{length, drop}
+use borrow.Author.Tests.{eq-eqb, ne-eqb}
+use Rattle.songcode.specs.Lists.{if_then_else_, andThen, collect}
+use Rattle.songcode.specs.Bytes.{Byte, placed}
+use Rattle.songcode.specs.Characters.{characters}
+use Rattle.songcode.specs.Lines.{Line}
+use Rattle.songcode.specs.Song.{KeyName, name, artist, original, capo, bpm, time, warning, end}
+use Rattle.songcode.specs.Keys.{keyPlace}
+use Rattle.songcode.specs.Sections.{keyIn}
+use Rattle.songcode.specs.Playing.{settingOf}
+use Rattle.songcode.specs.Tables.{keyWord, keyOrder}
+use Rattle.songcode.specs.Answer.{inputFaults}
+use Rattle.text.specs.Spans.{part}
+use Rattle.text.proofs.WalkLaws.{part-length}
+use Rattle.sections.specs.declared.slots.Said.{Said}
+use Rattle.sections.specs.Slots.{Setting, settingAmong, settingAt}
+use Rattle.sections.proofs.SaidLaws.{key-among}
+use Rattle.writing.specs.Words.{wordOfSetting, ShortSetting}
+use Rattle.writing.proofs.ItemLaws.{offset-part, length-part}
+use Rattle.writing.proofs.GoodLaws.{part-short, input-good}
+
+module _ (s : List ℕ) (r : Said) where
+  pub absent-word : r .line ≡ 0 → wordOfSetting (settingAt s r) ≡ 0
+  unfolding settingAt wordOfSetting if_then_else_
+  absent-word e = rw (eq-eqb (r .line) 0 e)
+
+  module _ (there : r .line ≡ 0 → ⊥) where
+    abbrev text : List Byte
+    text = placed (r .start) (part (r .start) (r .stop) s)
+
+    is-there : settingAt s r ≡ some (record { line = r .line; text = text })
+    unfolding settingAt if_then_else_
+    is-there = rw (ne-eqb (r .line) 0 there)
+
+    -- The setting's place and length fit the fields of its word.
+    pub key-fits : r .stop ≤ length s → inputFaults s ≡ [] → ShortSetting (settingAt s r) → (r .start < r .stop) × (r .start < 65536) × (r .stop - r .start < 512)
+    unfolding ShortSetting
+    key-fits inside good short =
+        let h : (0 < length text) × ((length text < 512) ⊎ (characters text ≤ 100)) = subst ShortSetting is-there short in
+        let l = length-part s (r .start) (r .stop) inside in
+        let m = part-length s (r .start) (r .stop) inside in
+        let i = input-good s good in
+        let few = i .0 in
+        let some-byte = h .0 in
+        let p = part-short s (r .start) (r .stop) (i .1) in
+        (omega arith, omega arith, ⊎-elim (λ a. omega arith) (λ a. omega arith) (h .1))
+
+    pub key-word-is : r .start < r .stop → r .stop ≤ length s → 2 ^ 31 + r .start * 2 ^ 15 + (r .stop - r .start) * 2 ^ 6 ≡ wordOfSetting (settingAt s r)
+    unfolding wordOfSetting keyWord
+    key-word-is h inside = rw (is-there, offset-part s (r .start) (r .stop) h inside, length-part s (r .start) (r .stop) inside)
+
+-- A key's setting among the keys of lines is the first setting of its number among the lines.
+same-word : (o : Option (List Byte)) (p : Option Setting) → andThen o some ≡ andThen p (λ x. some (x .text)) → keyWord o ≡ wordOfSetting p
+unfolding andThen wordOfSetting
+same-word none none e = refl
+same-word none (some x) e = let z : _≡_ {A = ℕ} 0 1 = cc in absurd (let y : ⊥ = omega arith in y)
+same-word (some bs) none e = let z : _≡_ {A = ℕ} 0 1 = cc in absurd (let y : ⊥ = omega arith in y)
+same-word (some bs) (some x) e = ap keyWord e
+
+word-of : (k : KeyName) (ls : List Line) → keyWord (settingOf k (collect keyIn ls)) ≡ wordOfSetting (settingAmong (keyPlace k) ls)
+word-of k ls = same-word (settingOf k (collect keyIn ls)) (settingAmong (keyPlace k) ls) (key-among some k ls)
+
+eight : (P : ℕ → Type 0) → P 0 → P 1 → P 2 → P 3 → P 4 → P 5 → P 6 → P 7 → (k : ℕ) → k < 8 → P k
+eight P a b c d e f g h zero l = a
+eight P a b c d e f g h (suc zero) l = b
+eight P a b c d e f g h (suc (suc zero)) l = c
+eight P a b c d e f g h (suc (suc (suc zero))) l = d
+eight P a b c d e f g h (suc (suc (suc (suc zero)))) l = e
+eight P a b c d e f g h (suc (suc (suc (suc (suc zero))))) l = f
+eight P a b c d e f g h (suc (suc (suc (suc (suc (suc zero)))))) l = g
+eight P a b c d e f g h (suc (suc (suc (suc (suc (suc (suc zero))))))) l = h
+eight P a b c d e f g h (suc (suc (suc (suc (suc (suc (suc (suc k)))))))) l = absurd (let y : ⊥ = omega arith in y)
+
+-- The words of the keys from a place of the table on.
+abbrev pub wordsFrom : List Line → ℕ → List ℕ
+wordsFrom ls k = map (λ j. keyWord (settingOf j (collect keyIn ls))) (drop k keyOrder)
+
+pub words-more : (ls : List Line) (k : ℕ) → k < 8 → wordsFrom ls k ≡ wordOfSetting (settingAmong k ls) ∷ wordsFrom ls (k + 1)
+unfolding keyOrder keyPlace
+words-more ls k h =
+    eight (λ k. wordsFrom ls k ≡ wordOfSetting (settingAmong k ls) ∷ wordsFrom ls (k + 1))
+    (first name 1) (first artist 2) (first original 3) (first capo 4) (first bpm 5) (first time 6) (first warning 7) (first end 8)
+    k
+    h
+  where
+    first : (j : KeyName) (n : ℕ) → keyWord (settingOf j (collect keyIn ls)) ∷ wordsFrom ls n ≡ wordOfSetting (settingAmong (keyPlace j) ls) ∷ wordsFrom ls n
+    first j n = ap (λ (w : ℕ). w ∷ wordsFrom ls n) (word-of j ls)
+
+pub words-over : (ls : List Line) (k : ℕ) → k ≡ 8 → wordsFrom ls k ≡ []
+unfolding keyOrder
+words-over ls k e = rw e

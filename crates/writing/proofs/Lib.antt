@@ -1,0 +1,8 @@
+-- Laws that the proofs of the writers cite.
+pub mod WrittenLaws
+pub mod SongLaws
+pub mod ItemLaws
+pub mod PromptLaws
+pub mod GoodLaws
+pub mod SettingLaws
+pub mod KeyLaws

@@ -1,0 +1,117 @@
+use Prim.Native.Nat.{ℕ, _+_, _-_, _<_, _≤_}
+use mathlib.Core.Path.{_≡_, refl, sym, ap, _∙_, subst}
+use mathlib.Core.List.{List, [], _∷_}
+use native.Mathlib.Omega.{arith}
+use lib.ListN.{length}
+use Rattle.songcode.specs.SongText.{metadataLines, songIn}
+use Rattle.songcode.specs.Tables.{keyWords, tables}
+use Rattle.songcode.specs.Answer.{inputFaults, blocksOf, songOf}
+use Rattle.sections.specs.declared.runs.Run.{Run}
+use Rattle.sections.specs.Runs.{linesOf}
+use Rattle.sections.specs.Slots.{settingAmong}
+use Rattle.scores.specs.Metadata.{linesBefore}
+use Rattle.writing.specs.Words.{wordOfSetting, ShortSetting}
+use Rattle.writing.proofs.KeyLaws.{wordsFrom, words-more, words-over}
+use Rattle.writing.proofs.SettingLaws.{metadata-short}
+use Rattle.writing.proofs.WrittenLaws.{Wrote, wrote-start, wrote-put, wrote-length, wrote-end}
+use borrow.Author.Needs.{needs}
+use Rattle.writing.proofs.keys.write_keys.Statement.{statement}
+use Rattle.writing.proofs.keys.write_keys.Tie as tie
+use Rattle.writing.proofs.keys.write_keys.Reads as reads
+use Rattle.writing.proofs.keys.write_keys.Lts as lts
+use Rattle.writing.proofs.keys.key_at.Reads as key-at-reads
+use Rattle.scores.proofs.lines_before.Reads as lines-before-reads
+
+abbrev Inv-loop : tie.InvT-loop
+Inv-loop s keys₀ metadata k₀ keys k =
+    (k ≤ 8)
+    × (length keys ≡ length keys₀)
+    × Wrote keys₀ k keys (wordsFrom (metadataLines (blocksOf s)) k) (tables (songOf s) .keys)
+
+abbrev μ-loop : tie.MeasureT-loop
+μ-loop s keys₀ metadata k₀ keys k = 8 - k
+
+-- src/keys.rt:35:9
+lines-before-requires : tie.Need-lines-before-requires Inv-loop μ-loop
+lines-before-requires c κs = search needs
+
+-- src/keys.rt:37:5
+loop-holds : tie.Need-loop-holds Inv-loop μ-loop
+unfolding tables keyWords songOf songIn
+loop-holds c = (omega arith, refl, wrote-start _ _)
+
+-- src/keys.rt:38:19
+key-at-requires : tie.Need-key-at-requires Inv-loop μ-loop
+unfolding linesBefore
+key-at-requires c κs =
+    let q = c .before .before .before .before .before in
+    let s = q .args .s .now in
+    let k = c .before .loop .k in
+    let ends = q .pre .2 in
+    let run = sym (c .before .before .lines-before .ensures) in
+    let short = subst ShortSetting (sym (ends .keys k (c .loop-test .taken))) (metadata-short k (blocksOf s) (q .pre .1)) in
+    subst (λ (r : Run). (1 ≤ r .number) × (r .number ≤ r .at + 1) × (r .at ≤ length s) × (k < 8) × (inputFaults s ≡ []) × ShortSetting (settingAmong k (linesOf s r))) run
+    (omega arith, omega arith, omega arith, c .loop-test .taken, q .pre .0, short)
+
+-- src/keys.rt:38:9
+mul-keys : tie.Need-mul-keys Inv-loop μ-loop
+mul-keys c = search needs
+
+-- src/keys.rt:38:9
+slice-write-keys : tie.Need-slice-write-keys Inv-loop μ-loop
+slice-write-keys c = search needs
+
+-- src/keys.rt:39:9
+add-k : tie.Need-add-k Inv-loop μ-loop
+add-k c = search needs
+
+-- src/keys.rt:37:5
+loop-less : tie.Need-loop-less Inv-loop μ-loop
+loop-less c = search needs
+
+-- src/keys.rt:37:5
+loop-again : tie.Need-loop-again Inv-loop μ-loop
+loop-again c =
+    let q = c .before .before .before .before .before .before in
+    let l = c .before .before .loop in
+    let s = q .args .s .now in
+    let lines = metadataLines (blocksOf s) in
+    let below = c .before .loop-test .taken in
+    let word = c .key-at .ensures ∙ ap (λ (r : Run). wordOfSetting (settingAmong (l .k) (linesOf s r))) (c .before .before .before .lines-before .ensures) ∙ ap wordOfSetting (q .pre .2 .keys (l .k) below) in
+    let rest = wordsFrom lines (l .k + 1) in
+    let all = tables (songOf s) .keys in
+    let next = words-more lines (l .k) below ∙ ap (λ (w : ℕ). w ∷ rest) (sym word) in
+    let room = q .pre .3 in
+    let put = wrote-put (q .args .keys .now) (l .k) (l .keys) rest all (c .key-at .result) (omega arith) (subst (λ (ws : List ℕ). Wrote (q .args .keys .now) (l .k) (l .keys) ws all) next (l .inv .2)) in
+    (omega arith, wrote-length (q .args .keys .now) (l .k + 1) _ rest all (omega arith) put, put)
+
+-- src/keys.rt:31:1
+same-length : tie.Need-same-length Inv-loop μ-loop
+same-length c = search needs
+
+-- src/keys.rt:31:1
+returns : tie.Need-returns Inv-loop μ-loop
+returns c =
+    let l = c .before .loop in
+    let a = c .before .before .before .before .before .args in
+    let s = a .s .now in
+    let all = tables (songOf s) .keys in
+    let over = words-over (metadataLines (blocksOf s)) (l .k) (omega arith) in
+    wrote-end (a .keys .now) (l .k) (l .keys) all (subst (λ (ws : List ℕ). Wrote (a .keys .now) (l .k) (l .keys) ws all) over (l .inv .2))
+
+pub write-keys-spec : {M : Type 1} → statement M
+write-keys-spec =
+    tie.close
+    (tie.spec
+    Inv-loop
+    μ-loop
+    lines-before-requires
+    loop-holds
+    key-at-requires
+    mul-keys
+    slice-write-keys
+    add-k
+    loop-less
+    loop-again
+    same-length
+    returns)

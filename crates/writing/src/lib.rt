@@ -1,0 +1,46 @@
+// All tables of a song that nothing is wrong with.
+mod items;
+mod keys;
+mod songs;
+
+use items::write_items;
+use judging::Chart;
+use keys::write_keys;
+use songs::write_song;
+ghost use mathlib.Core.Path.{_≡_};
+ghost use mathlib.Core.List.{[]};
+ghost use Prim.Native.Nat.{_≤_};
+ghost use lib.ListN.{length};
+ghost use Rattle.songcode.specs.Answer.{inputFaults, blocksOf, songOf};
+ghost use Rattle.songcode.specs.SongText.{textFaults};
+ghost use Rattle.songcode.specs.Tables.{tables};
+ghost use Rattle.judging.specs.Charts.{Writable, Roomy};
+ghost use Rattle.writing.specs.Written.{written};
+
+pub fn write_tables(
+    s: &[u8],
+    chart: Chart,
+    words: &mut [u32],
+    keys: &mut [u32],
+    sections: &mut [u64],
+    measures: &mut [u32],
+    beats: &mut [u32],
+    items: &mut [u64],
+)
+    requires chart { ⌜ (inputFaults (now s) ≡ []) × (textFaults (blocksOf (now s)) ≡ []) × Writable (now s) (now words) chart ⌝ }
+    requires room { ⌜ (8 ≤ length (now keys)) × Roomy (tables (songOf (now s))) (now sections) (now measures) (now beats) (now items) ⌝ }
+    ensures keys { λ _. ⌜ now (keys .exit) ≡ written (tables (songOf (now (s .entry))) .keys) (now (keys .entry)) ⌝ }
+    ensures sections { λ _. ⌜ now (sections .exit) ≡ written (tables (songOf (now (s .entry))) .sections) (now (sections .entry)) ⌝ }
+    ensures measures { λ _. ⌜ now (measures .exit) ≡ written (tables (songOf (now (s .entry))) .measures) (now (measures .entry)) ⌝ }
+    ensures beats { λ _. ⌜ now (beats .exit) ≡ written (tables (songOf (now (s .entry))) .beats) (now (beats .entry)) ⌝ }
+    ensures items { λ _. ⌜ now (items .exit) ≡ written (tables (songOf (now (s .entry))) .items) (now (items .entry)) ⌝ }
+{
+    let end = chart.end;
+    let song = chart.song;
+    let score = chart.score;
+    let first = chart.first;
+    let totals = chart.totals;
+    write_keys(s, end, keys);
+    write_song(s, score, first, song, words, sections, measures, beats);
+    write_items(s, first, totals.items, items);
+}
