@@ -5,27 +5,27 @@ use Rattle.reader.proofs.is_short.Tie as tie
 use Rattle.reader.proofs.is_short.Reads as reads
 use Rattle.reader.proofs.is_short.Lts as lts
 
--- src/lib.rt:66:9
+-- src/lib.rt:50:9
 returns : tie.Need-returns
 unfolding isShort
 returns c = rw (lt-ltb _ _ (c .if1 .taken))
 
--- src/lib.rt:69:9
+-- src/lib.rt:53:9
 returns-2 : tie.Need-returns-2
 unfolding isShort
 returns-2 c = rw (le-ltb _ _ (c .before .before .if1 .left), lt-ltb _ _ (c .if2 .taken))
 
--- src/lib.rt:72:9
+-- src/lib.rt:56:9
 returns-3 : tie.Need-returns-3
 unfolding isShort
 returns-3 c = rw (le-ltb _ _ (c .before .before .before .before .if1 .left), le-ltb _ _ (c .before .before .if2 .left), lt-ltb _ _ (c .if3 .taken))
 
--- src/lib.rt:75:9
+-- src/lib.rt:59:9
 returns-4 : tie.Need-returns-4
 unfolding isShort
 returns-4 c = rw (le-ltb _ _ (c .before .before .before .before .before .before .if1 .left), le-ltb _ _ (c .before .before .before .before .if2 .left), le-ltb _ _ (c .before .before .if3 .left), lt-ltb _ _ (c .if4 .taken))
 
--- src/lib.rt:55:1
+-- src/lib.rt:39:1
 returns-5 : tie.Need-returns-5
 unfolding isShort
 returns-5 c = rw (le-ltb _ _ (c .before .before .before .before .before .before .before .if1 .left), le-ltb _ _ (c .before .before .before .before .before .if2 .left), le-ltb _ _ (c .before .before .before .if3 .left), le-ltb _ _ (c .before .if4 .left))
