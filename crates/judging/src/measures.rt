@@ -58,8 +58,9 @@ pub fn measure_stages(
         );
         place = x.next;
     }
+    let five = lengths.refusal;
     if best.number != 0 {
         return best;
     }
-    lengths.refusal
+    five
 }

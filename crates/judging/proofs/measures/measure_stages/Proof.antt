@@ -80,14 +80,14 @@ loop-again c =
 
 -- src/measures.rt:55:9
 same-length : tie.Need-same-length Inv-loop μ-loop
-same-length c = c .before .before .before .before .loop .inv .2
+same-length c = c .before .before .before .before .before .loop .inv .2
 
 -- src/measures.rt:55:9
 returns : tie.Need-returns Inv-loop μ-loop
 returns c =
-    let song = songOf (c .before .before .before .before .before .before .before .args .s .now) in
-    let i = c .before .before .before .before .loop .inv in
-    (stage-refused (meterFaults song) (lengthFaults song 0 (song .sections) ∷ []) _ (judged-end _ _ _ (c .before .before .if1 .left) (i .4)) (c .if2 .taken), (i .1, i .2))
+    let song = songOf (c .before .before .before .before .before .before .before .before .args .s .now) in
+    let i = c .before .before .before .before .before .loop .inv in
+    (stage-refused (meterFaults song) (lengthFaults song 0 (song .sections) ∷ []) _ (judged-end _ _ _ (c .before .before .before .if1 .left) (i .4)) (c .if2 .taken), (i .1, i .2))
 
 -- src/measures.rt:23:1
 same-length-2 : tie.Need-same-length-2 Inv-loop μ-loop
@@ -99,7 +99,7 @@ returns-2 c =
     let song = songOf (c .before .before .before .before .before .before .before .before .args .s .now) in
     let i = c .before .before .before .before .before .loop .inv in
     let over = c .before .before .before .if1 .left in
-    let none = stage-none (meterFaults song) _ (numbered-meters song) (judged-end _ _ _ over (i .4)) (c .before .if2 .left) in (
+    let none = stage-none (meterFaults song) _ (numbered-meters song) (judged-end _ _ _ over (i .4)) (c .if2 .left) in (
       lengths-end _ _ _ over (i .5) none
           ∙ ap refusalOf (sym (last-stage (lengthFaults song 0 (song .sections))))
           ∙ sym (stage-passed (meterFaults song) (lengthFaults song 0 (song .sections) ∷ []) none),
