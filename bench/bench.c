@@ -10,6 +10,7 @@
 enum { ROUNDS = 7 };
 
 static const double ROUND_SECONDS = 0.03;
+static const double MOST_SECONDS = 5; /* no further round of a chart begins after these */
 
 static unsigned char text[TURNIPCART_TEXT_LIMIT + 1];
 static size_t length;
@@ -61,9 +62,10 @@ static unsigned calls_for(void (*call)(void))
 /* The best round of each, the rounds of both by turns. */
 static void time_both(double *a, double *b)
 {
+    double start = now();
     unsigned calls_a = calls_for(proved), calls_b = calls_for(written_by_hand);
     *a = *b = 1e9;
-    for (int i = 0; i < ROUNDS; i++) {
+    for (int i = 0; i == 0 || (i < ROUNDS && now() - start < MOST_SECONDS); i++) {
         double x = round_of(proved, calls_a), y = round_of(written_by_hand, calls_b);
         if (x < *a)
             *a = x;
