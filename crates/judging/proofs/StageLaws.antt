@@ -33,15 +33,24 @@ stage-refused xs rest r e n = e ∙ of (earliest xs) (λ z. n (ap (λ (q : Refus
     of none m = absurd (m refl)
     of (some c) m = refl
 
+-- The verdict of stages behind stages.
+pub verdict-append : (xs ys : List (List Complaint)) → verdict (xs ++ ys) ≡ stageOr (verdict xs) (verdict ys)
+unfolding verdict
+verdict-append [] ys = refl
+verdict-append (x ∷ xs) ys = ap (stageOr (earliest x)) (verdict-append xs ys) ∙ of (earliest x)
+  where
+    of : (o : Option Complaint) → stageOr o (stageOr (verdict xs) (verdict ys)) ≡ stageOr (stageOr o (verdict xs)) (verdict ys)
+    of none = refl
+    of (some c) = refl
+
 -- Stages that refuse give the verdict, whatever comes behind them.
 pub stages-refused : (xs rest : List (List Complaint)) (r : Refusal) → r ≡ refusalOf (verdict xs) → (r .number ≡ 0 → ⊥) → r ≡ refusalOf (verdict (xs ++ rest))
-unfolding verdict refusalOf stageOr
-stages-refused [] rest r e n = absurd (n (ap (λ (q : Refusal). q .number) e))
-stages-refused (x ∷ xs) rest r e n = of (earliest x) (λ q. stages-refused xs rest r q n) e
+unfolding refusalOf stageOr
+stages-refused xs rest r e n = of (verdict xs) e ∙ ap refusalOf (sym (verdict-append xs rest))
   where
-    of : (o : Option Complaint) → (r ≡ refusalOf (verdict xs) → r ≡ refusalOf (verdict (xs ++ rest))) → r ≡ refusalOf (stageOr o (verdict xs)) → r ≡ refusalOf (stageOr o (verdict (xs ++ rest)))
-    of none go q = go q
-    of (some c) go q = q
+    of : (o : Option Complaint) → r ≡ refusalOf o → r ≡ refusalOf (stageOr o (verdict rest))
+    of none q = absurd (n (ap (λ (p : Refusal). p .number) q))
+    of (some c) q = q
 
 pub stage-passed : (xs : List Complaint) (rest : List (List Complaint)) → xs ≡ [] → refusalOf (verdict (xs ∷ rest)) ≡ refusalOf (verdict rest)
 unfolding verdict earliest stageOr

@@ -28,18 +28,9 @@ use Rattle.reader.specs.Answers.{answerOf, Lent, roomOf, stored, Promise
 use Rattle.reader.specs.Room.{isShort}
 use Rattle.judging.specs.Stages.{lyricFaults, playingFaults, laterFaults}
 use Rattle.judging.proofs.ClearLaws.{verdict-clear}
-use Rattle.judging.proofs.StageLaws.{last-stage, numbered-input, input-small}
+use Rattle.judging.proofs.StageLaws.{verdict-append, last-stage, numbered-input, input-small}
 
 -- Stages put together.
-verdict-append : (xs ys : List (List Complaint)) → verdict (xs ++ ys) ≡ stageOr (verdict xs) (verdict ys)
-unfolding verdict
-verdict-append [] ys = refl
-verdict-append (x ∷ xs) ys = ap (stageOr (earliest x)) (verdict-append xs ys) ∙ of (earliest x)
-  where
-    of : (o : Option Complaint) → stageOr o (stageOr (verdict xs) (verdict ys)) ≡ stageOr (stageOr o (verdict xs)) (verdict ys)
-    of none = refl
-    of (some c) = refl
-
 module _ (room : Room) (bs : List ℕ) where
   firsts : List (List Complaint)
   firsts = inputFaults bs ∷ textFaults (blocksOf bs) ∷ []
