@@ -1,6 +1,6 @@
 // A beat as the listing shows it.
-use super::fields::beat_of;
-use super::fields::show_part;
+use super::parts::show_part;
+use packing::beat_of;
 
 // The base chords by their numbers; a short spelling ends with zeros.
 const BASES: [[u8; 3]; 34] = [

@@ -1,10 +1,10 @@
 // Sections with their measures, and items.
 use super::beats::show_beat;
-use super::fields::item_of;
-use super::fields::least;
-use super::fields::measure_of;
-use super::fields::section_of;
-use super::fields::show_part;
+use super::parts::least;
+use super::parts::show_part;
+use packing::item_of;
+use packing::measure_of;
+use packing::section_of;
 
 fn show_measure(text: &[u8], word: u32, beats: &[u32]) {
     io::write_all(1, b"measure");
@@ -32,11 +32,11 @@ fn show_measures(text: &[u8], first: usize, count: usize, measures: &[u32], beat
 fn show_section(text: &[u8], word: u64, measures: &[u32], beats: &[u32]) {
     let s = section_of(word);
     io::write_all(1, b"section ");
-    io::print_decimal(1, s.line);
+    io::print_decimal(1, s.header as u64);
     io::write_all(1, b" ");
     io::print_decimal(1, s.measures as u64);
     io::write_all(1, b" ");
-    io::print_decimal(1, s.meter);
+    io::print_decimal(1, s.meter as u64);
     io::write_all(1, b"\n");
     show_measures(text, s.first, s.measures, measures, beats);
 }
@@ -50,7 +50,7 @@ pub fn show_sections(text: &[u8], count: usize, sections: &[u64], measures: &[u3
     }
 }
 
-fn show_style(style: u64) {
+fn show_style(style: usize) {
     if style == 0 {
         io::write_all(1, b"plain");
     } else if style == 1 {
@@ -65,11 +65,11 @@ fn show_item(text: &[u8], word: u64) {
     io::write_all(1, b"item ");
     show_style(item.style);
     io::write_all(1, b" ");
-    io::print_decimal(1, item.first);
+    io::print_decimal(1, item.first as u64);
     io::write_all(1, b" ");
-    io::print_decimal(1, item.measures);
+    io::print_decimal(1, item.measures as u64);
     io::write_all(1, b" ");
-    show_part(text, item.text, item.length);
+    show_part(text, item.offset, item.length);
     io::write_all(1, b"\n");
 }
 

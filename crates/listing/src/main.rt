@@ -1,7 +1,7 @@
 // Reads a chart from standard input and prints the listing of its song, or its refusal.
 mod beats;
-mod fields;
 mod listed;
+mod parts;
 
 use listed::show_items;
 use listed::show_sections;

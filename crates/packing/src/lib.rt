@@ -1,8 +1,19 @@
 // The words of the keys, sections and items tables: "bit-packed fields, most significant first, bits not named are 0".
-// Every field is asked to fit its bits, so that no field spills into its neighbour.
+// Every field is asked to fit its bits, so that no field spills into its neighbour. `fields` takes words apart.
+mod fields;
+
+pub use fields::BeatFields;
+pub use fields::ItemFields;
+pub use fields::MeasureFields;
+pub use fields::SectionFields;
+pub use fields::beat_of;
+pub use fields::item_of;
+pub use fields::measure_of;
+pub use fields::section_of;
 ghost use mathlib.Core.Path.{_≡_};
 ghost use Prim.Native.Nat.{_+_, _*_, _^_, _<_, _≤_};
 ghost use Rattle.songcode.specs.Tables.{sectionWord};
+ghost use Rattle.packing.specs.Fields.{packedItem};
 
 // keys: present 1, offset 16, length 9.
 pub fn key_word(offset: usize, length: usize) -> u32
@@ -27,7 +38,7 @@ pub fn section_word(header: usize, first: usize, measures: usize, meter: usize, 
 // items: text offset 16, length 16, first measure 16, measures 14, style 2.
 pub fn item_word(offset: usize, length: usize, first: usize, measures: usize, style: usize) -> u64
     requires { ⌜ (offset < 65536) × (length < 65536) × (first < 65536) × (measures < 16384) × (style < 4) ⌝ }
-    ensures { λ r. ⌜ r ≡ offset * 2 ^ 48 + length * 2 ^ 32 + first * 2 ^ 16 + measures * 2 ^ 2 + style ⌝ }
+    ensures { λ r. ⌜ r ≡ packedItem offset length first measures style ⌝ }
 {
     (offset as u64) * 281474976710656
         + (length as u64) * 4294967296

@@ -4,10 +4,6 @@ use lib.ListN.{length}
 use borrow.Author.Needs.{needs}
 use Rattle.listing.proofs.listed.show_items.Statement.{statement}
 use Rattle.listing.proofs.listed.show_items.Tie as tie
-use Rattle.listing.proofs.listed.show_items.Reads as reads
-use Rattle.listing.proofs.listed.show_items.Lts as lts
-use Rattle.listing.proofs.fields.least.Reads as least-reads
-use Rattle.listing.proofs.listed.show_item.Reads as show-item-reads
 
 abbrev Inv-loop : tie.InvT-loop
 Inv-loop text count items end i₀ i =

@@ -4,12 +4,6 @@ use lib.ListN.{length}
 use borrow.Author.Needs.{needs}
 use Rattle.listing.proofs.listed.show_measure.Statement.{statement}
 use Rattle.listing.proofs.listed.show_measure.Tie as tie
-use Rattle.listing.proofs.listed.show_measure.Reads as reads
-use Rattle.listing.proofs.listed.show_measure.Lts as lts
-use Rattle.io.proofs.write_all.Reads as write-all-reads
-use Rattle.listing.proofs.beats.show_beat.Reads as show-beat-reads
-use Rattle.listing.proofs.fields.least.Reads as least-reads
-use Rattle.listing.proofs.fields.measure_of.Reads as measure-of-reads
 
 abbrev Inv-loop : tie.InvT-loop
 Inv-loop text word beats start end i₀ t9 i =

@@ -4,10 +4,6 @@ use lib.ListN.{length}
 use borrow.Author.Needs.{needs}
 use Rattle.listing.proofs.listed.show_measures.Statement.{statement}
 use Rattle.listing.proofs.listed.show_measures.Tie as tie
-use Rattle.listing.proofs.listed.show_measures.Reads as reads
-use Rattle.listing.proofs.listed.show_measures.Lts as lts
-use Rattle.listing.proofs.fields.least.Reads as least-reads
-use Rattle.listing.proofs.listed.show_measure.Reads as show-measure-reads
 
 abbrev Inv-loop : tie.InvT-loop
 Inv-loop text first count measures beats start end i₀ i =

@@ -4,10 +4,6 @@ use lib.ListN.{length}
 use borrow.Author.Needs.{needs}
 use Rattle.listing.proofs.listed.show_sections.Statement.{statement}
 use Rattle.listing.proofs.listed.show_sections.Tie as tie
-use Rattle.listing.proofs.listed.show_sections.Reads as reads
-use Rattle.listing.proofs.listed.show_sections.Lts as lts
-use Rattle.listing.proofs.fields.least.Reads as least-reads
-use Rattle.listing.proofs.listed.show_section.Reads as show-section-reads
 
 abbrev Inv-loop : tie.InvT-loop
 Inv-loop text count sections measures beats end i₀ i =

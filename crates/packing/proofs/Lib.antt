@@ -1,0 +1,3 @@
+-- Laws on words and their fields.
+pub mod Bits
+pub mod RoundTrips

@@ -1,0 +1,2 @@
+-- What the contracts on the fields of the tables' words say, over the definitions of songcode.
+pub mod Fields
