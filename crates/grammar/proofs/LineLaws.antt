@@ -10,7 +10,7 @@ use Rattle.songcode.specs.Bytes.{Byte, placed}
 use Rattle.songcode.specs.Tokens.{tokens}
 use Rattle.songcode.specs.Tokens as songcode
 use Rattle.songcode.specs.PatternText.{barred, sideText}
-use Rattle.tokens.specs.TokenWords.{tokenWord, tokenWords}
+use Rattle.tokens.specs.TokenWords.{tokenWord}
 use Rattle.tokens.specs.Lexing.{Reads}
 use Rattle.tokens.specs.declared.lexing.Lexed.{Lexed}
 use Rattle.tokens.specs.declared.lexing.Lexed.the-variants.{Token, End}
@@ -18,13 +18,13 @@ use Rattle.text.specs.Spans.{part}
 use Rattle.text.proofs.WalkLaws.{part-length}
 use Rattle.grammar.specs.declared.kinds.Kind.{Kind}
 use Rattle.grammar.specs.declared.checks.Check.{Check}
-use Rattle.grammar.specs.Kinds.{kindsOf, wordKind, wordKinds}
-use Rattle.grammar.specs.Checks.{first, checkStep, checkRun, checkText, checkWords}
+use Rattle.grammar.specs.Kinds.{kindsOf, wordKind}
+use Rattle.grammar.specs.Checks.{first, checkStep, checkRun, checkText}
 use Rattle.grammar.specs.Verdicts.{unnamedFine}
 use Rattle.tokens.specs.Fitting.{AllFit}
 use Rattle.tokens.proofs.TokensFit.{tokens-fit}
 use Rattle.grammar.proofs.VerdictLaws.{unnamed-fine}
-use Rattle.grammar.proofs.WordLaws.{word-kind, words-kinds}
+use Rattle.grammar.proofs.WordLaws.{word-kind}
 
 -- A part of a good text: its tokens fit their words.
 pub part-fits : (s : List ℕ) (a e : ℕ) → a ≤ e → e ≤ length s → e ≤ 2 ^ 16 → AllFit (tokens (placed a (part a e s)))
@@ -55,11 +55,6 @@ module _ (c : Check) (s : List ℕ) (at to : ℕ) (p : at ≤ to) (q : to ≤ le
   pub line-over : {l : Lexed} → Reads s at to l → l ≡ End → checkText c (placed at (part at to s)) ≡ c
   unfolding Reads
   line-over {l} h e = let t : Reads s at to End = rw e at h in text-over c (placed at (part at to s)) t
-
--- Where a part of a table holds the words of a line's tokens, the check of the words is that of the line.
-pub words-check : (c : Check) (ws : List ℕ) (from to : ℕ) (bs : List Byte) → AllFit (tokens bs) → part from to ws ≡ tokenWords (tokens bs)
-    → checkWords c ws from to ≡ checkText c bs
-words-check c ws from to bs f e = ap (checkRun c) (ap wordKinds e ∙ words-kinds (tokens bs) f)
 
 -- Lead-ins and tails.
 pub side-barred : (bs : List Byte) → any barred bs ≡ true → isSome (sideText bs) ≡ false

@@ -11,9 +11,6 @@ use Rattle.songcode.specs.Lists.{any}
 use Rattle.songcode.specs.Bytes.{placed, isByte}
 use Rattle.songcode.specs.PatternText.{barred}
 use Rattle.text.specs.Spans.{part}
-use Rattle.grammar.specs.declared.checks.Check.{Check}
-use Rattle.grammar.specs.Kinds.{wordKind, wordKinds}
-use Rattle.grammar.specs.Checks.{checkStep, checkRun, checkWords}
 use Rattle.grammar.specs.Sides.{barredByte, anyBarred}
 
 module _ {A : Type 0} (s : List A) (i e : ℕ) where
@@ -40,13 +37,3 @@ module _ (s : List ℕ) (i e : ℕ) where
   pub barred-nowhere : e ≤ i → anyBarred s i e ≡ false
   unfolding any placed
   barred-nowhere p = rw (part-empty s i e p) refl
-
--- The check of a part of a table, word by word.
-module _ (c : Check) (ws : List ℕ) (i e : ℕ) where
-  pub words-next : i < e → e ≤ length ws → checkWords c ws i e ≡ checkWords (checkStep c (wordKind (getD ws i 0))) ws (i + 1) e
-  unfolding checkRun wordKinds
-  words-next p q = rw (part-cons ws i e 0 p q) refl
-
-  pub words-over : e ≤ i → checkWords c ws i e ≡ c
-  unfolding checkRun wordKinds
-  words-over p = rw (part-empty ws i e p) refl

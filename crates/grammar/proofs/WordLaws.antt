@@ -1,17 +1,17 @@
 -- The kind of a token is told by its word.
 use Prim.Native.Nat.{ℕ, _≤_}
 use mathlib.Core.Path.{_≡_, refl, ap, _∙_}
-use mathlib.Core.List.{List, [], _∷_}
+use mathlib.Core.List.{_∷_}
 use native.Mathlib.Omega.{arith}
 use borrow.Author.Tests.{lt-ltb}
 use Rattle.songcode.specs.Lists.{if_then_else_}
 use Rattle.songcode.specs.Song.{chord, again, silence}
 use Rattle.songcode.specs.Tokens.{Token, sound, remover, reference, semicolon, colon, lineEnd, opens, closes, wrong}
-use Rattle.tokens.specs.TokenWords.{tokenWord, tokenWords}
-use Rattle.tokens.specs.Fitting.{Fit, AllFit, kind}
+use Rattle.tokens.specs.TokenWords.{tokenWord}
+use Rattle.tokens.specs.Fitting.{Fit, kind}
 use Rattle.tokens.proofs.KindLaws as words
 use Rattle.grammar.specs.declared.kinds.Kind.the-variants.{Sound}
-use Rattle.grammar.specs.Kinds.{kindOf, kindsOf, signKind, wordKind, wordKinds}
+use Rattle.grammar.specs.Kinds.{kindOf, signKind, wordKind}
 
 base-sounds : (n : ℕ) → n ≤ 33 → signKind n ≡ Sound
 unfolding signKind if_then_else_
@@ -34,8 +34,3 @@ kind-told wrong h = refl
 pub word-kind : (t : Token) → Fit t → wordKind (tokenWord t) ≡ kindOf t
 unfolding wordKind
 word-kind t h = ap signKind (words.word-kind t h) ∙ kind-told t h
-
-pub words-kinds : (ts : List Token) → AllFit ts → wordKinds (tokenWords ts) ≡ kindsOf ts
-unfolding wordKinds tokenWords kindsOf AllFit
-words-kinds [] h = refl
-words-kinds (t ∷ ts) h = rw (word-kind t (h .0), words-kinds ts (h .1)) refl

@@ -8,14 +8,13 @@ use Rattle.songcode.specs.Bytes.{Byte}
 use Rattle.songcode.specs.Lines.{Line}
 use Rattle.songcode.specs.Tokens.{tokens, tokensOf}
 use Rattle.songcode.specs.PatternText.{loopsDeep}
-use Rattle.text.specs.Spans.{part}
 use Rattle.grammar.specs.declared.kinds.Kind.{Kind}
 use Rattle.grammar.specs.declared.kinds.Kind.the-variants.{Sound, Remover, Reference, Semicolon, Colon, LineEnd, Opens, Closes, Wrong}
 use Rattle.grammar.specs.declared.checks.Place.{Place}
 use Rattle.grammar.specs.declared.checks.Place.the-variants.{Fresh, Wants, Joins, Sounds, Removed, Alone, Full, Ended, Bad}
 use Rattle.grammar.specs.declared.checks.Check.{Check}
 use Rattle.grammar.specs.Places.{nextPlace}
-use Rattle.grammar.specs.Kinds.{kindsOf, wordKinds}
+use Rattle.grammar.specs.Kinds.{kindsOf}
 
 abbrev pub check : Place → ℕ → Bool → Check
 check p n b = record { place = p; loops = n; named = b }
@@ -82,7 +81,3 @@ checkText c bs = checkRun c (kindsOf (tokens bs))
 
 abbrev pub checkLines : Line → List Line → Check
 checkLines l ls = checkRun first (kindsOf (tokensOf l ls))
-
--- The check behind the words of a part of a table.
-abbrev pub checkWords : Check → List ℕ → ℕ → ℕ → Check
-checkWords c words from to = checkRun c (wordKinds (part from to words))

@@ -2,9 +2,8 @@
 use Prim.Native.Nat.{ℕ, _/_, _^_, _≤_, _<_}
 use mathlib.Core.List.{List, [], _∷_}
 use lib.Dec.{eqb, ltb}
-use lib.ListN.{length}
 use Rattle.songcode.specs.Lists.{if_then_else_}
-use Rattle.songcode.specs.Song.{chord, again, silence}
+use Rattle.songcode.specs.Song.{chord}
 use Rattle.songcode.specs.Tokens.{Token, sound, remover, reference, semicolon, colon, lineEnd, opens, closes, wrong}
 use Rattle.grammar.specs.declared.kinds.Kind.{Kind}
 use Rattle.grammar.specs.declared.kinds.Kind.the-variants.{Sound, Remover, Reference, Semicolon, Colon, LineEnd, Opens, Closes, Wrong}
@@ -43,8 +42,3 @@ signKind n =
 unfoldable pub wordKind : ℕ → Kind
 unfolding signKind
 wordKind w = signKind (w / 2 ^ 26)
-
-unfoldable pub wordKinds : List ℕ → List Kind
-unfolding wordKind
-wordKinds [] = []
-wordKinds (w ∷ ws) = wordKind w ∷ wordKinds ws

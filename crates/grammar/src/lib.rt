@@ -24,7 +24,7 @@ ghost use Rattle.songcode.specs.Bytes.{placed};
 ghost use Rattle.text.specs.Spans.{part};
 ghost use Rattle.grammar.specs.declared.kinds.Kind.the-variants.{LineEnd};
 ghost use Rattle.grammar.specs.Kinds.{wordKind};
-ghost use Rattle.grammar.specs.Checks.{checkStep, checkText, checkWords};
+ghost use Rattle.grammar.specs.Checks.{checkStep, checkText};
 
 // The check behind one more token, given by its word.
 pub fn step_check(c: Check, word: u32) -> Check
@@ -38,20 +38,6 @@ pub fn line_between(c: Check) -> Check
     ensures { λ r. ⌜ r ≡ checkStep c LineEnd ⌝ }
 {
     step_kind(c, Kind::LineEnd)
-}
-
-// The check behind the tokens whose words stand in a part of a table.
-pub fn check_words(words: &[u32], from: usize, to: usize, c: Check) -> Check
-    requires { ⌜ (from ≤ to) × (to ≤ length (now words)) ⌝ }
-    ensures { λ r. ⌜ r ≡ checkWords c (now (words .entry)) from to ⌝ }
-{
-    let mut check = c;
-    let mut i = from;
-    while i < to {
-        check = step_check(check, words[i]);
-        i += 1;
-    }
-    check
 }
 
 // The check behind the tokens of a line.

@@ -2,13 +2,13 @@
 use Prim.Native.Nat.{ℕ, zero, suc, _<_}
 use mathlib.Core.Path.{_≡_, refl, sym, ap, _∙_}
 use mathlib.Core.Bool.{Bool, true, false, _||_, _&&_, not}
-use mathlib.Core.Option.{Option, none, some}
+use mathlib.Core.Option.{Option, none}
 use native.Mathlib.Omega.{arith}
 use borrow.Author.Tests.{ne-eqb, lt-ltb}
-use lib.Dec.{eqb, ltb}
-use Rattle.songcode.specs.Lists.{if_then_else_, isSome, orElse}
+use lib.Dec.{eqb}
+use Rattle.songcode.specs.Lists.{if_then_else_, isSome}
 use Rattle.songcode.specs.Chords.{Chord}
-use Rattle.songcode.specs.Song.{Sound, chord, again, silence, Sounds, only, also, Measure, Separator, Item, measure, loop, refer, Items, one, next}
+use Rattle.songcode.specs.Song.{Sound, chord, again, silence, Sounds, only, also, Separator, Item, measure, loop, refer, Items, one, next}
 use Rattle.songcode.specs.PatternText.{referencesI, references}
 use Rattle.songcode.specs.References.{glue, putInItem, putIn}
 use Rattle.songcode.specs.Playing.{chordAfter, lastSounds, lastItem, lastItems}
@@ -21,7 +21,7 @@ use Rattle.player.proofs.PutInLaws.{last-glue}
 use Rattle.outlines.specs.declared.readings.Outline.{Outline}
 use Rattle.outlines.specs.declared.readings.Reading.{Reading}
 use Rattle.outlines.specs.Readings.{sounded, measured, closed, opened, shut, referred}
-use Rattle.outlines.specs.Told.{Tells, Told}
+use Rattle.outlines.specs.Told.{Told}
 use Rattle.outlines.proofs.TreeLaws.{heardIn, heardAll, removed, afterItem, after}
 
 pub or-false : (a : Bool) → (a || false) ≡ a
@@ -77,9 +77,6 @@ mutual
       ∙ ap (λ b. b || isSome (lastItem none i)) (items-last last r)
       ∙ or-assoc (isSome last) (isSome (lastItems none r)) (isSome (lastItem none i))
       ∙ ap (λ b. isSome last || b) (sym (item-last (lastItems none r) i))
-
-and-not : (a b : Bool) → (a && not (b || false)) ≡ (a && not b)
-and-not a b = ap (λ y. a && not y) (or-false b)
 
 sounds-stray : (last : Option Chord) (xs : Sounds) → strayAmong last xs ≡ (strayAmong none xs && not (isSome last))
 unfolding strayAmong strays isSome

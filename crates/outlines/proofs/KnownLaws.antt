@@ -1,19 +1,15 @@
 -- The outlines of the definitions in order: none at first, then each by its own text. What they tell of a definition whose references are right.
-use Prim.Native.Nat.{ℕ, zero, suc, _+_, _-_, _<_, _≤_, min}
-use mathlib.Core.Path.{_≡_, refl, sym, ap, _∙_}
+use Prim.Native.Nat.{ℕ, _+_, _-_, _<_, _≤_}
+use mathlib.Core.Path.{_≡_, refl, _∙_}
 use mathlib.Core.List.{List, [], _∷_}
-use mathlib.Core.Bool.{Bool, true, false, _&&_}
+use mathlib.Core.Bool.{Bool, _&&_}
 use mathlib.Core.Option.{Option, none, some}
 use native.Mathlib.Omega.{arith}
-use borrow.Author.Tests.{eq-eqb}
-use lib.Dec.{eqb, leb}
 use lib.ListN.{take, drop}
-use Rattle.songcode.specs.Lists.{isSome, andThen, orElse}
-use Rattle.songcode.specs.Song.{Items, one, refer, Definition}
+use Rattle.songcode.specs.Lists.{andThen, orElse}
+use Rattle.songcode.specs.Song.{Items, one, Definition}
 use Rattle.songcode.specs.PatternText.{depth, references}
-use Rattle.songcode.specs.References.{definitionOf, itemsOf, putInItem, putIn}
-use Rattle.songcode.specs.Playing.{lastItem, lastItems}
-use Rattle.songcode.specs.Meter.{allFitItem, allFit, strayItem, stray, countItem, count}
+use Rattle.songcode.specs.References.{definitionOf, itemsOf, putInItem}
 use Rattle.songcode.specs.Fits.{Refers, ReferAll}
 use Rattle.songcode.proofs.ListLaws.{Each}
 use Rattle.player.specs.declared.leaves.Stretch.{Stretch}
@@ -22,7 +18,7 @@ use Rattle.player.proofs.PutInLaws.{putIn-same}
 use Rattle.outlines.specs.declared.readings.Outline.{Outline}
 use Rattle.outlines.specs.Tables.{vacant}
 use Rattle.outlines.specs.Readings.{outlined}
-use Rattle.outlines.specs.Told.{Tells, Told, Sketches, KnowsItems, Knows, Known}
+use Rattle.outlines.specs.Told.{Tells, Told, KnowsItems, Knows, Known}
 use Rattle.outlines.proofs.OutlineAgree.{outline-tells}
 use Rattle.outlines.proofs.SketchLaws.{outline-sketches}
 
@@ -46,11 +42,6 @@ refers-told : (ds : List Definition) (missing : ℕ → Bool) (find : ℕ → Ou
 unfolding ReferAll Each
 refers-told ds missing find known [] w = tt
 refers-told ds missing find known (n ∷ ns) w = (refer-told ds missing find known n (w .0), refers-told ds missing find known ns (w .1))
-
--- Stages 4 and 5: what the outline of a definition tells once its references are right.
-pub definition-told : (ds : List Definition) (missing : ℕ → Bool) (find : ℕ → Outline) → Known ds missing find → (ws : List ℕ) (s : Stretch) (r : Items) → Stands ws s r → ItemsFit r → depth r ≤ 1
-    → ReferAll ds (references r) → Tells (outlined find (drop (s .from) (take (s .to) ws))) (putIn (itemsOf ds) r)
-definition-told ds missing find known ws s r p h d w = outline-tells find (itemsOf ds) ws s r p h d (refers-told ds missing find known (references r) w)
 
 -- The outline of a definition's text is one that later references may find.
 none-told : (find : ℕ → Outline) (f : ℕ → Option Items) (ns : List ℕ) → ns ≡ [] → Each (Told find f) ns

@@ -1,13 +1,13 @@
 -- The outlines of the definitions in order: none at first, then one more with each definition.
 use Prim.Native.Nat.{ℕ, zero, suc, _+_, _-_, _<_, _≤_, min}
 use mathlib.Core.Path.{_≡_, refl, sym, ap, _∙_}
-use mathlib.Core.List.{List, [], _∷_}
+use mathlib.Core.List.{List, _∷_}
 use mathlib.Core.Bool.{Bool, true, false}
 use mathlib.Core.Option.{Option, none, some}
 use native.Mathlib.Omega.{arith}
-use borrow.Author.Tests.{eq-eqb, ne-eqb, eqb-true, eqb-false, leb-true, leb-false, le-leb, lt-leb}
+use borrow.Author.Tests.{ne-eqb, leb-true, leb-false, le-leb, lt-leb}
 use lib.Dec.{eqb, leb}
-use lib.ListN.{length, getD, set, length-set}
+use lib.ListN.{getD, length-set}
 use lib.Seq.{getD-set-same, getD-set-other}
 use Rattle.songcode.specs.Lists.{if_then_else_}
 use Rattle.songcode.specs.Song.{Definition}
@@ -17,7 +17,7 @@ use Rattle.player.specs.declared.leaves.Definitions.{Definitions}
 use Rattle.outlines.specs.declared.readings.Outline.{Outline}
 use Rattle.outlines.specs.declared.tables.Outlines.{Outlines}
 use Rattle.outlines.specs.Tables.{placeBy, placeOf, vacant, rowAt, atPlace, lookUp, isMissing, extended}
-use Rattle.outlines.specs.Told.{KnowsItems, Knows, Known, Roomy}
+use Rattle.outlines.specs.Told.{KnowsItems, Knows, Roomy}
 
 -- The place among one more: the same, or the new one, or behind it.
 pub place-within : (k : ℕ) (ids : List ℕ) (i x : ℕ) → placeBy k ids i x ≤ i + k
@@ -89,11 +89,6 @@ roomy-added o x w = by-cases (leb 26 (o .count))
       measures = length-set (o .measures) (o .count) (x .measures) ∙ w .measures;
     }))
 
--- What is known of no definitions.
-pub known-none : (d : Definitions) (o : Outlines) → o .count ≡ 0 → Known [] (isMissing d o) (lookUp d o)
-unfolding Known Knows definitionOf isMissing lookUp placeOf placeBy atPlace if_then_else_
-known-none d o h n = let e : min (o .count) 26 ≡ 0 = omega arith in rw e (refl, refl)
-
 module _ (ds : List Definition) (d : Definitions) (o : Outlines) (e : Definition) (x : Outline) (few : o .count < 26) (roomy : Roomy o) (numbered : getD (d .ids) (o .count) 0 ≡ e .id) (items : KnowsItems (e .items) x) where
   -- Looked up before, and with one more.
   record Looked (n : ℕ) (missing : Bool) (found : Outline) : Type 0 where
@@ -122,11 +117,6 @@ module _ (ds : List Definition) (d : Definitions) (o : Outlines) (e : Definition
 
   zero-left : (k n : ℕ) → (if eqb (getD (d .ids) (0 + k) 0) n then 0 + k else 0 + k + 1) ≡ (if eqb (getD (d .ids) k 0) n then k else k + 1)
   zero-left k n = let z : 0 + k ≡ k = omega arith in rw z
-
-  -- A number that was found is not that of the new definition, and is found as before.
-  knows-before : (n : ℕ) → Known ds (isMissing d o) (lookUp d o) → Knows (definitionOf n ds) (leb (o .count) (placeBy (o .count) (d .ids) 0 n)) (atPlace o (placeBy (o .count) (d .ids) 0 n))
-  unfolding Known isMissing lookUp
-  knows-before n k = let m : min (o .count) 26 ≡ o .count = omega arith in let h = k n in rw m (rw m at h)
 
   some-known : (c : Option Definition) (b : Bool) (q : Outline) → Knows c b q → b ≡ false → (c ≡ none → ⊥)
   unfolding Knows
@@ -171,7 +161,3 @@ module _ (ds : List Definition) (d : Definitions) (o : Outlines) (e : Definition
       (λ y.
       let c : placeBy (suc (o .count)) (d .ids) 0 n ≡ o .count + 1 = rw y at b in
       looked-known n none true vacant (looked-behind n (omega arith)) (rw y none-yet) (refl, refl))
-
-  pub known-added : Known ds (isMissing d o) (lookUp d o) → definitionOf (e .id) ds ≡ none → Known (e ∷ ds) (isMissing d (extended o x)) (lookUp d (extended o x))
-  unfolding Known
-  known-added known fresh n = by-cases (leb (o .count) (placeBy (o .count) (d .ids) 0 n)) (λ t. behind n t (knows-before n known)) (λ t. within n t (knows-before n known) fresh)

@@ -1,13 +1,13 @@
 -- What a played row leaves: the words of the window in both tables, and the pen's numbers.
-use Prim.Native.Nat.{ℕ, zero, suc, _+_, _-_, _*_, _<_, _≤_, min}
-use mathlib.Core.Path.{_≡_, refl, sym, ap, _∙_, subst}
+use Prim.Native.Nat.{ℕ, zero, suc, _+_, _-_, _*_, _<_, _≤_}
+use mathlib.Core.Path.{_≡_, refl, sym, _∙_}
 use mathlib.Core.List.{List, [], _∷_, _++_}
 use mathlib.Core.Bool.{Bool, true, false}
 use native.Mathlib.Omega.{arith}
 use native.Mathlib.Numerals.{add-one}
 use borrow.Author.Tests.{eq-eqb, ne-eqb, leb-true, leb-false}
 use lib.Dec.{eqb, leb}
-use lib.ListN.{length, take, drop, set, length-append}
+use lib.ListN.{length, take, drop, set}
 use lib.Seq.{sets, take-nil, drop-nil}
 use Rattle.songcode.specs.Playing.{keep}
 use Rattle.songcode.specs.Performance.{total}
@@ -15,7 +15,7 @@ use Rattle.songcode.proofs.ListLaws.{by-cases}
 use Rattle.player.specs.Windows.{window, flat, heads}
 use Rattle.player.specs.declared.pens.Pen.{Pen}
 use Rattle.player.proofs.PageLaws.{measure-none, play-none}
-use Rattle.player.specs.Page.{Page, Ink, Fine, beatBy, beatOf, inked, closeBy, closed, onPage, measureBy, measureOf, play}
+use Rattle.player.specs.Page.{Page, Ink, beatBy, beatOf, inked, closeBy, closed, onPage, measureBy, measureOf, play}
 
 abbrev pen-of : ℕ → ℕ → ℕ → ℕ → ℕ → ℕ → Pen
 pen-of base todo s l m b = record { base = base; todo = todo; skip = s; left = l; m = m; b = b }
@@ -43,10 +43,6 @@ inked-is (w ∷ x) base todo zero zero m b bs =
     inked-is x base todo 0 0 m b bs ∙ ink-eq base todo m _ _ _ _ _ _ _ _ (omega arith) (omega arith) refl refl
 inked-is (w ∷ x) base todo zero (suc l) m b bs =
     inked-is x base todo 0 l m (b + 1) (set bs b w) ∙ ink-eq base todo m _ _ _ _ _ _ _ _ (omega arith) (omega arith) (omega arith) (rw (add-one b))
-
--- one measure: closed with a word if a beat of it was written
-page-eq : (base todo : ℕ) (s s' l l' m m' b b' : ℕ) (ms ms' bs bs' : List ℕ) → s ≡ s' → l ≡ l' → m ≡ m' → b ≡ b' → ms ≡ ms' → bs ≡ bs' → page-of (pen-of base todo s l m b) ms bs ≡ page-of (pen-of base todo s' l' m' b') ms' bs'
-page-eq base todo s s' l l' m m' b b' ms ms' bs bs' e f g h i j = rw (e, f, g, h, i, j)
 
 -- after the piece y of a measure, the words of y in front of those of the rest W
 pub Piece : ℕ → ℕ → ℕ → List ℕ → List ℕ → List ℕ → Page → Type 0

@@ -9,7 +9,6 @@ pub mod WalkLaws
 pub mod ContentLaws
 pub mod ShortLaws
 pub mod WindowLaws
-pub mod TallyLaws
 pub mod SectionLaws
 pub mod CutLaws
 pub mod SoundLaws

@@ -6,4 +6,3 @@ pub mod Walks
 pub mod Windows
 pub mod Examples
 pub mod Texts
-pub mod Tallies

@@ -1,13 +1,11 @@
 // Plays a pattern that stands as token words in a buffer into lent tables of measures and beats, in a section's N.
 mod again;
-mod counts;
 mod leaves;
 mod measures;
 mod pens;
 mod playing;
 mod walks;
 
-pub use counts::count;
 pub use leaves::Definitions;
 pub use leaves::Stretch;
 pub use leaves::is_position;

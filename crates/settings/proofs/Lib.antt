@@ -12,4 +12,3 @@ pub mod WordLaws
 pub mod CutLaws
 pub mod ReadLaws
 pub mod OfLineLaws
-pub mod BackLaws

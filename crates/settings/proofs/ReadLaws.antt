@@ -9,8 +9,8 @@ use borrow.Author.Tests.{eq-eqb, ne-eqb}
 use lib.ListN.{getD, take, drop}
 use Rattle.songcode.specs.Lists.{if_then_else_, isSome, andThen}
 use Rattle.songcode.specs.Bytes.{Byte, placed, ascii, same, isByte}
-use Rattle.songcode.specs.Song.{KeyName, name, artist, original, capo, bpm, time, warning, end}
-use Rattle.songcode.specs.Keys.{timeIn, isSetting}
+use Rattle.songcode.specs.Song.{time}
+use Rattle.songcode.specs.Keys.{timeIn}
 use Rattle.songcode.specs.Modifiers.{cut, cutIn}
 use Rattle.songcode.specs.Numbers.{numberIn, countIn}
 use Rattle.songcode.specs.Lyrics.{countBehind}
@@ -20,8 +20,7 @@ use Rattle.tokens.specs.declared.numbers.Number.{Number}
 use Rattle.tokens.specs.declared.numbers.Number.the-variants.{Is, Not}
 use Rattle.settings.specs.declared.cuts.CutRead.{CutRead}
 use Rattle.settings.specs.Parts.{lengthBefore}
-use Rattle.settings.specs.Names.{keyIs}
-use Rattle.settings.specs.KeySettings.{isNumber, isSettingOf}
+use Rattle.settings.specs.KeySettings.{isNumber}
 use Rattle.settings.specs.Cuts.{cutIs, cutRead, CutFits, cutPair}
 use Rattle.settings.specs.LyricParts.{countFrom}
 use Rattle.settings.proofs.PartLaws.{taken-placed, left-placed}
@@ -44,18 +43,6 @@ pub number-there : (o : Option ℕ) {r : Bool} {m : Number} → r ≡ isNumber m
 unfolding isNumber numberOf isSome
 number-there none e h = e ∙ rw h
 number-there (some n) e h = e ∙ rw h
-
--- The test of a setting for a key that was read.
-pub setting-of : (k : KeyName) (bs : List Byte) → isSettingOf (keyIs (some k)) bs ≡ isSetting k bs
-unfolding isSettingOf keyIs
-setting-of name bs = refl
-setting-of artist bs = refl
-setting-of original bs = refl
-setting-of capo bs = refl
-setting-of bpm bs = refl
-setting-of time bs = refl
-setting-of warning bs = refl
-setting-of end bs = refl
 
 -- A time by the place of its slash.
 module _ (w : List ℕ) (q : ℕ) (e : q ≡ lengthBefore 47 w) where

@@ -1,10 +1,9 @@
 -- Tokens whose words tell them apart: those of a text of at most 65,536 bytes.
 use Prim.Native.Nat.{ℕ, _+_, _*_, _^_, _<_, _≤_}
 use mathlib.Core.List.{List, [], _∷_}
-use lib.Dec.{eqb}
 use lib.ListN.{length}
 use Rattle.songcode.specs.Lists.{if_then_else_}
-use Rattle.songcode.specs.Song.{Sound, chord, again, silence}
+use Rattle.songcode.specs.Song.{chord, again, silence}
 use Rattle.songcode.specs.Tables.{offset}
 use Rattle.songcode.specs.Tokens.{Token, sound, remover, reference, semicolon, colon, lineEnd, opens, closes, wrong}
 
@@ -55,18 +54,3 @@ amount opens = 0
 amount (closes n) = n
 amount (reference n) = n
 amount wrong = 0
-
--- The token of a kind from 54 on.
-unfoldable pub signOf : ℕ → ℕ → Token
-unfolding if_then_else_
-signOf k n =
-    if eqb k 63 then sound silence
-    else if eqb k 62 then sound again
-    else if eqb k 61 then remover
-    else if eqb k 60 then semicolon
-    else if eqb k 59 then colon
-    else if eqb k 58 then lineEnd
-    else if eqb k 57 then opens
-    else if eqb k 56 then closes n
-    else if eqb k 55 then reference n
-    else wrong
