@@ -1,9 +1,13 @@
 // What is printed waits in a buffer until that is full. Each function is told how many bytes wait, and answers how many wait then.
 use super::charts::least;
+ghost use mathlib.Core.Path.{_≡_};
+ghost use Rattle.tables.specs.Output.{Waiting, withByte, withBytes};
 
 pub const ROOM: usize = 16384;
 
-pub fn put(out: &mut [u8; ROOM], waiting: usize, byte: u8) -> usize {
+pub fn put(out: &mut [u8; ROOM], waiting: usize, byte: u8) -> usize
+    ensures { λ r. ⌜ _≡_ {A = Waiting} (record { out = now (out .exit); count = r }) (withByte byte (record { out = now (out .entry); count = waiting })) ⌝ }
+{
     if waiting < ROOM {
         out[waiting] = byte;
         return waiting + 1;
@@ -13,7 +17,9 @@ pub fn put(out: &mut [u8; ROOM], waiting: usize, byte: u8) -> usize {
     1
 }
 
-pub fn put_all(out: &mut [u8; ROOM], waiting: usize, bytes: &[u8]) -> usize {
+pub fn put_all(out: &mut [u8; ROOM], waiting: usize, bytes: &[u8]) -> usize
+    ensures { λ r. ⌜ _≡_ {A = Waiting} (record { out = now (out .exit); count = r }) (withBytes (now (bytes .entry)) (record { out = now (out .entry); count = waiting })) ⌝ }
+{
     let mut now = waiting;
     let mut i = 0;
     while i < bytes.len() {

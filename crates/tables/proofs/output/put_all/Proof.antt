@@ -1,6 +1,9 @@
--- Safe, and the loop ends.
+use Rattle.tables.proofs.OutputLaws.{bytes-next, bytes-over}
+use Rattle.tables.specs.Output.{Waiting, withBytes}
+use mathlib.Core.Path.{_≡_, refl}
+use native.Mathlib.Omega.{arith}
 use Prim.Native.Nat.{_≤_, _-_}
-use lib.ListN.{length}
+use lib.ListN.{length, drop}
 use borrow.Author.Needs.{needs}
 use Rattle.tables.proofs.output.put_all.Statement.{statement}
 use Rattle.tables.proofs.output.put_all.Tie as tie
@@ -9,14 +12,14 @@ use Rattle.tables.proofs.output.put_all.Lts as lts
 use Rattle.tables.proofs.output.put.Reads as put-reads
 
 abbrev Inv-loop : tie.InvT-loop
-Inv-loop out₀ waiting bytes now₀ i₀ out now i = i ≤ length bytes
+Inv-loop out₀ waiting bytes now₀ i₀ out now i = (i ≤ length bytes) × (_≡_ {A = Waiting} (withBytes (drop i bytes) (record { out = out; count = now })) (withBytes bytes (record { out = out₀; count = now₀ })))
 
 abbrev μ-loop : tie.MeasureT-loop
 μ-loop out₀ waiting bytes now₀ i₀ out now i = length bytes - i
 
 -- src/output.rt:19:5
 loop-holds : tie.Need-loop-holds Inv-loop μ-loop
-loop-holds c = search needs
+loop-holds c = (omega arith, refl)
 
 -- src/output.rt:20:29
 shared-slice-read-put : tie.Need-shared-slice-read-put Inv-loop μ-loop
@@ -36,11 +39,16 @@ loop-less c = search needs
 
 -- src/output.rt:19:5
 loop-again : tie.Need-loop-again Inv-loop μ-loop
-loop-again c = search needs
+loop-again c =
+    let l = c .before .before .before .before .loop in
+    let a = c .before .before .before .before .before .before .args in
+    (omega arith, bytes-next (a .bytes .now) (l .i) _ _ _ (c .before .before .before .loop-test .taken) (c .put .ensures) (l .inv .1))
 
 -- src/output.rt:16:1
 returns : tie.Need-returns Inv-loop μ-loop
-returns c = search needs
+returns c =
+    let l = c .before .loop in
+    bytes-over (c .before .before .before .args .bytes .now) (l .i) _ _ (c .loop-test .left) (l .inv .1)
 
 pub put-all-spec : {M : Type 1} → statement M
 put-all-spec =

@@ -1,0 +1,2 @@
+-- What the contracts of the tables program say.
+pub mod Output
