@@ -1,7 +1,7 @@
 // What is printed waits in a buffer until that is full. Each function is told how many bytes wait, and answers how many wait then.
 use super::charts::least;
 ghost use mathlib.Core.Path.{_≡_};
-ghost use Rattle.tables.specs.Output.{Waiting, withByte, withBytes};
+ghost use Rattle.tables.specs.Output.{Waiting, withByte, withBytes, Shows, ShowsTable};
 
 pub const ROOM: usize = 16384;
 
@@ -30,14 +30,18 @@ pub fn put_all(out: &mut [u8; ROOM], waiting: usize, bytes: &[u8]) -> usize
 }
 
 // A number in decimal.
-pub fn put_number(out: &mut [u8; ROOM], waiting: usize, n: u64) -> usize {
+pub fn put_number(out: &mut [u8; ROOM], waiting: usize, n: u64) -> usize
+    ensures { λ r. ⌜ Shows n (record { out = now (out .entry); count = waiting }) (record { out = now (out .exit); count = r }) ⌝ }
+{
     let mut digits = [0u8; 20];
     let k = io::decimal(n, &mut digits);
     put_all(out, waiting, &digits[..k])
 }
 
 // A table: a bar, and each word behind a space.
-pub fn put_words(out: &mut [u8; ROOM], waiting: usize, table: &[u32]) -> usize {
+pub fn put_words(out: &mut [u8; ROOM], waiting: usize, table: &[u32]) -> usize
+    ensures { λ r. ⌜ ShowsTable (now (table .entry)) (record { out = now (out .entry); count = waiting }) (record { out = now (out .exit); count = r }) ⌝ }
+{
     let mut now = put_all(out, waiting, b" |");
     let mut i = 0;
     while i < table.len() {
@@ -47,12 +51,16 @@ pub fn put_words(out: &mut [u8; ROOM], waiting: usize, table: &[u32]) -> usize {
     now
 }
 
-fn wide(word: u32) -> u64 {
+fn wide(word: u32) -> u64
+    ensures { λ r. ⌜ r ≡ word ⌝ }
+{
     word as u64
 }
 
 // The same for wide words.
-pub fn put_wide(out: &mut [u8; ROOM], waiting: usize, table: &[u64]) -> usize {
+pub fn put_wide(out: &mut [u8; ROOM], waiting: usize, table: &[u64]) -> usize
+    ensures { λ r. ⌜ ShowsTable (now (table .entry)) (record { out = now (out .entry); count = waiting }) (record { out = now (out .exit); count = r }) ⌝ }
+{
     let mut now = put_all(out, waiting, b" |");
     let mut i = 0;
     while i < table.len() {
@@ -62,7 +70,10 @@ pub fn put_wide(out: &mut [u8; ROOM], waiting: usize, table: &[u64]) -> usize {
     now
 }
 
-pub fn put_word(out: &mut [u8; ROOM], waiting: usize, n: u64) -> usize {
+// A space and a number.
+pub fn put_word(out: &mut [u8; ROOM], waiting: usize, n: u64) -> usize
+    ensures { λ r. ⌜ Shows n (withByte 32 (record { out = now (out .entry); count = waiting })) (record { out = now (out .exit); count = r }) ⌝ }
+{
     let now = put(out, waiting, b' ');
     put_number(out, now, n)
 }

@@ -1,6 +1,9 @@
--- Safe, and the loop ends.
+use Rattle.tables.proofs.OutputLaws.{words-begin, words-next, words-over}
+use Rattle.tables.specs.Output.{ShowsAll}
+use native.Mathlib.Omega.{arith}
+use mathlib.Core.Path.{refl}
 use Prim.Native.Nat.{_≤_, _-_}
-use lib.ListN.{length}
+use lib.ListN.{length, take}
 use borrow.Author.Needs.{needs}
 use Rattle.tables.proofs.output.put_wide.Statement.{statement}
 use Rattle.tables.proofs.output.put_wide.Tie as tie
@@ -10,7 +13,7 @@ use Rattle.tables.proofs.output.put_all.Reads as put-all-reads
 use Rattle.tables.proofs.output.put_word.Reads as put-word-reads
 
 abbrev Inv-loop : tie.InvT-loop
-Inv-loop out₀ waiting table now₀ i₀ out now i = i ≤ length table
+Inv-loop out₀ waiting table now₀ i₀ out now i = (i ≤ length table) × ShowsAll (take i table) (record { out = out₀; count = now₀ }) (record { out = out; count = now })
 
 abbrev μ-loop : tie.MeasureT-loop
 μ-loop out₀ waiting table now₀ i₀ out now i = length table - i
@@ -25,7 +28,7 @@ put-all-requires c κs = search needs
 
 -- src/output.rt:48:5
 loop-holds : tie.Need-loop-holds Inv-loop μ-loop
-loop-holds c = search needs
+loop-holds c = (omega arith, words-begin (c .before .before .before .before .args .table .now) _)
 
 -- src/output.rt:49:34
 mul-put-word : tie.Need-mul-put-word Inv-loop μ-loop
@@ -49,11 +52,16 @@ loop-less c = search needs
 
 -- src/output.rt:48:5
 loop-again : tie.Need-loop-again Inv-loop μ-loop
-loop-again c = search needs
+loop-again c =
+    let l = c .before .before .before .before .loop in
+    let table = c .before .before .before .before .before .before .before .before .before .args .table .now in
+    (omega arith, words-next table (l .i) _ _ _ _ (c .before .before .before .loop-test .taken) refl (l .inv .1) (c .put-word .ensures))
 
 -- src/output.rt:45:1
 returns : tie.Need-returns Inv-loop μ-loop
-returns c = search needs
+returns c =
+    let l = c .before .loop in
+    words-over (c .before .before .before .before .before .before .args .table .now) (l .i) _ _ _ (c .loop-test .left) (c .before .before .put-all .ensures) (l .inv .1)
 
 pub put-wide-spec : {M : Type 1} → statement M
 put-wide-spec =

@@ -1,6 +1,8 @@
--- Safe, and the loop ends.
+use Rattle.tables.proofs.OutputLaws.{words-begin, words-next, words-over}
+use Rattle.tables.specs.Output.{ShowsAll}
+use native.Mathlib.Omega.{arith}
 use Prim.Native.Nat.{_≤_, _-_}
-use lib.ListN.{length}
+use lib.ListN.{length, take}
 use borrow.Author.Needs.{needs}
 use Rattle.tables.proofs.output.put_words.Statement.{statement}
 use Rattle.tables.proofs.output.put_words.Tie as tie
@@ -11,7 +13,7 @@ use Rattle.tables.proofs.output.put_word.Reads as put-word-reads
 use Rattle.tables.proofs.output.wide.Reads as wide-reads
 
 abbrev Inv-loop : tie.InvT-loop
-Inv-loop out₀ waiting table now₀ i₀ out now i = i ≤ length table
+Inv-loop out₀ waiting table now₀ i₀ out now i = (i ≤ length table) × ShowsAll (take i table) (record { out = out₀; count = now₀ }) (record { out = out; count = now })
 
 abbrev μ-loop : tie.MeasureT-loop
 μ-loop out₀ waiting table now₀ i₀ out now i = length table - i
@@ -26,7 +28,7 @@ put-all-requires c κs = search needs
 
 -- src/output.rt:37:5
 loop-holds : tie.Need-loop-holds Inv-loop μ-loop
-loop-holds c = search needs
+loop-holds c = (omega arith, words-begin (c .before .before .before .before .args .table .now) _)
 
 -- src/output.rt:38:39
 mul-wide : tie.Need-mul-wide Inv-loop μ-loop
@@ -54,11 +56,16 @@ loop-less c = search needs
 
 -- src/output.rt:37:5
 loop-again : tie.Need-loop-again Inv-loop μ-loop
-loop-again c = search needs
+loop-again c =
+    let l = c .before .before .before .before .before .loop in
+    let table = c .before .before .before .before .before .before .before .before .before .before .args .table .now in
+    (omega arith, words-next table (l .i) _ _ _ _ (c .before .before .before .before .loop-test .taken) (c .before .wide .ensures) (l .inv .1) (c .put-word .ensures))
 
 -- src/output.rt:34:1
 returns : tie.Need-returns Inv-loop μ-loop
-returns c = search needs
+returns c =
+    let l = c .before .loop in
+    words-over (c .before .before .before .before .before .before .args .table .now) (l .i) _ _ _ (c .loop-test .left) (c .before .before .put-all .ensures) (l .inv .1)
 
 pub put-words-spec : {M : Type 1} → statement M
 put-words-spec =
