@@ -1,0 +1,148 @@
+"""The rules of the lint: each reads the files of a tree and gives its findings, a line of text each.
+
+A tree is {path: text} with the .rt and .antt files of crates/, by paths such as 'crates/seek/src/lib.rt'.
+"""
+import collections
+import re
+
+LONG = 160
+LONG_PROOF = 60  # a function's proof that is longer begins with a sentence too
+IMPORT = re.compile(r"^(pub )?(?:ghost )?use ([^\s;{]+?)(?:\.\{([^}]*)\}|::\{([^}]*)\})?(?: as (\S+?))?;?$")
+PLACE = re.compile(r"^\s*-- src/\S+\.rt:\d+:\d+\s*$")
+EXPORT = re.compile(r"^pub (?:use (?:\w+::)*|fn |struct |enum |const )(\w+)", re.M)
+LAW = re.compile(r"^(?:pub )?([^\s:(){}]+) : ")
+RELATION = re.compile(r"(?:^|\s)(?:≡|≤|<|↔|¬)(?:\s|$)")
+BINDER = re.compile(r"[({]([^(){}:]+) : ")
+
+
+def is_antt(path):
+    return path.endswith(".antt")
+
+
+def bare(path, text):
+    """The lines without comments."""
+    mark = "--" if is_antt(path) else "//"
+    return [re.sub(rf"(^|\s){mark}.*$", "", line) for line in text.splitlines()]
+
+
+def words(path, lines):
+    """The words of a text: antt's names hold hyphens and signs, Rattle's do not."""
+    text = "\n".join(lines)
+    found = set(re.findall(r"[^\s(){}\[\],;.`\"⌜⌝λ]+", text))
+    if not is_antt(path):
+        found |= set(re.findall(r"\w+", text))
+    if "[]" in text:
+        found.add("[]")
+    return found
+
+
+def imported(match):
+    """The names that an import brings into its file."""
+    if match[5]:
+        return [match[5]]
+    listed = match[3] or match[4]
+    if listed:
+        return [name.split(" as ")[-1].strip() for name in listed.split(",")]
+    return [re.split(r"::|\.", match[2])[-1]]
+
+
+def is_used(name, found):
+    """Whether a name stands among the words: of an operator such as `_≡_`, each of its parts."""
+    parts = [part for part in name.split("_") if part] if name.startswith("_") or name.endswith("_") else [name]
+    return all(part in found for part in parts)
+
+
+def idle_imports(tree):
+    """A name that is imported and used nowhere in the file."""
+    for path, text in tree.items():
+        lines = bare(path, text)
+        matches = [IMPORT.match(line) for line in lines]
+        found = words(path, [line for line, match in zip(lines, matches) if not match])
+        for number, match in enumerate(matches, 1):
+            for name in imported(match) if match and not match[1] else []:
+                if not is_used(name, found):
+                    yield f"{path}:{number}: {name} is imported and not used"
+
+
+def long_lines(tree):
+    """A line over 160 characters."""
+    for path, text in tree.items():
+        for number, line in enumerate(text.splitlines(), 1):
+            if len(line) > LONG:
+                yield f"{path}:{number}: {len(line)} characters"
+
+
+def places(tree):
+    """A comment that names a line and column of the code: it is wrong after the next change above that line."""
+    for path, text in tree.items():
+        for number, line in enumerate(text.splitlines(), 1):
+            if is_antt(path) and PLACE.match(line):
+                yield f"{path}:{number}: {line.strip()}"
+
+
+def first_sentences(tree):
+    """A file that does not begin with a sentence. A short proof of a function needs none: the function has it."""
+    for path, text in tree.items():
+        short = path.endswith("/Proof.antt") and text.count("\n") <= LONG_PROOF
+        if not short and not text.startswith(("//", "--")):
+            yield f"{path}:1: the file does not begin with a sentence"
+
+
+def idle_exports(tree):
+    """What a library exports and no other crate uses."""
+    used = collections.defaultdict(set)
+    for path, text in tree.items():
+        own = path.split("/")[1]
+        for crate, name in re.findall(r"\b(\w+)::(\w+)", text):
+            used[crate].add((own, name))
+        for crate, rest in re.findall(r"Rattle·(\w+)\.(\S+)", text):
+            used[crate] |= {(own, name) for name in rest.split(".")}
+    for path, text in tree.items():
+        crate = path.split("/")[1]
+        if not path.endswith("/src/lib.rt"):
+            continue
+        others = {name for own, name in used[crate] if own != crate}
+        for name in EXPORT.findall(text):
+            if name not in others:
+                yield f"{path}: {name} is exported, and no other crate uses it"
+
+
+def statement(lines):
+    """A law's statement with its bound names numbered and its blanks evened out, or nothing where it is none."""
+    text = " ".join(" ".join(lines).split())
+    text = text.partition(" : ")[2]
+    for k, name in enumerate(name for group in BINDER.findall(text) for name in group.split()):
+        text = re.sub(rf"(?<![^\s(){{}}\[\],;.]){re.escape(name)}(?![^\s(){{}}\[\],;.])", f"#{k}", text)
+    return text if RELATION.search(text) else None
+
+
+def equal_statements(tree):
+    """A law that stands a second time, under whatever name."""
+    seen = {}
+    for path, text in sorted(tree.items()):
+        if not is_antt(path) or "/proofs/" not in path:
+            continue
+        lines = bare(path, text)
+        for number, line in enumerate(lines):
+            if not LAW.match(line) or "tie.Need" in line:
+                continue
+            more = [line]
+            for follow in lines[number + 1:]:
+                if not follow.startswith(" "):
+                    break
+                more.append(follow)
+            said = statement(more)
+            if said in seen:
+                yield f"{path}:{number + 1}: {LAW.match(line)[1]} says what {seen[said]} says"
+            elif said:
+                seen[said] = f"{path}:{number + 1}"
+
+
+RULES = {
+    "idle-imports": idle_imports,
+    "long-lines": long_lines,
+    "places": places,
+    "first-sentences": first_sentences,
+    "idle-exports": idle_exports,
+    "equal-statements": equal_statements,
+}
