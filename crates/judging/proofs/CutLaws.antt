@@ -16,7 +16,8 @@ use Rattle.songcode.specs.Playing.{Beat, saidBy, cutStartSaid, cutEndSaid, appl
 use Rattle.songcode.specs.Performance.{total}
 use Rattle.songcode.specs.Meter.{allFit, count, cutFaults}
 use Rattle.songcode.proofs.ListLaws.{by-cases, true-is-not-false, none-passes, isEmpty-true, times-length}
-use Rattle.songcode.proofs.RowLaws.{Filled, filled-items, length-items}
+use Rattle.songcode.specs.EitherOrder.{Filled}
+use Rattle.songcode.proofs.RowLaws.{filled-items, length-items}
 use Rattle.settings.specs.declared.cuts.Cut as code
 use Rattle.settings.specs.declared.cuts.CutRead.{CutRead}
 use Rattle.settings.specs.declared.cuts.CutRead.the-variants as read

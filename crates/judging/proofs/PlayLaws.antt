@@ -13,7 +13,8 @@ use Rattle.songcode.specs.Performance.{total}
 use Rattle.songcode.specs.Tables.{beatWord}
 use Rattle.songcode.specs.Meter.{rowFaults, playedFaults, sideFaults, sectionMeter, countOf, sideCount, sectionCount}
 use Rattle.songcode.proofs.ListLaws.{append-is-nil, times-length}
-use Rattle.songcode.proofs.RowLaws.{Filled, filled-items}
+use Rattle.songcode.specs.EitherOrder.{Filled}
+use Rattle.songcode.proofs.RowLaws.{filled-items}
 use Rattle.songcode.proofs.SectionPlays.{meter-some, pass-of}
 use Rattle.songcode.proofs.TurnedRows.{total-append}
 use Rattle.settings.specs.declared.cuts.Cut.{Cut}

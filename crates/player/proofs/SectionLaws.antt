@@ -12,6 +12,7 @@ use Rattle.songcode.specs.Lists.{times}
 use Rattle.songcode.specs.Performance.{total}
 use Rattle.songcode.proofs.TurnedRows.{total-append}
 use Rattle.songcode.proofs.ListLaws.{by-cases}
+use Rattle.songcode.proofs.CutLaws.{total-take-le}
 use Rattle.player.specs.declared.pens.Pen.{Pen}
 use Rattle.settings.specs.declared.cuts.Cut.{Cut}
 use Rattle.player.specs.Page.{Page, Fine, play}
@@ -19,7 +20,7 @@ use Rattle.player.specs.Windows.{window, firstBeat, lastBeat, keptOf, wh
 use Rattle.player.proofs.PageLaws.{page, fine-play}
 use Rattle.player.proofs.ContentLaws.{Done, played, sets-append}
 use Rattle.player.proofs.ShortLaws.{Short, total-short, total-few}
-use Rattle.player.proofs.WindowLaws.{total-window, window-none, window-large, total-take-le, length-flat, length-heads, flat-append, heads-append}
+use Rattle.player.proofs.WindowLaws.{total-window, window-none, window-large, length-flat, length-heads, flat-append, heads-append}
 
 abbrev pen-at : ℕ → ℕ → ℕ → ℕ → ℕ → ℕ → Pen
 pen-at base todo s l m b = record { base = base; todo = todo; skip = s; left = l; m = m; b = b }

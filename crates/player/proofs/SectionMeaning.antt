@@ -11,12 +11,14 @@ use Rattle.songcode.specs.Song.{Cut, Modifier}
 use Rattle.songcode.specs.Playing.{Beat, keep, cutFront, turned, cutBack, cutStartSaid, cutEndSaid, saidBy, applied, cutRow, repeats}
 use Rattle.songcode.specs.Performance.{total}
 use Rattle.songcode.specs.Tables.{beatWord, measureWords}
-use Rattle.songcode.proofs.RowLaws.{Filled, filled-times}
+use Rattle.songcode.specs.EitherOrder.{Filled}
+use Rattle.songcode.proofs.RowLaws.{filled-times}
 use Rattle.songcode.proofs.CutFront.{filled-cutFront}
+use Rattle.songcode.proofs.CutLaws.{total-take-le}
 use Rattle.settings.specs.declared.cuts.Cut as code
 use Rattle.player.specs.Texts.{rowWords}
 use Rattle.player.specs.Windows.{cutOf, cutSaid, window, firstBeat, lastBeat, keptOf, wholeOf, sectionRow, flat, heads}
-use Rattle.player.proofs.WindowLaws.{whole-filled, total-window, window-none, total-take-le}
+use Rattle.player.proofs.WindowLaws.{whole-filled, total-window, window-none}
 use Rattle.player.proofs.CutLaws.{zeros, kept-cuts, front-none, back-none}
 use Rattle.player.proofs.PutInLaws.{words-append, words-times}
 

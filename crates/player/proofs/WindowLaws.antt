@@ -1,17 +1,18 @@
 -- Laws of the window: how many beats it holds, and rows of which it keeps all.
-use Prim.Native.Nat.{ℕ, zero, suc, _+_, _-_, _*_, _<_, _≤_, min}
-use mathlib.Core.Path.{_≡_, refl, sym, ap, _∙_}
+use Prim.Native.Nat.{ℕ, suc, _+_, _-_, _≤_, min}
+use mathlib.Core.Path.{_≡_, refl, ap, _∙_}
 use mathlib.Core.List.{List, [], _∷_, _++_, append-assoc}
 use mathlib.Core.Bool.{Bool, true, false}
 use native.Mathlib.Omega.{arith}
 use borrow.Author.Tests.{leb-true, leb-false}
 use lib.Dec.{leb}
-use lib.ListN.{length, take, drop, length-append, length-take, length-drop, take-append-drop}
-use lib.Seq.{take-all, drop-nil}
+use lib.ListN.{length, take, drop, length-append, length-take, length-drop}
+use lib.Seq.{take-all}
 use Rattle.songcode.specs.Playing.{keep}
 use Rattle.songcode.specs.Performance.{total}
-use Rattle.songcode.proofs.TurnedRows.{total-append}
-use Rattle.songcode.proofs.RowLaws.{Filled}
+use Rattle.songcode.specs.EitherOrder.{Filled}
+use Rattle.songcode.proofs.CutFront.{keep-some}
+use Rattle.songcode.proofs.CutLaws.{total-keep}
 use Rattle.player.specs.Windows.{window, wholeOf, flat, heads}
 
 sum-min : (n d t : ℕ) → min n d + min (n - d) t ≡ min n (d + t)
@@ -33,21 +34,6 @@ sums n s l t = go (leb s l) refl
         rw (a, c) (sum-min n 0 (t - (s - l)))
 
 module _ {A : Type 0} where
-  pub total-keep : (y : List A) (r : List (List A)) → total (keep y r) ≡ length y + total r
-  unfolding total keep
-  total-keep [] r = omega arith
-  total-keep (w ∷ y) r = refl
-
-  pub keep-append : (y : List A) (a b : List (List A)) → keep y (a ++ b) ≡ keep y a ++ b
-  unfolding keep
-  keep-append [] a b = refl
-  keep-append (w ∷ y) a b = refl
-
-  pub keep-some : (y : List A) (r : List (List A)) → 1 ≤ length y → keep y r ≡ y ∷ r
-  unfolding keep
-  keep-some [] r h = let z : ⊥ = omega arith in absurd z
-  keep-some (w ∷ y) r h = refl
-
   -- How many beats the window holds.
   pub total-window : (s n : ℕ) (row : List (List A)) → total (window s n row) ≡ min n (total row - s)
   unfolding window total
@@ -81,9 +67,6 @@ module _ {A : Type 0} where
   pub whole-filled : (row : List (List A)) → Filled row → wholeOf row ≡ row
   unfolding wholeOf
   whole-filled row f = window-filled (total row) row f (omega arith)
-
-  pub total-take-le : (m : ℕ) (row : List (List A)) → total (take m row) ≤ total row
-  total-take-le m row = let e = ap total (take-append-drop m row) in let f = total-append (take m row) (drop m row) in omega arith
 
   -- The words of rows behind one another.
   pub length-flat : (row : List (List A)) → length (flat row) ≡ total row

@@ -51,6 +51,9 @@ pub mod RowLaws
 pub mod TurnedRows
 pub mod CutFront
 pub mod CutBack
+pub mod CutLaws
+pub mod CutsCommute
+pub mod BeatsCounted
 pub mod InheritsAgree
 pub mod SectionPlays
 pub mod MeterAgree
@@ -67,4 +70,5 @@ pub mod AnswerAgree
 pub mod FindingAgree
 pub mod StarredProved
 pub mod EdgesProved
+pub mod EitherOrderProved
 pub mod Demanded

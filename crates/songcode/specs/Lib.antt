@@ -36,4 +36,5 @@ pub mod Finding
 -- Last what is promised of all this.
 pub mod Starred
 pub mod Edges
+pub mod EitherOrder
 pub mod Demands

@@ -9,7 +9,7 @@ use lib.ListN.{length, getD, take, drop}
 use lib.Seq.{drop-cons, drop-drop, take-nil}
 use Rattle.songcode.specs.Bytes.{Byte, placed}
 use Rattle.text.specs.Spans.{part}
-use Rattle.text.proofs.ListLaws.{drop-take}
+use Rattle.songcode.proofs.ListLaws.{drop-take}
 
 module _ (s : List ℕ) (a e : ℕ) where
   pub part-cons : a < e → e ≤ length s → part a e s ≡ getD s a 0 ∷ part (a + 1) e s
