@@ -8,6 +8,9 @@ import json
 import pathlib
 import sys
 
+sys.path.insert(0, str(pathlib.Path(__file__).resolve().parents[1] / "driver"))
+import packed
+
 LARGEST_CHART = 2000  # bytes
 LARGEST_SONG = 1200  # beats
 LARGEST_GENERATED_CHART = 400
@@ -25,7 +28,6 @@ use Rattle.songcode.specs.Answer.{Room, Answer, refused, accepted, answer}
 
 """
 
-TABLES = ("keys", "sections", "measures", "beats", "items")
 LARGE = {"keys": 8, "sections": 65536, "measures": 65535, "beats": 2097120, "items": 65536}
 TOO_LONG = 65537
 
@@ -37,7 +39,7 @@ def numbers(words):
 
 
 def room(lengths):
-    return "(record { " + "; ".join(f"{n} = {lengths[n]}" for n in TABLES) + " })"
+    return "(record { " + "; ".join(f"{n} = {lengths[n]}" for n in packed.TABLES) + " })"
 
 
 def text(data):
@@ -49,7 +51,7 @@ def text(data):
 def expected(row):
     if row["refusal"]:
         return f"refused {row['refusal']} {row['line']}"
-    return "accepted (record { " + "; ".join(f"{n} = {numbers(row[n])}" for n in TABLES) + " })"
+    return "accepted (record { " + "; ".join(f"{n} = {numbers(row[n])}" for n in packed.TABLES) + " })"
 
 
 def computable(row, data):
@@ -66,9 +68,9 @@ def charts_in(charts):
 
 def tight(row):
     """Tables exactly long enough, and each one word too short."""
-    enough = {n: len(row[n]) for n in TABLES}
+    enough = {n: len(row[n]) for n in packed.TABLES}
     yield "exactly enough", enough, expected(row)
-    for n in TABLES:
+    for n in packed.TABLES:
         if enough[n]:
             yield f"{n} too short", dict(enough, **{n: enough[n] - 1}), "refused 18 0"
 
@@ -85,30 +87,19 @@ def claims(charts):
     yield "over-long", LARGE, f"(replicate {TOO_LONG} 65)", "refused 1 0"
 
 
-def unpacked(data):
-    """The charts of a packed list, each with the words of its header line."""
-    at = 0
-    while at < len(data):
-        end = data.index(b"\n", at)
-        header = data[at:end].split()
-        at = end + 1 + int(header[0])
-        yield header, data[end + 1 : at]
-
-
 def lengths_in(header):
-    given = dict(zip(TABLES, header[1:]))
-    return {n: LARGE[n] if given.get(n, b"-") == b"-" else int(given[n]) for n in TABLES}
+    given = dict(zip(packed.TABLES, header[1:]))
+    return {n: LARGE[n] if given.get(n, "-") == "-" else int(given[n]) for n in packed.TABLES}
 
 
-def generated(packed, answers):
+def generated(listed, answers):
     """Charts that nobody wrote by hand, with the answers of the second reader."""
-    for (header, data), line in zip(unpacked(packed.read_bytes()), answers.read_text().splitlines(), strict=True):
-        said, *tables = line.split("|")
-        number, refusal, place, _, _, beats, _ = (int(word) for word in said.split())
+    charts = packed.unpacked(listed.read_bytes())
+    for number, ((header, data), line) in enumerate(zip(charts, answers.read_text().splitlines(), strict=True)):
+        (refusal, place, _, _, beats, _), tables = packed.answer(line)
         if len(data) > LARGEST_GENERATED_CHART or beats > LARGEST_GENERATED_SONG:
             continue
-        row = {"refusal": refusal, "line": place}
-        row.update((n, [int(w) for w in words.split()]) for n, words in zip(TABLES, tables, strict=True))
+        row = {"refusal": refusal, "line": place, **dict(zip(packed.TABLES, tables, strict=True))}
         yield f"generated {number}", lengths_in(header), text(data), expected(row)
 
 

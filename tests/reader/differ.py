@@ -5,20 +5,13 @@ usage: differ.py LIST EXPECTED FOUND FILE
 Fails if there is a difference.
 """
 import itertools
+import pathlib
 import sys
 
+sys.path.insert(0, str(pathlib.Path(__file__).resolve().parents[1] / "driver"))
+import packed
+
 SHOWN = 120  # characters of a line that are shown around the first difference
-
-
-def chart_at(data, number):
-    at = 0
-    while True:
-        end = data.index(b"\n", at)
-        length = int(data[at:end].split()[0])
-        if number == 0:
-            return data[at:end], data[end + 1:end + 1 + length]
-        at = end + 1 + length
-        number -= 1
 
 
 def around(line, place):
@@ -27,15 +20,15 @@ def around(line, place):
 
 
 def main():
-    packed, expected, found = (open(name, "rb").read() for name in sys.argv[1:4])
+    listed, expected, found = (open(name, "rb").read() for name in sys.argv[1:4])
     for number, (one, other) in enumerate(itertools.zip_longest(expected.splitlines(), found.splitlines(), fillvalue=b"")):
         if one == other:
             continue
         place = next((i for i, (a, b) in enumerate(zip(one, other)) if a != b), min(len(one), len(other)))
-        header, chart = chart_at(packed, number)
+        header, chart = next(itertools.islice(packed.unpacked(listed), number, None))
         with open(sys.argv[4], "wb") as file:
             file.write(chart)
-        print(f"chart {number} differs at character {place} of its line; header {header.decode()}; chart in {sys.argv[4]}")
+        print(f"chart {number} differs at character {place} of its line; header {' '.join(header)}; chart in {sys.argv[4]}")
         print(f"expected ...{around(one, place)}")
         print(f"found    ...{around(other, place)}")
         sys.exit(1)

@@ -3,7 +3,11 @@
 
 usage: lengths.py < LIST > LIST
 """
+import pathlib
 import sys
+
+sys.path.insert(0, str(pathlib.Path(__file__).resolve().parents[1] / "driver"))
+import packed
 
 MIXED = [
     None,
@@ -17,18 +21,9 @@ MIXED = [
 
 
 def main():
-    data = sys.stdin.buffer.read()
-    at = 0
-    number = 0
-    while at < len(data):
-        end = data.index(b"\n", at)
-        words = data[at:end].split()
-        chart = data[end + 1:end + 1 + int(words[0])]
+    for number, (header, chart) in enumerate(packed.unpacked(sys.stdin.buffer.read())):
         lengths = MIXED[number % len(MIXED)]
-        header = words if lengths is None else [words[0], *(str(length).encode() for length in lengths)]
-        sys.stdout.buffer.write(b" ".join(header) + b"\n" + chart)
-        at = end + 1 + len(chart)
-        number += 1
+        sys.stdout.buffer.write(packed.pack(chart, header[1:] if lengths is None else lengths))
 
 
 main()

@@ -5,7 +5,7 @@
 enum { EXTENSION_LIMIT = 31 }; /* bytes */
 
 /* Seven rows by letter, numbered from 0 as they stand. */
-static const char *const base_chords[] = {
+static const char *const base_chords[BASE_CHORDS] = {
     "A", "A#", "Ab", "Am", "A#m", "Abm",
     "B", "Bb", "Bm", "Bbm",
     "C", "C#", "Cm", "C#m",
@@ -14,8 +14,6 @@ static const char *const base_chords[] = {
     "F", "F#", "Fm", "F#m",
     "G", "Gb", "G#", "Gm", "Gbm", "G#m",
 };
-
-enum { BASE_CHORDS = sizeof base_chords / sizeof base_chords[0] };
 
 const char *base_name(unsigned base)
 {

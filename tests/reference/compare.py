@@ -1,29 +1,26 @@
 #!/usr/bin/env python3
-"""Compares the second reader with the charts and their answers: listing, refusal, line, counts and every table word.
+"""Compares a reader with the charts and their answers: listing, refusal, line, counts and every table word.
 
-usage: compare.py REFERENCE CHARTS
+usage: compare.py CHARTS READER LISTING
+READER and LISTING are commands: one answers a packed list, the other lists a chart.
 Prints one line for each difference and a line with the totals; fails if there is a difference.
 """
 import json
 import pathlib
+import shlex
 import subprocess
 import sys
 
-TABLES = ["keys", "sections", "measures", "beats", "items"]
+sys.path.insert(0, str(pathlib.Path(__file__).resolve().parents[1] / "driver"))
+import packed
+
 LEFT_OUT = "left out"
 
 
-def read_answers(output):
-    """The answers of `reference tables`, by the chart's name."""
-    answers = {}
-    for line in output.splitlines():
-        head, *tables = line.split("|")
-        name, refusal, at, *counts = head.split()
-        answer = {"refusal": int(refusal), "line": int(at), "counts": [int(count) for count in counts]}
-        for table, words in zip(TABLES, tables, strict=True):
-            answer[table] = [int(word) for word in words.split()]
-        answers[name] = answer
-    return answers
+def named(numbers, tables):
+    """An answer by the names that tables.jsonl has."""
+    refusal, line, *counts = numbers
+    return {"refusal": refusal, "line": line, "counts": counts, **dict(zip(packed.TABLES, tables, strict=True))}
 
 
 def leave_out(expected, found):
@@ -38,33 +35,31 @@ def shorten(part):
     return text if len(text) <= 200 else text[:200] + "..."
 
 
-def differences(reference, charts):
+def differences(charts, reader, listing):
     """All differences, each a line of text, and the number of charts."""
     expected_answers = [json.loads(line) for line in (charts / "tables.jsonl").read_text().splitlines()]
     names = [answer["chart"] for answer in expected_answers]
-    paths = [str(charts / f"{name}.sc") for name in names]
-    run = subprocess.run([reference, "tables", *paths], stdout=subprocess.PIPE, text=True, check=True)
-    answers = read_answers(run.stdout)
+    texts = [(charts / f"{name}.sc").read_bytes() for name in names]
+    answers = packed.run(reader, b"".join(packed.pack(text) for text in texts))
     found_differences = []
-    for expected, path in zip(expected_answers, paths):
+    for expected, text, answer in zip(expected_answers, texts, answers, strict=True):
         name = expected["chart"]
-        found = answers[name]
+        found = named(*answer)
         leave_out(expected, found)
-        for part in ["refusal", "line", "counts", *TABLES]:
+        for part in ["refusal", "line", "counts", *packed.TABLES]:
             if expected[part] != found[part]:
                 found_differences.append(f"{name}: {part}: expected {shorten(expected[part])}, found {shorten(found[part])}")
-        with open(path, "rb") as chart:
-            listing = subprocess.run([reference, "listing"], stdin=chart, stdout=subprocess.PIPE, check=True).stdout
-        if listing != (charts / f"{name}.listing").read_bytes():
-            found_differences.append(f"{name}: listing: found {listing[:200]!r}")
+        listed = subprocess.run(listing, input=text, stdout=subprocess.PIPE, check=True).stdout
+        if listed != (charts / f"{name}.listing").read_bytes():
+            found_differences.append(f"{name}: listing: found {listed[:200]!r}")
     for extra in sorted({path.stem for path in charts.glob("*.sc")} ^ set(names)):
         found_differences.append(f"{extra}: has a chart or an answer but not both")
     return found_differences, len(names)
 
 
 def main():
-    reference, charts = sys.argv[1], pathlib.Path(sys.argv[2])
-    found, count = differences(reference, charts)
+    charts, reader, listing = pathlib.Path(sys.argv[1]), *map(shlex.split, sys.argv[2:4])
+    found, count = differences(charts, reader, listing)
     for difference in found:
         print(difference)
     print(f"{count} charts compared, {len(found)} differences")

@@ -9,7 +9,6 @@ static const size_t large_enough[TABLES] = {
 };
 
 enum { LENGTH_LIMIT = 1 << 24 };        /* longest table that can be asked for, in words */
-#define FILL UINT32_C(0x5A5A5A5A)       /* word i of a table starts as FILL + i */
 
 /* A decimal number of words, or `-`. */
 bool read_length(const char *word, size_t *length)

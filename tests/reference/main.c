@@ -109,7 +109,7 @@ static bool read_header(char *header, size_t *chart_length, struct lengths *leng
     return true;
 }
 
-/* One chart for each header; a list that ends inside a header or a chart is answered up to there. */
+/* One chart, or another call, for each header; a list that ends inside a header, a chart or a call is answered up to there. */
 static int run_packed(const struct options *options)
 {
     char header[HEADER_LIMIT];
@@ -118,6 +118,11 @@ static int run_packed(const struct options *options)
         size_t length;
         char name[NUMBER_ROOM];
         snprintf(name, sizeof name, "%lu", number);
+        if (*header >= 'a' && *header <= 'z' && strchr(header, '\n') != NULL) {
+            if (!answer_call(name, header, options->whole))
+                return complain("bad or cut call ", name);
+            continue;
+        }
         if (strchr(header, '\n') == NULL || !read_header(header, &length, &lengths))
             return complain("bad or cut header of chart ", name);
         unsigned char *chart = chart_memory(length);
@@ -179,8 +184,10 @@ int main(int count, char **words)
         return run_tables(&options, rest, rest_count);
     if (strcmp(command, "packed") == 0 && rest_count == 0)
         return run_packed(&options);
+    if (strcmp(command, "calls") == 0 && rest_count == 0)
+        return show_calls(), EXIT_SUCCESS;
     if (strcmp(command, "find") == 0 && rest_count > 0)
         return run_find(rest, rest_count);
     return complain("usage: reference [--whole] [--lengths KEYS SECTIONS MEASURES BEATS ITEMS] ",
-                    "listing | tables FILE... | packed | find BEAT WORD...");
+                    "listing | tables FILE... | packed | calls | find BEAT WORD...");
 }

@@ -11,6 +11,8 @@ enum table { KEYS_TABLE, SECTIONS_TABLE, MEASURES_TABLE, BEATS_TABLE, ITEMS_TABL
 /* A table's length in words, or LARGE_ENOUGH for room for any song. */
 #define LARGE_ENOUGH SIZE_MAX
 
+#define FILL UINT32_C(0x5A5A5A5A) /* word i of lent memory starts as FILL + i, cut to its size */
+
 struct lengths {
     size_t words[TABLES];
 };
@@ -19,6 +21,10 @@ struct lengths {
 bool read_length(const char *word, size_t *length);
 struct reader_tables lend_tables(struct lengths lengths);
 void take_back_tables(struct reader_tables *tables);
+
+/* calls.c */
+bool answer_call(const char *name, char *header, bool show_whole);
+void show_calls(void);
 
 /* show.c */
 void show_listing(const unsigned char *text, struct reader_answer answer, const struct reader_tables *tables);

@@ -10,6 +10,7 @@ import sys
 sys.dont_write_bytecode = True  # nothing is written beside the sources
 
 import tighten
+from tighten import packed
 
 FILL = 0x5A5A5A5A  # word i of a table starts as this plus i
 TABLE_TOO_SHORT = [18, 0, 0, 0, 0, 0]
@@ -29,10 +30,10 @@ def expected_answer(lengths, answer):
 
 def main():
     reference = sys.argv[1]
-    cases = tighten.tightened(reference, tighten.read_packed(sys.stdin.buffer.read()))
-    packed = b"".join(tighten.pack(chart, lengths) for chart, lengths, _answer in cases)
+    cases = tighten.tightened(reference, sys.stdin.buffer.read())
+    tight = b"".join(packed.pack(chart, lengths) for chart, lengths, _answer in cases)
     broken = 0
-    for (chart, lengths, answer), found in zip(cases, tighten.run_packed(reference, packed, "--whole"), strict=True):
+    for (chart, lengths, answer), found in zip(cases, packed.run([reference, "--whole", "packed"], tight), strict=True):
         if found != expected_answer(lengths, answer):
             broken += 1
             print(f"lengths {lengths}, chart {chart[:200]!r}: found {found[0]}", file=sys.stderr)

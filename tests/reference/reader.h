@@ -1,5 +1,5 @@
-/* The second reader of SongCode charts: its two calls, for any C program to link.
-   Written from document 01 alone, apart from the proved reader, to be compared with it. */
+/* The second reader of SongCode charts: its calls, for any C program to link.
+   Written from documents 01 and 02 alone, apart from the proved reader, to be compared with it. */
 #ifndef READER_H
 #define READER_H
 
@@ -13,7 +13,7 @@ enum {
     READER_KEYS = 8               /* words of the keys table */
 };
 
-/* The refusals, numbered as in document 01. */
+/* The refusals, numbered as in documents 01 and 02. */
 enum reader_refusal {
     READER_ACCEPTED = 0,
     REFUSED_TEXT_TOO_LONG = 1,
@@ -34,7 +34,12 @@ enum reader_refusal {
     REFUSED_COUNT_MISSING = 16,
     REFUSED_COUNT_SUM = 17,
     REFUSED_TABLE_TOO_SHORT = 18,
-    REFUSED_BEAT_NOT_FOUND = 19
+    REFUSED_BEAT_NOT_FOUND = 19,
+    REFUSED_COPY_TOO_LONG = 20,
+    REFUSED_MOVE = 21,
+    REFUSED_BEAT_WORD = 22,
+    REFUSED_TABLES_APART = 25,
+    REFUSED_TEMPO = 26
 };
 
 /* The memory lent to a call: five tables, each with its length in words. */
@@ -72,5 +77,32 @@ struct reader_answer reader_read(const unsigned char *text, size_t length, const
 
 /* The place of the first record of any measures table that holds the beat, or refusal 19 and place 0. */
 struct reader_place reader_find(const uint32_t *measures, size_t length, uint32_t beat);
+
+/* The answer that the reader gives where every table is long enough. */
+struct reader_answer reader_count(const unsigned char *text, size_t length);
+
+/* The answer of a copy: refusal 0, line 0 and the bytes written, or a refusal with its line and length 0. */
+struct reader_copied {
+    unsigned refusal;
+    size_t line;
+    size_t length;
+};
+
+/* A copy of the song with nothing folded, into the buffer. */
+struct reader_copied reader_flat(const unsigned char *text, size_t length, unsigned char *buffer, size_t buffer_length);
+
+/* Moves a beat table by semitones into a second one; the refusal. */
+unsigned reader_concert(const uint32_t *beats, size_t length, int32_t move, uint32_t *second, size_t second_length);
+
+/* The tables that say when a song's measures are played. */
+struct reader_song {
+    const uint64_t *sections;
+    size_t sections_length;
+    const uint32_t *measures;
+    size_t measures_length;
+};
+
+/* The start of each measure in microseconds, and the song's end, which is 0 after a refusal; the refusal. */
+unsigned reader_cues(const struct reader_song *song, uint64_t *cues, size_t cues_length, uint64_t *end);
 
 #endif

@@ -10,6 +10,7 @@ enum {
     SMALLEST_REPEAT = 2,     /* loops and repeats start here */
     DEFINITION_LIMIT = 26,
     DEFAULT_TIME = 4,
+    BASE_CHORDS = 34,
     NO_BPM = 511,            /* written where neither section nor song has one */
     SILENCE = 63             /* the base written for silence */
 };
@@ -201,6 +202,10 @@ struct lyric read_lyric(const struct song *song, size_t line);
 void check_counts_present(struct song *song);
 void check_count_sums(struct song *song);
 size_t count_items(const struct song *song);
+
+/* stages.c: stages 1 to 7, and 8 if there are tables; what the song then holds is given back. */
+void run_stages(struct song *song, const struct reader_tables *tables);
+void free_song(struct song *song);
 
 /* tables.c */
 uint32_t pack_beat(struct chord chord, bool head);

@@ -13,7 +13,7 @@ static void check_tables(struct song *song, const struct reader_tables *tables)
 }
 
 /* Runs the stages; the first with a refusal is the last to run. */
-static void run_stages(struct song *song, const struct reader_tables *tables)
+void run_stages(struct song *song, const struct reader_tables *tables)
 {
     check_text(song);
     if (song->refusal == READER_ACCEPTED)
@@ -32,29 +32,45 @@ static void run_stages(struct song *song, const struct reader_tables *tables)
         check_count_sums(song);
     if (song->refusal == READER_ACCEPTED) {
         song->items_to_write = count_items(song);
-        check_tables(song, tables);
+        if (tables != NULL)
+            check_tables(song, tables);
     }
+}
+
+void free_song(struct song *song)
+{
+    free(song->lines);
+    free(song->blocks);
+    free(song->sections);
+    free(song->measures);
+    free(song->beats);
+}
+
+/* The counts of a song that passed the stages, or its refusal. */
+static struct reader_answer answer_of(const struct song *song)
+{
+    if (song->refusal != READER_ACCEPTED)
+        return (struct reader_answer){.refusal = song->refusal, .line = song->refusal_line};
+    return (struct reader_answer){READER_ACCEPTED, 0, song->section_count, song->measure_count, song->beats_to_write,
+                                  song->items_to_write};
 }
 
 struct reader_answer reader_read(const unsigned char *text, size_t length, const struct reader_tables *tables)
 {
     struct song song = {.text = text, .length = length};
-    struct reader_answer answer = {0};
     run_stages(&song, tables);
-    if (song.refusal == READER_ACCEPTED) {
+    if (song.refusal == READER_ACCEPTED)
         write_tables(&song, tables);
-        answer.sections = song.section_count;
-        answer.measures = song.measure_count;
-        answer.beats = song.beats_to_write;
-        answer.items = song.items_to_write;
-    } else {
-        answer.refusal = song.refusal;
-        answer.line = song.refusal_line;
-    }
-    free(song.lines);
-    free(song.blocks);
-    free(song.sections);
-    free(song.measures);
-    free(song.beats);
+    struct reader_answer answer = answer_of(&song);
+    free_song(&song);
+    return answer;
+}
+
+struct reader_answer reader_count(const unsigned char *text, size_t length)
+{
+    struct song song = {.text = text, .length = length};
+    run_stages(&song, NULL);
+    struct reader_answer answer = answer_of(&song);
+    free_song(&song);
     return answer;
 }

@@ -5,42 +5,18 @@ usage: tighten.py REFERENCE < LIST > LIST
 An accepted chart is written with tables exactly long enough, with a few words to spare, and with each table in turn one word
 too short; a refused one with small tables.
 """
-import subprocess
+import pathlib
 import sys
 
-LARGE = ["-"] * 5
+sys.path.insert(0, str(pathlib.Path(__file__).resolve().parents[1] / "driver"))
+import packed
+
 SPARE = 3                     # words more than needed
 REFUSED = [8, 2, 4, 8, 2]     # the lengths lent for a refused chart
 
 
-def read_packed(data):
-    """The charts of a packed list, without their table lengths."""
-    charts = []
-    at = 0
-    while at < len(data):
-        end = data.index(b"\n", at)
-        length = int(data[at:end].split()[0])
-        charts.append(data[end + 1:end + 1 + length])
-        at = end + 1 + length
-    return charts
-
-
-def pack(chart, lengths):
-    return " ".join(str(word) for word in [len(chart), *lengths]).encode() + b"\n" + chart
-
-
-def run_packed(reference, packed, *options):
-    """The answers to a packed list: for each the refusal, line and counts, and the words of the five tables."""
-    run = subprocess.run([reference, *options, "packed"], input=packed, stdout=subprocess.PIPE, check=True)
-    answers = []
-    for line in run.stdout.decode().splitlines():
-        head, *tables = line.split("|")
-        answers.append(([int(word) for word in head.split()[1:]], [[int(word) for word in table.split()] for table in tables]))
-    return answers
-
-
-def lengths_to_try(answer):
-    refusal, _line, *counts = answer
+def lengths_to_try(numbers):
+    refusal, _line, *counts = numbers
     if refusal:
         return [REFUSED]
     needed = [8, *counts]
@@ -51,13 +27,14 @@ def lengths_to_try(answer):
     return tries
 
 
-def tightened(reference, charts):
-    """For each chart and each choice of lengths: the chart, the lengths, and its answer with large tables."""
-    answers = run_packed(reference, b"".join(pack(chart, LARGE) for chart in charts))
+def tightened(reference, data):
+    """For each chart of a list and each choice of lengths: the chart, the lengths, and its answer with large tables."""
+    charts = [chart for _header, chart in packed.unpacked(data)]
+    answers = packed.run([reference, "packed"], b"".join(packed.pack(chart) for chart in charts))
     return [(chart, lengths, answer)
             for chart, answer in zip(charts, answers, strict=True) for lengths in lengths_to_try(answer[0])]
 
 
 if __name__ == "__main__":
-    for one_chart, one_lengths, _answer in tightened(sys.argv[1], read_packed(sys.stdin.buffer.read())):
-        sys.stdout.buffer.write(pack(one_chart, one_lengths))
+    for one_chart, one_lengths, _answer in tightened(sys.argv[1], sys.stdin.buffer.read()):
+        sys.stdout.buffer.write(packed.pack(one_chart, one_lengths))

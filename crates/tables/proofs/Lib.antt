@@ -1,3 +1,0 @@
--- Laws that the proofs of the functions cite.
-pub mod OutputLaws
-pub mod RoundLaws

@@ -1,2 +1,0 @@
--- What the contracts of the tables program say.
-pub mod Output
