@@ -5,9 +5,12 @@
    once with memory of their own. They write nothing but the memory lent to them, and only what is said below.
    turnipcart_read takes about 280 KB of stack.
 
+   Read one byte more than TURNIPCART_TEXT_LIMIT of a file (if it has them), and give all of them to the call: a file that is too long is
+   then refused as such, and never taken for a shorter chart. Read to the file's end, and take a failed read for no chart at all.
+
    What the caller owes, which no call can look at:
    - every pointer points to as many words as the length beside it says, aligned as C aligns them, and is not null, not even beside
-     the length 0;
+     the length 0 (turnipcart_read_tables, at the end, allows that);
    - no two pieces of memory lent to one call overlap, and nothing else writes them, or for the written ones reads them, while the
      call runs. */
 #ifndef TURNIPCART_H
@@ -16,9 +19,18 @@
 #include <stddef.h>
 #include <stdint.h>
 
-#if !defined(__x86_64__) || defined(_WIN32)
+#if !(defined(__x86_64__) && !defined(_WIN32)) && !defined(__wasm__)
 #error "libturnipcart.a is for x86-64 with the calling convention of Linux"
 #endif
+
+/* This version, which the program and the installed files carry too. */
+#define TURNIPCART_VERSION_MAJOR 1
+#define TURNIPCART_VERSION_MINOR 0
+#define TURNIPCART_VERSION_PATCH 0
+#define TURNIPCART_VERSION "1.0.0"
+
+/* Bytes of stack that every call is content with: what a thread that calls must have, beside its own. */
+#define TURNIPCART_STACK 327680
 
 #ifdef __cplusplus
 extern "C" {
@@ -247,6 +259,99 @@ static inline size_t turnipcart_item_measures(uint64_t word)
 static inline unsigned turnipcart_item_style(uint64_t word)
 {
     return (unsigned)(word & 3);
+}
+
+/* For callers: the five tables in one struct, and what to do where one is too short. */
+
+struct turnipcart_tables {
+    uint32_t *keys;
+    size_t keys_length;
+    uint64_t *sections;
+    size_t sections_length;
+    uint32_t *measures;
+    size_t measures_length;
+    uint32_t *beats;
+    size_t beats_length;
+    uint64_t *items;
+    size_t items_length;
+};
+
+/* turnipcart_read over the struct. The text, and any table, may be null beside the length 0. */
+static inline size_t turnipcart_read_tables(const unsigned char *text, size_t text_length, const struct turnipcart_tables *tables,
+                                            struct turnipcart_answer *answer)
+{
+    uint64_t nothing[5] = {0, 0, 0, 0, 0}; /* addresses for what is null; their lengths are 0, so nothing is read or written there */
+    return turnipcart_read(text == NULL ? (const unsigned char *)&nothing[4] : text, text_length,
+                           tables->keys == NULL ? (uint32_t *)&nothing[0] : tables->keys, tables->keys_length,
+                           tables->sections == NULL ? &nothing[1] : tables->sections, tables->sections_length,
+                           tables->measures == NULL ? (uint32_t *)&nothing[2] : tables->measures, tables->measures_length,
+                           tables->beats == NULL ? (uint32_t *)&nothing[3] : tables->beats, tables->beats_length,
+                           tables->items == NULL ? &nothing[4] : tables->items, tables->items_length, answer);
+}
+
+enum turnipcart_table {
+    TURNIPCART_TABLE_KEYS,
+    TURNIPCART_TABLE_SECTIONS,
+    TURNIPCART_TABLE_MEASURES,
+    TURNIPCART_TABLE_BEATS,
+    TURNIPCART_TABLE_ITEMS,
+    TURNIPCART_TABLES
+};
+
+/* How many words a table must have for the song with these counts. */
+static inline size_t turnipcart_words_needed(const struct turnipcart_answer *counts, enum turnipcart_table table)
+{
+    switch (table) {
+    case TURNIPCART_TABLE_KEYS: return TURNIPCART_KEYS;
+    case TURNIPCART_TABLE_SECTIONS: return counts->sections;
+    case TURNIPCART_TABLE_MEASURES: return counts->measures;
+    case TURNIPCART_TABLE_BEATS: return counts->beats;
+    case TURNIPCART_TABLE_ITEMS: return counts->items;
+    default: return 0;
+    }
+}
+
+/* The first table that is too short for the song with these counts; TURNIPCART_TABLES where none is. After refusal 18, with the counts
+   that turnipcart_count gives for the text. */
+static inline enum turnipcart_table turnipcart_short_table(const struct turnipcart_tables *tables, const struct turnipcart_answer *counts)
+{
+    if (tables->keys_length < TURNIPCART_KEYS)
+        return TURNIPCART_TABLE_KEYS;
+    if (tables->sections_length < counts->sections)
+        return TURNIPCART_TABLE_SECTIONS;
+    if (tables->measures_length < counts->measures)
+        return TURNIPCART_TABLE_MEASURES;
+    if (tables->beats_length < counts->beats)
+        return TURNIPCART_TABLE_BEATS;
+    return tables->items_length < counts->items ? TURNIPCART_TABLE_ITEMS : TURNIPCART_TABLES;
+}
+
+/* A refusal in a few words; "" for a number that is none. */
+static inline const char *turnipcart_refusal_text(size_t refusal)
+{
+    static const char *const texts[] = {
+        "accepted",
+        "the file is too long",
+        "a broken character",
+        "a block out of order",
+        "a key that is unknown, doubled or not allowed here",
+        "a setting that is malformed or out of range",
+        "a definition's head",
+        "pattern text against the rules",
+        "a line out of place",
+        "no section",
+        "a reference that is not defined earlier",
+        "a reference that cannot stand here",
+        "positions that do not divide the beats",
+        "`%` with no chord before it",
+        "a song of too many measures",
+        "nothing left to play",
+        "a lyric line without a count",
+        "counts that do not sum to the measures",
+        "a table too short",
+        "a beat that no measure holds",
+    };
+    return refusal < sizeof texts / sizeof texts[0] ? texts[refusal] : "";
 }
 
 #endif

@@ -1,0 +1,58 @@
+/* From the cause of a refusal to the advice. */
+#include "page.h"
+
+/* A mark that some programs write at a file's beginning, and that is read as a character of the first line. */
+static bool begins_with_mark(const struct page *page)
+{
+    return begins_with(page->text, (struct stretch){0, page->text.length}, "\xEF\xBB\xBF") && page->cause->refusal > TURNIPCART_BAD_TEXT
+        && page->cause->line > 0 && block_first(page->text, page->cause->line) == 1;
+}
+
+static void advise_mark(struct page *page)
+{
+    say(page, "the file begins with an invisible mark (U+FEFF), so its first line is read as a section's name");
+    repair(page, "save it as UTF-8 without a mark (\"BOM\")");
+    page->advice->line = 1;
+    point_at(page, (struct stretch){0, 3});
+}
+
+/* Where no more than the refusal is known. */
+static void advise_plainly(struct page *page)
+{
+    say(page, "%s", turnipcart_refusal_text(page->cause->refusal));
+    repair(page, "`turnipcart explain %n` tells more", page->cause->refusal);
+}
+
+static void advise_by_refusal(struct page *page)
+{
+    switch (page->cause->refusal) {
+    case TURNIPCART_TEXT_TOO_LONG:
+    case TURNIPCART_BAD_TEXT:
+    case TURNIPCART_NO_SECTION: advise_text(page); break;
+    case TURNIPCART_KEY: advise_keys(page); break;
+    case TURNIPCART_SETTING: advise_setting(page); break;
+    case TURNIPCART_BLOCK_ORDER:
+    case TURNIPCART_DEFINITION:
+    case TURNIPCART_REFERENCE_UNDEFINED:
+    case TURNIPCART_REFERENCE_KIND: advise_definition(page); break;
+    case TURNIPCART_PATTERN: advise_pattern(page); break;
+    case TURNIPCART_LINE: advise_section(page); break;
+    case TURNIPCART_COUNT_MISSING:
+    case TURNIPCART_COUNT_SUM: advise_lyrics(page); break;
+    default: advise_playing(page);
+    }
+}
+
+void advise(struct text text, const struct turnipcart_cause *cause, char *room, struct advice *advice)
+{
+    struct page page = {.text = text, .cause = cause, .place = {cause->offset, cause->length}, .advice = advice, .room = room};
+    *advice = (struct advice){.line = cause->place_line};
+    if (cause->place_line > 0)
+        point_at(&page, page.place);
+    if (begins_with_mark(&page))
+        advise_mark(&page);
+    else if (cause->cause == TURNIPCART_CAUSE_NONE)
+        advise_plainly(&page);
+    else
+        advise_by_refusal(&page);
+}

@@ -1,0 +1,10 @@
+#include "subcommands.h"
+
+const struct subcommand *const subcommands[] = {
+    &check_subcommand,
+    &grid_subcommand,
+    &list_subcommand,
+    &find_subcommand,
+    &explain_subcommand,
+    NULL,
+};
