@@ -5,6 +5,7 @@ pub mod ChoiceLaws
 pub mod FaultLaws
 pub mod EachLaws
 pub mod VerdictAgree
+pub mod MemberLaws
 -- Characters, lines and blocks.
 pub mod ByteLaws
 pub mod FormLaws
@@ -14,6 +15,7 @@ pub mod CharacterCounts
 pub mod CutsAgree
 pub mod LinesAgree
 pub mod PlacesAgree
+pub mod InputStops
 pub mod BlocksAgree
 -- Pattern text.
 pub mod PatternLaws
@@ -34,17 +36,22 @@ pub mod SignedAgree
 pub mod LineAgree
 pub mod KeyAgree
 pub mod ModifierAgree
+pub mod LineStops
 pub mod LineOrder
+pub mod OrderStops
 pub mod HeaderAgree
 pub mod BodyAgree
 pub mod SectionAgree
+pub mod SectionStops
 pub mod BlockKinds
 pub mod BlockOrder
 pub mod MetadataAgree
 pub mod DefinitionAgree
 pub mod SongAgree
+pub mod TextStops
 -- References and playing.
 pub mod ReferencesAgree
+pub mod ReferenceStops
 pub mod PutInPlain
 pub mod PlayingAgree
 pub mod RowLaws
@@ -58,17 +65,25 @@ pub mod InheritsAgree
 pub mod SectionPlays
 pub mod MeterAgree
 pub mod PlainAgree
+pub mod MeterStops
+pub mod LengthStops
 -- Lyrics and tables.
 pub mod LyricLineAgree
 pub mod StyleAgree
 pub mod LyricsAgree
+pub mod LyricStops
 pub mod PromptsAgree
 pub mod ItemsWritten
 pub mod TablesAgree
 -- The whole.
 pub mod AnswerAgree
+pub mod RefusalsAgree
+pub mod RefusalNumbers
 pub mod FindingAgree
+pub mod LayoutLaws
 pub mod StarredProved
 pub mod EdgesProved
 pub mod EitherOrderProved
+pub mod ShownProved
+pub mod ClausesProved
 pub mod Demanded

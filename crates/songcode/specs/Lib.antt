@@ -31,10 +31,18 @@ pub mod Fits
 pub mod WrittenTables
 pub mod Described
 pub mod Given
+-- What stops a chart, clause by clause.
+pub mod StoppedText
+pub mod StoppedSong
+pub mod Refusals
 -- The second call.
 pub mod Finding
+-- The words of the tables by their layout.
+pub mod Layout
 -- Last what is promised of all this.
 pub mod Starred
 pub mod Edges
 pub mod EitherOrder
+pub mod Shown
+pub mod Clauses
 pub mod Demands
