@@ -67,8 +67,11 @@ pub mod ItemsWritten
 pub mod TablesAgree
 -- The whole.
 pub mod AnswerAgree
-pub mod FindingAgree
 pub mod StarredProved
 pub mod EdgesProved
 pub mod EitherOrderProved
 pub mod Demanded
+-- The second call.
+pub mod FollowLaws
+pub mod HalvingAgree
+pub mod JumpsProved

@@ -32,7 +32,9 @@ pub mod WrittenTables
 pub mod Described
 pub mod Given
 -- The second call.
+pub mod Joined
 pub mod Finding
+pub mod Jumps
 -- Last what is promised of all this.
 pub mod Starred
 pub mod Edges
