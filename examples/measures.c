@@ -53,8 +53,8 @@ int main(void)
     }
     for (size_t place = 0; place < answer.sections; place++)
         show_section(sections[place]);
-    size_t place;
-    if (answer.beats > 0 && turnipcart_find(measures, answer.measures, (uint32_t)(answer.beats - 1), &place) == 0)
-        printf("beat %zu is in measure %zu\n", answer.beats - 1, place);
+    struct turnipcart_found found;
+    if (answer.beats > 0 && turnipcart_find(measures, answer.measures, (uint32_t)(answer.beats - 1), &found) == TURNIPCART_ACCEPTED)
+        printf("beat %zu is in measure %zu\n", answer.beats - 1, found.place);
     return EXIT_SUCCESS;
 }

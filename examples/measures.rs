@@ -35,7 +35,7 @@ fn show_song(text: &[u8], song: &Song, out: &mut Vec<u8>) {
         }
     }
     if let Some(last) = song.beats.len().checked_sub(1) {
-        if let Some(place) = turnipcart::find(song.measures, last as u32) {
+        if let Some(place) = turnipcart::find(song.measures, last as u32).place {
             out.extend_from_slice(format!("beat {last} is in measure {place}\n").as_bytes());
         }
     }

@@ -35,6 +35,15 @@ mod linked {
         pub items: usize,
     }
 
+    /// Three numbers in this order.
+    #[repr(C)]
+    #[derive(Default)]
+    pub struct Found {
+        pub refusal: usize,
+        pub place: usize,
+        pub probes: usize,
+    }
+
     #[link(name = "turnipcart", kind = "static")]
     extern "C" {
         pub fn turnipcart_read(
@@ -53,7 +62,7 @@ mod linked {
             answer: *mut Answer,
         ) -> usize;
 
-        pub fn turnipcart_find(measures: *const u32, measures_length: usize, beat: u32, place: *mut usize) -> usize;
+        pub fn turnipcart_find(measures: *const u32, measures_length: usize, beat: u32, found: *mut Found) -> usize;
     }
 }
 
@@ -118,12 +127,20 @@ pub fn read<'a>(text: &[u8], tables: Tables<'a>) -> Result<Song<'a>, Refusal> {
     })
 }
 
-/// The place of the first record of any measures table that holds the beat; none where the call refuses with 19.
-pub fn find(measures: &[u32], beat: u32) -> Option<usize> {
-    let mut place = 0;
-    // SAFETY: the pointer comes from a slice with its length, and `place` is this function's own.
-    let refusal = unsafe { linked::turnipcart_find(measures.as_ptr(), measures.len(), beat, &mut place) };
-    (refusal == 0).then_some(place)
+/// What a search for a beat gives: the place of the record that holds it, none where the call refuses with 19, and how many records were
+/// read, at most 16.
+#[derive(Clone, Copy, Debug, PartialEq, Eq)]
+pub struct Found {
+    pub place: Option<usize>,
+    pub probes: usize,
+}
+
+/// Searches a measures table for the beat, by halving. Lend a song's table as `read` gives it, cut to the song's measures.
+pub fn find(measures: &[u32], beat: u32) -> Found {
+    let mut found = linked::Found::default();
+    // SAFETY: the pointer comes from a slice with its length, and `found` is this function's own.
+    let refusal = unsafe { linked::turnipcart_find(measures.as_ptr(), measures.len(), beat, &mut found) };
+    Found { place: (refusal == 0).then_some(found.place), probes: found.probes }
 }
 
 /// A word of the keys table: where the setting stands in the text, if the key is there.

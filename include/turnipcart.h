@@ -62,7 +62,7 @@ enum turnipcart_refusal {
     TURNIPCART_COUNT_MISSING = 16,       /* stage 6: some lyric lines have a count and this one has not; the first such line */
     TURNIPCART_COUNT_SUM = 17,           /* stage 7: a section's counts don't sum to its measures; the header's line */
     TURNIPCART_TABLE_TOO_SHORT = 18,     /* stage 8: the keys table under 8 words, or another table too short; line 0 */
-    TURNIPCART_BEAT_NOT_FOUND = 19       /* second call: no record holds the beat */
+    TURNIPCART_BEAT_NOT_FOUND = 19       /* second call: no record that holds the beat was found, or over 65,535 records were lent */
 };
 
 /* Lengths, in words, of tables that no song is too long for. A section takes at least five bytes of the text (the last one three),
@@ -98,11 +98,24 @@ size_t turnipcart_read(const unsigned char *text, size_t text_length, uint32_t *
                        size_t sections_length, uint32_t *measures, size_t measures_length, uint32_t *beats, size_t beats_length,
                        uint64_t *items, size_t items_length, struct turnipcart_answer *answer);
 
-/* Finds the first record of the measures table that holds the beat with this number (beats count from 0 through the whole song).
-   Lent for reading: measures, any table of any length, its spare bits ignored. Lent for writing: place.
-   - Found: returns 0, and *place is the record's place in the table, from 0.
-   - No record holds the beat: returns 19, and *place is 0. */
-size_t turnipcart_find(const uint32_t *measures, size_t measures_length, uint32_t beat, size_t *place);
+/* What turnipcart_find gives, three numbers in this order. */
+struct turnipcart_found {
+    size_t refusal;
+    size_t place;
+    size_t probes;
+};
+
+/* Finds the record of the measures table that holds the beat with this number (beats count from 0 through the whole song), by halving,
+   and returns the refusal. It reads at most 16 records.
+   Lent for reading: measures, any table of any length, its spare bits ignored. Lend a song's table cut to its count of measures: the
+   search looks at the middle of what it is lent, so words behind the song's own lead it astray.
+   Lent for writing: found, which is written in every case.
+   - Found: refusal 0, the record's place in the table, from 0, and how many records were read.
+   - Not found: refusal 19, place 0, and how many records were read.
+   - More than 65,535 records: refusal 19, place 0, and none was read.
+   In a table whose records have a beat or more and each start where the last ended, as those of a song do, the one record that holds
+   the beat is found if there is one. In other tables the halving decides which of several is found, and may miss them all. */
+size_t turnipcart_find(const uint32_t *measures, size_t measures_length, uint32_t beat, struct turnipcart_found *found);
 
 #ifdef __cplusplus
 }

@@ -37,9 +37,9 @@ static void put_found(const struct song *song, size_t beat, size_t measure)
 static enum status show(const struct song *song, const void *more)
 {
     const size_t *beat = more;
-    size_t place = 0;
-    if (turnipcart_find(song->tables.measures, song->answer.measures, (uint32_t)*beat, &place) == TURNIPCART_ACCEPTED) {
-        put_found(song, *beat, place);
+    struct turnipcart_found found;
+    if (turnipcart_find(song->tables.measures, song->answer.measures, (uint32_t)*beat, &found) == TURNIPCART_ACCEPTED) {
+        put_found(song, *beat, found.place);
         return STATUS_FINE;
     }
     put("refused 19: no measure holds beat ");

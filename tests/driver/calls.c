@@ -68,11 +68,7 @@ struct call calls[] = {
      {GIVEN_WORDS("text", BYTE), WRITTEN_WORDS("keys", SMALL, TURNIPCART_KEYS),
       WRITTEN_WORDS("sections", WIDE, TURNIPCART_SECTIONS_ENOUGH), WRITTEN_WORDS("measures", SMALL, TURNIPCART_MEASURES_ENOUGH),
       WRITTEN_WORDS("beats", SMALL, TURNIPCART_BEATS_ENOUGH), WRITTEN_WORDS("items", WIDE, TURNIPCART_ITEMS_ENOUGH)}},
-#ifdef HAS_FOUND
     {"find", make_find, true, AN_ANSWER(3), {A_NUMBER("beat"), GIVEN_WORDS("measures", SMALL)}},
-#else
-    {"find", make_find, false, AN_ANSWER(1), {A_NUMBER("beat"), GIVEN_WORDS("measures", SMALL)}},
-#endif
 #ifdef HAS_COUNT
     {"count", make_count, true, AN_ANSWER(6), {GIVEN_WORDS("text", BYTE)}},
 #endif

@@ -162,15 +162,16 @@ static const char *judge_finding(struct numbers *numbers, struct trial *trial, i
     size_t beats = trial->expected.beats;
     size_t edge = below(numbers, 8) != 0 ? below(numbers, beats + 2) : (size_t)(next_number(numbers) >> 32);
     uint32_t beat = below(numbers, 4) == 0 && beats > 0 ? (uint32_t)beats - 1 : (uint32_t)edge;
-    size_t place[3] = {77, 77, 77};
-    size_t refusal = turnipcart_find(tables.measures, tables.measures_length, beat, &place[1]);
-    struct reader_place expected = reader_find(tables.measures, tables.measures_length, beat);
+    size_t length = below(numbers, 4) != 0 ? trial->expected.measures : tables.measures_length;
+    struct turnipcart_found found[3] = {{77, 77, 77}, {77, 77, 77}, {77, 77, 77}};
+    size_t refusal = turnipcart_find(tables.measures, length, beat, &found[1]);
+    struct reader_place expected = reader_find(tables.measures, length, beat);
     if (part == SPOIL_PLACE)
-        place[1]++;
+        found[1].place++;
     found_counts[refusal == 0]++;
-    if (refusal != expected.refusal || place[1] != expected.place)
+    if (refusal != expected.refusal || found[1].refusal != refusal || found[1].place != expected.place || found[1].probes != expected.probes)
         return "the answer of the second call";
-    return place[0] == 77 && place[2] == 77 ? judge_tables(trial) : "a word beside the place";
+    return found[0].probes == 77 && found[2].refusal == 77 ? judge_tables(trial) : "a word beside what was found";
 }
 
 /* Both readers on one chart and tables of the same lengths; what differs, or NULL. */

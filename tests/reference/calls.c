@@ -54,7 +54,7 @@ static bool answer_find(const char *name, const int64_t *numbers)
     if (measures == NULL)
         return false;
     struct reader_place found = reader_find(measures, (size_t)numbers[1], (uint32_t)numbers[0]);
-    printf("%s %u %zu\n", name, found.refusal, found.place);
+    printf("%s %u %zu %zu\n", name, found.refusal, found.place, found.probes);
     free(measures);
     return true;
 }

@@ -143,7 +143,7 @@ static int run_find(char **words, int count)
     for (int place = 1; place < count; place++)
         measures[place - 1] = (uint32_t)strtoul(words[place], NULL, 10);
     struct reader_place found = reader_find(measures, (size_t)count - 1, (uint32_t)strtoul(words[0], NULL, 10));
-    printf("%u %zu\n", found.refusal, found.place);
+    printf("%u %zu %zu\n", found.refusal, found.place, found.probes);
     free(measures);
     return EXIT_SUCCESS;
 }

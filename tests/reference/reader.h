@@ -69,13 +69,15 @@ struct reader_answer {
 struct reader_place {
     unsigned refusal;
     size_t place;
+    size_t probes;
 };
 
 /* Reads a chart into the tables. A refusal changes no table word; words past the counts keep what they held.
    Uses memory of its own in proportion to the text and the song; ends the program if there is none. */
 struct reader_answer reader_read(const unsigned char *text, size_t length, const struct reader_tables *tables);
 
-/* The place of the first record of any measures table that holds the beat, or refusal 19 and place 0. */
+/* Searches any measures table for the beat by halving: the place of a record that holds it, or refusal 19 and place 0, and how many
+   records were read. */
 struct reader_place reader_find(const uint32_t *measures, size_t length, uint32_t beat);
 
 /* The answer that the reader gives where every table is long enough. */

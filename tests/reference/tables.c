@@ -2,6 +2,9 @@
 #include "song.h"
 #include "words.h"
 
+/* Request 9: "a table over 65,535 records" is not searched. */
+enum { RECORDS_LIMIT = 65535 };
+
 uint32_t pack_beat(struct chord chord, bool head)
 {
     return (uint32_t)chord.base << BEAT_BASE_LOWEST | (uint32_t)chord.extension << BEAT_EXTENSION_LOWEST
@@ -71,12 +74,18 @@ void write_tables(const struct song *song, const struct reader_tables *tables)
 
 struct reader_place reader_find(const uint32_t *measures, size_t length, uint32_t beat)
 {
-    struct reader_place none = {REFUSED_BEAT_NOT_FOUND, 0};
-    for (size_t place = 0; place < length; place++) {
+    size_t lowest = 0, highest = length > RECORDS_LIMIT ? 0 : length, probes = 0;
+    while (lowest < highest) {
+        size_t place = (lowest + highest) / 2;
         uint32_t first = measures[place] >> MEASURE_FIRST_LOWEST;
         uint32_t beats = measures[place] >> MEASURE_BEATS_LOWEST & ((1u << MEASURE_BEATS_BITS) - 1);
-        if (first <= beat && beat - first < beats)
-            return (struct reader_place){READER_ACCEPTED, place};
+        probes++;
+        if (beat < first)
+            highest = place;
+        else if (beat - first < beats)
+            return (struct reader_place){READER_ACCEPTED, place, probes};
+        else
+            lowest = place + 1;
     }
-    return none;
+    return (struct reader_place){REFUSED_BEAT_NOT_FOUND, 0, probes};
 }

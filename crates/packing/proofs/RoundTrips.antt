@@ -7,6 +7,7 @@ use native.Mathlib.Omega.{arith}
 use lib.ListN.{length}
 use Rattle.songcode.specs.Chords.{Chord}
 use Rattle.songcode.specs.Lyrics.{Prompt}
+use Rattle.songcode.specs.Joined.{firstBeat, beatCount}
 use Rattle.songcode.specs.Tables.{offset, sectionWord, measureWord, beatBy, itemWord}
 use Rattle.packing.specs.declared.fields.SectionFields.{SectionFields}
 use Rattle.packing.specs.declared.fields.MeasureFields.{MeasureFields}
@@ -76,6 +77,11 @@ measure-read first beats h =
     one-measure
     h
     (record { packed = omega arith; spare = omega arith; first-fits = first; beats-fits = beats })
+
+-- The fields that a measure's word holds are those that the definitions take out of it.
+pub measure-fields : {word : ℕ} {m : MeasureFields} → HoldsMeasure word m → (m .first ≡ firstBeat word) × (m .beats ≡ beatCount word)
+unfolding measureWord firstBeat beatCount
+measure-fields h = (omega arith, omega arith)
 
 -- A chord's word gives back its base, the place and length of its extension, and its head.
 pub chord-read : (c : Chord) (head : Bool) → c .base < 2 ^ 6 → offset (c .extension) < 2 ^ 16 → length (c .extension) < 2 ^ 5 → {b : BeatFields} → HoldsBeat (beatBy (some c) head) b → b ≡ record { base = c .base; extension = offset (c .extension); length = length (c .extension); head = head }

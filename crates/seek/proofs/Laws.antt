@@ -1,53 +1,57 @@
--- The search along a table: what is still to be found behind a place, and what that says of the whole.
-use Prim.Native.Nat.{ℕ, zero, suc, _+_, _<_, _≤_}
-use mathlib.Core.Path.{_≡_, refl, ap, sym, _∙_}
-use mathlib.Core.List.{List, [], _∷_}
-use mathlib.Core.Bool.{Bool, true, false}
+-- The search: what is still to be found in the range that is left, and what that says of the whole table.
+use Prim.Native.Nat.{ℕ, suc, _+_, _/_, _<_, _≤_}
+use mathlib.Core.Path.{_≡_, sym, subst}
+use mathlib.Core.List.{List}
 use mathlib.Core.Option.{Option, none, some}
 use native.Mathlib.Omega.{arith}
-use native.Mathlib.Numerals.{add-one}
-use lib.ListN.{length, drop, getD, drop-of-length-le}
-use lib.Seq.{drop-cons}
-use Rattle.songcode.specs.Lists.{if_then_else_}
-use Rattle.songcode.specs.Finding.{holds, further, placeOf}
+use lib.ListN.{length, getD}
+use Rattle.songcode.specs.Joined.{firstBeat, beatCount, endBeat}
+use Rattle.songcode.specs.Finding.{half, jumpTo}
+use Rattle.songcode.specs.Jumps.{Holds, Halves, empty, held, before, past}
+use Rattle.songcode.proofs.JumpsProved.{jumps-proved}
 use Rattle.seek.specs.declared.Found.{Found}
-use Rattle.seek.specs.Answers.{foundOf}
+use Rattle.seek.specs.Answers.{foundAs, foundOf}
 
--- A place found behind so many records.
-unfoldable pub onward : ℕ → Option ℕ → Option ℕ
-onward k none = none
-onward k (some place) = some (k + place)
+-- After so many probes the range from start to end is left: what the rule gives for it is what it gives for the table, these probes added.
+abbrev pub Left : ℕ → List ℕ → ℕ → ℕ → ℕ → Type 0
+Left beat table start end probes = (found : Option ℕ) (more : ℕ) → Halves beat table start end found more
+    → Halves beat table 0 (length table) found (probes + more)
 
-pub onward-none : (o : Option ℕ) → onward 0 o ≡ o
-unfolding onward
-onward-none none = refl
-onward-none (some p) = ap (λ x. some x) (omega arith)
+module _ (beat : ℕ) (table : List ℕ) where
+  abbrev At : Option ℕ → ℕ → Type 0
+  At found probes = Halves beat table 0 (length table) found probes
 
-onward-further : (k : ℕ) (o : Option ℕ) → onward k (further o) ≡ onward (k + 1) o
-unfolding onward further
-onward-further k none = refl
-onward-further k (some p) = ap (λ x. some x) (omega arith)
+  pub left-all : Left beat table 0 (length table) 0
+  left-all found more h = subst (λ n. At found n) (omega arith) h
 
-module _ (beat : ℕ) (table : List ℕ) (i : ℕ) where
-  -- The record at i does not hold the beat.
-  pub search-on : i < length table → holds beat (getD table i 0) ≡ false → onward i (placeOf beat (drop i table)) ≡ placeOf beat table → onward (i + 1) (placeOf beat (drop (i + 1) table)) ≡ placeOf beat table
-  unfolding placeOf if_then_else_
-  search-on l f inv =
-      let d : placeOf beat (drop i table) ≡ further (placeOf beat (drop (i + 1) table)) = rw (add-one i, drop-cons table i 0 l, f) in
-      sym (onward-further i (placeOf beat (drop (i + 1) table))) ∙ ap (λ o. onward i o) (sym d) ∙ inv
+  module _ (start end probes : ℕ) (l : start < end) (left : Left beat table start end probes) where
+    pub left-before : beat < firstBeat (getD table ((start + end) / 2) 0) → Left beat table start ((start + end) / 2) (probes + 1)
+    unfolding half
+    left-before b found more h = subst (λ n. At found n) (omega arith) (left found (suc more) (before l (omega arith) b h))
 
-  -- It does.
-  pub search-hit : i < length table → holds beat (getD table i 0) ≡ true → onward i (placeOf beat (drop i table)) ≡ placeOf beat table → record { refusal = 0; place = i } ≡ foundOf (placeOf beat table)
-  unfolding placeOf if_then_else_ foundOf onward
-  search-hit l t inv =
-      let d : placeOf beat (drop i table) ≡ some 0 = rw (drop-cons table i 0 l, t) in
-      let e : some i ≡ placeOf beat table = ap (λ x. some x) (omega arith) ∙ ap (λ o. onward i o) (sym d) ∙ inv in
-      rw (← e)
+    pub left-past : endBeat (getD table ((start + end) / 2) 0) ≤ beat → Left beat table ((start + end) / 2 + 1) end (probes + 1)
+    unfolding half
+    left-past b found more h =
+        let e : suc ((start + end) / 2) ≡ (start + end) / 2 + 1 = omega arith in
+        subst (λ n. At found n) (omega arith) (left found (suc more) (past l (omega arith) b (rw e h)))
 
-  -- No record is left.
-  pub search-over : length table ≤ i → onward i (placeOf beat (drop i table)) ≡ placeOf beat table → record { refusal = 19; place = 0 } ≡ foundOf (placeOf beat table)
-  unfolding placeOf foundOf onward
-  search-over l inv =
-      let d : placeOf beat (drop i table) ≡ none = rw (drop-of-length-le table {i = i} l) in
-      let e : none ≡ placeOf beat table = ap (λ o. onward i o) (sym d) ∙ inv in
-      rw (← e)
+  foundOn : length table ≤ 65535 → (found : Option ℕ) (probes : ℕ) → At found probes → foundAs found probes ≡ foundOf (jumpTo beat table)
+  unfolding foundOf
+  foundOn l found probes h = rw (jumps-proved .halved beat table l found probes .1 h)
+
+  module _ (l : length table ≤ 65535) (start end probes : ℕ) (left : Left beat table start end probes) where
+    -- The record in the middle holds the beat.
+    pub found-there : start < end → Holds beat (getD table ((start + end) / 2) 0)
+        → record { refusal = 0; place = (start + end) / 2; probes = probes + 1 } ≡ foundOf (jumpTo beat table)
+    unfolding half foundAs
+    found-there m h = foundOn l (some ((start + end) / 2)) (probes + 1) (left (some ((start + end) / 2)) 1 (held m (omega arith) h))
+
+    -- The range is empty.
+    pub found-nowhere : end ≤ start → record { refusal = 19; place = 0; probes = probes } ≡ foundOf (jumpTo beat table)
+    unfolding foundAs
+    found-nowhere m = foundOn l none probes (subst (λ n. At none n) (omega arith) (left none 0 (empty m)))
+
+-- More than 65,535 records are not searched.
+pub found-over : (beat : ℕ) (table : List ℕ) → 65535 < length table → record { refusal = 19; place = 0; probes = 0 } ≡ foundOf (jumpTo beat table)
+unfolding foundOf foundAs
+found-over beat table l = rw (jumps-proved .too-long beat table l)

@@ -1,43 +1,55 @@
-// The second call: the first record of a measure table that holds a beat.
+// The second call: the record of a measure table that holds a beat, searched for by halving.
 ghost use mathlib.Core.Path.{_≡_};
-ghost use Rattle.songcode.specs.Finding.{holds, placeOf};
+ghost use Rattle.songcode.specs.Finding.{jumpTo};
 ghost use Rattle.seek.specs.Answers.{foundOf};
 
-// Refusal 0 and the record's place, or refusal 19 and place 0.
+// "for a table over 65,535 records": more are not searched, so that 16 probes are enough.
+const MOST_RECORDS: usize = 65535;
+
+const NOT_FOUND: usize = 19;
+
+// Refusal 0 and the record's place, or refusal 19 and place 0; and how many records were read.
 pub struct Found {
     pub refusal: usize,
     pub place: usize,
-}
-
-// Whether a record holds the beat: "first beat 21, beats 6"; spare bits say nothing.
-fn holds_beat(word: u32, beat: u32) -> bool
-    ensures { λ r. ⌜ r ≡ holds beat word ⌝ }
-{
-    let first = word / 2048;
-    let beats = word / 32 % 64;
-    if first <= beat {
-        beat < first + beats
-    } else {
-        false
-    }
+    pub probes: usize,
 }
 
 // For any table and any beat.
 pub fn find_measure(measures: &[u32], beat: u32) -> Found
-    ensures { λ r. ⌜ r ≡ foundOf (placeOf beat (now (measures .entry))) ⌝ }
+    ensures { λ r. ⌜ r ≡ foundOf (jumpTo beat (now (measures .entry))) ⌝ }
 {
-    let mut i = 0;
-    while i < measures.len() {
-        if holds_beat(measures[i], beat) {
+    if MOST_RECORDS < measures.len() {
+        return Found {
+            refusal: NOT_FOUND,
+            place: 0,
+            probes: 0,
+        };
+    }
+    let wanted = beat as usize;
+    let mut start = 0;
+    let mut end = measures.len();
+    let mut probes = 0;
+    while start < end {
+        let place = (start + end) / 2;
+        let record = packing::measure_of(measures[place]);
+        probes += 1;
+        if wanted < record.first {
+            end = place;
+            continue;
+        }
+        if wanted < record.first + record.beats {
             return Found {
                 refusal: 0,
-                place: i,
+                place,
+                probes,
             };
         }
-        i += 1;
+        start = place + 1;
     }
     Found {
-        refusal: 19,
+        refusal: NOT_FOUND,
         place: 0,
+        probes,
     }
 }

@@ -12,7 +12,7 @@ use Rattle.songcode.specs.Bytes.{Byte}
 use Rattle.songcode.specs.Chords.{Chord}
 use Rattle.songcode.specs.Lyrics.{Prompt}
 use Rattle.songcode.specs.Tables.{offset, keyWord, sectionWord, measureWord, headBit, beatBy, itemWord}
-use Rattle.songcode.specs.Finding.{firstBeat, beatCount}
+use Rattle.songcode.specs.Joined.{firstBeat, beatCount}
 use Rattle.songcode.specs.Layout.{Row, keysRow, sectionsRow, measuresRow, beatsRow, itemsRow, spare, packed, laid, field, unpacked, fieldsOf, Fit, Laid}
 
 power-sum : (a b : ℕ) → 2 ^ (a + b) ≡ 2 ^ a * 2 ^ b

@@ -79,7 +79,6 @@ pub mod TablesAgree
 pub mod AnswerAgree
 pub mod RefusalsAgree
 pub mod RefusalNumbers
-pub mod FindingAgree
 pub mod LayoutLaws
 pub mod StarredProved
 pub mod EdgesProved
@@ -87,3 +86,7 @@ pub mod EitherOrderProved
 pub mod ShownProved
 pub mod ClausesProved
 pub mod Demanded
+-- The second call.
+pub mod FollowLaws
+pub mod HalvingAgree
+pub mod JumpsProved

@@ -10,7 +10,7 @@ use Rattle.songcode.specs.Bytes.{Byte}
 use Rattle.songcode.specs.Chords.{Chord}
 use Rattle.songcode.specs.Lyrics.{Prompt}
 use Rattle.songcode.specs.Tables.{offset, keyWord, sectionWord, measureWord, headBit, beatBy, itemWord}
-use Rattle.songcode.specs.Finding.{firstBeat, beatCount}
+use Rattle.songcode.specs.Joined.{firstBeat, beatCount}
 
 -- A row of the table: how many bits its word has, and how many each of its fields.
 pub record Row : Type 0 where

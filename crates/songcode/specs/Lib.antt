@@ -36,7 +36,9 @@ pub mod StoppedText
 pub mod StoppedSong
 pub mod Refusals
 -- The second call.
+pub mod Joined
 pub mod Finding
+pub mod Jumps
 -- The words of the tables by their layout.
 pub mod Layout
 -- Last what is promised of all this.

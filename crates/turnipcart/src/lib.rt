@@ -1,36 +1,4 @@
-// The two public calls for programs in C and Rust: `include/turnipcart.h` documents them, `examples/turnipcart.rs` declares them.
-ghost use mathlib.Core.Path.{_≡_};
-ghost use Rattle.songcode.specs.Finding.{placeOf};
-ghost use Rattle.reader.specs.Answers.{Promised};
-ghost use Rattle.turnipcart.specs.Answers.{answerIn};
-ghost use Rattle.seek.specs.Answers.{foundOf};
-
-// The call: every text of every length and every length of every table is answered. The refusal is returned; `answer` gets refusal,
-// line, and the counts of sections, measures, beats and items.
-#[no_mangle]
-pub extern "C" fn turnipcart_read(
-    text: &[u8],
-    keys: &mut [u32],
-    sections: &mut [u64],
-    measures: &mut [u32],
-    beats: &mut [u32],
-    items: &mut [u64],
-    answer: &mut [usize; 6],
-) -> usize
-    ensures { λ r. ⌜ r ≡ answerIn (now (answer .exit)) .refusal ⌝ }
-    ensures { λ _. ⌜ Promised (now (text .entry)) (record { keys = now (keys .entry); sections = now (sections .entry); measures = now (measures .entry); beats = now (beats .entry); items = now (items .entry) }) (answerIn (now (answer .exit))) (record { keys = now (keys .exit); sections = now (sections .exit); measures = now (measures .exit); beats = now (beats .exit); items = now (items .exit) }) ⌝ }
-{
-    let a = reader::read(text, keys, sections, measures, beats, items);
-    *answer = [a.refusal, a.line, a.sections, a.measures, a.beats, a.items];
-    a.refusal
-}
-
-// The second call: the refusal is returned, and the record's place is written through `place`, for any table and any beat.
-#[no_mangle]
-pub extern "C" fn turnipcart_find(measures: &[u32], beat: u32, place: &mut usize) -> usize
-    ensures { λ r. ⌜ record { refusal = r; place = now (place .exit) } ≡ foundOf (placeOf beat (now (measures .entry))) ⌝ }
-{
-    let found = seek::find_measure(measures, beat);
-    *place = found.place;
-    found.refusal
-}
+// The public calls for programs in C and Rust, each in a file of its own: `include/turnipcart.h` documents them, `examples/turnipcart.rs`
+// declares them.
+mod find;
+mod read;

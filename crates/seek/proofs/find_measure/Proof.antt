@@ -1,69 +1,80 @@
--- `find_measure` meets its contract. The invariant: what is found behind i, so many records further, is what is found in the whole table.
-use Prim.Native.Nat.{_≤_, _-_}
-use mathlib.Core.Path.{_≡_, sym, _∙_}
-use lib.ListN.{length, drop}
+use Prim.Native.Nat.{_+_, _-_, _≤_}
+use native.Mathlib.Omega.{arith}
+use lib.ListN.{length}
+use Rattle.songcode.specs.Joined.{endBeat}
+use Rattle.songcode.specs.Jumps.{Holds}
+use Rattle.packing.proofs.RoundTrips.{measure-fields}
+use Rattle.seek.proofs.Laws.{Left, left-all, left-before, left-past, found-there, found-nowhere, found-over}
 use borrow.Author.Needs.{needs}
-use Rattle.songcode.specs.Finding.{placeOf}
-use Rattle.seek.proofs.Laws.{onward, onward-none, search-on, search-hit, search-over}
 use Rattle.seek.proofs.find_measure.Statement.{statement}
 use Rattle.seek.proofs.find_measure.Tie as tie
 
 abbrev Inv-loop : tie.InvT-loop
-Inv-loop measures beat i₀ i = (i ≤ length measures) × (onward i (placeOf beat (drop i measures)) ≡ placeOf beat measures)
+Inv-loop measures beat wanted start₀ end₀ probes₀ start end probes =
+    (length measures ≤ 65535) × (start ≤ end) × (end ≤ length measures) × (probes + (end - start) ≤ length measures)
+    × Left beat measures start end probes
 
 abbrev μ-loop : tie.MeasureT-loop
-μ-loop measures beat i₀ i = length measures - i
-
-loop-holds : tie.Need-loop-holds Inv-loop μ-loop
-loop-holds c = (search needs, onward-none (placeOf (c .before .args .beat) (c .before .args .measures .now)))
-
-mul-holds-beat : tie.Need-mul-holds-beat Inv-loop μ-loop
-mul-holds-beat c = search needs
-
-shared-slice-read-holds-beat : tie.Need-shared-slice-read-holds-beat Inv-loop μ-loop
-shared-slice-read-holds-beat c = search needs
-
-holds-beat-requires : tie.Need-holds-beat-requires Inv-loop μ-loop
-holds-beat-requires c κs = search needs
+μ-loop measures beat wanted start₀ end₀ probes₀ start end probes = end - start
 
 returns : tie.Need-returns Inv-loop μ-loop
-returns c =
-    let l = c .before .before .before .before .loop in
-    let a = c .before .before .before .before .before .before .args in
-    search-hit (a .beat) (a .measures .now) (l .i) (c .before .before .before .loop-test .taken) (sym (c .before .holds-beat .ensures) ∙ c .if1 .taken) (l .inv .1)
+returns c = found-over (c .before .before .args .beat) (c .before .before .args .measures .now) (c .if1 .taken)
 
-add-i : tie.Need-add-i Inv-loop μ-loop
-add-i c = search needs
-
-loop-less : tie.Need-loop-less Inv-loop μ-loop
-loop-less c = search needs
+loop-holds : tie.Need-loop-holds Inv-loop μ-loop
+loop-holds c = (
+  search needs,
+  search needs,
+  search needs,
+  search needs,
+  left-all (c .before .before .args .beat) (c .before .before .args .measures .now),
+)
 
 loop-again : tie.Need-loop-again Inv-loop μ-loop
 loop-again c =
-    let l = c .before .before .before .before .loop in
-    let a = c .before .before .before .before .before .before .args in (
+    let a = c .before .before .before .before .before .before .before .before .args in
+    let l = c .before .before .before .before .before .loop in
+    let t = c .before .before .before .before .loop-test .taken in
+    let f = measure-fields (c .before .before .measure-of .ensures) in (
       search needs,
-      search-on (a .beat) (a .measures .now) (l .i) (c .before .before .before .loop-test .taken) (sym (c .before .holds-beat .ensures) ∙ c .if1 .left) (l .inv .1),
+      search needs,
+      search needs,
+      search needs,
+      left-before (a .beat) (a .measures .now) (l .start) (l .end) (l .probes) t (l .inv .4) (omega (arith, f .0, c .if2 .taken)),
     )
 
 returns-2 : tie.Need-returns-2 Inv-loop μ-loop
+unfolding Holds endBeat
 returns-2 c =
+    let a = c .before .before .before .before .before .before .before .before .before .before .args in
+    let l = c .before .before .before .before .before .before .before .loop in
+    let t = c .before .before .before .before .before .before .loop-test .taken in
+    let f = measure-fields (c .before .before .before .before .measure-of .ensures) in
+    found-there (a .beat) (a .measures .now) (l .inv .0) (l .start) (l .end) (l .probes) (l .inv .4) t
+    (omega (arith, f .0, c .before .before .if2 .left), omega (arith, f .0, f .1, c .if3 .taken))
+
+loop-again-2 : tie.Need-loop-again-2 Inv-loop μ-loop
+unfolding Holds endBeat
+loop-again-2 c =
+    let a = c .before .before .before .before .before .before .before .before .before .before .args in
+    let l = c .before .before .before .before .before .before .before .loop in
+    let t = c .before .before .before .before .before .before .loop-test .taken in
+    let f = measure-fields (c .before .before .before .before .measure-of .ensures) in (
+      search needs,
+      search needs,
+      search needs,
+      search needs,
+      left-past (a .beat) (a .measures .now) (l .start) (l .end) (l .probes) t (l .inv .4) (omega (arith, f .0, f .1, c .if3 .left)),
+    )
+
+returns-3 : tie.Need-returns-3 Inv-loop μ-loop
+returns-3 c =
+    let a = c .before .before .before .before .args in
     let l = c .before .loop in
-    let a = c .before .before .before .args in
-    search-over (a .beat) (a .measures .now) (l .i) (c .loop-test .left) (l .inv .1)
+    found-nowhere (a .beat) (a .measures .now) (l .inv .0) (l .start) (l .end) (l .probes) (l .inv .4) (c .loop-test .left)
 
 pub find-measure-spec : {M : Type 1} → statement M
 find-measure-spec =
     tie.close
-    (tie.spec
-    Inv-loop
-    μ-loop
-    loop-holds
-    mul-holds-beat
-    shared-slice-read-holds-beat
-    holds-beat-requires
-    returns
-    add-i
-    loop-less
-    loop-again
-    returns-2)
+    (tie.spec Inv-loop μ-loop returns loop-holds (λ c. search needs) (λ c. search needs) (λ c. search needs) (λ c κs. search needs)
+    (λ c. search needs) (λ c. search needs) loop-again (λ c. search needs) returns-2 (λ c. search needs) (λ c. search needs) loop-again-2
+    returns-3)
