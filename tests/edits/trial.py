@@ -15,6 +15,7 @@ refuses many edits, each at its own place, as long as none is refused at another
 has no file of proof is a place by its name: `fn seek::holds_beat`. People write the upper part, tests/edits/record the last three.
 """
 import collections
+import functools
 import os
 import pathlib
 import re
@@ -137,6 +138,20 @@ def refusals(log):
     return found
 
 
+@functools.cache
+def kept_name():
+    """The name under which this toolchain keeps what it has checked of a crate for `rt dev`: what it makes for a crate of one function."""
+    with tempfile.TemporaryDirectory() as folder:
+        crate = pathlib.Path(folder) / "crates" / "one" / "src"
+        crate.mkdir(parents=True)
+        (crate / "lib.rt").write_text("pub fn one() -> usize {\n    1\n}\n")
+        (pathlib.Path(folder) / "crates.txt").write_text("one:\n")
+        subprocess.run(["rt", "dev", "one"], cwd=folder, stdout=subprocess.DEVNULL, stderr=subprocess.DEVNULL, stdin=subprocess.DEVNULL,
+                       check=True)
+        name, = os.listdir(pathlib.Path(folder) / "target" / "inc" / "one")
+    return name
+
+
 class Bench:
     """A scratch repository in which one crate is a copy to be edited, and all the others are the repository's own, as proved."""
 
@@ -157,8 +172,9 @@ class Bench:
         for part in ("src", "specs", "proofs"):
             if (own / part).is_dir():
                 shutil.copytree(own / part, self.copy / part)
-        if (target / "inc" / crate).is_dir():
-            shutil.copytree(target / "inc" / crate, self.folder / "target/inc" / crate)
+        checked = target / "rlib" / f"{crate}.rlib" / "toolchain" / "checked"
+        if checked.is_dir():
+            shutil.copytree(checked, self.folder / "target/inc" / crate / kept_name())
         self.changed = {}
 
     def __enter__(self):
@@ -169,7 +185,8 @@ class Bench:
 
     def refused(self, edits):
         """The places that are refused with all of these edits, each with what the prover says; none where it proves the crate.
-        What an earlier trial on this bench has checked, or `rt dev`, and these edits do not change, is not checked again."""
+        What the proof of the crate has checked, or an earlier trial on this bench, and these edits do not change, is not checked again:
+        only a refusal counts here, and nothing is refused that was not looked at."""
         files = edited(edits)
         for name in self.changed.keys() - files.keys():
             shutil.copy(ROOT / "crates" / self.crate / name, self.copy / name)

@@ -9,7 +9,7 @@ LONG = 160
 LONG_PROOF = 60  # a function's proof that is longer begins with a sentence too
 IMPORT = re.compile(r"^(pub )?(?:ghost )?use ([^\s;{]+?)(?:\.\{([^}]*)\}|::\{([^}]*)\})?(?: as (\S+?))?;?$")
 PLACE = re.compile(r"^\s*-- src/\S+\.rt:\d+:\d+\s*$")
-EXPORT = re.compile(r"^pub (?:use (?:\w+::)*|fn |struct |enum |const )(\w+)", re.M)
+EXPORT = re.compile(r"^pub (?:use (?:\w+::)*|fn |const )([a-z]\w*|[A-Z_]+)\b(?!::)", re.M)
 LAW = re.compile(r"^(?:pub )?([^\s:(){}]+) : ")
 RELATION = re.compile(r"(?:^|\s)(?:≡|≤|<|↔|¬)(?:\s|$)")
 BINDER = re.compile(r"[({]([^(){}:]+) : ")
@@ -89,7 +89,7 @@ def first_sentences(tree):
 
 
 def idle_exports(tree):
-    """What a library exports and no other crate uses."""
+    """A function or constant that a library exports and no other crate uses. A type comes with the functions that take or give it."""
     used = collections.defaultdict(set)
     for path, text in tree.items():
         own = path.split("/")[1]
