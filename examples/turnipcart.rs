@@ -1,4 +1,4 @@
-//! The two calls of libturnipcart.a for Rust, each in a safe function. `include/turnipcart.h` documents them, what every word packs
+//! The calls of libturnipcart.a for Rust, each in a safe function. `include/turnipcart.h` documents them, what every word packs
 //! and every refusal. Nothing else here, and nothing in a program that uses this module, is unsafe.
 #![allow(dead_code)]
 
@@ -61,6 +61,8 @@ mod linked {
             items_length: usize,
             answer: *mut Answer,
         ) -> usize;
+
+        pub fn turnipcart_count(text: *const u8, text_length: usize, answer: *mut Answer) -> usize;
 
         pub fn turnipcart_find(measures: *const u32, measures_length: usize, beat: u32, found: *mut Found) -> usize;
     }
@@ -125,6 +127,26 @@ pub fn read<'a>(text: &[u8], tables: Tables<'a>) -> Result<Song<'a>, Refusal> {
         beats: &beats[..answer.beats],
         items: &items[..answer.items],
     })
+}
+
+/// How many words the tables of a song take, besides the 8 of keys.
+#[derive(Clone, Copy, Debug, PartialEq, Eq)]
+pub struct Counts {
+    pub sections: usize,
+    pub measures: usize,
+    pub beats: usize,
+    pub items: usize,
+}
+
+/// Reads the chart without tables: its counts, whatever their size, or its own refusal, 1 to 17.
+pub fn count(text: &[u8]) -> Result<Counts, Refusal> {
+    let mut answer = linked::Answer::default();
+    // SAFETY: the pointer comes from a slice with its length, and the answer is this function's own.
+    let refusal = unsafe { linked::turnipcart_count(text.as_ptr(), text.len(), &mut answer) };
+    if refusal != 0 {
+        return Err(Refusal { number: refusal, line: answer.line });
+    }
+    Ok(Counts { sections: answer.sections, measures: answer.measures, beats: answer.beats, items: answer.items })
 }
 
 /// What a search for a beat gives: the place of the record that holds it, none where the call refuses with 19, and how many records were

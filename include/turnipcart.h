@@ -1,9 +1,8 @@
 /* Turnipcart: a proved reader of SongCode chord charts, for C programs to link with libturnipcart.a (Linux on x86-64).
 
-   There are two calls, turnipcart_read and turnipcart_find. Both come to an end on every input, take every text and tables of every
-   length, use no heap, keep nothing between calls, call nothing but memcpy and memset, and may be called from several threads at
-   once with memory of their own. They write nothing but the memory lent to them, and only what is said below.
-   turnipcart_read takes about 280 KB of stack.
+   The calls come to an end on every input, take every text and tables of every length, use no heap, keep nothing between calls, call
+   nothing but memcpy and memset, and may be called from several threads at once with memory of their own. They write nothing but
+   the memory lent to them, and only what is said below. turnipcart_read and turnipcart_count take about 280 KB of stack.
 
    Read one byte more than TURNIPCART_TEXT_LIMIT of a file (if it has them), and give all of them to the call: a file that is too long is
    then refused as such, and never taken for a shorter chart. Read to the file's end, and take a failed read for no chart at all.
@@ -76,7 +75,7 @@ enum {
     TURNIPCART_ITEMS_ENOUGH = 13107
 };
 
-/* The answer of turnipcart_read, six numbers in this order: refusal 0, line 0 and the song's counts, or a refusal with its line
+/* The answer of turnipcart_read and turnipcart_count, six numbers in this order: refusal 0, line 0 and the song's counts, or a refusal with its line
    (lines count from 1; 0 where the refusal has none) and counts of 0. */
 struct turnipcart_answer {
     size_t refusal;
@@ -97,6 +96,12 @@ struct turnipcart_answer {
 size_t turnipcart_read(const unsigned char *text, size_t text_length, uint32_t *keys, size_t keys_length, uint64_t *sections,
                        size_t sections_length, uint32_t *measures, size_t measures_length, uint32_t *beats, size_t beats_length,
                        uint64_t *items, size_t items_length, struct turnipcart_answer *answer);
+
+/* Reads the chart of text_length bytes at text without any tables, and returns the answer's refusal: one of 1 to 17 with its line and
+   counts of 0, or 0 and the counts, whatever their size. They are the lengths that turnipcart_read's tables need, keys 8 besides; with
+   such tables it gives the same answer.
+   Lent for reading: text. Lent for writing: the answer, which is written whatever it held. */
+size_t turnipcart_count(const unsigned char *text, size_t text_length, struct turnipcart_answer *answer);
 
 /* What turnipcart_find gives, three numbers in this order. */
 struct turnipcart_found {

@@ -80,6 +80,7 @@ pub mod AnswerAgree
 pub mod RefusalsAgree
 pub mod RefusalNumbers
 pub mod LayoutLaws
+pub mod SongAlone
 pub mod StarredProved
 pub mod EdgesProved
 pub mod EitherOrderProved
