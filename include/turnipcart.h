@@ -61,7 +61,9 @@ enum turnipcart_refusal {
     TURNIPCART_COUNT_MISSING = 16,       /* stage 6: some lyric lines have a count and this one has not; the first such line */
     TURNIPCART_COUNT_SUM = 17,           /* stage 7: a section's counts don't sum to its measures; the header's line */
     TURNIPCART_TABLE_TOO_SHORT = 18,     /* stage 8: the keys table under 8 words, or another table too short; line 0 */
-    TURNIPCART_BEAT_NOT_FOUND = 19       /* second call: no record that holds the beat was found, or over 65,535 records were lent */
+    TURNIPCART_BEAT_NOT_FOUND = 19,      /* second call: no record that holds the beat was found, or over 65,535 records were lent */
+    TURNIPCART_MOVE = 21,                /* turnipcart_concert: a move below -11 or above 20 */
+    TURNIPCART_BEAT_WORD = 22            /* turnipcart_concert: a word with base 34 to 62 or a set spare bit */
 };
 
 /* Lengths, in words, of tables that no song is too long for. A section takes at least five bytes of the text (the last one three),
@@ -121,6 +123,17 @@ struct turnipcart_found {
    In a table whose records have a beat or more and each start where the last ended, as those of a song do, the one record that holds
    the beat is found if there is one. In other tables the halving decides which of several is found, and may miss them all. */
 size_t turnipcart_find(const uint32_t *measures, size_t measures_length, uint32_t beat, struct turnipcart_found *found);
+
+/* Writes a beats table at concert pitch into a second one: every base is moved by so many semitones, -11 to 20 with the song's capo
+   added by the caller, and always becomes the sharp name (C# and not Db), by a move of 0 too; major stays major and minor minor.
+   Extensions and heads stay, and so does silence. Moving twice is moving by the sum, and 12 more or less is the same.
+   Lent for reading: beats, any table of any length. Lent for writing: second, a table of its own.
+   - Moved: returns 0. Written are the first beats_length words of second; every word behind keeps what it held.
+   - Refused: returns, in this order, 21 (a move out of range), 22 (a word with base 34 to 62 or a set spare bit) or 18 (second is the
+     shorter), and no word of second changes.
+   A moved table keeps the offsets of its extensions into the text, but it is never read again as text: C with the extension #m, whose
+   letters are C#m, stays a C. */
+size_t turnipcart_concert(const uint32_t *beats, size_t beats_length, int32_t move, uint32_t *second, size_t second_length);
 
 #ifdef __cplusplus
 }

@@ -2,4 +2,5 @@
 // declares them.
 mod count;
 mod find;
+mod pitch;
 mod read;
