@@ -1,4 +1,4 @@
-//! The two calls of libturnipcart.a for Rust, each in a safe function. `include/turnipcart.h` documents them, what every word packs
+//! The calls of libturnipcart.a for Rust, each in a safe function. `include/turnipcart.h` documents them, what every word packs
 //! and every refusal. Nothing else here, and nothing in a program that uses this module, is unsafe.
 #![allow(dead_code)]
 
@@ -62,11 +62,15 @@ mod linked {
             answer: *mut Answer,
         ) -> usize;
 
+        pub fn turnipcart_count(text: *const u8, text_length: usize, answer: *mut Answer) -> usize;
+
         pub fn turnipcart_find(measures: *const u32, measures_length: usize, beat: u32, found: *mut Found) -> usize;
+
+        pub fn turnipcart_concert(beats: *const u32, beats_length: usize, shift: i32, second: *mut u32, second_length: usize) -> usize;
     }
 }
 
-/// Why a chart is refused: the number from 1 to 18, and the line, 0 where there is none.
+/// Why a call refuses: the number, for a chart from 1 to 18, and the line, 0 where there is none.
 #[derive(Clone, Copy, Debug, PartialEq, Eq)]
 pub struct Refusal {
     pub number: usize,
@@ -125,6 +129,37 @@ pub fn read<'a>(text: &[u8], tables: Tables<'a>) -> Result<Song<'a>, Refusal> {
         beats: &beats[..answer.beats],
         items: &items[..answer.items],
     })
+}
+
+/// How many words the tables of a song take, besides the 8 of keys.
+#[derive(Clone, Copy, Debug, PartialEq, Eq)]
+pub struct Counts {
+    pub sections: usize,
+    pub measures: usize,
+    pub beats: usize,
+    pub items: usize,
+}
+
+/// Reads the chart without tables: its counts, whatever their size, or its own refusal, 1 to 17.
+pub fn count(text: &[u8]) -> Result<Counts, Refusal> {
+    let mut answer = linked::Answer::default();
+    // SAFETY: the pointer comes from a slice with its length, and the answer is this function's own.
+    let refusal = unsafe { linked::turnipcart_count(text.as_ptr(), text.len(), &mut answer) };
+    if refusal != 0 {
+        return Err(Refusal { number: refusal, line: answer.line });
+    }
+    Ok(Counts { sections: answer.sections, measures: answer.measures, beats: answer.beats, items: answer.items })
+}
+
+/// Writes a beats table, moved by so many semitones from -11 to 20, into the front of a second one; refused with 21, 22 or 18, it stays
+/// as it was.
+pub fn concert(beats: &[u32], shift: i32, second: &mut [u32]) -> Result<(), Refusal> {
+    // SAFETY: each pointer comes from a reference with its own length, and the mutable one is apart from the other.
+    let refusal = unsafe { linked::turnipcart_concert(beats.as_ptr(), beats.len(), shift, second.as_mut_ptr(), second.len()) };
+    if refusal != 0 {
+        return Err(Refusal { number: refusal, line: 0 });
+    }
+    Ok(())
 }
 
 /// What a search for a beat gives: the place of the record that holds it, none where the call refuses with 19, and how many records were

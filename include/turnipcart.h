@@ -1,9 +1,8 @@
 /* Turnipcart: a proved reader of SongCode chord charts, for C programs to link with libturnipcart.a (Linux on x86-64).
 
-   There are two calls, turnipcart_read and turnipcart_find. Both come to an end on every input, take every text and tables of every
-   length, use no heap, keep nothing between calls, call nothing but memcpy and memset, and may be called from several threads at
-   once with memory of their own. They write nothing but the memory lent to them, and only what is said below.
-   turnipcart_read takes about 280 KB of stack.
+   The calls come to an end on every input, take every text and tables of every length, use no heap, keep nothing between calls, call
+   nothing but memcpy and memset, and may be called from several threads at once with memory of their own. They write nothing but
+   the memory lent to them, and only what is said below. turnipcart_read and turnipcart_count take about 280 KB of stack.
 
    Read one byte more than TURNIPCART_TEXT_LIMIT of a file (if it has them), and give all of them to the call: a file that is too long is
    then refused as such, and never taken for a shorter chart. Read to the file's end, and take a failed read for no chart at all.
@@ -62,7 +61,9 @@ enum turnipcart_refusal {
     TURNIPCART_COUNT_MISSING = 16,       /* stage 6: some lyric lines have a count and this one has not; the first such line */
     TURNIPCART_COUNT_SUM = 17,           /* stage 7: a section's counts don't sum to its measures; the header's line */
     TURNIPCART_TABLE_TOO_SHORT = 18,     /* stage 8: the keys table under 8 words, or another table too short; line 0 */
-    TURNIPCART_BEAT_NOT_FOUND = 19       /* second call: no record that holds the beat was found, or over 65,535 records were lent */
+    TURNIPCART_BEAT_NOT_FOUND = 19,      /* second call: no record that holds the beat was found, or over 65,535 records were lent */
+    TURNIPCART_MOVE = 21,                /* turnipcart_concert: a move below -11 or above 20 */
+    TURNIPCART_BEAT_WORD = 22            /* turnipcart_concert: a word with base 34 to 62 or a set spare bit */
 };
 
 /* Lengths, in words, of tables that no song is too long for. A section takes at least five bytes of the text (the last one three),
@@ -76,7 +77,7 @@ enum {
     TURNIPCART_ITEMS_ENOUGH = 13107
 };
 
-/* The answer of turnipcart_read, six numbers in this order: refusal 0, line 0 and the song's counts, or a refusal with its line
+/* The answer of turnipcart_read and turnipcart_count, six numbers in this order: refusal 0, line 0 and the song's counts, or a refusal with its line
    (lines count from 1; 0 where the refusal has none) and counts of 0. */
 struct turnipcart_answer {
     size_t refusal;
@@ -98,6 +99,12 @@ size_t turnipcart_read(const unsigned char *text, size_t text_length, uint32_t *
                        size_t sections_length, uint32_t *measures, size_t measures_length, uint32_t *beats, size_t beats_length,
                        uint64_t *items, size_t items_length, struct turnipcart_answer *answer);
 
+/* Reads the chart of text_length bytes at text without any tables, and returns the answer's refusal: one of 1 to 17 with its line and
+   counts of 0, or 0 and the counts, whatever their size. They are the lengths that turnipcart_read's tables need, keys 8 besides; with
+   such tables it gives the same answer.
+   Lent for reading: text. Lent for writing: the answer, which is written whatever it held. */
+size_t turnipcart_count(const unsigned char *text, size_t text_length, struct turnipcart_answer *answer);
+
 /* What turnipcart_find gives, three numbers in this order. */
 struct turnipcart_found {
     size_t refusal;
@@ -116,6 +123,17 @@ struct turnipcart_found {
    In a table whose records have a beat or more and each start where the last ended, as those of a song do, the one record that holds
    the beat is found if there is one. In other tables the halving decides which of several is found, and may miss them all. */
 size_t turnipcart_find(const uint32_t *measures, size_t measures_length, uint32_t beat, struct turnipcart_found *found);
+
+/* Writes a beats table at concert pitch into a second one: every base is moved by so many semitones, -11 to 20 with the song's capo
+   added by the caller, and always becomes the sharp name (C# and not Db), by a move of 0 too; major stays major and minor minor.
+   Extensions and heads stay, and so does silence. Moving twice is moving by the sum, and 12 more or less is the same.
+   Lent for reading: beats, any table of any length. Lent for writing: second, a table of its own.
+   - Moved: returns 0. Written are the first beats_length words of second; every word behind keeps what it held.
+   - Refused: returns, in this order, 21 (a move out of range), 22 (a word with base 34 to 62 or a set spare bit) or 18 (second is the
+     shorter), and no word of second changes.
+   A moved table keeps the offsets of its extensions into the text, but it is never read again as text: C with the extension #m, whose
+   letters are C#m, stays a C. */
+size_t turnipcart_concert(const uint32_t *beats, size_t beats_length, int32_t move, uint32_t *second, size_t second_length);
 
 #ifdef __cplusplus
 }

@@ -17,6 +17,7 @@ use Rattle.songcode.specs.Meter.{sectionMeter, meterFaults, sectionCount, mostM
 use Rattle.songcode.specs.Lyrics.{isCounted, isPlayed, counted, linesTaken, hasCounts, countFaults, sumFault, sumFaults}
 use Rattle.songcode.specs.Characters.{goodBytes}
 use Rattle.songcode.specs.Answer.{mostBytes, lineOfPlace, inputFaults}
+use Rattle.songcode.proofs.VerdictAgree.{verdict-append}
 use Rattle.songcode.proofs.ListLaws.{by-cases, Each, each-append, nil-is-not-cons}
 use Rattle.text.specs.declared.Refusal.{Refusal}
 use Rattle.text.specs.Refusals.{refusalOf}
@@ -33,16 +34,6 @@ stage-refused xs rest r e n = e ∙ of (earliest xs) (λ z. n (ap (λ (q : Refus
     of none m = absurd (m refl)
     of (some c) m = refl
 
--- The verdict of stages behind stages.
-pub verdict-append : (xs ys : List (List Complaint)) → verdict (xs ++ ys) ≡ stageOr (verdict xs) (verdict ys)
-unfolding verdict
-verdict-append [] ys = refl
-verdict-append (x ∷ xs) ys = ap (stageOr (earliest x)) (verdict-append xs ys) ∙ of (earliest x)
-  where
-    of : (o : Option Complaint) → stageOr o (stageOr (verdict xs) (verdict ys)) ≡ stageOr (stageOr o (verdict xs)) (verdict ys)
-    of none = refl
-    of (some c) = refl
-
 -- Stages that refuse give the verdict, whatever comes behind them.
 pub stages-refused : (xs rest : List (List Complaint)) (r : Refusal) → r ≡ refusalOf (verdict xs) → (r .number ≡ 0 → ⊥) → r ≡ refusalOf (verdict (xs ++ rest))
 unfolding refusalOf stageOr
@@ -55,14 +46,6 @@ stages-refused xs rest r e n = of (verdict xs) e ∙ ap refusalOf (sym (verdict-
 pub stage-passed : (xs : List Complaint) (rest : List (List Complaint)) → xs ≡ [] → refusalOf (verdict (xs ∷ rest)) ≡ refusalOf (verdict rest)
 unfolding verdict earliest stageOr
 stage-passed xs rest e = rw e refl
-
-pub last-stage : (xs : List Complaint) → verdict (xs ∷ []) ≡ earliest xs
-unfolding verdict stageOr
-last-stage xs = of (earliest xs)
-  where
-    of : (o : Option Complaint) → stageOr o none ≡ o
-    of none = refl
-    of (some c) = refl
 
 -- A stage whose complaints are numbered has none where its refusal has number 0.
 pub stage-none : (xs : List Complaint) (r : Refusal) → Each Numbered xs → r ≡ refusalOf (earliest xs) → r .number ≡ 0 → xs ≡ []

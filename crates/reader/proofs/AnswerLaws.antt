@@ -10,37 +10,36 @@ use lib.ListN.{length}
 use Rattle.songcode.specs.Lists.{when}
 use Rattle.songcode.specs.Complaints.{Complaint, complaint, complainIf, earlier, earliest, stageOr, verdict}
 use Rattle.songcode.specs.Song.{Song}
-use Rattle.songcode.specs.PatternText.{references}
-use Rattle.songcode.specs.Playing as playing
 use Rattle.songcode.specs.SongText.{textFaults}
 use Rattle.songcode.specs.Tables.{Tables, tables, keyWords, keyOrder}
-use Rattle.songcode.specs.Answer.{Room, inputFaults, blocksOf, songOf, roomFaults, stages, refused, accepted, answerBy, answer}
+use Rattle.songcode.specs.Answer as songcode
+use Rattle.songcode.specs.Answer.{Room, inputFaults, blocksOf, songOf, roomFaults, songStages, refused, accepted, answerBy, answer, songAnswer}
+use Rattle.songcode.specs.Described.{HasRoom}
 use Rattle.songcode.proofs.ListLaws.{none-passes}
+use Rattle.songcode.proofs.VerdictAgree.{verdict-append, last-stage}
+use Rattle.songcode.proofs.SongAlone.{refused-with-tables, refused-without-tables, judged-by-room, accepted-with-room}
 use Rattle.text.specs.declared.Refusal.{Refusal}
 use Rattle.text.specs.Refusals.{refusalOf}
 use Rattle.stage2.proofs.SmallLines.{stage-clear}
 use Rattle.judging.specs.Sums.{Holds}
 use Rattle.judging.specs.Charts.{Clear, Roomy}
 use Rattle.judging.specs.declared.sums.Totals.{Totals}
-use Rattle.reader.specs.declared.Answer.{Answer}
+use Rattle.reader.specs.declared.answers.Answer.{Answer}
 use Rattle.writing.specs.Written.{written}
-use Rattle.reader.specs.Answers.{answerOf, Lent, roomOf, stored, Promised}
+use Rattle.reader.specs.Answers.{answerOf, Lent, roomOf, stored, Promised, Counted}
 use Rattle.reader.specs.Room.{isShort}
 use Rattle.judging.specs.Stages.{lyricFaults, playingFaults, laterFaults}
 use Rattle.judging.proofs.ClearLaws.{verdict-clear}
-use Rattle.judging.proofs.StageLaws.{verdict-append, last-stage, numbered-input, input-small}
+use Rattle.judging.proofs.StageLaws.{numbered-input, input-small}
 
--- Stages put together.
-module _ (room : Room) (bs : List ℕ) where
+-- The stages of the song alone.
+module _ (bs : List ℕ) where
   firsts : List (List Complaint)
   firsts = inputFaults bs ∷ textFaults (blocksOf bs) ∷ []
 
-  rooms : List Complaint
-  rooms = roomFaults room (tables (songOf bs))
-
-  stages-are : verdict (stages room bs) ≡ stageOr (verdict firsts) (stageOr (verdict (laterFaults (songOf bs))) (earliest rooms))
-  unfolding stages firsts rooms laterFaults playingFaults lyricFaults
-  stages-are = verdict-append firsts (laterFaults (songOf bs) ++ (rooms ∷ [])) ∙ ap (stageOr (verdict firsts)) (verdict-append (laterFaults (songOf bs)) (rooms ∷ []) ∙ ap (stageOr (verdict (laterFaults (songOf bs)))) (last-stage rooms))
+  stages-are : verdict (songStages bs) ≡ stageOr (verdict firsts) (verdict (laterFaults (songOf bs)))
+  unfolding songStages firsts laterFaults playingFaults lyricFaults
+  stages-are = verdict-append firsts (laterFaults (songOf bs))
 
   -- A refusal that is given is a complaint.
   given : (o : Option Complaint) (r : Refusal) → r ≡ refusalOf o → (r .number ≡ 0 → ⊥) → o ≡ some (complaint (r .number) (r .line))
@@ -48,14 +47,14 @@ module _ (room : Room) (bs : List ℕ) where
   given none r e n = absurd (n (ap (λ (q : Refusal). q .number) e))
   given (some c) r e n = rw e refl
 
-  refuses : (c : Complaint) → verdict (stages room bs) ≡ some c → answer room bs ≡ refused (c .number) (c .line)
-  unfolding answer answerBy
+  refuses : (c : Complaint) → verdict (songStages bs) ≡ some c → songAnswer bs ≡ refused (c .number) (c .line)
+  unfolding songAnswer answerBy
   refuses c e = rw e refl
 
   -- Stages 1 and 2 refuse.
-  pub early-refused : (r : Refusal) → r ≡ refusalOf (verdict (inputFaults bs ∷ textFaults (blocksOf bs) ∷ [])) → (r .number ≡ 0 → ⊥) → answer room bs ≡ refused (r .number) (r .line)
+  pub early-refused : (r : Refusal) → r ≡ refusalOf (verdict (inputFaults bs ∷ textFaults (blocksOf bs) ∷ [])) → (r .number ≡ 0 → ⊥) → songAnswer bs ≡ refused (r .number) (r .line)
   unfolding firsts stageOr
-  early-refused r e n = refuses (complaint (r .number) (r .line)) (stages-are ∙ ap (λ o. stageOr o (stageOr (verdict (laterFaults (songOf bs))) (earliest rooms))) (given (verdict firsts) r e n))
+  early-refused r e n = refuses (complaint (r .number) (r .line)) (stages-are ∙ ap (λ o. stageOr o (verdict (laterFaults (songOf bs)))) (given (verdict firsts) r e n))
 
   -- They do not.
   module _ (input : inputFaults bs ≡ []) (texts : textFaults (blocksOf bs) ≡ []) where
@@ -63,30 +62,30 @@ module _ (room : Room) (bs : List ℕ) where
     unfolding firsts verdict earliest stageOr
     firsts-none = rw (input, texts) refl
 
-    later-are : verdict (stages room bs) ≡ stageOr (verdict (laterFaults (songOf bs))) (earliest rooms)
+    later-are : verdict (songStages bs) ≡ verdict (laterFaults (songOf bs))
     unfolding stageOr
-    later-are = stages-are ∙ ap (λ o. stageOr o (stageOr (verdict (laterFaults (songOf bs))) (earliest rooms))) firsts-none
+    later-are = stages-are ∙ ap (λ o. stageOr o (verdict (laterFaults (songOf bs)))) firsts-none
 
-    pub late-refused : (r : Refusal) → r ≡ refusalOf (verdict (laterFaults (songOf bs))) → (r .number ≡ 0 → ⊥) → answer room bs ≡ refused (r .number) (r .line)
-    unfolding stageOr
-    late-refused r e n = refuses (complaint (r .number) (r .line)) (later-are ∙ ap (λ o. stageOr o (earliest rooms)) (given (verdict (laterFaults (songOf bs))) r e n))
+    pub late-refused : (r : Refusal) → r ≡ refusalOf (verdict (laterFaults (songOf bs))) → (r .number ≡ 0 → ⊥) → songAnswer bs ≡ refused (r .number) (r .line)
+    late-refused r e n = refuses (complaint (r .number) (r .line)) (later-are ∙ given (verdict (laterFaults (songOf bs))) r e n)
 
-    module _ (clear : Clear (songOf bs)) where
-      later-none : verdict (laterFaults (songOf bs)) ≡ none
-      unfolding laterFaults playingFaults lyricFaults verdict earliest stageOr
-      later-none = rw (clear .references, clear .meters, clear .lengths, clear .counts, clear .sums) refl
+    later-none : Clear (songOf bs) → verdict (laterFaults (songOf bs)) ≡ none
+    unfolding laterFaults playingFaults lyricFaults verdict earliest stageOr
+    later-none clear = rw (clear .references, clear .meters, clear .lengths, clear .counts, clear .sums) refl
 
-      room-are : verdict (stages room bs) ≡ earliest rooms
-      unfolding stageOr
-      room-are = later-are ∙ ap (λ o. stageOr o (earliest rooms)) later-none
+    pub song-accepted : Clear (songOf bs) → songAnswer bs ≡ accepted (tables (songOf bs))
+    unfolding songAnswer answerBy
+    song-accepted clear = rw (later-are ∙ later-none clear) refl
 
-      pub short-refused : roomFaults room (tables (songOf bs)) ≡ complaint 18 0 ∷ [] → answer room bs ≡ refused 18 0
-      unfolding earliest earlier rooms
-      short-refused e = refuses (complaint 18 0) (room-are ∙ ap earliest e)
+-- Stage 8, for a song that the others accept.
+module _ (room : Room) (bs : List ℕ) (is : songAnswer bs ≡ accepted (tables (songOf bs))) where
+  pub short-refused : roomFaults room (tables (songOf bs)) ≡ complaint 18 0 ∷ [] → answer room bs ≡ refused 18 0
+  unfolding earliest earlier answerBy
+  short-refused e = judged-by-room room bs (tables (songOf bs)) is ∙ ap (λ fs. answerBy (earliest fs) (tables (songOf bs))) e
 
-      pub song-accepted : roomFaults room (tables (songOf bs)) ≡ [] → answer room bs ≡ accepted (tables (songOf bs))
-      unfolding earliest answer answerBy rooms
-      song-accepted e = rw (room-are ∙ ap earliest e) refl
+  pub roomy-accepted : roomFaults room (tables (songOf bs)) ≡ [] → answer room bs ≡ accepted (tables (songOf bs))
+  unfolding earliest answerBy
+  roomy-accepted e = judged-by-room room bs (tables (songOf bs)) is ∙ ap (λ fs. answerBy (earliest fs) (tables (songOf bs))) e
 
 -- Whether a table is too short, by the totals that were counted.
 keys-eight : (song : Song) → length (tables song .keys) ≡ 8
@@ -137,16 +136,48 @@ promised-refused text lent n l r is e = record { answer = e ∙ sym (ap answerOf
 same-lent : {k s m b i x y z u v : List ℕ} → k ≡ x → s ≡ y → m ≡ z → b ≡ u → i ≡ v → _≡_ {A = Lent} (record { keys = k; sections = s; measures = m; beats = b; items = i }) (record { keys = x; sections = y; measures = z; beats = u; items = v })
 same-lent p q r e f = rw (p, q, r, e, f) refl
 
-pub promised-accepted : (text : List ℕ) (lent after : Lent) (t : Tables) (q : Totals) → answer (roomOf lent) text ≡ accepted t → Holds t q
+pub promised-accepted : (text : List ℕ) (lent after : Lent) (t : Tables) (q : Totals) (r : Answer) → answer (roomOf lent) text ≡ accepted t → Holds t q
     → after .keys ≡ written (t .keys) (lent .keys) → after .sections ≡ written (t .sections) (lent .sections) → after .measures ≡ written (t .measures) (lent .measures) → after .beats ≡ written (t .beats) (lent .beats) → after .items ≡ written (t .items) (lent .items)
-    → Promised text lent (record { refusal = 0; line = 0; sections = q .sections; measures = q .measures; beats = q .beats; items = q .items }) after
+    → r ≡ record { refusal = 0; line = 0; sections = q .sections; measures = q .measures; beats = q .beats; items = q .items } → Promised text lent r after
 unfolding answerOf stored
-promised-accepted text lent after t q is h a b c d e =
+promised-accepted text lent after t q r is h a b c d e f =
     record {
-      answer = rw (h .sections, h .measures, h .beats, h .items) (sym (ap answerOf is));
+      answer = rw (f, h .sections, h .measures, h .beats, h .items) (sym (ap answerOf is));
       tables = same-lent a b c d e ∙ sym (ap (λ x. stored x lent) is);
     }
 
 -- No second outcome meets the promise.
 pub one-outcome : (text : List ℕ) (before : Lent) (r q : Answer) (a b : Lent) → Promised text before r a → Promised text before q b → (r ≡ q) × (a ≡ b)
 one-outcome text before r q a b x y = (x .answer ∙ sym (y .answer), x .tables ∙ sym (y .tables))
+
+-- The call without tables: what it answers.
+pub counted-refused : (text : List ℕ) (n l : ℕ) (r : Answer) → songAnswer text ≡ refused n l → r ≡ record { refusal = n; line = l; sections = 0; measures = 0; beats = 0; items = 0 } → Counted text r
+unfolding answerOf
+counted-refused text n l r is e = record { answer = e ∙ sym (ap answerOf is) }
+
+pub counted-accepted : (text : List ℕ) (t : Tables) (q : Totals) (r : Answer) → songAnswer text ≡ accepted t → Holds t q
+    → r ≡ record { refusal = 0; line = 0; sections = q .sections; measures = q .measures; beats = q .beats; items = q .items } → Counted text r
+unfolding answerOf
+counted-accepted text t q r is h e = record { answer = rw (e, h .sections, h .measures, h .beats, h .items) (sym (ap answerOf is)) }
+
+-- No second answer meets its promise; it is the answer of `read` where the tables have room, and where `read` refuses with anything but 18.
+pub one-count : (text : List ℕ) (r q : Answer) → Counted text r → Counted text q → r ≡ q
+one-count text r q x y = x .answer ∙ sym (y .answer)
+
+module _ (text : List ℕ) (before after : Lent) (r q : Answer) (read : Promised text before r after) (counted : Counted text q) where
+  pub counted-with-room : ((t : Tables) → songAnswer text ≡ accepted t → HasRoom (roomOf before) t) → q ≡ r
+  counted-with-room has = counted .answer ∙ ap answerOf (sym (go (songAnswer text) refl)) ∙ sym (read .answer)
+    where
+      go : (a : songcode.Answer) → songAnswer text ≡ a → answer (roomOf before) text ≡ songAnswer text
+      go (refused n l) e = refused-with-tables (roomOf before) text n l e ∙ sym e
+      go (accepted t) e = accepted-with-room (roomOf before) text t .1 (e, has t e) ∙ sym e
+
+  pub counted-when-refused : (r .refusal ≡ 0 → ⊥) → (r .refusal ≡ 18 → ⊥) → q ≡ r
+  unfolding answerOf
+  counted-when-refused nonzero other = counted .answer ∙ ap answerOf (go (answer (roomOf before) text) refl) ∙ sym (read .answer)
+    where
+      go : (a : songcode.Answer) → answer (roomOf before) text ≡ a → songAnswer text ≡ answer (roomOf before) text
+      go (refused n l) e =
+          let number : r .refusal ≡ n = ap (λ (x : Answer). x .refusal) (read .answer ∙ ap answerOf e) in
+          refused-without-tables (roomOf before) text n l e (λ z. other (number ∙ z)) ∙ sym e
+      go (accepted t) e = absurd (nonzero (ap (λ (x : Answer). x .refusal) (read .answer ∙ ap answerOf e)))

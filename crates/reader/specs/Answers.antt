@@ -6,7 +6,7 @@ use lib.ListN.{length}
 use Rattle.songcode.specs.Answer as songcode
 use Rattle.songcode.specs.Answer.{refused, accepted}
 use Rattle.writing.specs.Written.{written}
-use Rattle.reader.specs.declared.Answer.{Answer}
+use Rattle.reader.specs.declared.answers.Answer.{Answer}
 
 -- "The result gives refusal 0, line 0 and the counts of sections, measures, beats and items"; "A refusal returns its number and line, counts 0".
 unfoldable pub answerOf : songcode.Answer → Answer
@@ -43,3 +43,7 @@ stored (accepted t) old =
 pub record Promised (text : List ℕ) (before : Lent) (r : Answer) (after : Lent) : Type 0 where
   pub answer : r ≡ answerOf (songcode.answer (roomOf before) text)
   pub tables : after ≡ stored (songcode.answer (roomOf before) text) before
+
+-- The promise of the call without tables: refused by stages 1 to 7, or the counts of the song's own tables, whatever their size.
+pub record Counted (text : List ℕ) (r : Answer) : Type 0 where
+  pub answer : r ≡ answerOf (songcode.songAnswer text)

@@ -81,7 +81,7 @@ of-chart bs s c =
     subst (λ x. WrittenSong x s) (sym (ap (λ x. blocks x) l ∙ b)) (c .song)
 
 -- Stage 8.
-room-exact : (room : Room) (t : Tables) → (roomFaults room t ≡ []) ↔ HasRoom room t
+pub room-exact : (room : Room) (t : Tables) → (roomFaults room t ≡ []) ↔ HasRoom room t
 unfolding roomFaults
 room-exact room t = (
   (λ h.

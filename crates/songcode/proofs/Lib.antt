@@ -4,6 +4,7 @@ pub mod ListLaws
 pub mod ChoiceLaws
 pub mod FaultLaws
 pub mod EachLaws
+pub mod EachBelow
 pub mod VerdictAgree
 pub mod MemberLaws
 -- Characters, lines and blocks.
@@ -21,6 +22,7 @@ pub mod BlocksAgree
 pub mod PatternLaws
 pub mod NumbersAgree
 pub mod Spellings
+pub mod ChordNumbers
 pub mod LongestBase
 pub mod ChordsAgree
 pub mod WordsAgree
@@ -80,6 +82,7 @@ pub mod AnswerAgree
 pub mod RefusalsAgree
 pub mod RefusalNumbers
 pub mod LayoutLaws
+pub mod SongAlone
 pub mod StarredProved
 pub mod EdgesProved
 pub mod EitherOrderProved

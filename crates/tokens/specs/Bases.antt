@@ -2,7 +2,7 @@
 use Prim.Native.Nat.{ℕ, zero, suc, _+_}
 use mathlib.Core.List.{List, [], _∷_, map}
 use mathlib.Core.Option.{Option, none, some}
-use lib.Dec.{eqb}
+use lib.Dec.{eqb, ltb}
 use lib.ListN.{length, getD}
 use Rattle.songcode.specs.Lists.{if_then_else_}
 use Rattle.songcode.specs.Bytes.{begins, ascii}
@@ -37,3 +37,9 @@ rowOf r = spellings (getD rows r [])
 
 unfoldable pub firstOf : ℕ → ℕ
 firstOf r = getD (0 ∷ 6 ∷ 10 ∷ 14 ∷ 20 ∷ 24 ∷ 28 ∷ []) r 0
+
+-- The row in which a number stands.
+unfoldable pub rowOfNumber : ℕ → ℕ
+unfolding if_then_else_
+rowOfNumber n =
+    if ltb n 6 then 0 else if ltb n 10 then 1 else if ltb n 14 then 2 else if ltb n 20 then 3 else if ltb n 24 then 4 else if ltb n 28 then 5 else 6

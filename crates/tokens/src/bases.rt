@@ -4,45 +4,20 @@ ghost use mathlib.Core.Path.{_≡_};
 ghost use mathlib.Core.Option.{none};
 ghost use Prim.Native.Nat.{_<_};
 ghost use Rattle.songcode.specs.Bytes.{placed};
-ghost use Rattle.songcode.specs.Chords.{bases, longestFrom, isBase};
-ghost use Rattle.tokens.specs.Bases.{baseOf, unpadded, three, fitted, firstOf, rowOf};
+ghost use Rattle.songcode.specs.Chords.{bases, spellingOf, longestFrom, isBase};
+ghost use Rattle.tokens.specs.Bases.{baseOf, unpadded, three, fitted, firstOf, rowOf, rowOfNumber};
 
-// The rows by letter; a short spelling ends with zeros, a short row with empty spellings.
+// What pads a row of less than six.
+const NONE: [u8; 3] = *b"\0\0\0";
+
+// The rows by letter; a short spelling ends with zeros.
 const ROWS: [[[u8; 3]; 6]; 7] = [
     [*b"A\0\0", *b"A#\0", *b"Ab\0", *b"Am\0", *b"A#m", *b"Abm"],
-    [
-        *b"B\0\0",
-        *b"Bb\0",
-        *b"Bm\0",
-        *b"Bbm",
-        *b"\0\0\0",
-        *b"\0\0\0",
-    ],
-    [
-        *b"C\0\0",
-        *b"C#\0",
-        *b"Cm\0",
-        *b"C#m",
-        *b"\0\0\0",
-        *b"\0\0\0",
-    ],
+    [*b"B\0\0", *b"Bb\0", *b"Bm\0", *b"Bbm", NONE, NONE],
+    [*b"C\0\0", *b"C#\0", *b"Cm\0", *b"C#m", NONE, NONE],
     [*b"D\0\0", *b"Db\0", *b"D#\0", *b"Dm\0", *b"Dbm", *b"D#m"],
-    [
-        *b"E\0\0",
-        *b"Eb\0",
-        *b"Em\0",
-        *b"Ebm",
-        *b"\0\0\0",
-        *b"\0\0\0",
-    ],
-    [
-        *b"F\0\0",
-        *b"F#\0",
-        *b"Fm\0",
-        *b"F#m",
-        *b"\0\0\0",
-        *b"\0\0\0",
-    ],
+    [*b"E\0\0", *b"Eb\0", *b"Em\0", *b"Ebm", NONE, NONE],
+    [*b"F\0\0", *b"F#\0", *b"Fm\0", *b"F#m", NONE, NONE],
     [*b"G\0\0", *b"Gb\0", *b"G#\0", *b"Gm\0", *b"Gbm", *b"G#m"],
 ];
 
@@ -124,4 +99,40 @@ pub fn is_base(w: &[u8]) -> bool
         return false;
     }
     b.length == w.len()
+}
+
+// The row in which a base chord stands; the last for every number past it.
+fn row_of(number: usize) -> usize
+    ensures { λ r. ⌜ r ≡ rowOfNumber number ⌝ }
+{
+    if number < 6 {
+        return 0;
+    }
+    if number < 10 {
+        return 1;
+    }
+    if number < 14 {
+        return 2;
+    }
+    if number < 20 {
+        return 3;
+    }
+    if number < 24 {
+        return 4;
+    }
+    if number < 28 {
+        return 5;
+    }
+    6
+}
+
+// The spelling of a base chord by its number, with zeros behind it; nothing but zeros for every other number.
+pub fn spelling_of(number: usize) -> [u8; 3]
+    ensures { λ r. ⌜ unpadded r ≡ spellingOf number ⌝ }
+{
+    if 33 < number {
+        return NONE;
+    }
+    let row = row_of(number);
+    ROWS[row][number - FIRSTS[row]]
 }

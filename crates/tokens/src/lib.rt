@@ -7,6 +7,7 @@ mod words;
 pub use bases::Base;
 pub use bases::is_base;
 pub use bases::longest_base;
+pub use bases::spelling_of;
 pub use lexing::Lexed;
 pub use lexing::end_line;
 pub use lexing::lex_line;

@@ -1,8 +1,10 @@
--- The answers of the calls as numbers in a row.
+-- The answers of the calls as numbers in a row; and what the calls that read a chart promise.
 use Prim.Native.Nat.{ℕ}
+use mathlib.Core.Path.{_≡_}
 use mathlib.Core.List.{List}
 use lib.ListN.{getD}
-use Rattle.reader.specs.declared.Answer.{Answer}
+use Rattle.reader.specs.declared.answers.Answer.{Answer}
+use Rattle.reader.specs.Answers.{Lent, Promised, Counted}
 use Rattle.seek.specs.declared.Found.{Found}
 
 -- Refusal, line, and the counts of sections, measures, beats and items.
@@ -13,3 +15,13 @@ answerIn xs =
 -- Refusal, place and probes.
 unfoldable pub foundIn : List ℕ → Found
 foundIn xs = record { refusal = getD xs 0 0; place = getD xs 1 0; probes = getD xs 2 0 }
+
+-- A chart read: the refusal of the answer is returned, and answer and tables are as promised.
+pub record ReadsChart (text : List ℕ) (before : Lent) (refusal : ℕ) (answer : List ℕ) (after : Lent) : Type 0 where
+  pub returned : refusal ≡ answerIn answer .refusal
+  pub promised : Promised text before (answerIn answer) after
+
+-- A chart counted.
+pub record CountsChart (text : List ℕ) (refusal : ℕ) (answer : List ℕ) : Type 0 where
+  pub given : refusal ≡ answerIn answer .refusal
+  pub counted : Counted text (answerIn answer)

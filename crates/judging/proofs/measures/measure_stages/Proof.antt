@@ -1,7 +1,8 @@
 use Rattle.judging.proofs.JudgedLaws.{Judged, judged-start, judged-next, judged-end, opened-fault}
 use Rattle.judging.proofs.OpenedLaws.{opened-measurable}
 use Rattle.judging.proofs.LengthsAreLaws.{LengthsAre, lengths-start, lengths-small, lengths-next, lengths-end}
-use Rattle.judging.proofs.StageLaws.{stage-refused, stage-passed, last-stage, stage-none, numbered-meters}
+use Rattle.judging.proofs.StageLaws.{stage-refused, stage-passed, stage-none, numbered-meters}
+use Rattle.songcode.proofs.VerdictAgree.{last-stage}
 use Rattle.scores.specs.Scores.{Ready}
 use Rattle.sections.specs.Onward.{Onward}
 use Rattle.songcode.specs.Answer.{songOf}

@@ -1,4 +1,5 @@
-use Rattle.judging.proofs.StageLaws.{stage-refused, stage-passed, last-stage, stage-none, numbered-input, input-small}
+use Rattle.judging.proofs.StageLaws.{stage-refused, stage-passed, stage-none, numbered-input, input-small}
+use Rattle.songcode.proofs.VerdictAgree.{last-stage}
 use Rattle.songcode.specs.Answer.{inputFaults, blocksOf}
 use Rattle.songcode.specs.SongText.{textFaults}
 use Rattle.text.specs.Refusals.{refusalOf}

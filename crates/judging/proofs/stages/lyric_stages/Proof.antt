@@ -1,4 +1,5 @@
-use Rattle.judging.proofs.StageLaws.{stage-refused, stage-passed, last-stage, stage-none, refused-says, numbered-counts}
+use Rattle.judging.proofs.StageLaws.{stage-refused, stage-passed, stage-none, refused-says, numbered-counts}
+use Rattle.songcode.proofs.VerdictAgree.{last-stage}
 use Rattle.judging.specs.Stages.{lyricFaults}
 use Rattle.judging.specs.declared.sums.Totals.{Totals}
 use Rattle.songcode.specs.Answer.{songOf}

@@ -1,15 +1,16 @@
+use Rattle.songcode.proofs.SongAlone.{refused-with-tables}
 use Rattle.reader.proofs.AnswerLaws.{early-refused, first-clear, promised-refused}
 use Rattle.judging.proofs.StageLaws.{input-small}
 use Rattle.reader.specs.Answers.{Lent, roomOf}
 use borrow.Author.Needs.{needs}
-use Rattle.reader.proofs.read.Statement.{statement}
-use Rattle.reader.proofs.read.Tie as tie
-use Rattle.reader.proofs.read.Reads as reads
-use Rattle.reader.proofs.read.Lts as lts
+use Rattle.reader.proofs.reading.read.Statement.{statement}
+use Rattle.reader.proofs.reading.read.Tie as tie
+use Rattle.reader.proofs.reading.read.Reads as reads
+use Rattle.reader.proofs.reading.read.Lts as lts
 use Rattle.judging.proofs.first_stages.Reads as first-stages-reads
-use Rattle.reader.proofs.read_long.Reads as read-long-reads
-use Rattle.reader.proofs.read_short.Reads as read-short-reads
-use Rattle.reader.proofs.refused.Reads as refused-reads
+use Rattle.reader.proofs.reading.read_long.Reads as read-long-reads
+use Rattle.reader.proofs.reading.read_short.Reads as read-short-reads
+use Rattle.reader.proofs.answers.refused.Reads as refused-reads
 
 -- src/lib.rt:147:9
 first-stages-requires : tie.Need-first-stages-requires
@@ -26,8 +27,8 @@ returns c =
     let bs = a .text .now in
     let lent : Lent = record { keys = a .keys .now; sections = a .sections .now; measures = a .measures .now; beats = a .beats .now; items = a .items .now } in
     let early = c .before .before .before .first-stages in
-    let is = early-refused (roomOf lent) bs (early .result) (early .ensures) (c .before .if1 .taken) in
-    promised-refused bs lent (early .result .number) (early .result .line) (c .refused .result) is (c .refused .ensures)
+    let is = early-refused bs (early .result) (early .ensures) (c .before .if1 .taken) in
+    promised-refused bs lent (early .result .number) (early .result .line) (c .refused .result) (refused-with-tables (roomOf lent) bs _ _ is) (c .refused .ensures)
 
 -- src/lib.rt:152:9
 read-short-requires : tie.Need-read-short-requires

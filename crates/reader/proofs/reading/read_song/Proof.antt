@@ -1,17 +1,18 @@
-use Rattle.reader.proofs.AnswerLaws.{late-refused, short-refused, song-accepted, short-is, long-is, keys-room, tables-room, promised-refused, promised-accepted}
+use Rattle.songcode.proofs.SongAlone.{refused-with-tables}
+use Rattle.reader.proofs.AnswerLaws.{late-refused, song-accepted, short-refused, roomy-accepted, short-is, long-is, keys-room, tables-room, promised-refused, promised-accepted}
 use Rattle.reader.specs.Answers.{Lent, roomOf}
 use Rattle.songcode.specs.Answer.{songOf}
 use Rattle.songcode.specs.Tables.{tables}
 use lib.ListN.{length}
 use mathlib.Core.Path.{sym, _∙_}
 use borrow.Author.Needs.{needs}
-use Rattle.reader.proofs.read_song.Statement.{statement}
-use Rattle.reader.proofs.read_song.Tie as tie
-use Rattle.reader.proofs.read_song.Reads as reads
-use Rattle.reader.proofs.read_song.Lts as lts
+use Rattle.reader.proofs.reading.read_song.Statement.{statement}
+use Rattle.reader.proofs.reading.read_song.Tie as tie
+use Rattle.reader.proofs.reading.read_song.Reads as reads
+use Rattle.reader.proofs.reading.read_song.Lts as lts
 use Rattle.judging.proofs.judge.Reads as judge-reads
-use Rattle.reader.proofs.is_short.Reads as is-short-reads
-use Rattle.reader.proofs.refused.Reads as refused-reads
+use Rattle.reader.proofs.reading.is_short.Reads as is-short-reads
+use Rattle.reader.proofs.answers.refused.Reads as refused-reads
 use Rattle.writing.proofs.write_tables.Reads as write-tables-reads
 
 -- src/lib.rt:77:9
@@ -35,8 +36,8 @@ returns c =
     let bs = a .text .now in
     let lent : Lent = record { keys = a .keys .now; sections = a .sections .now; measures = a .measures .now; beats = a .beats .now; items = a .items .now } in
     let late = c .before .before .before .before .before .before .before .judge .result .totals .refusal in
-    let is = late-refused (roomOf lent) bs (entry .pre .0) (entry .pre .1) late (c .before .before .before .before .before .before .before .judge .ensures .refusal) (c .before .if1 .taken) in
-    promised-refused bs lent (late .number) (late .line) (c .refused .result) is (c .refused .ensures)
+    let is = late-refused bs (entry .pre .0) (entry .pre .1) late (c .before .before .before .before .before .before .before .judge .ensures .refusal) (c .before .if1 .taken) in
+    promised-refused bs lent (late .number) (late .line) (c .refused .result) (refused-with-tables (roomOf lent) bs _ _ is) (c .refused .ensures)
 
 -- src/lib.rt:83:8
 is-short-requires : tie.Need-is-short-requires
@@ -61,7 +62,7 @@ returns-2 c =
     let judge = c .before .before .before .before .before .before .before .before .before .judge in
     let w = judge .ensures .writable (c .before .before .before .if1 .left) in
     let short = short-is (roomOf lent) (songOf bs) (judge .result .totals) (w .holds) (sym (c .before .before .is-short .ensures) ∙ c .before .if2 .taken) in
-    let is = short-refused (roomOf lent) bs (entry .pre .0) (entry .pre .1) (w .clear) short in
+    let is = short-refused (roomOf lent) bs (song-accepted bs (entry .pre .0) (entry .pre .1) (w .clear)) short in
     promised-refused bs lent 18 0 (c .refused2 .result) is (c .refused2 .ensures)
 
 -- src/lib.rt:93:5
@@ -107,16 +108,16 @@ same-length-8 c = search needs
 returns-3 : tie.Need-returns-3
 unfolding roomOf
 returns-3 c =
-    let entry = c .before .before .before .before .before .before .before .before .before .before .before .before .before .before .before .before .before .before .before .before .before .before .before .before .before .before .before .before .before .before .before .before .before .before .before .before in
+    let entry = c .before .before .before .before .before .before .before .before .before .before .before .before .before .before .before .before .before .before .before .before .before .before .before .before .before .before .before .before .before .before .before .before .before .before .before .before .before in
     let a = entry .args in
     let bs = a .text .now in
     let lent : Lent = record { keys = a .keys .now; sections = a .sections .now; measures = a .measures .now; beats = a .beats .now; items = a .items .now } in
-    let judge = c .before .before .before .before .before .before .before .before .before .before .before .before .before .before .before .before .before .before .before .before .before .before .before .before .before .before .before .judge in
-    let w = judge .ensures .writable (c .before .before .before .before .before .before .before .before .before .before .before .before .before .before .before .before .before .before .before .before .before .if1 .left) in
-    let long = long-is (roomOf lent) (songOf bs) (judge .result .totals) (w .holds) (sym (c .before .before .before .before .before .before .before .before .before .before .before .before .before .before .before .before .before .before .before .before .is-short .ensures) ∙ c .before .before .before .before .before .before .before .before .before .before .before .before .before .before .before .before .before .before .before .if2 .left) in
-    let is = song-accepted (roomOf lent) bs (entry .pre .0) (entry .pre .1) (w .clear) long in
-    let wrote = c .before .before .before .before .before .before .before .before .before .before .before .before .write-tables .ensures in
-    promised-accepted bs lent _ (tables (songOf bs)) (judge .result .totals) is (w .holds) (wrote .0) (wrote .1 .0) (wrote .1 .1 .0) (wrote .1 .1 .1 .0) (wrote .1 .1 .1 .1)
+    let judge = c .before .before .before .before .before .before .before .before .before .before .before .before .before .before .before .before .before .before .before .before .before .before .before .before .before .before .before .before .judge in
+    let w = judge .ensures .writable (c .before .before .before .before .before .before .before .before .before .before .before .before .before .before .before .before .before .before .before .before .before .before .if1 .left) in
+    let long = long-is (roomOf lent) (songOf bs) (judge .result .totals) (w .holds) (sym (c .before .before .before .before .before .before .before .before .before .before .before .before .before .before .before .before .before .before .before .before .before .is-short .ensures) ∙ c .before .before .before .before .before .before .before .before .before .before .before .before .before .before .before .before .before .before .before .before .if2 .left) in
+    let is = roomy-accepted (roomOf lent) bs (song-accepted bs (entry .pre .0) (entry .pre .1) (w .clear)) long in
+    let wrote = c .before .before .before .before .before .before .before .before .before .before .before .before .before .write-tables .ensures in
+    promised-accepted bs lent _ (tables (songOf bs)) (judge .result .totals) (c .accepted .result) is (w .holds) (wrote .0) (wrote .1 .0) (wrote .1 .1 .0) (wrote .1 .1 .1 .0) (wrote .1 .1 .1 .1) (c .accepted .ensures)
 
 pub read-song-spec : {M : Type 1} → statement M
 read-song-spec =
@@ -131,6 +132,7 @@ read-song-spec =
     same-length-2
     returns-2
     write-tables-requires
+    (λ c κs. search needs)
     same-length-3
     same-length-4
     same-length-5

@@ -1,0 +1,19 @@
+-- What the call promises: its refusal, and every word of the second table, for every table and every move.
+use Prim.Native.Nat.{ℕ}
+use mathlib.Core.Path.{_≡_}
+use mathlib.Core.List.{List, _++_}
+use lib.Dec.{eqb}
+use lib.IntN.{ℤ}
+use lib.ListN.{length, drop}
+use Rattle.songcode.specs.Lists.{if_then_else_}
+use Rattle.concert.specs.Moves.{movedTable, refusalOf}
+
+-- "second table untouched" where it is refused; else the moved words, and behind them what was there.
+unfoldable pub secondTable : ℤ → List ℕ → List ℕ → List ℕ
+unfolding if_then_else_ movedTable refusalOf
+secondTable move beats before =
+    if eqb (refusalOf move beats (length before)) 0 then movedTable move beats ++ drop (length beats) before else before
+
+pub record Moves (move : ℤ) (beats before : List ℕ) (refusal : ℕ) (after : List ℕ) : Type 0 where
+  pub refused : refusal ≡ refusalOf move beats (length before)
+  pub second : after ≡ secondTable move beats before

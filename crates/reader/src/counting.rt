@@ -1,0 +1,59 @@
+// A chart without tables: its refusal, or how many words its tables would take. It stores nothing, so nothing can be too short.
+use super::answers::Answer;
+use super::answers::accepted;
+use super::answers::refused;
+use judging::first_stages;
+use judging::judge;
+ghost use mathlib.Core.Path.{_≡_};
+ghost use mathlib.Core.List.{[]};
+ghost use Prim.Native.Nat.{_≤_};
+ghost use lib.ListN.{length};
+ghost use Rattle.songcode.specs.SongText.{textFaults};
+ghost use Rattle.songcode.specs.Answer.{inputFaults, blocksOf};
+ghost use Rattle.reader.specs.Answers.{Counted};
+
+// A chart that stages 1 and 2 have passed; `words` holds its pattern text as token words, at most one for each byte.
+fn count_song(text: &[u8], words: &mut [u32]) -> Answer
+    requires { ⌜ (inputFaults (now text) ≡ []) × (textFaults (blocksOf (now text)) ≡ []) × (length (now text) ≤ length (now words)) ⌝ }
+    ensures { λ r. ⌜ Counted (now (text .entry)) r ⌝ }
+{
+    let chart = judge(text, words);
+    let totals = chart.totals;
+    let late = totals.refusal;
+    if late.number != 0 {
+        return refused(late.number, late.line);
+    }
+    accepted(totals)
+}
+
+// The same for a chart of at most 2,048 bytes, as nearly all are: a small buffer is soon cleared.
+fn count_short(text: &[u8]) -> Answer
+    requires { ⌜ (inputFaults (now text) ≡ []) × (textFaults (blocksOf (now text)) ≡ []) × (length (now text) ≤ 2048) ⌝ }
+    ensures { λ r. ⌜ Counted (now (text .entry)) r ⌝ }
+{
+    let mut words = [0u32; 2048];
+    count_song(text, &mut words)
+}
+
+// The same for any chart that stage 1 has passed.
+fn count_long(text: &[u8]) -> Answer
+    requires { ⌜ (inputFaults (now text) ≡ []) × (textFaults (blocksOf (now text)) ≡ []) × (length (now text) ≤ 65536) ⌝ }
+    ensures { λ r. ⌜ Counted (now (text .entry)) r ⌝ }
+{
+    let mut words = [0u32; 65536];
+    count_song(text, &mut words)
+}
+
+// Every text of every length is answered: refusal 1 to 17 with its line, or the counts, whatever their size.
+pub fn count(text: &[u8]) -> Answer
+    ensures { λ r. ⌜ Counted (now (text .entry)) r ⌝ }
+{
+    let early = first_stages(text);
+    if early.number != 0 {
+        return refused(early.number, early.line);
+    }
+    if text.len() <= 2048 {
+        return count_short(text);
+    }
+    count_long(text)
+}

@@ -1,0 +1,2 @@
+-- That no second outcome meets what an exported call promises.
+pub mod Outcomes

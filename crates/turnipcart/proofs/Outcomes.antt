@@ -1,0 +1,41 @@
+-- The outcomes of the exported calls: the text and the lent memory fix the refusal that is returned, the six numbers and every lent word.
+use Prim.Native.Nat.{ℕ}
+use mathlib.Core.Path.{_≡_, refl, sym, ap, subst, _∙_}
+use mathlib.Core.List.{List, [], _∷_}
+use lib.IntN.{ℤ}
+use Rattle.reader.specs.declared.answers.Answer.{Answer}
+use Rattle.reader.specs.Answers.{Lent, Promised, Counted}
+use Rattle.reader.proofs.AnswerLaws.{one-outcome, one-count}
+use Rattle.concert.specs.Promises.{Moves}
+use Rattle.concert.proofs.Demanded.{demanded}
+use Rattle.turnipcart.specs.Answers.{answerIn, ReadsChart, CountsChart}
+
+-- What the code lays down is promised.
+abbrev pub laid : Answer → List ℕ
+laid a = a .refusal ∷ a .line ∷ a .sections ∷ a .measures ∷ a .beats ∷ a .items ∷ []
+
+pub read-laid : (text : List ℕ) (before : Lent) (a : Answer) (after : Lent) → Promised text before a after → ReadsChart text before (a .refusal) (laid a) after
+unfolding answerIn
+read-laid text before a after p = record { returned = refl; promised = p }
+
+pub count-laid : (text : List ℕ) (a : Answer) → Counted text a → CountsChart text (a .refusal) (laid a)
+unfolding answerIn
+count-laid text a c = record { given = refl; counted = c }
+
+-- The move that is handed over is the move.
+pub same-move : {a b : ℤ} (beats before : List ℕ) (r : ℕ) (after : List ℕ) → a ≡ b → Moves a beats before r after → Moves b beats before r after
+same-move beats before r after e m = subst (λ (z : ℤ). Moves z beats before r after) e m
+
+-- And nothing else is.
+pub one-read : (text : List ℕ) (before : Lent) (r q : ℕ) (x y : List ℕ) (a b : Lent) → ReadsChart text before r x a → ReadsChart text before q y b → (r ≡ q) × (answerIn x ≡ answerIn y) × (a ≡ b)
+one-read text before r q x y a b f g =
+    let same = one-outcome text before (answerIn x) (answerIn y) a b (f .promised) (g .promised) in
+    (f .returned ∙ ap (λ (z : Answer). z .refusal) (same .0) ∙ sym (g .returned), same .0, same .1)
+
+pub one-counted : (text : List ℕ) (r q : ℕ) (x y : List ℕ) → CountsChart text r x → CountsChart text q y → (r ≡ q) × (answerIn x ≡ answerIn y)
+one-counted text r q x y f g =
+    let same = one-count text (answerIn x) (answerIn y) (f .counted) (g .counted) in
+    (f .given ∙ ap (λ (z : Answer). z .refusal) same ∙ sym (g .given), same)
+
+pub one-moved : (move : ℤ) (beats before : List ℕ) (r q : ℕ) (x y : List ℕ) → Moves move beats before r x → Moves move beats before q y → (r ≡ q) × (x ≡ y)
+one-moved = demanded .one-outcome
