@@ -1,17 +1,18 @@
 /* Random and mutated charts through the C boundary: every answer and every word of every lent table compared with the second reader's,
    the words past the answer and the guards around each table looked at after each call.
-   usage: fuzz SEED COUNT SPOIL FILE CHART... ; SPOIL 0, or the part that is spoiled after a call to see that it is noticed. */
+   Then the other calls (calls.c).
+   usage: fuzz SEED COUNT SPOIL FILE CHART... ; SPOIL is `none`, or CALL-PART for what is spoiled after a call to see that it is noticed. */
 #include <inttypes.h>
 #include <stdio.h>
 #include <stdlib.h>
 #include <string.h>
 #include "../reference/reader.h"
+#include "calls.h"
 #include "charts.h"
 #include "turnipcart.h"
 
 enum { KEYS, SECTIONS, MEASURES, BEATS, ITEMS, TABLES };
 enum { GUARD = 16, MOST = 65536 * 32 + 64, REFUSALS = 20 };
-enum { SPOIL_NONE, SPOIL_GUARD, SPOIL_PAST, SPOIL_WORD, SPOIL_ANSWER, SPOIL_TEXT, SPOIL_PLACE };
 
 static const size_t sizes[TABLES] = {4, 8, 4, 4, 8};
 
@@ -35,7 +36,6 @@ struct trial {
 };
 
 static size_t counts[REFUSALS];
-static size_t found_counts[2];
 
 static void *reserve(size_t bytes)
 {
@@ -113,11 +113,11 @@ static const char *judge_tables(struct trial *trial)
         size_t past = guard + written[table] * size;
         size_t behind = guard + ours->length * size;
         if (memcmp(ours->memory + guard, trial->theirs[table].memory + guard, ours->length * size) != 0)
-            return "a word of a table";
+            return "read-word";
         if (first_changed(trial, ours, past, behind) != behind)
-            return "a word past the answer";
+            return "read-past";
         if (first_changed(trial, ours, 0, guard) != guard || first_changed(trial, ours, behind, behind + guard) != behind + guard)
-            return "a guard word";
+            return "read-guard";
     }
     return NULL;
 }
@@ -127,55 +127,48 @@ static const char *judge_answer(const struct trial *trial, size_t refusal)
     struct turnipcart_answer ours = trial->given.answer;
     struct reader_answer theirs = trial->expected;
     if (refusal != ours.refusal || ours.refusal != theirs.refusal || ours.line != theirs.line)
-        return "the refusal or its line";
+        return "read-refusal";
     if (ours.sections != theirs.sections || ours.measures != theirs.measures || ours.beats != theirs.beats
         || ours.items != theirs.items)
-        return "a count";
+        return "read-count";
     for (int place = 0; place < 4; place++)
         if (trial->given.before[place] != 77 || trial->given.after[place] != 77)
-            return "a word beside the answer";
+            return "read-beside";
     if (memcmp(trial->chart.bytes, trial->kept.bytes, CHART_ROOM) != 0)
-        return "the text";
+        return "read-text";
     return NULL;
 }
 
 /* One byte changed after the call, to see that it is noticed. */
-static void spoil(struct trial *trial, int part)
+static void spoil(struct trial *trial, const char *part)
 {
     struct lent *beats = &trial->ours[BEATS];
     size_t accepted = trial->expected.refusal == READER_ACCEPTED;
-    if (part == SPOIL_GUARD)
+    if (strcmp(part, "read-guard") == 0)
         beats->memory[(GUARD + beats->length) * 4] ^= 1;
-    if (part == SPOIL_PAST && beats->length > trial->expected.beats)
+    if (strcmp(part, "read-past") == 0 && beats->length > trial->expected.beats)
         words_of(beats, BEATS)[4 * beats->length - 1] ^= 1, words_of(&trial->theirs[BEATS], BEATS)[4 * beats->length - 1] ^= 1;
-    if (part == SPOIL_WORD && accepted && trial->expected.beats > 0)
+    if (strcmp(part, "read-word") == 0 && accepted && trial->expected.beats > 0)
         words_of(beats, BEATS)[0] ^= 1;
-    if (part == SPOIL_ANSWER && accepted)
+    if (strcmp(part, "read-count") == 0 && accepted)
         trial->given.answer.measures++;
-    if (part == SPOIL_TEXT)
+    if (strcmp(part, "read-text") == 0)
         trial->chart.bytes[trial->chart.length] ^= 1;
 }
 
-static const char *judge_finding(struct numbers *numbers, struct trial *trial, int part)
+/* The other calls, on the chart and its tables cut to the answer's counts. */
+static const char *judge_calls(struct numbers *numbers, struct trial *trial, const char *part)
 {
-    struct reader_tables tables = tables_of(trial->ours);
-    size_t beats = trial->expected.beats;
-    size_t edge = below(numbers, 8) != 0 ? below(numbers, beats + 2) : (size_t)(next_number(numbers) >> 32);
-    uint32_t beat = below(numbers, 4) == 0 && beats > 0 ? (uint32_t)beats - 1 : (uint32_t)edge;
-    size_t length = below(numbers, 4) != 0 ? trial->expected.measures : tables.measures_length;
-    struct turnipcart_found found[3] = {{77, 77, 77}, {77, 77, 77}, {77, 77, 77}};
-    size_t refusal = turnipcart_find(tables.measures, length, beat, &found[1]);
-    struct reader_place expected = reader_find(tables.measures, length, beat);
-    if (part == SPOIL_PLACE)
-        found[1].place++;
-    found_counts[refusal == 0]++;
-    if (refusal != expected.refusal || found[1].refusal != refusal || found[1].place != expected.place || found[1].probes != expected.probes)
-        return "the answer of the second call";
-    return found[0].probes == 77 && found[2].refusal == 77 ? judge_tables(trial) : "a word beside what was found";
+    struct source source = {&trial->kept, tables_of(trial->theirs)};
+    source.tables.sections_length = trial->expected.sections;
+    source.tables.measures_length = trial->expected.measures;
+    source.tables.beats_length = trial->expected.beats;
+    source.tables.items_length = trial->expected.items;
+    return try_calls(numbers, &source, part);
 }
 
 /* Both readers on one chart and tables of the same lengths; what differs, or NULL. */
-static const char *try_lengths(struct numbers *numbers, struct trial *trial, int part)
+static const char *try_lengths(struct numbers *numbers, struct trial *trial, const char *part)
 {
     trial->fill = next_number(numbers);
     for (int table = 0; table < TABLES; table++)
@@ -194,7 +187,7 @@ static const char *try_lengths(struct numbers *numbers, struct trial *trial, int
     const char *difference = judge_answer(trial, refusal);
     if (difference == NULL)
         difference = judge_tables(trial);
-    return difference == NULL ? judge_finding(numbers, trial, part) : difference;
+    return difference == NULL ? judge_calls(numbers, trial, part) : difference;
 }
 
 /* How long the tables of this chart have to be, by the second reader. */
@@ -260,7 +253,7 @@ int main(int argc, char **argv)
         return 2;
     uint64_t seed = strtoull(argv[1], NULL, 10);
     size_t count = strtoull(argv[2], NULL, 10);
-    int part = atoi(argv[3]);
+    const char *part = argv[3];
     read_corpus(&corpus, (size_t)argc - 5, argv + 5);
     struct trial *trial = prepare();
     for (size_t number = 0; number < count; number++) {
@@ -276,6 +269,7 @@ int main(int argc, char **argv)
     printf("fuzz: seed %" PRIu64 ", %zu charts, no difference; refusals", seed, count);
     for (int refusal = 0; refusal < REFUSALS - 1; refusal++)
         printf(" %d:%zu", refusal, counts[refusal]);
-    printf("; beats found %zu, not found %zu\n", found_counts[1], found_counts[0]);
+    print_calls();
+    putchar('\n');
     return 0;
 }

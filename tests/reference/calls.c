@@ -130,7 +130,7 @@ static const struct {
     int numbers, shown;
     bool (*answer)(const char *name, const int64_t *numbers);
 } rows[] = {
-    {"find", 2, 2, answer_find},
+    {"find", 2, 3, answer_find},
     {"count", 1, 6, answer_count},
     {"flat", 2, 3, answer_flat},
     {"concert", 3, 1, answer_concert},
