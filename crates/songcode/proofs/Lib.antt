@@ -68,7 +68,10 @@ pub mod TablesAgree
 -- The whole.
 pub mod AnswerAgree
 pub mod FindingAgree
+pub mod LayoutLaws
 pub mod StarredProved
 pub mod EdgesProved
 pub mod EitherOrderProved
+pub mod ShownProved
+pub mod ClausesProved
 pub mod Demanded

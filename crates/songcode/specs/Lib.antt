@@ -33,8 +33,12 @@ pub mod Described
 pub mod Given
 -- The second call.
 pub mod Finding
+-- The words of the tables by their layout.
+pub mod Layout
 -- Last what is promised of all this.
 pub mod Starred
 pub mod Edges
 pub mod EitherOrder
+pub mod Shown
+pub mod Clauses
 pub mod Demands
