@@ -5,6 +5,7 @@ pub mod ChoiceLaws
 pub mod FaultLaws
 pub mod EachLaws
 pub mod VerdictAgree
+pub mod MemberLaws
 -- Characters, lines and blocks.
 pub mod ByteLaws
 pub mod FormLaws
@@ -34,10 +35,13 @@ pub mod SignedAgree
 pub mod LineAgree
 pub mod KeyAgree
 pub mod ModifierAgree
+pub mod LineStops
 pub mod LineOrder
+pub mod OrderStops
 pub mod HeaderAgree
 pub mod BodyAgree
 pub mod SectionAgree
+pub mod SectionStops
 pub mod BlockKinds
 pub mod BlockOrder
 pub mod MetadataAgree

@@ -31,6 +31,8 @@ pub mod Fits
 pub mod WrittenTables
 pub mod Described
 pub mod Given
+-- What stops a chart, clause by clause.
+pub mod StoppedText
 -- The second call.
 pub mod Finding
 -- The words of the tables by their layout.

@@ -1,0 +1,55 @@
+-- What stands in a list of complaints: in one part or the other, in what some element gives, where a test passes.
+use Prim.Native.Nat.{ℕ}
+use mathlib.Core.Path.{_≡_, refl, ap, sym, subst}
+use mathlib.Core.Logic.{⊎-elim}
+use mathlib.Core.List.{List, [], _∷_, _++_, map, List·Memᴰ, List·Memᴰ·head, List·Memᴰ·tail, List·Memᴰ·not-nil, List·Memᴰ·cases-cons, List·Memᴰ·append-cases, Memᴰ·append-left, Memᴰ·append-right}
+use mathlib.Core.Bool.{Bool, true, false}
+use Rattle.songcode.specs.Lists.{gather, when}
+use Rattle.songcode.specs.Complaints.{Complaint, complaint, complainIf}
+
+module _ {A : Type 0} where
+  -- Some element, with what stands before and behind it.
+  pub record Found (x : A) (xs : List A) : Type 0 where
+    pub before : List A
+    pub behind : List A
+    pub written : xs ≡ before ++ (x ∷ behind)
+
+  pub found : {x : A} {xs : List A} → List·Memᴰ x xs → Found x xs
+  found {xs = y ∷ ys} (List·Memᴰ·head e) = record { before = []; behind = ys; written = ap (λ z. z ∷ ys) (sym e) }
+  found {xs = y ∷ ys} (List·Memᴰ·tail m) =
+      let f = found m in
+      record { before = y ∷ f .before; behind = f .behind; written = ap (λ z. y ∷ z) (f .written) }
+
+  pub found-member : (x : A) (before behind : List A) → List·Memᴰ x (before ++ (x ∷ behind))
+  found-member x before behind = Memᴰ·append-right before (List·Memᴰ·head refl)
+
+  pub either : {X : Type 0} {c : A} (xs : List A) {ys : List A} → (List·Memᴰ c xs → X) → (List·Memᴰ c ys → X) → List·Memᴰ c (xs ++ ys) → X
+  either xs f g m = ⊎-elim f g (List·Memᴰ·append-cases xs m)
+
+  pub only-one : {c x : A} → List·Memᴰ c (x ∷ []) → c ≡ x
+  only-one m = ⊎-elim (λ e. e) (λ i. absurd (List·Memᴰ·not-nil i)) (List·Memᴰ·cases-cons m)
+
+module _ {A B : Type 0} where
+  pub in-gather : (f : A → List B) (xs : List A) {c : B} → List·Memᴰ c (gather f xs) → (x : A) × List·Memᴰ x xs × List·Memᴰ c (f x)
+  unfolding gather
+  in-gather f [] m = absurd (List·Memᴰ·not-nil m)
+  in-gather f (x ∷ xs) m =
+      either (f x)
+      (λ i. (x, List·Memᴰ·head refl, i))
+      (λ i. let g = in-gather f xs i in (g .0, List·Memᴰ·tail (g .1), g .2))
+      m
+
+  pub gather-in : (f : A → List B) {xs : List A} {x : A} {c : B} → List·Memᴰ x xs → List·Memᴰ c (f x) → List·Memᴰ c (gather f xs)
+  unfolding gather
+  gather-in f {xs = y ∷ ys} {c = c} (List·Memᴰ·head e) m = Memᴰ·append-left (gather f ys) (subst (λ z. List·Memᴰ c (f z)) e m)
+  gather-in f {xs = y ∷ ys} (List·Memᴰ·tail i) m = Memᴰ·append-right (f y) (gather-in f i m)
+
+-- Complained of exactly where the test passes.
+pub in-complaint : (b : Bool) (number line : ℕ) {c : Complaint} → List·Memᴰ c (complainIf b number line) → (b ≡ true) × (c ≡ complaint number line)
+unfolding complainIf when
+in-complaint true number line m = (refl, only-one m)
+in-complaint false number line m = absurd (List·Memᴰ·not-nil m)
+
+pub complaint-in : {b : Bool} (number line : ℕ) → b ≡ true → List·Memᴰ (complaint number line) (complainIf b number line)
+unfolding complainIf when
+complaint-in number line e = rw e (List·Memᴰ·head refl)
