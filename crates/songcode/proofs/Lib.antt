@@ -47,6 +47,7 @@ pub mod BlockOrder
 pub mod MetadataAgree
 pub mod DefinitionAgree
 pub mod SongAgree
+pub mod TextStops
 -- References and playing.
 pub mod ReferencesAgree
 pub mod PutInPlain

@@ -145,11 +145,11 @@ module _ (test : KeyName → Bool) (allowed : KeyName → Type 0) (agree : (k : 
   key-stated s (some k) e {c} m =
       either (complainIf (not (test k)) 4 (l .number))
       (λ i.
-          let h = in-complaint (not (test k)) 4 (l .number) i in
-          subst (λ x. KeyStops allowed l x) (sym (h .1)) (key-not-allowed k (settingOf l) (calls-key l k s e) (fails-exact (test k) (agree k) .0 (h .0))))
+      let h = in-complaint (not (test k)) 4 (l .number) i in
+      subst (λ x. KeyStops allowed l x) (sym (h .1)) (key-not-allowed k (settingOf l) (calls-key l k s e) (fails-exact (test k) (agree k) .0 (h .0))))
       (λ i.
-          let h = in-complaint (not (isSetting k (settingOf l))) 5 (l .number) i in
-          subst (λ x. KeyStops allowed l x) (sym (h .1)) (key-setting k (settingOf l) (calls-key l k s e) (fails-exact _ (setting-exact k (settingOf l)) .0 (h .0))))
+      let h = in-complaint (not (isSetting k (settingOf l))) 5 (l .number) i in
+      subst (λ x. KeyStops allowed l x) (sym (h .1)) (key-setting k (settingOf l) (calls-key l k s e) (fails-exact _ (setting-exact k (settingOf l)) .0 (h .0))))
       m
 
   stated-key : {c : Complaint} → KeyStops allowed l c → List·Memᴰ c (keyFaults test l)

@@ -146,14 +146,14 @@ order-in p before (l ∷ ls) a {c} m =
     either (map (λ n. complaint n (l .number)) (misplaced p (kindOfLine l)))
     (λ i. record { before = []; line = l; behind = ls; written = refl; holds = subst (λ x. PlaceStops x l c) (sym (append-nil before)) (in-place l before p (kindOfLine l) refl a i) })
     (λ i.
-        let r = order-in (placeAfter p (kindOfLine l)) (before ++ (l ∷ [])) ls (next-place l before p (kindOfLine l) refl a) i in
-        record {
-          before = l ∷ r .before;
-          line = r .line;
-          behind = r .behind;
-          written = ap (λ x. l ∷ x) (r .written);
-          holds = subst (λ x. PlaceStops x (r .line) c) (append-assoc before (l ∷ []) (r .before)) (r .holds);
-        })
+    let r = order-in (placeAfter p (kindOfLine l)) (before ++ (l ∷ [])) ls (next-place l before p (kindOfLine l) refl a) i in
+    record {
+      before = l ∷ r .before;
+      line = r .line;
+      behind = r .behind;
+      written = ap (λ x. l ∷ x) (r .written);
+      holds = subst (λ x. PlaceStops x (r .line) c) (append-assoc before (l ∷ []) (r .before)) (r .holds);
+    })
     m
 
 in-order : (p : Place) (before xs : List Line) (l : Line) (ys : List Line) → At p before → {c : Complaint} → PlaceStops (before ++ xs) l c → List·Memᴰ c (order p (xs ++ (l ∷ ys)))
@@ -217,24 +217,24 @@ module _ (number : ℕ) (said : Line → Option ℕ) where
       either (twiceBy number (said l) seen l)
       (λ i. record { before = []; line = l; behind = ls; written = refl; holds = again-by (said l) seen l refl i })
       (λ i.
-          let r = twice-in (prepend (said l) seen) ls i in
-          let h = r .holds in
-          record {
-            before = l ∷ r .before;
-            line = r .line;
-            behind = r .behind;
-            written = ap (λ x. l ∷ x) (r .written);
-            holds = record {
-              what = h .what;
-              says = h .says;
-              earlier =
-                  ⊎-elim
-                  (λ j. ⊎-elim (λ q. inl q) (λ q. inr (l, List·Memᴰ·head refl, q)) (seen-more (said l) (h .what) seen l refl j))
-                  (λ j. inr (j .0, List·Memᴰ·tail (j .1), j .2))
-                  (h .earlier);
-              complained = h .complained;
-            };
-          })
+      let r = twice-in (prepend (said l) seen) ls i in
+      let h = r .holds in
+      record {
+        before = l ∷ r .before;
+        line = r .line;
+        behind = r .behind;
+        written = ap (λ x. l ∷ x) (r .written);
+        holds = record {
+          what = h .what;
+          says = h .says;
+          earlier =
+              ⊎-elim
+              (λ j. ⊎-elim (λ q. inl q) (λ q. inr (l, List·Memᴰ·head refl, q)) (seen-more (said l) (h .what) seen l refl j))
+              (λ j. inr (j .0, List·Memᴰ·tail (j .1), j .2))
+              (h .earlier);
+          complained = h .complained;
+        };
+      })
       m
 
   pub in-twice : (seen : List ℕ) (xs : List Line) (l : Line) (ys : List Line) {c : Complaint} → Again seen xs l c → List·Memᴰ c (twice number said seen (xs ++ (l ∷ ys)))
@@ -252,10 +252,10 @@ module _ (number : ℕ) (said : Line → Option ℕ) where
             ⊎-elim
             (λ i. inl (more-seen (said x) (h .what) seen i))
             (λ (i : (e : Line) × List·Memᴰ e (x ∷ xs) × (said e ≡ some (h .what))).
-                ⊎-elim
-                (λ p. let q : said x ≡ some (h .what) = ap said (sym p) ∙ i .2 in inl (rw q (List·Memᴰ·head refl)))
-                (λ m. inr (i .0, m, i .2))
-                (List·Memᴰ·cases-cons (i .1)))
+            ⊎-elim
+            (λ p. let q : said x ≡ some (h .what) = ap said (sym p) ∙ i .2 in inl (rw q (List·Memᴰ·head refl)))
+            (λ m. inr (i .0, m, i .2))
+            (List·Memᴰ·cases-cons (i .1)))
             (h .earlier);
         complained = h .complained;
       }))

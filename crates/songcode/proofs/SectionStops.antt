@@ -150,10 +150,10 @@ unfolding keySaid
 key-says l n e =
     by-kind (kindOfLine l)
     (λ k.
-        let g : andThen (keyNameOf l) (λ j. some (keyPlace j)) ≡ some n = rw (k, keySaid) at e in
-        let a = andThen-some (keyNameOf l) (λ j. some (keyPlace j)) g in
-        let q : keyPlace (a .0) ≡ n = cc in
-        (a .0, calls-key l (a .0) (key-exact l .1 k) (a .1), q))
+    let g : andThen (keyNameOf l) (λ j. some (keyPlace j)) ≡ some n = rw (k, keySaid) at e in
+    let a = andThen-some (keyNameOf l) (λ j. some (keyPlace j)) g in
+    let q : keyPlace (a .0) ≡ n = cc in
+    (a .0, calls-key l (a .0) (key-exact l .1 k) (a .1), q))
     (λ k. none-some refl (rw (k, keySaid) at e))
     (λ k. none-some refl (rw (k, keySaid) at e))
 
@@ -183,10 +183,10 @@ key-again {before} {l} {c} = (to, from)
         ⊎-elim
         (λ i. absurd (List·Memᴰ·not-nil i))
         (λ (i : (e : Line) × List·Memᴰ e before × (keySaid e ≡ some (h .what))).
-            let a = key-says l (h .what) (h .says) in
-            let b = key-says (i .0) (h .what) (i .2) in
-            let same : b .0 ≡ a .0 = one-key (b .0) (a .0) (b .2 ∙ sym (a .2)) in
-            subst (λ x. KeyDoubled before l x) (sym (h .complained)) (key-twice (a .0) (settingOf (i .0)) (settingOf l) (i .0) (i .1) (subst (λ k. CallsKey (i .0) k (settingOf (i .0))) same (b .1)) (a .1)))
+        let a = key-says l (h .what) (h .says) in
+        let b = key-says (i .0) (h .what) (i .2) in
+        let same : b .0 ≡ a .0 = one-key (b .0) (a .0) (b .2 ∙ sym (a .2)) in
+        subst (λ x. KeyDoubled before l x) (sym (h .complained)) (key-twice (a .0) (settingOf (i .0)) (settingOf l) (i .0) (i .1) (subst (λ k. CallsKey (i .0) k (settingOf (i .0))) same (b .1)) (a .1)))
         (h .earlier)
 
     from : {c : Complaint} → KeyDoubled before l c → Again 4 keySaid [] before l c
@@ -198,10 +198,10 @@ modifier-says l n e =
     by-kind (kindOfLine l)
     (λ k. none-some refl (rw (k, modifierSaid) at e))
     (λ k.
-        let g : andThen (modifierNameOf l) (λ j. some (modifierPlace j)) ≡ some n = rw (k, modifierSaid) at e in
-        let a = andThen-some (modifierNameOf l) (λ j. some (modifierPlace j)) g in
-        let q : modifierPlace (a .0) ≡ n = cc in
-        (a .0, calls-modifier l (a .0) (modifier-exact l .1 k) (a .1), q))
+    let g : andThen (modifierNameOf l) (λ j. some (modifierPlace j)) ≡ some n = rw (k, modifierSaid) at e in
+    let a = andThen-some (modifierNameOf l) (λ j. some (modifierPlace j)) g in
+    let q : modifierPlace (a .0) ≡ n = cc in
+    (a .0, calls-modifier l (a .0) (modifier-exact l .1 k) (a .1), q))
     (λ k. none-some refl (rw (k, modifierSaid) at e))
 
 said-modifier : {l : Line} {k : ModifierName} {setting : List Byte} → CallsModifier l k setting → modifierSaid l ≡ some (modifierPlace k)
@@ -227,17 +227,17 @@ modifier-again {before} {l} {c} = (to, from)
         ⊎-elim
         (λ i. absurd (List·Memᴰ·not-nil i))
         (λ (i : (e : Line) × List·Memᴰ e before × (modifierSaid e ≡ some (h .what))).
-            let a = modifier-says l (h .what) (h .says) in
-            let b = modifier-says (i .0) (h .what) (i .2) in
-            let same : b .0 ≡ a .0 = one-modifier (b .0) (a .0) (b .2 ∙ sym (a .2)) in
-            subst (λ x. ModifierDoubled before l x) (sym (h .complained)) (modifier-twice (a .0) (settingOf (i .0)) (settingOf l) (i .0) (i .1) (subst (λ k. CallsModifier (i .0) k (settingOf (i .0))) same (b .1)) (a .1)))
+        let a = modifier-says l (h .what) (h .says) in
+        let b = modifier-says (i .0) (h .what) (i .2) in
+        let same : b .0 ≡ a .0 = one-modifier (b .0) (a .0) (b .2 ∙ sym (a .2)) in
+        subst (λ x. ModifierDoubled before l x) (sym (h .complained)) (modifier-twice (a .0) (settingOf (i .0)) (settingOf l) (i .0) (i .1) (subst (λ k. CallsModifier (i .0) k (settingOf (i .0))) same (b .1)) (a .1)))
         (h .earlier)
 
     from : {c : Complaint} → ModifierDoubled before l c → Again 8 modifierSaid [] before l c
     from (modifier-twice k other setting e m w v) = record { what = modifierPlace k; says = said-modifier v; earlier = inr (e, m, said-modifier w); complained = refl }
 
 -- A line by itself.
-key-sign : {allowed : KeyName → Type 0} {l : Line} {c : Complaint} → KeyStops allowed l c → IsKey l
+pub key-sign : {allowed : KeyName → Type 0} {l : Line} {c : Complaint} → KeyStops allowed l c → IsKey l
 key-sign (key-unknown s h) = s
 key-sign (key-not-allowed k setting w h) = w .sign
 key-sign (key-setting k setting w h) = w .sign
@@ -314,8 +314,8 @@ module _ (b : Block) where
       (λ i. let a = twice-in 4 keySaid [] (body b) i in key-doubled (body b) (ending b) (a .before) (a .behind) (a .line) (split-of b) (a .written) (key-again .0 (a .holds))))
       (λ i. let a = twice-in 8 modifierSaid [] (body b) i in modifier-doubled (body b) (ending b) (a .before) (a .behind) (a .line) (split-of b) (a .written) (modifier-again .0 (a .holds))))
       (λ i.
-          let g = in-gather faults (body b) i in
-          ⊎-elim (λ h. key-stops (body b) (ending b) (g .0) (split-of b) (g .1) h) (λ h. modifier-stops (body b) (ending b) (g .0) (split-of b) (g .1) h) (line-stated (g .0) (g .2))))
+      let g = in-gather faults (body b) i in
+      ⊎-elim (λ h. key-stops (body b) (ending b) (g .0) (split-of b) (g .1) h) (λ h. modifier-stops (body b) (ending b) (g .0) (split-of b) (g .1) h) (line-stated (g .0) (g .2))))
       (λ i. run-stated (patternRun (body b)) refl i))
       (λ i. lyrics-stated (ending b) refl i)
       m
