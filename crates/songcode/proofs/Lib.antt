@@ -15,6 +15,7 @@ pub mod CharacterCounts
 pub mod CutsAgree
 pub mod LinesAgree
 pub mod PlacesAgree
+pub mod InputStops
 pub mod BlocksAgree
 -- Pattern text.
 pub mod PatternLaws
@@ -50,6 +51,7 @@ pub mod SongAgree
 pub mod TextStops
 -- References and playing.
 pub mod ReferencesAgree
+pub mod ReferenceStops
 pub mod PutInPlain
 pub mod PlayingAgree
 pub mod RowLaws

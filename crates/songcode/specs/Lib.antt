@@ -33,6 +33,8 @@ pub mod Described
 pub mod Given
 -- What stops a chart, clause by clause.
 pub mod StoppedText
+pub mod StoppedSong
+pub mod Refusals
 -- The second call.
 pub mod Finding
 -- The words of the tables by their layout.
