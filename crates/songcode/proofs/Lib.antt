@@ -65,6 +65,7 @@ pub mod InheritsAgree
 pub mod SectionPlays
 pub mod MeterAgree
 pub mod PlainAgree
+pub mod MeterStops
 -- Lyrics and tables.
 pub mod LyricLineAgree
 pub mod StyleAgree

@@ -57,7 +57,7 @@ there ds o d m = go (definitionOf (d .id) ds) refl
     go none e = absurd (no-definition (d .id) ds e d m refl)
     go (some y) e = let r = a-definition (d .id) ds y e in e ∙ ap (λ z. some z) (o y d (r .0) m (r .1))
 
-absent-member : (k m : ℕ) (ns : List ℕ) → Absent k ns → List·Memᴰ m ns → k ≡ m → ⊥
+pub absent-member : (k m : ℕ) (ns : List ℕ) → Absent k ns → List·Memᴰ m ns → k ≡ m → ⊥
 unfolding Absent
 absent-member k m [] a i e = List·Memᴰ·not-nil i
 absent-member k m (n ∷ ns) a i e = ⊎-elim (λ p. a .0 (e ∙ p)) (λ j. absent-member k m ns (a .1) j e) (List·Memᴰ·cases-cons i)

@@ -1,0 +1,309 @@
+-- What stops a song in stage 4 is stated exactly where the answer complains of it.
+use Prim.Native.Nat.{ℕ, zero, suc, _+_, _*_, _/_, _%_, _≤_}
+use mathlib.Core.Path.{_≡_, refl, ap, sym, subst, _∙_}
+use mathlib.Core.Logic.{_↔_, _⊎_, inl, inr, ⊎-elim}
+use mathlib.Core.List.{List, [], _∷_, _++_, map, List·Memᴰ, List·Memᴰ·head, List·Memᴰ·tail, List·Memᴰ·not-nil, List·Memᴰ·cases-cons, Memᴰ·append-left, Memᴰ·append-right, Memᴰ·map}
+use mathlib.Core.Bool.{Bool, true, false, _||_, _&&_, not}
+use mathlib.Core.Option.{Option, none, some}
+use native.Mathlib.Nat.{add-zero, div-add-mod'}
+use native.Mathlib.Omega.{arith}
+use lib.Dec.{eqb}
+use borrow.Author.Tests.{eqb-true, eq-eqb, not-true}
+use Rattle.songcode.specs.Lists.{gather, isSome, firstThere}
+use Rattle.songcode.specs.Lines.{Block}
+use Rattle.songcode.specs.Complaints.{Complaint, complaint, complainIf}
+use Rattle.songcode.specs.Chords.{Chord}
+use Rattle.songcode.specs.Song.{Sound, chord, again, silence, Sounds, only, also, Measure, Item, measure, loop, refer, Items, one, next, time, Modifier, repeated, cutStart, cutEnd, before, after, Section, Song}
+use Rattle.songcode.specs.References.{patternItems}
+use Rattle.songcode.specs.Playing.{Side, timeOf, positions, chordAfter, lastSounds, lastItem, lastItems, saidBy, beforeSaid, afterSaid}
+use Rattle.songcode.specs.Meter.{fits, allFitItem, allFit, strays, strayAmong, strayItem, stray, rowFaults, playedFaults, sideFaults, sectionMeter, meterFaults}
+use Rattle.songcode.specs.WrittenSection.{TimeText, Each, none-each, and-each, Absent, Distinct, modifierNumber}
+use Rattle.songcode.specs.WrittenSong.{SectionBlock, WrittenSong}
+use Rattle.songcode.specs.Performance.{Inherits}
+use Rattle.songcode.specs.Fits.{DefinitionsRefer}
+use Rattle.songcode.specs.StoppedSong.{MeasureOf, MeasureIn, soundsWritten, itemWritten, itemsWritten, NoChord, AgainFirst, RowStops, undivided, again-first, Stops4, of-pattern, of-lead-in, of-tail}
+use Rattle.songcode.proofs.ListLaws.{by-cases, true-is-not-false, pass-none}
+use Rattle.songcode.proofs.PatternLaws.{none-some}
+use Rattle.songcode.proofs.ChoiceLaws.{zero-is-not-one}
+use Rattle.songcode.proofs.MemberLaws.{either, in-gather, gather-in, in-complaint, complaint-in}
+use Rattle.songcode.proofs.ReferenceStops.{absent-member}
+use Rattle.songcode.proofs.PlayingAgree.{positions-some, share-is}
+use Rattle.songcode.proofs.InheritsAgree.{says-meter}
+use Rattle.songcode.proofs.MeterAgree.{PlainSection, PlainSections}
+use Rattle.songcode.proofs.PlainAgree.{song-plain}
+
+-- "A measure of p positions needs p to divide N".
+divides : (n : ℕ) (m : Measure) → fits n m ≡ true → (k : ℕ) × (k * positions m ≡ n)
+unfolding fits
+divides n m e = (n / positions m, let r = eqb-true (n % positions m) 0 e in let d = div-add-mod' n (positions m) in omega arith)
+
+undivides : (n k : ℕ) (m : Measure) → k * positions m ≡ n → fits n m ≡ true
+unfolding fits
+undivides n k m e = eq-eqb (n % positions m) 0 (share-is n (positions m) k (positions-some m) e .1)
+
+both-fail : (a b : Bool) → a && b ≡ false → (a ≡ false) ⊎ (b ≡ false)
+both-fail true b e = inr e
+both-fail false b e = inl refl
+
+fail-left : {a : Bool} (b : Bool) → a ≡ false → a && b ≡ false
+fail-left b e = rw e
+
+fail-right : (a : Bool) {b : Bool} → b ≡ false → a && b ≡ false
+fail-right true e = e
+fail-right false e = refl
+
+mutual
+  unfolding allFitItem allFit MeasureOf MeasureIn
+
+  unfit-item : (n : ℕ) (i : Item) → allFitItem n i ≡ false → (m : Measure) × MeasureOf m i × (fits n m ≡ false)
+  unfit-item n (measure m) e = (m, refl, e)
+  unfit-item n (loop r k) e = unfit-items n r e
+  unfit-item n (refer k) e = true-is-not-false refl e
+
+  unfit-items : (n : ℕ) (r : Items) → allFit n r ≡ false → (m : Measure) × MeasureIn m r × (fits n m ≡ false)
+  unfit-items n (one i) e = unfit-item n i e
+  unfit-items n (next r s i) e =
+      ⊎-elim
+      (λ f. let a = unfit-items n r f in (a .0, inl (a .1), a .2))
+      (λ f. let a = unfit-item n i f in (a .0, inr (a .1), a .2))
+      (both-fail (allFit n r) (allFitItem n i) e)
+
+mutual
+  unfolding allFitItem allFit MeasureOf MeasureIn
+
+  item-unfit : (n : ℕ) (i : Item) (m : Measure) → MeasureOf m i → fits n m ≡ false → allFitItem n i ≡ false
+  item-unfit n (measure k) m h e = subst (λ x. fits n x ≡ false) h e
+  item-unfit n (loop r k) m h e = items-unfit n r m h e
+  item-unfit n (refer k) m h e = absurd h
+
+  items-unfit : (n : ℕ) (r : Items) (m : Measure) → MeasureIn m r → fits n m ≡ false → allFit n r ≡ false
+  items-unfit n (one i) m h e = item-unfit n i m h e
+  items-unfit n (next r s i) m h e = ⊎-elim (λ x. fail-left (allFitItem n i) (items-unfit n r m x e)) (λ x. fail-right (allFit n r) (item-unfit n i m x e)) h
+
+-- `%` in the written order.
+stray-list : Option Chord → List Sound → Bool
+stray-list last [] = false
+stray-list last (s ∷ ss) = strays last s || stray-list (chordAfter last s) ss
+
+last-list : Option Chord → List Sound → Option Chord
+last-list last [] = last
+last-list last (s ∷ ss) = last-list (chordAfter last s) ss
+
+or-assoc : (a b c : Bool) → (a || b) || c ≡ a || (b || c)
+or-assoc true b c = refl
+or-assoc false b c = refl
+
+stray-append : (last : Option Chord) (xs ys : List Sound) → stray-list last (xs ++ ys) ≡ stray-list last xs || stray-list (last-list last xs) ys
+unfolding stray-list last-list
+stray-append last [] ys = refl
+stray-append last (x ∷ xs) ys = rw (stray-append (chordAfter last x) xs ys) (sym (or-assoc (strays last x) (stray-list (chordAfter last x) xs) (stray-list (last-list (chordAfter last x) xs) ys)))
+
+last-append : (last : Option Chord) (xs ys : List Sound) → last-list last (xs ++ ys) ≡ last-list (last-list last xs) ys
+unfolding last-list
+last-append last [] ys = refl
+last-append last (x ∷ xs) ys = last-append (chordAfter last x) xs ys
+
+or-none : (a : Bool) → a || false ≡ a
+or-none true = refl
+or-none false = refl
+
+sounds-last : (last : Option Chord) (ss : Sounds) → lastSounds last ss ≡ last-list last (soundsWritten ss)
+unfolding lastSounds soundsWritten last-list
+sounds-last last (only s) = refl
+sounds-last last (also ss s) = ap (λ x. chordAfter x s) (sounds-last last ss) ∙ sym (last-append last (soundsWritten ss) (s ∷ []))
+
+sounds-stray : (last : Option Chord) (ss : Sounds) → strayAmong last ss ≡ stray-list last (soundsWritten ss)
+unfolding strayAmong soundsWritten stray-list
+sounds-stray last (only s) = sym (or-none (strays last s))
+sounds-stray last (also ss s) =
+    rw (sounds-stray last ss, sounds-last last ss, stray-append last (soundsWritten ss) (s ∷ []), or-none (strays (last-list last (soundsWritten ss)) s))
+
+mutual
+  unfolding lastItem lastItems itemWritten itemsWritten last-list
+
+  item-last : (last : Option Chord) (i : Item) → lastItem last i ≡ last-list last (itemWritten i)
+  item-last last (measure m) = sounds-last last (m .sounds)
+  item-last last (loop r k) = items-last last r
+  item-last last (refer k) = refl
+
+  items-last : (last : Option Chord) (r : Items) → lastItems last r ≡ last-list last (itemsWritten r)
+  items-last last (one i) = item-last last i
+  items-last last (next r s i) =
+      ap (λ x. lastItem x i) (items-last last r) ∙ item-last (last-list last (itemsWritten r)) i ∙ sym (last-append last (itemsWritten r) (itemWritten i))
+
+mutual
+  unfolding strayItem stray itemWritten itemsWritten stray-list
+
+  item-stray : (last : Option Chord) (i : Item) → strayItem last i ≡ stray-list last (itemWritten i)
+  item-stray last (measure m) = sounds-stray last (m .sounds)
+  item-stray last (loop r k) = items-stray last r
+  item-stray last (refer k) = refl
+
+  items-stray : (last : Option Chord) (r : Items) → stray last r ≡ stray-list last (itemsWritten r)
+  items-stray last (one i) = item-stray last i
+  items-stray last (next r s i) =
+      rw (items-stray last r, items-last last r, item-stray (last-list last (itemsWritten r)) i) (sym (stray-append last (itemsWritten r) (itemWritten i)))
+
+never-stray : (c : Chord) (ss : List Sound) → stray-list (some c) ss ≡ false
+unfolding stray-list strays chordAfter isSome
+never-stray c [] = refl
+never-stray c (chord d ∷ ss) = never-stray d ss
+never-stray c (again ∷ ss) = never-stray c ss
+never-stray c (silence ∷ ss) = never-stray c ss
+
+stray-found : (ss : List Sound) → stray-list none ss ≡ true → (front back : List Sound) × (ss ≡ front ++ (again ∷ back)) × NoChord front
+unfolding stray-list strays chordAfter isSome NoChord
+stray-found [] e = true-is-not-false e refl
+stray-found (chord c ∷ ss) e = true-is-not-false e (never-stray c ss)
+stray-found (again ∷ ss) e = ([], ss, refl, tt)
+stray-found (silence ∷ ss) e = let r = stray-found ss e in (silence ∷ r .0, r .1, ap (λ z. silence ∷ z) (r .2), r .3)
+
+found-stray : (front back : List Sound) → NoChord front → stray-list none (front ++ (again ∷ back)) ≡ true
+unfolding stray-list strays chordAfter isSome NoChord
+found-stray [] back h = refl
+found-stray (chord c ∷ front) back h = absurd h
+found-stray (again ∷ front) back h = refl
+found-stray (silence ∷ front) back h = found-stray front back h
+
+-- A row.
+row-in : (n line : ℕ) (r : Items) {c : Complaint} → List·Memᴰ c (rowFaults n line r) → RowStops n line r c
+unfolding rowFaults
+row-in n line r m =
+    either (complainIf (not (allFit n r)) 12 line)
+    (λ i.
+        let h = in-complaint (not (allFit n r)) 12 line i in
+        let u = unfit-items n r (not-true (allFit n r) (h .0)) in
+        subst (λ x. RowStops n line r x) (sym (h .1)) (undivided (u .0) (u .1) (λ k e. true-is-not-false (undivides n k (u .0) e) (u .2))))
+    (λ i.
+        let h = in-complaint (stray none r) 13 line i in
+        let f = stray-found (itemsWritten r) (sym (items-stray none r) ∙ h .0) in
+        subst (λ x. RowStops n line r x) (sym (h .1)) (again-first (record { front = f .0; back = f .1; written = f .2; noneBefore = f .3 })))
+    m
+
+in-row : (n line : ℕ) (r : Items) {c : Complaint} → RowStops n line r c → List·Memᴰ c (rowFaults n line r)
+unfolding rowFaults
+in-row n line r (undivided m h u) =
+    let f : fits n m ≡ false = by-cases (fits n m) (λ t. let d = divides n m t in absurd (u (d .0) (d .1))) (λ f. f) in
+    Memᴰ·append-left (complainIf (stray none r) 13 line) (complaint-in {b = not (allFit n r)} 12 line (rw (items-unfit n r m h f)))
+in-row n line r (again-first a) =
+    Memᴰ·append-right (complainIf (not (allFit n r)) 12 line)
+    (complaint-in 13 line (items-stray none r ∙ ap (λ z. stray-list none z) (a .written) ∙ found-stray (a .front) (a .back) (a .noneBefore)))
+
+-- What the modifiers of a section say: each stands once.
+said-before : (ms : List Modifier) (y : Side) → saidBy beforeSaid ms ≡ some y → List·Memᴰ (before (y .line) (y .items)) ms
+unfolding saidBy beforeSaid firstThere
+said-before [] y e = none-some refl e
+said-before (repeated n ∷ ms) y e = List·Memᴰ·tail (said-before ms y e)
+said-before (cutStart c ∷ ms) y e = List·Memᴰ·tail (said-before ms y e)
+said-before (cutEnd c ∷ ms) y e = List·Memᴰ·tail (said-before ms y e)
+said-before (before l r ∷ ms) y e = let h : record { line = l; items = r } ≡ y = cc in List·Memᴰ·head (ap (λ z. before (z .line) (z .items)) (sym h))
+said-before (after l r ∷ ms) y e = List·Memᴰ·tail (said-before ms y e)
+
+said-after : (ms : List Modifier) (y : Side) → saidBy afterSaid ms ≡ some y → List·Memᴰ (after (y .line) (y .items)) ms
+unfolding saidBy afterSaid firstThere
+said-after [] y e = none-some refl e
+said-after (repeated n ∷ ms) y e = List·Memᴰ·tail (said-after ms y e)
+said-after (cutStart c ∷ ms) y e = List·Memᴰ·tail (said-after ms y e)
+said-after (cutEnd c ∷ ms) y e = List·Memᴰ·tail (said-after ms y e)
+said-after (before l r ∷ ms) y e = List·Memᴰ·tail (said-after ms y e)
+said-after (after l r ∷ ms) y e = let h : record { line = l; items = r } ≡ y = cc in List·Memᴰ·head (ap (λ z. after (z .line) (z .items)) (sym h))
+
+module _ (l : ℕ) (r : Items) where
+  before-said : (ms : List Modifier) → Distinct (map modifierNumber ms) → List·Memᴰ (before l r) ms → saidBy beforeSaid ms ≡ some (record { line = l; items = r })
+  unfolding saidBy beforeSaid firstThere Distinct modifierNumber
+  before-said [] d m = absurd (List·Memᴰ·not-nil m)
+  before-said (x ∷ ms) d m =
+      ⊎-elim
+      (λ e. subst (λ z. saidBy beforeSaid (z ∷ ms) ≡ some (record { line = l; items = r })) e refl)
+      (λ i. go x (λ e. absent-member (modifierNumber x) 3 (map modifierNumber ms) (d .0) (Memᴰ·map modifierNumber i) e) (before-said ms (d .1) i))
+      (List·Memᴰ·cases-cons m)
+    where
+      go : (x : Modifier) → (modifierNumber x ≡ 3 → ⊥) → saidBy beforeSaid ms ≡ some (record { line = l; items = r }) → saidBy beforeSaid (x ∷ ms) ≡ some (record { line = l; items = r })
+      go (repeated n) h e = e
+      go (cutStart c) h e = e
+      go (cutEnd c) h e = e
+      go (before k q) h e = absurd (h refl)
+      go (after k q) h e = e
+
+  after-said : (ms : List Modifier) → Distinct (map modifierNumber ms) → List·Memᴰ (after l r) ms → saidBy afterSaid ms ≡ some (record { line = l; items = r })
+  unfolding saidBy afterSaid firstThere Distinct modifierNumber
+  after-said [] d m = absurd (List·Memᴰ·not-nil m)
+  after-said (x ∷ ms) d m =
+      ⊎-elim
+      (λ e. subst (λ z. saidBy afterSaid (z ∷ ms) ≡ some (record { line = l; items = r })) e refl)
+      (λ i. go x (λ e. absent-member (modifierNumber x) 4 (map modifierNumber ms) (d .0) (Memᴰ·map modifierNumber i) e) (after-said ms (d .1) i))
+      (List·Memᴰ·cases-cons m)
+    where
+      go : (x : Modifier) → (modifierNumber x ≡ 4 → ⊥) → saidBy afterSaid ms ≡ some (record { line = l; items = r }) → saidBy afterSaid (x ∷ ms) ≡ some (record { line = l; items = r })
+      go (repeated n) h e = e
+      go (cutStart c) h e = e
+      go (cutEnd c) h e = e
+      go (before k q) h e = e
+      go (after k q) h e = absurd (h refl)
+
+-- Sections of a written song.
+pub each-member : {A B : Type 0} {R : A → B → Type 0} {xs : List A} {ys : List B} {y : B} → Each R xs ys → List·Memᴰ y ys → (x : A) × R x y
+each-member none-each m = absurd (List·Memᴰ·not-nil m)
+each-member {R = R} (and-each {x} {y} h hs) m = ⊎-elim (λ e. (x, subst (λ z. R x z) (sym e) h)) (λ i. each-member hs i) (List·Memᴰ·cases-cons m)
+
+pub plain-member : (s : Song) (xs : List Section) (x : Section) → PlainSections s xs → List·Memᴰ x xs → PlainSection s x
+unfolding PlainSections
+plain-member s [] x p m = absurd (List·Memᴰ·not-nil m)
+plain-member s (y ∷ xs) x p m = ⊎-elim (λ e. subst (λ z. PlainSection s z) (sym e) (p .0)) (λ i. plain-member s xs x (p .1) i) (List·Memᴰ·cases-cons m)
+
+module _ (s : Song) {bs : List Block} (w : WrittenSong bs s) (refers : DefinitionsRefer [] (s .definitions)) where
+  plain : (x : Section) → List·Memᴰ x (s .sections) → PlainSection s x
+  plain x m = plain-member s (s .sections) x (song-plain s w refers) m
+
+  once : (x : Section) → List·Memᴰ x (s .sections) → Distinct (map modifierNumber (x .modifiers))
+  once x m = each-member (w .sections) m .1 .section .modifiersOnce
+
+  pattern-in : (x : Section) → List·Memᴰ x (s .sections) → (o : Option Items) → patternItems (s .definitions) (x .pattern) ≡ o → {c : Complaint} → List·Memᴰ c (playedFaults (timeOf s x) (x .header) o) → Stops4 s c
+  unfolding playedFaults
+  pattern-in x i none e m = absurd (List·Memᴰ·not-nil m)
+  pattern-in x i (some r) e m = of-pattern x (timeOf s x) r i (plain x i .meter) e (row-in (timeOf s x) (x .header) r m)
+
+  lead-in : (x : Section) → List·Memᴰ x (s .sections) → (o : Option Side) → saidBy beforeSaid (x .modifiers) ≡ o → {c : Complaint} → List·Memᴰ c (sideFaults (timeOf s x) o) → Stops4 s c
+  unfolding sideFaults
+  lead-in x i none e m = absurd (List·Memᴰ·not-nil m)
+  lead-in x i (some y) e m = of-lead-in x (timeOf s x) (y .line) (y .items) i (plain x i .meter) (said-before (x .modifiers) y e) (row-in (timeOf s x) (y .line) (y .items) m)
+
+  tail-in : (x : Section) → List·Memᴰ x (s .sections) → (o : Option Side) → saidBy afterSaid (x .modifiers) ≡ o → {c : Complaint} → List·Memᴰ c (sideFaults (timeOf s x) o) → Stops4 s c
+  unfolding sideFaults
+  tail-in x i none e m = absurd (List·Memᴰ·not-nil m)
+  tail-in x i (some y) e m = of-tail x (timeOf s x) (y .line) (y .items) i (plain x i .meter) (said-after (x .modifiers) y e) (row-in (timeOf s x) (y .line) (y .items) m)
+
+  meter-stated : {c : Complaint} → List·Memᴰ c (meterFaults s) → Stops4 s c
+  unfolding meterFaults sectionMeter
+  meter-stated m =
+      let g = in-gather (sectionMeter s) (s .sections) m in
+      let x = g .0 in
+      either (playedFaults (timeOf s x) (x .header) (patternItems (s .definitions) (x .pattern)) ++ sideFaults (timeOf s x) (saidBy beforeSaid (x .modifiers)))
+      (either (playedFaults (timeOf s x) (x .header) (patternItems (s .definitions) (x .pattern)))
+      (pattern-in x (g .1) (patternItems (s .definitions) (x .pattern)) refl)
+      (lead-in x (g .1) (saidBy beforeSaid (x .modifiers)) refl))
+      (tail-in x (g .1) (saidBy afterSaid (x .modifiers)) refl)
+      (g .2)
+
+  of-section : (x : Section) → List·Memᴰ x (s .sections) → {c : Complaint} → List·Memᴰ c (sectionMeter s x) → List·Memᴰ c (meterFaults s)
+  unfolding meterFaults
+  of-section x i m = gather-in (sectionMeter s) i m
+
+  stated-meter : {c : Complaint} → Stops4 s c → List·Memᴰ c (meterFaults s)
+  unfolding sectionMeter playedFaults sideFaults
+  stated-meter {c} (of-pattern x n r i h e t) =
+      let row = subst (λ k. List·Memᴰ c (rowFaults k (x .header) r)) (says-meter s x n h) (in-row n (x .header) r t) in
+      of-section x i (Memᴰ·append-left _ (Memᴰ·append-left _ (subst (λ o. List·Memᴰ c (playedFaults (timeOf s x) (x .header) o)) (sym e) row)))
+  stated-meter {c} (of-lead-in x n l r i h m t) =
+      let row = subst (λ k. List·Memᴰ c (rowFaults k l r)) (says-meter s x n h) (in-row n l r t) in
+      of-section x i
+      (Memᴰ·append-left _
+      (Memᴰ·append-right (playedFaults (timeOf s x) (x .header) (patternItems (s .definitions) (x .pattern))) (subst (λ o. List·Memᴰ c (sideFaults (timeOf s x) o)) (sym (before-said l r (x .modifiers) (once x i) m)) row)))
+  stated-meter {c} (of-tail x n l r i h m t) =
+      let row = subst (λ k. List·Memᴰ c (rowFaults k l r)) (says-meter s x n h) (in-row n l r t) in
+      of-section x i
+      (Memᴰ·append-right (playedFaults (timeOf s x) (x .header) (patternItems (s .definitions) (x .pattern)) ++ sideFaults (timeOf s x) (saidBy beforeSaid (x .modifiers)))
+      (subst (λ o. List·Memᴰ c (sideFaults (timeOf s x) o)) (sym (after-said l r (x .modifiers) (once x i) m)) row))
+
+  pub meter-stops-exact : {c : Complaint} → List·Memᴰ c (meterFaults s) ↔ Stops4 s c
+  meter-stops-exact = (meter-stated, stated-meter)
