@@ -66,10 +66,12 @@ pub mod SectionPlays
 pub mod MeterAgree
 pub mod PlainAgree
 pub mod MeterStops
+pub mod LengthStops
 -- Lyrics and tables.
 pub mod LyricLineAgree
 pub mod StyleAgree
 pub mod LyricsAgree
+pub mod LyricStops
 pub mod PromptsAgree
 pub mod ItemsWritten
 pub mod TablesAgree
