@@ -59,7 +59,7 @@ input-exact bs = (
 )
 
 -- Stages 1 and 2: the chart that is written.
-chart-of : (bs : List ℕ) (s : Song) → inputFaults bs ≡ [] → WrittenSong (blocksOf bs) s → WrittenChart bs s
+pub chart-of : (bs : List ℕ) (s : Song) → inputFaults bs ≡ [] → WrittenSong (blocksOf bs) s → WrittenChart bs s
 unfolding blocksOf
 chart-of bs s h w =
     let g = input-exact bs .0 h in
@@ -73,7 +73,7 @@ chart-of bs s h w =
       song = w;
     }
 
-of-chart : (bs : List ℕ) (s : Song) → WrittenChart bs s → WrittenSong (blocksOf bs) s
+pub of-chart : (bs : List ℕ) (s : Song) → WrittenChart bs s → WrittenSong (blocksOf bs) s
 unfolding blocksOf
 of-chart bs s c =
     let l = lines-complete (placed 0 bs) (c .lines) (c .linesWritten) in
@@ -118,7 +118,7 @@ by-passed room bs p =
     silent-verdict (stages room bs)
     (p .input, (p .text, (p .refers, (p .meter, (p .long, (p .counts, (p .sums, (p .room-there, tt))))))))
 
-song-read : (bs : List ℕ) (s : Song) → WrittenSong (blocksOf bs) s → songOf bs ≡ s
+pub song-read : (bs : List ℕ) (s : Song) → WrittenSong (blocksOf bs) s → songOf bs ≡ s
 unfolding songOf
 song-read bs s w = song-once w
 

@@ -77,6 +77,7 @@ pub mod ItemsWritten
 pub mod TablesAgree
 -- The whole.
 pub mod AnswerAgree
+pub mod RefusalsAgree
 pub mod FindingAgree
 pub mod LayoutLaws
 pub mod StarredProved
