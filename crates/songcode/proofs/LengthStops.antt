@@ -109,21 +109,21 @@ long-in s sofar (x ∷ xs) {c} m =
     either (complainIf (leb sofar 65535 && ltb 65535 (sofar + sectionCount s x)) 14 (x .header) ++ cutFaults (timeOf s x) (x .header) (x .modifiers) (patternItems (s .definitions) (x .pattern)))
     (either (complainIf (leb sofar 65535 && ltb 65535 (sofar + sectionCount s x)) 14 (x .header))
     (λ i.
-        let h = in-complaint (leb sofar 65535 && ltb 65535 (sofar + sectionCount s x)) 14 (x .header) i in
-        let t = both-pass (leb sofar 65535) (ltb 65535 (sofar + sectionCount s x)) (h .0) in
-        let a = leb-true sofar 65535 (t .0) in
-        let b = ltb-true 65535 (sofar + sectionCount s x) (t .1) in
-        record { front = []; section = x; behind = xs; written = refl; what = inl (omega arith, omega arith, h .1) })
+    let h = in-complaint (leb sofar 65535 && ltb 65535 (sofar + sectionCount s x)) 14 (x .header) i in
+    let t = both-pass (leb sofar 65535) (ltb 65535 (sofar + sectionCount s x)) (h .0) in
+    let a = leb-true sofar 65535 (t .0) in
+    let b = ltb-true 65535 (sofar + sectionCount s x) (t .1) in
+    record { front = []; section = x; behind = xs; written = refl; what = inl (omega arith, omega arith, h .1) })
     (λ i. record { front = []; section = x; behind = xs; written = refl; what = inr i }))
     (λ i.
-        let r = long-in s (sofar + sectionCount s x) xs i in
-        record {
-          front = x ∷ r .front;
-          section = r .section;
-          behind = r .behind;
-          written = ap (λ z. x ∷ z) (r .written);
-          what = ⊎-elim (λ h. let a = h .0 in let b = h .1 in inl (omega arith, omega arith, h .2)) (λ h. inr h) (r .what);
-        })
+    let r = long-in s (sofar + sectionCount s x) xs i in
+    record {
+      front = x ∷ r .front;
+      section = r .section;
+      behind = r .behind;
+      written = ap (λ z. x ∷ z) (r .written);
+      what = ⊎-elim (λ h. let a = h .0 in let b = h .1 in inl (omega arith, omega arith, h .2)) (λ h. inr h) (r .what);
+    })
     m
 
 in-long : (s : Song) (sofar : ℕ) (front : List Section) (x : Section) (behind : List Section) → sofar + sum (map (sectionCount s) front) ≤ 65535 → 65535 < sofar + sum (map (sectionCount s) front) + sectionCount s x
@@ -173,8 +173,8 @@ module _ (s : Song) (x : Section) (i : List·Memᴰ x (s .sections)) (p : PlainS
       subst (λ z. Stops5 s z) (sym (h .1))
       (no-beat x (timeOf s x) r (measuresOf (timeOf s x) none r) i (p .meter) e alone
       (λ middle w.
-          let g = plays-pattern (timeOf s x) (x .header) (x .modifiers) (some r) (measuresOf (timeOf s x) none r) middle (meter-some s x) w in
-          true-is-not-false (h .0) (complainIf-nil (isEmpty (keptMeasures (timeOf s x) (x .modifiers) (some r))) 15 (x .header) (g .left-over))))
+      let g = plays-pattern (timeOf s x) (x .header) (x .modifiers) (some r) (measuresOf (timeOf s x) none r) middle (meter-some s x) w in
+      true-is-not-false (h .0) (complainIf-nil (isEmpty (keptMeasures (timeOf s x) (x .modifiers) (some r))) 15 (x .header) (g .left-over))))
 
   beat-gone : (r : Items) (pass : List (List Beat)) → patternItems (s .definitions) (x .pattern) ≡ some r → PlaysAlone (timeOf s x) r pass → ((middle : List (List Beat)) → PlaysPattern (timeOf s x) (x .modifiers) (some r) pass middle → ⊥)
       → List·Memᴰ (complaint 15 (x .header)) (cutFaults (timeOf s x) (x .header) (x .modifiers) (some r))
@@ -184,9 +184,9 @@ module _ (s : Song) (x : Section) (i : List·Memᴰ x (s .sections)) (p : PlainS
       by-cases (isEmpty (keptMeasures (timeOf s x) (x .modifiers) (some r)))
       (λ t. complaint-in 15 (x .header) t)
       (λ g.
-          let played = pattern-plays (timeOf s x) (x .header) (x .modifiers) (some r) (meter-some s x) (λ z d. p .plainPattern z (e ∙ d)) f (nil-complainIf 15 (x .header) g) in
-          let same : pass ≡ measuresOf (timeOf s x) none r = plays-row (timeOf s x) 0 r pass w .1 in
-          absurd (none-left (keptMeasures (timeOf s x) (x .modifiers) (some r)) (subst (λ z. PlaysPattern (timeOf s x) (x .modifiers) (some r) z (keptMeasures (timeOf s x) (x .modifiers) (some r))) (sym same) played)))
+      let played = pattern-plays (timeOf s x) (x .header) (x .modifiers) (some r) (meter-some s x) (λ z d. p .plainPattern z (e ∙ d)) f (nil-complainIf 15 (x .header) g) in
+      let same : pass ≡ measuresOf (timeOf s x) none r = plays-row (timeOf s x) 0 r pass w .1 in
+      absurd (none-left (keptMeasures (timeOf s x) (x .modifiers) (some r)) (subst (λ z. PlaysPattern (timeOf s x) (x .modifiers) (some r) z (keptMeasures (timeOf s x) (x .modifiers) (some r))) (sym same) played)))
 
 module _ (s : Song) (plain : PlainSections s (s .sections)) (metered : meterFaults s ≡ []) where
   plain-at : (x : Section) → List·Memᴰ x (s .sections) → PlainSection s x
@@ -204,14 +204,14 @@ module _ (s : Song) (plain : PlainSections s (s .sections)) (metered : meterFaul
       let before : (y : Section) → List·Memᴰ y (r .front) → List·Memᴰ y (s .sections) = λ y i. subst (λ z. List·Memᴰ y z) (sym (r .written)) (Memᴰ·append-left (x ∷ r .behind) i) in
       ⊎-elim
       (λ h.
-          let a = h .0 in
-          let b = h .1 in
-          subst (λ z. Stops5 s z) (sym (h .2))
-          (too-long (r .front) (r .behind) x (map (sectionCount s) (r .front)) (sectionCount s x) (r .written)
-          (each-uncut s (r .front) (λ y i. uncut-of s y (plain-at y (before y i)) (metered-at y (before y i))))
-          (uncut-of s x (plain-at x here) (metered-at x here))
-          (omega arith)
-          (omega arith)))
+      let a = h .0 in
+      let b = h .1 in
+      subst (λ z. Stops5 s z) (sym (h .2))
+      (too-long (r .front) (r .behind) x (map (sectionCount s) (r .front)) (sectionCount s x) (r .written)
+      (each-uncut s (r .front) (λ y i. uncut-of s y (plain-at y (before y i)) (metered-at y (before y i))))
+      (uncut-of s x (plain-at x here) (metered-at x here))
+      (omega arith)
+      (omega arith)))
       (λ h. cuts-in s x here (plain-at x here) (metered-at x here) (patternItems (s .definitions) (x .pattern)) refl h)
       (r .what)
 

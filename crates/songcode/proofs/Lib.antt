@@ -78,6 +78,7 @@ pub mod TablesAgree
 -- The whole.
 pub mod AnswerAgree
 pub mod RefusalsAgree
+pub mod RefusalNumbers
 pub mod FindingAgree
 pub mod LayoutLaws
 pub mod StarredProved

@@ -78,10 +78,10 @@ module _ (s : Song) where
   count-stated {c} m =
       by-cases (hasCounts s)
       (λ t.
-          let g = in-gather (λ l. complainIf (not (isCounted l)) 16 (l .number)) (linesTaken s) {c = c} (rw t at m) in
-          let h = in-complaint (not (isCounted (g .0))) 16 (g .0 .number) (g .2) in
-          let o = counts-found t in
-          subst (λ z. Stops6 s z) (sym (h .1)) (uncounted (g .0) (o .0) (line-taken (g .0) (g .1)) (λ k. true-is-not-false (count-exact (g .0) .1 k) (not-true _ (h .0))) (o .1) (o .2)))
+      let g = in-gather (λ l. complainIf (not (isCounted l)) 16 (l .number)) (linesTaken s) {c = c} (rw t at m) in
+      let h = in-complaint (not (isCounted (g .0))) 16 (g .0 .number) (g .2) in
+      let o = counts-found t in
+      subst (λ z. Stops6 s z) (sym (h .1)) (uncounted (g .0) (o .0) (line-taken (g .0) (g .1)) (λ k. true-is-not-false (count-exact (g .0) .1 k) (not-true _ (h .0))) (o .1) (o .2)))
       (λ f. absurd (List·Memᴰ·not-nil {a = c} (rw f at m)))
 
   stated-count : {c : Complaint} → Stops6 s c → List·Memᴰ c (countFaults s)
@@ -143,9 +143,9 @@ module _ (s : Song) (quiet : countFaults s ≡ []) (plays : (x : Section) → Li
       let t = found-counts s l w has in
       let row : joined p ≡ played s x = ap (λ z. joined z) (plays-section s x p pl .same) ∙ joined-played s x in
       let unequal : not (eqb (counted (x .lyrics)) (length (played s x))) ≡ true =
-          by-cases (eqb (counted (x .lyrics)) (length (played s x)))
-          (λ e. absurd (differ (sym (counted-all sums .1) ∙ eqb-true _ _ e ∙ ap length (sym row))))
-          (λ f. rw f) in
+      by-cases (eqb (counted (x .lyrics)) (length (played s x)))
+      (λ e. absurd (differ (sym (counted-all sums .1) ∙ eqb-true _ _ e ∙ ap length (sym row))))
+      (λ f. rw f) in
       rw t (gather-in (sumFault s) (w .listed) (complaint-in 17 (x .header) (pass-both (pass-both (some-isSome (w .filled)) (line-first (w .sung))) unequal)))
 
   pub sum-stops-exact : {c : Complaint} → List·Memᴰ c (sumFaults s) ↔ Stops7 s c

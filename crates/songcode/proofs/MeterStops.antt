@@ -171,13 +171,13 @@ unfolding rowFaults
 row-in n line r m =
     either (complainIf (not (allFit n r)) 12 line)
     (λ i.
-        let h = in-complaint (not (allFit n r)) 12 line i in
-        let u = unfit-items n r (not-true (allFit n r) (h .0)) in
-        subst (λ x. RowStops n line r x) (sym (h .1)) (undivided (u .0) (u .1) (λ k e. true-is-not-false (undivides n k (u .0) e) (u .2))))
+    let h = in-complaint (not (allFit n r)) 12 line i in
+    let u = unfit-items n r (not-true (allFit n r) (h .0)) in
+    subst (λ x. RowStops n line r x) (sym (h .1)) (undivided (u .0) (u .1) (λ k e. true-is-not-false (undivides n k (u .0) e) (u .2))))
     (λ i.
-        let h = in-complaint (stray none r) 13 line i in
-        let f = stray-found (itemsWritten r) (sym (items-stray none r) ∙ h .0) in
-        subst (λ x. RowStops n line r x) (sym (h .1)) (again-first (record { front = f .0; back = f .1; written = f .2; noneBefore = f .3 })))
+    let h = in-complaint (stray none r) 13 line i in
+    let f = stray-found (itemsWritten r) (sym (items-stray none r) ∙ h .0) in
+    subst (λ x. RowStops n line r x) (sym (h .1)) (again-first (record { front = f .0; back = f .1; written = f .2; noneBefore = f .3 })))
     m
 
 in-row : (n line : ℕ) (r : Items) {c : Complaint} → RowStops n line r c → List·Memᴰ c (rowFaults n line r)

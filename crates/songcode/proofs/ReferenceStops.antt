@@ -68,15 +68,15 @@ distinct-one [] h a b m i e = absurd (List·Memᴰ·not-nil m)
 distinct-one (d ∷ ds) h a b m i e =
     ⊎-elim
     (λ p.
-        ⊎-elim
-        (λ q. p ∙ sym q)
-        (λ j. absurd (absent-member (d .id) (b .id) (map idOf ds) (h .0) (Memᴰ·map idOf j) (ap (λ z. z .id) (sym p) ∙ e)))
-        (List·Memᴰ·cases-cons i))
+    ⊎-elim
+    (λ q. p ∙ sym q)
+    (λ j. absurd (absent-member (d .id) (b .id) (map idOf ds) (h .0) (Memᴰ·map idOf j) (ap (λ z. z .id) (sym p) ∙ e)))
+    (List·Memᴰ·cases-cons i))
     (λ k.
-        ⊎-elim
-        (λ q. absurd (absent-member (d .id) (a .id) (map idOf ds) (h .0) (Memᴰ·map idOf k) (ap (λ z. z .id) (sym q) ∙ sym e)))
-        (λ j. distinct-one ds (h .1) a b k j e)
-        (List·Memᴰ·cases-cons i))
+    ⊎-elim
+    (λ q. absurd (absent-member (d .id) (a .id) (map idOf ds) (h .0) (Memᴰ·map idOf k) (ap (λ z. z .id) (sym q) ∙ sym e)))
+    (λ j. distinct-one ds (h .1) a b k j e)
+    (List·Memᴰ·cases-cons i))
     (List·Memᴰ·cases-cons m)
 
 -- Loops: how deep items are, and with references put in.
@@ -390,7 +390,7 @@ module _ (s : Song) {bs : List Block} (w : WrittenSong bs s) where
   stated-reference (undefined-named x n i t h) =
       let gone : definitionOf n (s .definitions) ≡ none = missing n (s .definitions) h in
       let m : List·Memᴰ (complaint 10 (x .header)) (sectionReference (s .definitions) (x .pattern) (x .header)) =
-          subst (λ p. List·Memᴰ (complaint 10 (x .header)) (sectionReference (s .definitions) p (x .header))) (sym t) (rw gone (List·Memᴰ·head refl)) in
+      subst (λ p. List·Memᴰ (complaint 10 (x .header)) (sectionReference (s .definitions) p (x .header))) (sym t) (rw gone (List·Memᴰ·head refl)) in
       Memᴰ·append-right (definitionsReferences [] (s .definitions)) (gather-in (λ z. sectionReference (s .definitions) (z .pattern) (z .header)) i m)
 
   pub reference-stops-exact : {c : Complaint} → List·Memᴰ c (referenceFaults s) ↔ Stops3 s c

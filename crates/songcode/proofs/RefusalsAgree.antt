@@ -27,7 +27,7 @@ use Rattle.songcode.specs.WrittenTables.{WrittenTables}
 use Rattle.songcode.specs.Given.{Before, FirstOf, Given, in-this, in-later}
 use Rattle.songcode.specs.StoppedText.{Stops2}
 use Rattle.songcode.specs.StoppedSong.{Stops1, Stops3, Stops4, Stops5, Stops6, Stops7, Stops8, keys-short, sections-short, measures-short, beats-short, items-short}
-use Rattle.songcode.specs.Refusals.{Stage, stage1, stage2, stage3, stage4, stage5, stage6, stage7, stage8, Stated, Nothing, before, NothingIn, Refused}
+use Rattle.songcode.specs.Refusals.{Stage, stage1, stage2, stage3, stage4, stage5, stage6, stage7, stage8, Stated, Nothing, before, NothingIn, complaintsIn, Refused}
 use Rattle.songcode.proofs.MemberLaws.{in-complaint, complaint-in}
 use Rattle.songcode.proofs.LinesAgree.{lines-sound, lines-complete}
 use Rattle.songcode.proofs.BlocksAgree.{blocks-sound, blocks-complete}
@@ -85,18 +85,18 @@ module _ (room : Room) (s : Song) (ps : List Parts) (written : (t : Tables) → 
       subst (λ z. Stops8 room s ps z) (sym (h .1))
       (⊎-elim
       (λ a.
-          ⊎-elim
-          (λ b.
-              ⊎-elim
-              (λ c.
-                  ⊎-elim
-                  (λ d. keys-short (rw (eight-keys s) at (ltb-true (room .keys) (length (tables s .keys)) d)))
-                  (λ d. sections-short (tables s) w (ltb-true (room .sections) (length (tables s .sections)) d))
-                  (either-passes keys-under sections-under c))
-              (λ c. measures-short (tables s) w (ltb-true (room .measures) (length (tables s .measures)) c))
-              (either-passes (keys-under || sections-under) measures-under b))
-          (λ b. beats-short (tables s) w (ltb-true (room .beats) (length (tables s .beats)) b))
-          (either-passes (keys-under || sections-under || measures-under) beats-under a))
+      ⊎-elim
+      (λ b.
+      ⊎-elim
+      (λ c.
+      ⊎-elim
+      (λ d. keys-short (rw (eight-keys s) at (ltb-true (room .keys) (length (tables s .keys)) d)))
+      (λ d. sections-short (tables s) w (ltb-true (room .sections) (length (tables s .sections)) d))
+      (either-passes keys-under sections-under c))
+      (λ c. measures-short (tables s) w (ltb-true (room .measures) (length (tables s .measures)) c))
+      (either-passes (keys-under || sections-under) measures-under b))
+      (λ b. beats-short (tables s) w (ltb-true (room .beats) (length (tables s .beats)) b))
+      (either-passes (keys-under || sections-under || measures-under) beats-under a))
       (λ a. items-short (tables s) w (ltb-true (room .items) (length (tables s .items)) a))
       (either-passes (keys-under || sections-under || measures-under || beats-under) items-under (h .0)))
 
@@ -311,6 +311,54 @@ module _ (room : Room) (bs : List ℕ) where
       let e6 : countFaults (songOf bs) ≡ [] = empty stage6 (countFaults (songOf bs)) (says-6 e1 e2 e3 e4 e5) (n .1 .1 .1 .1 .1 .0) in
       let e7 : sumFaults (songOf bs) ≡ [] = empty stage7 (sumFaults (songOf bs)) (says-7 e1 e2 e3 e4 e5 e6) (n .1 .1 .1 .1 .1 .1 .0) in
       in-later e1 (in-later e2 (in-later e3 (in-later e4 (in-later e5 (in-later e6 (in-later e7 (in-this (first-of stage8 (roomFaults room (tables (songOf bs))) c (says-8 e1 e2 e3 e4 e5 e6 e7) h f))))))))
+
+  -- Every stage's complaints are what is stated in it, where nothing is stated before.
+  pub stage-as-stated : (k : Stage) → NothingIn room bs (before k) → (c : Complaint) → List·Memᴰ c (complaintsIn room bs k) ↔ Stated room bs k c
+  unfolding complaintsIn before NothingIn
+  stage-as-stated stage1 n c =
+      says-1 c
+  stage-as-stated stage2 n c =
+      let e1 : inputFaults bs ≡ [] = empty stage1 (inputFaults bs) says-1 (n .0) in
+      says-2 c
+  stage-as-stated stage3 n c =
+      let e1 : inputFaults bs ≡ [] = empty stage1 (inputFaults bs) says-1 (n .0) in
+      let e2 : textFaults (blocksOf bs) ≡ [] = empty stage2 (textFaults (blocksOf bs)) says-2 (n .1 .0) in
+      says-3 e1 e2 c
+  stage-as-stated stage4 n c =
+      let e1 : inputFaults bs ≡ [] = empty stage1 (inputFaults bs) says-1 (n .0) in
+      let e2 : textFaults (blocksOf bs) ≡ [] = empty stage2 (textFaults (blocksOf bs)) says-2 (n .1 .0) in
+      let e3 : referenceFaults (songOf bs) ≡ [] = empty stage3 (referenceFaults (songOf bs)) (says-3 e1 e2) (n .1 .1 .0) in
+      says-4 e1 e2 e3 c
+  stage-as-stated stage5 n c =
+      let e1 : inputFaults bs ≡ [] = empty stage1 (inputFaults bs) says-1 (n .0) in
+      let e2 : textFaults (blocksOf bs) ≡ [] = empty stage2 (textFaults (blocksOf bs)) says-2 (n .1 .0) in
+      let e3 : referenceFaults (songOf bs) ≡ [] = empty stage3 (referenceFaults (songOf bs)) (says-3 e1 e2) (n .1 .1 .0) in
+      let e4 : meterFaults (songOf bs) ≡ [] = empty stage4 (meterFaults (songOf bs)) (says-4 e1 e2 e3) (n .1 .1 .1 .0) in
+      says-5 e1 e2 e3 e4 c
+  stage-as-stated stage6 n c =
+      let e1 : inputFaults bs ≡ [] = empty stage1 (inputFaults bs) says-1 (n .0) in
+      let e2 : textFaults (blocksOf bs) ≡ [] = empty stage2 (textFaults (blocksOf bs)) says-2 (n .1 .0) in
+      let e3 : referenceFaults (songOf bs) ≡ [] = empty stage3 (referenceFaults (songOf bs)) (says-3 e1 e2) (n .1 .1 .0) in
+      let e4 : meterFaults (songOf bs) ≡ [] = empty stage4 (meterFaults (songOf bs)) (says-4 e1 e2 e3) (n .1 .1 .1 .0) in
+      let e5 : lengthFaults (songOf bs) 0 (songOf bs .sections) ≡ [] = empty stage5 (lengthFaults (songOf bs) 0 (songOf bs .sections)) (says-5 e1 e2 e3 e4) (n .1 .1 .1 .1 .0) in
+      says-6 e1 e2 e3 e4 e5 c
+  stage-as-stated stage7 n c =
+      let e1 : inputFaults bs ≡ [] = empty stage1 (inputFaults bs) says-1 (n .0) in
+      let e2 : textFaults (blocksOf bs) ≡ [] = empty stage2 (textFaults (blocksOf bs)) says-2 (n .1 .0) in
+      let e3 : referenceFaults (songOf bs) ≡ [] = empty stage3 (referenceFaults (songOf bs)) (says-3 e1 e2) (n .1 .1 .0) in
+      let e4 : meterFaults (songOf bs) ≡ [] = empty stage4 (meterFaults (songOf bs)) (says-4 e1 e2 e3) (n .1 .1 .1 .0) in
+      let e5 : lengthFaults (songOf bs) 0 (songOf bs .sections) ≡ [] = empty stage5 (lengthFaults (songOf bs) 0 (songOf bs .sections)) (says-5 e1 e2 e3 e4) (n .1 .1 .1 .1 .0) in
+      let e6 : countFaults (songOf bs) ≡ [] = empty stage6 (countFaults (songOf bs)) (says-6 e1 e2 e3 e4 e5) (n .1 .1 .1 .1 .1 .0) in
+      says-7 e1 e2 e3 e4 e5 e6 c
+  stage-as-stated stage8 n c =
+      let e1 : inputFaults bs ≡ [] = empty stage1 (inputFaults bs) says-1 (n .0) in
+      let e2 : textFaults (blocksOf bs) ≡ [] = empty stage2 (textFaults (blocksOf bs)) says-2 (n .1 .0) in
+      let e3 : referenceFaults (songOf bs) ≡ [] = empty stage3 (referenceFaults (songOf bs)) (says-3 e1 e2) (n .1 .1 .0) in
+      let e4 : meterFaults (songOf bs) ≡ [] = empty stage4 (meterFaults (songOf bs)) (says-4 e1 e2 e3) (n .1 .1 .1 .0) in
+      let e5 : lengthFaults (songOf bs) 0 (songOf bs .sections) ≡ [] = empty stage5 (lengthFaults (songOf bs) 0 (songOf bs .sections)) (says-5 e1 e2 e3 e4) (n .1 .1 .1 .1 .0) in
+      let e6 : countFaults (songOf bs) ≡ [] = empty stage6 (countFaults (songOf bs)) (says-6 e1 e2 e3 e4 e5) (n .1 .1 .1 .1 .1 .0) in
+      let e7 : sumFaults (songOf bs) ≡ [] = empty stage7 (sumFaults (songOf bs)) (says-7 e1 e2 e3 e4 e5 e6) (n .1 .1 .1 .1 .1 .1 .0) in
+      says-8 e1 e2 e3 e4 e5 e6 e7 c
 
 pub refused-as-stated : (room : Room) (bs : List ℕ) (number line : ℕ) → (answer room bs ≡ refused number line) ↔ Refused room bs (complaint number line)
 refused-as-stated room bs number line =
