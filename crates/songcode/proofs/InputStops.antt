@@ -1,20 +1,19 @@
 -- What stops a chart in stage 1 is stated exactly where the answer complains of it.
-use Prim.Native.Nat.{ℕ, suc, _<_, _≤_}
+use Prim.Native.Nat.{ℕ}
 use mathlib.Core.Path.{_≡_, refl, ap, sym, subst, _∙_}
 use mathlib.Core.Logic.{_↔_}
-use mathlib.Core.List.{List, [], _∷_, _++_, List·Memᴰ, List·Memᴰ·head}
-use mathlib.Core.Bool.{true, false}
+use mathlib.Core.List.{List, List·Memᴰ, List·Memᴰ·head}
 use lib.Dec.{ltb}
 use lib.ListN.{length, take}
 use lib.Seq.{take-append-seam}
 use borrow.Author.Tests.{ltb-true, ltb-false, lt-ltb, le-ltb}
 use Rattle.songcode.specs.Lists.{if_then_else_}
-use Rattle.songcode.specs.Bytes.{Byte, placed}
+use Rattle.songcode.specs.Bytes.{placed}
 use Rattle.songcode.specs.Characters.{goodBytes}
 use Rattle.songcode.specs.Lines.{cutLines}
 use Rattle.songcode.specs.Complaints.{Complaint, complaint, complainIf}
 use Rattle.songcode.specs.Answer.{mostBytes, lineOfPlace, inputFaults}
-use Rattle.songcode.specs.WrittenText.{FirstBad, Cuts}
+use Rattle.songcode.specs.WrittenText.{FirstBad}
 use Rattle.songcode.specs.StoppedSong.{Stops1, over-long, bad-bytes}
 use Rattle.songcode.proofs.ListLaws.{by-cases}
 use Rattle.songcode.proofs.MemberLaws.{only-one, in-complaint, complaint-in}
@@ -39,7 +38,8 @@ input-stated bs {c} m =
     let h = in-complaint (ltb (goodBytes 0 bs) (length bs)) 2 (lineOfPlace (goodBytes 0 bs) bs) i in
     let w = first-bad bs (goodBytes 0 bs) .0 refl in
     subst (λ x. Stops1 bs x) (sym (h .1 ∙ ap (λ n. complaint 2 n) (sym (line-counted bs (goodBytes 0 bs) w))))
-    (bad-bytes (goodBytes 0 bs) w (pieces (cutLines (placed 0 (w .front)))) (ltb-false 65536 (length bs) f) (ltb-true _ _ (h .0)) (cuts-sound (placed 0 (w .front)))))
+    (bad-bytes (goodBytes 0 bs) w (pieces (cutLines (placed 0 (w .front)))) (ltb-false 65536 (length bs) f) (ltb-true _ _ (h .0))
+    (cuts-sound (placed 0 (w .front)))))
 
 stated-input : (bs : List ℕ) {c : Complaint} → Stops1 bs c → List·Memᴰ c (inputFaults bs)
 unfolding inputFaults mostBytes if_then_else_

@@ -1,19 +1,14 @@
 -- Words by their layout: what is packed is read back, and every word of the five tables is its row's fields packed.
-use Prim.Native.Nat.{ℕ, zero, suc, _+_, _-_, _*_, _/_, _%_, _^_, _<_, _≤_}
+use Prim.Native.Nat.{ℕ, zero, suc, _+_, _*_, _/_, _%_, _^_, _<_}
 use mathlib.Core.Path.{_≡_, refl, ap, sym, _∙_}
 use mathlib.Core.List.{List, [], _∷_}
-use mathlib.Core.Bool.{Bool, true, false}
-use mathlib.Core.Option.{none, some}
-use native.Mathlib.Nat.{pow-zero, pow-suc, zero-add, add-zero, suc-add, suc-mul, mul-assoc, mul-right-comm, mul-le-mul-right, mul-add-div-right, mul-add-mod-self-right, mod-eq-of-lt, div-eq-of-lt, div-add-mod', mod-lt, div-lt-iff-lt-mul, add-assoc}
+use native.Mathlib.Nat.{pow-zero, pow-suc, zero-add, add-zero, suc-add, suc-mul, mul-assoc, mul-right-comm, mul-le-mul-right, mul-add-div-right}
+use native.Mathlib.Nat.{mul-add-mod-self-right, mod-eq-of-lt, div-eq-of-lt, div-add-mod', mod-lt, div-lt-iff-lt-mul, add-assoc}
 use native.Mathlib.Omega.{arith}
-use lib.ListN.{length}
 use Rattle.songcode.specs.Lists.{sum}
-use Rattle.songcode.specs.Bytes.{Byte}
-use Rattle.songcode.specs.Chords.{Chord}
-use Rattle.songcode.specs.Lyrics.{Prompt}
 use Rattle.songcode.specs.Tables.{offset, keyWord, sectionWord, measureWord, headBit, beatBy, itemWord}
 use Rattle.songcode.specs.Joined.{firstBeat, beatCount}
-use Rattle.songcode.specs.Layout.{Row, keysRow, sectionsRow, measuresRow, beatsRow, itemsRow, spare, packed, laid, field, unpacked, fieldsOf, Fit, Laid}
+use Rattle.songcode.specs.Layout.{keysRow, sectionsRow, measuresRow, beatsRow, itemsRow, spare, packed, laid, field, unpacked, fieldsOf, Fit, Laid}
 
 power-sum : (a b : ℕ) → 2 ^ (a + b) ≡ 2 ^ a * 2 ^ b
 power-sum zero b = rw (zero-add b, pow-zero 2) (omega arith)
@@ -64,7 +59,13 @@ unpacked-packed low [] [] rest f h = refl
 unpacked-packed low (w ∷ ws) (v ∷ vs) rest f h =
     let k = packed-small low ws vs rest (f .1) h in
     let a = add-assoc (v * 2 ^ (sum ws + low)) (packed low ws vs) rest in
-    rw (a, field-top w (sum ws + low) v (packed low ws vs + rest) (f .0) k, unpacked-below low ws v (packed low ws vs + rest), unpacked-packed low ws vs rest (f .1) h)
+    rw (
+      a,
+      field-top w (sum ws + low) v (packed low ws vs + rest) (f .0) k,
+      unpacked-below low ws v (packed low ws vs + rest),
+      unpacked-packed low ws vs rest
+          (f .1) h,
+    )
 
 -- A word is its fields and the bits below them.
 low-below : (s low q m : ℕ) → (q * 2 ^ (s + low) + m) % 2 ^ low ≡ m % 2 ^ low
@@ -78,7 +79,8 @@ packed-unpacked low (w ∷ ws) word h =
     let e : word / 2 ^ (sum ws + low) * 2 ^ (sum ws + low) + word % 2 ^ (sum ws + low) ≡ word = div-add-mod' word (2 ^ (sum ws + low)) in
     let wide : word < 2 ^ w * 2 ^ (sum ws + low) = rw (← power-sum w (sum ws + low), ← add-assoc w (sum ws) low) h in
     let small = div-lt-iff-lt-mul {k = 2 ^ (sum ws + low)} {x = word} {y = 2 ^ w} positive .1 wide in
-    go (word / 2 ^ (sum ws + low)) (word % 2 ^ (sum ws + low)) e small (mod-lt word positive) (packed-unpacked low ws (word % 2 ^ (sum ws + low)) (mod-lt word positive))
+    go (word / 2 ^ (sum ws + low)) (word % 2 ^ (sum ws + low)) e small (mod-lt word positive)
+    (packed-unpacked low ws (word % 2 ^ (sum ws + low)) (mod-lt word positive))
   where
     go : (q m : ℕ) → q * 2 ^ (sum ws + low) + m ≡ word → q < 2 ^ w → m < 2 ^ (sum ws + low) → packed low ws (unpacked low ws m) + m % 2 ^ low ≡ m
         → field (sum ws + low) w word * 2 ^ (sum ws + low) + packed low ws (unpacked low ws word) + word % 2 ^ low ≡ word
@@ -86,7 +88,8 @@ packed-unpacked low (w ∷ ws) word h =
         let low-bits : word % 2 ^ low ≡ m % 2 ^ low = ap (λ x. x % 2 ^ low) (sym e) ∙ low-below (sum ws) low q m in
         let same : unpacked low ws word ≡ unpacked low ws m = ap (λ x. unpacked low ws x) (sym e) ∙ unpacked-below low ws q m in
         let top : field (sum ws + low) w word ≡ q = ap (λ x. field (sum ws + low) w x) (sym e) ∙ field-top w (sum ws + low) q m small k in
-        rw (top, same, low-bits) (add-assoc (q * 2 ^ (sum ws + low)) (packed low ws (unpacked low ws m)) (m % 2 ^ low) ∙ ap (λ x. q * 2 ^ (sum ws + low) + x) below ∙ e)
+        rw (top, same, low-bits)
+        (add-assoc (q * 2 ^ (sum ws + low)) (packed low ws (unpacked low ws m)) (m % 2 ^ low) ∙ ap (λ x. q * 2 ^ (sum ws + low) + x) below ∙ e)
 
 -- Each word of the five tables, and the fields that the second call reads.
 pub words-laid : Laid

@@ -1,27 +1,26 @@
 -- What stops a song in stage 5 is stated exactly where the answer complains of it.
-use Prim.Native.Nat.{ℕ, zero, suc, _+_, _*_, _<_, _≤_}
+use Prim.Native.Nat.{ℕ, _+_, _<_, _≤_}
 use mathlib.Core.Path.{_≡_, refl, ap, sym, subst, _∙_}
 use mathlib.Core.Logic.{_↔_, _⊎_, inl, inr, ⊎-elim}
-use mathlib.Core.List.{List, [], _∷_, _++_, map, List·Memᴰ, List·Memᴰ·head, List·Memᴰ·tail, List·Memᴰ·not-nil, List·Memᴰ·cases-cons, Memᴰ·append-left, Memᴰ·append-right}
-use mathlib.Core.Bool.{Bool, true, false, _&&_, not}
+use mathlib.Core.List.{List, [], _∷_, _++_, map, List·Memᴰ, List·Memᴰ·head, List·Memᴰ·tail, List·Memᴰ·not-nil, Memᴰ·append-left, Memᴰ·append-right}
+use mathlib.Core.Bool.{true, _&&_, not}
 use mathlib.Core.Option.{Option, none, some}
 use native.Mathlib.Omega.{arith}
 use lib.Dec.{leb, ltb}
 use lib.ListN.{length}
-use borrow.Author.Tests.{leb-true, le-leb, ltb-true, lt-ltb, not-true}
+use borrow.Author.Tests.{leb-true, le-leb, ltb-true, lt-ltb}
 use Rattle.songcode.specs.Lists.{sum, isEmpty, gather}
-use Rattle.songcode.specs.Lines.{Block}
 use Rattle.songcode.specs.Complaints.{Complaint, complaint, complainIf}
-use Rattle.songcode.specs.Song.{Items, time, Modifier, Section, Song}
+use Rattle.songcode.specs.Song.{Items, Modifier, Section, Song}
 use Rattle.songcode.specs.PatternText.{references}
 use Rattle.songcode.specs.References.{patternItems}
-use Rattle.songcode.specs.Playing.{Beat, Side, timeOf, measuresOf, saidBy, beforeSaid, afterSaid, repeats, sideMeasures, keptMeasures}
-use Rattle.songcode.specs.Meter.{rowFaults, playedFaults, sideFaults, sectionMeter, meterFaults, countOf, sideCount, sectionCount, mostMeasures, cutFaults, lengthFaults}
-use Rattle.songcode.specs.WrittenSection.{TimeText, Each, none-each, and-each}
-use Rattle.songcode.specs.Performance.{Inherits, PlaysAlone, PlaysPattern}
+use Rattle.songcode.specs.Playing.{Beat, timeOf, measuresOf, saidBy, beforeSaid, afterSaid, sideMeasures, keptMeasures}
+use Rattle.songcode.specs.Meter.{playedFaults, sideFaults, sectionMeter, meterFaults, countOf, sideCount, sectionCount, mostMeasures, cutFaults}
+use Rattle.songcode.specs.Meter.{lengthFaults}
+use Rattle.songcode.specs.WrittenSection.{Each, none-each, and-each}
+use Rattle.songcode.specs.Performance.{PlaysAlone, PlaysPattern}
 use Rattle.songcode.specs.StoppedSong.{PlaysPass, Uncut, Stops5, too-long, no-beat, empty-modified}
-use Rattle.songcode.proofs.ListLaws.{by-cases, true-is-not-false, both-pass, pass-both, append-is-nil, isEmpty-true, complainIf-nil, nil-complainIf}
-use Rattle.songcode.proofs.PatternLaws.{none-some}
+use Rattle.songcode.proofs.ListLaws.{by-cases, true-is-not-false, both-pass, pass-both, append-is-nil, complainIf-nil, nil-complainIf}
 use Rattle.songcode.proofs.MemberLaws.{either, in-complaint, complaint-in}
 use Rattle.songcode.proofs.InheritsAgree.{says-meter}
 use Rattle.songcode.proofs.SectionPlays.{meter-some, pass-of, row-plays, plays-row, side-plays, plays-side, pattern-plays, plays-pattern}
@@ -42,8 +41,13 @@ record Fine (s : Song) (x : Section) : Type 0 where
 fine-of : (s : Song) (x : Section) → sectionMeter s x ≡ [] → Fine s x
 unfolding sectionMeter
 fine-of s x e =
-    let a = append-is-nil (playedFaults (timeOf s x) (x .header) (patternItems (s .definitions) (x .pattern)) ++ sideFaults (timeOf s x) (saidBy beforeSaid (x .modifiers))) (sideFaults (timeOf s x) (saidBy afterSaid (x .modifiers))) e in
-    let b = append-is-nil (playedFaults (timeOf s x) (x .header) (patternItems (s .definitions) (x .pattern))) (sideFaults (timeOf s x) (saidBy beforeSaid (x .modifiers))) (a .0) in
+    let a =
+    append-is-nil
+    (playedFaults (timeOf s x) (x .header) (patternItems (s .definitions) (x .pattern)) ++ sideFaults (timeOf s x) (saidBy beforeSaid (x .modifiers)))
+    (sideFaults (timeOf s x) (saidBy afterSaid (x .modifiers))) e in
+    let b =
+    append-is-nil (playedFaults (timeOf s x) (x .header) (patternItems (s .definitions) (x .pattern)))
+    (sideFaults (timeOf s x) (saidBy beforeSaid (x .modifiers))) (a .0) in
     record { pattern = b .0; lead = b .1; tail = a .1 }
 
 -- A section's measures before cuts.
@@ -94,19 +98,29 @@ uncut-each s none-each = refl
 uncut-each s (and-each {x} {y} {xs} {ys} u us) = ap (λ z. z ∷ ys) (uncut-once s x y u) ∙ ap (λ z. sectionCount s x ∷ z) (uncut-each s us)
 
 -- Where the running sum passes, and the cuts of each section.
+abbrev Passes : Song → ℕ → List Section → Section → Complaint → Type 0
+Passes s sofar front x c =
+    (sofar + sum (map (sectionCount s) front) ≤ 65535)
+    × (65535 < sofar + sum (map (sectionCount s) front) + sectionCount s x)
+    × (c ≡ complaint 14 (x .header))
+
+abbrev cuts-of : Song → Section → List Complaint
+cuts-of s x = cutFaults (timeOf s x) (x .header) (x .modifiers) (patternItems (s .definitions) (x .pattern))
+
 record Judged (s : Song) (sofar : ℕ) (xs : List Section) (c : Complaint) : Type 0 where
   front : List Section
   section : Section
   behind : List Section
   written : xs ≡ front ++ (section ∷ behind)
-  what : ((sofar + sum (map (sectionCount s) front) ≤ 65535) × (65535 < sofar + sum (map (sectionCount s) front) + sectionCount s section) × (c ≡ complaint 14 (section .header)))
-      ⊎ List·Memᴰ c (cutFaults (timeOf s section) (section .header) (section .modifiers) (patternItems (s .definitions) (section .pattern)))
+  what : Passes s sofar front section c ⊎ List·Memᴰ c (cuts-of s section)
 
 long-in : (s : Song) (sofar : ℕ) (xs : List Section) {c : Complaint} → List·Memᴰ c (lengthFaults s sofar xs) → Judged s sofar xs c
 unfolding lengthFaults mostMeasures sum
 long-in s sofar [] m = absurd (List·Memᴰ·not-nil m)
 long-in s sofar (x ∷ xs) {c} m =
-    either (complainIf (leb sofar 65535 && ltb 65535 (sofar + sectionCount s x)) 14 (x .header) ++ cutFaults (timeOf s x) (x .header) (x .modifiers) (patternItems (s .definitions) (x .pattern)))
+    either
+    (complainIf (leb sofar 65535 && ltb 65535 (sofar + sectionCount s x)) 14 (x .header) ++ cutFaults (timeOf s x) (x .header) (x .modifiers)
+    (patternItems (s .definitions) (x .pattern)))
     (either (complainIf (leb sofar 65535 && ltb 65535 (sofar + sectionCount s x)) 14 (x .header))
     (λ i.
     let h = in-complaint (leb sofar 65535 && ltb 65535 (sofar + sectionCount s x)) 14 (x .header) i in
@@ -126,7 +140,8 @@ long-in s sofar (x ∷ xs) {c} m =
     })
     m
 
-in-long : (s : Song) (sofar : ℕ) (front : List Section) (x : Section) (behind : List Section) → sofar + sum (map (sectionCount s) front) ≤ 65535 → 65535 < sofar + sum (map (sectionCount s) front) + sectionCount s x
+in-long : (s : Song) (sofar : ℕ) (front : List Section) (x : Section) (behind : List Section) → sofar + sum (map (sectionCount s) front) ≤ 65535
+    → 65535 < sofar + sum (map (sectionCount s) front) + sectionCount s x
     → List·Memᴰ (complaint 14 (x .header)) (lengthFaults s sofar (front ++ (x ∷ behind)))
 unfolding lengthFaults mostMeasures sum
 in-long s sofar [] x behind h k =
@@ -134,10 +149,13 @@ in-long s sofar [] x behind h k =
     (Memᴰ·append-left (cutFaults (timeOf s x) (x .header) (x .modifiers) (patternItems (s .definitions) (x .pattern)))
     (complaint-in 14 (x .header) (pass-both (le-leb sofar 65535 (omega arith)) (lt-ltb 65535 (sofar + sectionCount s x) (omega arith)))))
 in-long s sofar (y ∷ front) x behind h k =
-    Memᴰ·append-right (complainIf (leb sofar 65535 && ltb 65535 (sofar + sectionCount s y)) 14 (y .header) ++ cutFaults (timeOf s y) (y .header) (y .modifiers) (patternItems (s .definitions) (y .pattern)))
+    Memᴰ·append-right
+    (complainIf (leb sofar 65535 && ltb 65535 (sofar + sectionCount s y)) 14 (y .header) ++ cutFaults (timeOf s y) (y .header) (y .modifiers)
+    (patternItems (s .definitions) (y .pattern)))
     (in-long s (sofar + sectionCount s y) front x behind (omega arith) (omega arith))
 
-in-cuts : (s : Song) (sofar : ℕ) {xs : List Section} {x : Section} → List·Memᴰ x xs → {c : Complaint} → List·Memᴰ c (cutFaults (timeOf s x) (x .header) (x .modifiers) (patternItems (s .definitions) (x .pattern)))
+in-cuts : (s : Song) (sofar : ℕ) {xs : List Section} {x : Section} → List·Memᴰ x xs → {c : Complaint}
+    → List·Memᴰ c (cutFaults (timeOf s x) (x .header) (x .modifiers) (patternItems (s .definitions) (x .pattern)))
     → List·Memᴰ c (lengthFaults s sofar xs)
 unfolding lengthFaults
 in-cuts s sofar {xs = y ∷ xs} {x = x} (List·Memᴰ·head e) {c} m =
@@ -145,7 +163,9 @@ in-cuts s sofar {xs = y ∷ xs} {x = x} (List·Memᴰ·head e) {c} m =
     (Memᴰ·append-right (complainIf (leb sofar mostMeasures && ltb mostMeasures (sofar + sectionCount s y)) 14 (y .header))
     (subst (λ z. List·Memᴰ c (cutFaults (timeOf s z) (z .header) (z .modifiers) (patternItems (s .definitions) (z .pattern)))) e m))
 in-cuts s sofar {xs = y ∷ xs} (List·Memᴰ·tail i) m =
-    Memᴰ·append-right (complainIf (leb sofar mostMeasures && ltb mostMeasures (sofar + sectionCount s y)) 14 (y .header) ++ cutFaults (timeOf s y) (y .header) (y .modifiers) (patternItems (s .definitions) (y .pattern)))
+    Memᴰ·append-right
+    (complainIf (leb sofar mostMeasures && ltb mostMeasures (sofar + sectionCount s y)) 14 (y .header) ++ cutFaults (timeOf s y) (y .header) (y .modifiers)
+    (patternItems (s .definitions) (y .pattern)))
     (in-cuts s (sofar + sectionCount s y) i m)
 
 -- The cuts of a section that stage 4 leaves.
@@ -160,7 +180,8 @@ module _ (s : Song) (x : Section) (i : List·Memᴰ x (s .sections)) (p : PlainS
   modifier-some (List·Memᴰ·head e) = refl
   modifier-some (List·Memᴰ·tail j) = refl
 
-  cuts-in : (o : Option Items) → patternItems (s .definitions) (x .pattern) ≡ o → {c : Complaint} → List·Memᴰ c (cutFaults (timeOf s x) (x .header) (x .modifiers) o) → Stops5 s c
+  cuts-in : (o : Option Items) → patternItems (s .definitions) (x .pattern) ≡ o → {c : Complaint}
+      → List·Memᴰ c (cutFaults (timeOf s x) (x .header) (x .modifiers) o) → Stops5 s c
   unfolding cutFaults playedFaults
   cuts-in none e m =
       let h = in-complaint (not (isEmpty (x .modifiers))) 15 (x .header) m in
@@ -176,7 +197,8 @@ module _ (s : Song) (x : Section) (i : List·Memᴰ x (s .sections)) (p : PlainS
       let g = plays-pattern (timeOf s x) (x .header) (x .modifiers) (some r) (measuresOf (timeOf s x) none r) middle (meter-some s x) w in
       true-is-not-false (h .0) (complainIf-nil (isEmpty (keptMeasures (timeOf s x) (x .modifiers) (some r))) 15 (x .header) (g .left-over))))
 
-  beat-gone : (r : Items) (pass : List (List Beat)) → patternItems (s .definitions) (x .pattern) ≡ some r → PlaysAlone (timeOf s x) r pass → ((middle : List (List Beat)) → PlaysPattern (timeOf s x) (x .modifiers) (some r) pass middle → ⊥)
+  beat-gone : (r : Items) (pass : List (List Beat)) → patternItems (s .definitions) (x .pattern) ≡ some r → PlaysAlone (timeOf s x) r pass
+      → ((middle : List (List Beat)) → PlaysPattern (timeOf s x) (x .modifiers) (some r) pass middle → ⊥)
       → List·Memᴰ (complaint 15 (x .header)) (cutFaults (timeOf s x) (x .header) (x .modifiers) (some r))
   unfolding cutFaults pass-of
   beat-gone r pass e w none-left =
@@ -184,9 +206,13 @@ module _ (s : Song) (x : Section) (i : List·Memᴰ x (s .sections)) (p : PlainS
       by-cases (isEmpty (keptMeasures (timeOf s x) (x .modifiers) (some r)))
       (λ t. complaint-in 15 (x .header) t)
       (λ g.
-      let played = pattern-plays (timeOf s x) (x .header) (x .modifiers) (some r) (meter-some s x) (λ z d. p .plainPattern z (e ∙ d)) f (nil-complainIf 15 (x .header) g) in
+      let played =
+      pattern-plays (timeOf s x) (x .header) (x .modifiers) (some r) (meter-some s x) (λ z d. p .plainPattern z (e ∙ d)) f
+      (nil-complainIf 15 (x .header) g) in
       let same : pass ≡ measuresOf (timeOf s x) none r = plays-row (timeOf s x) 0 r pass w .1 in
-      absurd (none-left (keptMeasures (timeOf s x) (x .modifiers) (some r)) (subst (λ z. PlaysPattern (timeOf s x) (x .modifiers) (some r) z (keptMeasures (timeOf s x) (x .modifiers) (some r))) (sym same) played)))
+      absurd
+      (none-left (keptMeasures (timeOf s x) (x .modifiers) (some r))
+      (subst (λ z. PlaysPattern (timeOf s x) (x .modifiers) (some r) z (keptMeasures (timeOf s x) (x .modifiers) (some r))) (sym same) played)))
 
 module _ (s : Song) (plain : PlainSections s (s .sections)) (metered : meterFaults s ≡ []) where
   plain-at : (x : Section) → List·Memᴰ x (s .sections) → PlainSection s x
@@ -201,7 +227,8 @@ module _ (s : Song) (plain : PlainSections s (s .sections)) (metered : meterFaul
       let r = long-in s 0 (s .sections) m in
       let x = r .section in
       let here : List·Memᴰ x (s .sections) = subst (λ z. List·Memᴰ x z) (sym (r .written)) (Memᴰ·append-right (r .front) (List·Memᴰ·head refl)) in
-      let before : (y : Section) → List·Memᴰ y (r .front) → List·Memᴰ y (s .sections) = λ y i. subst (λ z. List·Memᴰ y z) (sym (r .written)) (Memᴰ·append-left (x ∷ r .behind) i) in
+      let before : (y : Section) → List·Memᴰ y (r .front) → List·Memᴰ y (s .sections) =
+      λ y i. subst (λ z. List·Memᴰ y z) (sym (r .written)) (Memᴰ·append-left (x ∷ r .behind) i) in
       ⊎-elim
       (λ h.
       let a = h .0 in
@@ -221,15 +248,19 @@ module _ (s : Song) (plain : PlainSections s (s .sections)) (metered : meterFaul
       let a : counts ≡ map (sectionCount s) front = uncut-each s us in
       let b : k ≡ sectionCount s x = uncut-once s x k u in
       let c : sum (map (sectionCount s) front) ≤ 65535 = subst (λ z. sum z ≤ 65535) a h in
-      let d : 65535 < sum (map (sectionCount s) front) + sectionCount s x = subst (λ z. 65535 < sum (map (sectionCount s) front) + z) b (subst (λ z. 65535 < sum z + k) a j) in
+      let d : 65535 < sum (map (sectionCount s) front) + sectionCount s x =
+      subst (λ z. 65535 < sum (map (sectionCount s) front) + z) b (subst (λ z. 65535 < sum z + k) a j) in
       subst (λ z. List·Memᴰ (complaint 14 (x .header)) (lengthFaults s 0 z)) (sym w) (in-long s 0 front x behind (omega arith) (omega arith))
   stated-length (no-beat x n r pass i h e w none-left) =
       let same : n ≡ timeOf s x = says-meter s x n h in
-      let gone = beat-gone s x i (plain-at x i) (metered-at x i) r pass e (subst (λ k. PlaysAlone k r pass) same w) (λ middle v. none-left middle (subst (λ k. PlaysPattern k (x .modifiers) (some r) pass middle) (sym same) v)) in
+      let gone =
+      beat-gone s x i (plain-at x i) (metered-at x i) r pass e (subst (λ k. PlaysAlone k r pass) same w)
+      (λ middle v. none-left middle (subst (λ k. PlaysPattern k (x .modifiers) (some r) pass middle) (sym same) v)) in
       in-cuts s 0 i (subst (λ o. List·Memᴰ (complaint 15 (x .header)) (cutFaults (timeOf s x) (x .header) (x .modifiers) o)) (sym e) gone)
   stated-length (empty-modified x m i e j) =
       in-cuts s 0 i
-      (subst (λ o. List·Memᴰ (complaint 15 (x .header)) (cutFaults (timeOf s x) (x .header) (x .modifiers) o)) (sym e) (complaint-in 15 (x .header) (modifier-some s x i (plain-at x i) (metered-at x i) j)))
+      (subst (λ o. List·Memᴰ (complaint 15 (x .header)) (cutFaults (timeOf s x) (x .header) (x .modifiers) o)) (sym e)
+      (complaint-in 15 (x .header) (modifier-some s x i (plain-at x i) (metered-at x i) j)))
 
   pub length-stops-exact : {c : Complaint} → List·Memᴰ c (lengthFaults s 0 (s .sections)) ↔ Stops5 s c
   length-stops-exact = (length-stated, stated-length)

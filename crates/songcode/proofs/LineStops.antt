@@ -1,26 +1,27 @@
 -- What stops a key or modifier line by itself is stated exactly where the answer complains of it.
 use Prim.Native.Nat.{ℕ}
 use Prim.Native.Char.{code}
-use mathlib.Core.Path.{_≡_, refl, ap, sym, subst, _∙_}
+use mathlib.Core.Path.{_≡_, refl, sym, subst, _∙_}
 use mathlib.Core.Logic.{_↔_}
-use mathlib.Core.List.{List, [], _∷_, _++_, List·Memᴰ, List·Memᴰ·head, List·Memᴰ·not-nil, Memᴰ·append-left, Memᴰ·append-right}
+use mathlib.Core.List.{List, [], _∷_, _++_, List·Memᴰ, List·Memᴰ·head, Memᴰ·append-left, Memᴰ·append-right}
 use mathlib.Core.Bool.{Bool, true, false, _&&_, not}
 use mathlib.Core.Option.{Option, none, some}
 use borrow.Author.Tests.{eqb-true, not-true}
 use Rattle.songcode.specs.Lists.{if_then_else_, taken, left, isSome, andThen}
-use Rattle.songcode.specs.Bytes.{Byte, values, ascii, isByte, isBlank, notBlank, isLetter}
+use Rattle.songcode.specs.Bytes.{Byte, isByte, isBlank, notBlank, isLetter}
 use Rattle.songcode.specs.Lines.{Line}
 use Rattle.songcode.specs.Numbers.{repeatIn}
 use Rattle.songcode.specs.Complaints.{Complaint, complaint, complainIf}
-use Rattle.songcode.specs.Song.{KeyName, Cut, Items, repeated, cutStart, cutEnd, before, after}
-use Rattle.songcode.specs.Keys.{nameIn, settingIn, keyNamed, isSetting}
-use Rattle.songcode.specs.Modifiers.{ModifierName, ofRepeat, ofCutStart, ofCutEnd, ofBefore, ofAfter, modifierNamed, cutIn, modifierIn, settingRefusal}
+use Rattle.songcode.specs.Song.{KeyName, repeated, cutStart, cutEnd, before, after}
+use Rattle.songcode.specs.Keys.{nameIn, settingIn, isSetting}
+use Rattle.songcode.specs.Modifiers.{ModifierName, ofRepeat, ofCutStart, ofCutEnd, ofBefore, ofAfter, cutIn, modifierIn, settingRefusal}
 use Rattle.songcode.specs.PatternText.{sideText}
-use Rattle.songcode.specs.Sections.{Kind, keyLine, modifierLine, patternLine, kindOf, kindOfLine, behindFirst, nameOf, settingOf, keyNameOf, keyFaultsBy, keyFaults, modifierNameOf, modifierFaultsBy, modifierFaults}
-use Rattle.songcode.specs.WrittenText.{All, Stops}
-use Rattle.songcode.specs.WrittenSection.{Setting}
+use Rattle.songcode.specs.Sections.{keyLine, modifierLine, patternLine, kindOf, kindOfLine, behindFirst, nameOf, settingOf, keyNameOf, keyFaultsBy}
+use Rattle.songcode.specs.Sections.{keyFaults, modifierNameOf, modifierFaultsBy, modifierFaults}
 use Rattle.songcode.specs.WrittenSong.{BeginsWith}
-use Rattle.songcode.specs.StoppedText.{UnderLetter, IsKey, IsModifier, IsPattern, Worded, CallsKey, modifierWord, CallsModifier, KeyStops, key-unknown, key-not-allowed, key-setting, ModifierStops, modifier-unknown, repeat-setting, cut-start-setting, cut-end-setting, lead-in-text, tail-text}
+use Rattle.songcode.specs.StoppedText.{UnderLetter, IsKey, IsModifier, IsPattern, Worded, CallsKey, modifierWord, CallsModifier, KeyStops, key-unknown}
+use Rattle.songcode.specs.StoppedText.{key-not-allowed, key-setting, ModifierStops, modifier-unknown, repeat-setting, cut-start-setting}
+use Rattle.songcode.specs.StoppedText.{cut-end-setting, lead-in-text, tail-text}
 use Rattle.songcode.proofs.ListLaws.{by-cases, true-is-not-false, both-pass, taken-left, taken-all, left-stops, taken-is, left-is}
 use Rattle.songcode.proofs.PatternLaws.{none-some}
 use Rattle.songcode.proofs.ChoiceLaws.{zero-is-not-one, second-chosen, isSome-exact}
@@ -149,7 +150,8 @@ module _ (test : KeyName → Bool) (allowed : KeyName → Type 0) (agree : (k : 
       subst (λ x. KeyStops allowed l x) (sym (h .1)) (key-not-allowed k (settingOf l) (calls-key l k s e) (fails-exact (test k) (agree k) .0 (h .0))))
       (λ i.
       let h = in-complaint (not (isSetting k (settingOf l))) 5 (l .number) i in
-      subst (λ x. KeyStops allowed l x) (sym (h .1)) (key-setting k (settingOf l) (calls-key l k s e) (fails-exact _ (setting-exact k (settingOf l)) .0 (h .0))))
+      subst (λ x. KeyStops allowed l x) (sym (h .1))
+      (key-setting k (settingOf l) (calls-key l k s e) (fails-exact _ (setting-exact k (settingOf l)) .0 (h .0))))
       m
 
   stated-key : {c : Complaint} → KeyStops allowed l c → List·Memᴰ c (keyFaults test l)
@@ -162,7 +164,9 @@ module _ (test : KeyName → Bool) (allowed : KeyName → Type 0) (agree : (k : 
   stated-key (key-not-allowed k setting w h) =
       rw (key-called w .0) (Memᴰ·append-left _ (complaint-in 4 (l .number) (fails-exact (test k) (agree k) .1 h)))
   stated-key (key-setting k setting w h) =
-      rw (key-called w .0) (Memᴰ·append-right (complainIf (not (test k)) 4 (l .number)) (complaint-in 5 (l .number) (fails-exact _ (setting-exact k (settingOf l)) .1 (rw (key-called w .1) h))))
+      rw (key-called w .0)
+      (Memᴰ·append-right (complainIf (not (test k)) 4 (l .number))
+      (complaint-in 5 (l .number) (fails-exact _ (setting-exact k (settingOf l)) .1 (rw (key-called w .1) h))))
 
   pub key-stops-exact : IsKey l → {c : Complaint} → List·Memᴰ c (keyFaults test l) ↔ KeyStops allowed l c
   unfolding keyFaults
@@ -177,7 +181,8 @@ then-some f (some x) = refl
 unread-exact : {A B : Type 0} {P : A → Type 0} (f : A → B) (o : Option A) → ((x : A) → (o ≡ some x) ↔ P x)
     → (not (isSome (andThen o (λ x. some (f x)))) ≡ true) ↔ ((x : A) → P x → ⊥)
 unread-exact f o p =
-    rw (then-some f o) ((λ e x h. fails-exact (isSome o) (isSome-exact o p) .0 e (x, h)), (λ n. fails-exact (isSome o) (isSome-exact o p) .1 (λ h. n (h .0) (h .1))))
+    rw (then-some f o)
+    ((λ e x h. fails-exact (isSome o) (isSome-exact o p) .0 e (x, h)), (λ n. fails-exact (isSome o) (isSome-exact o p) .1 (λ h. n (h .0) (h .1))))
 
 module _ (l : Line) where
   modifier-stated : IsModifier l → (o : Option ModifierName) → modifierNameOf l ≡ o → {c : Complaint} → List·Memᴰ c (modifierFaultsBy o l) → ModifierStops l c
@@ -185,19 +190,25 @@ module _ (l : Line) where
   modifier-stated s none e m = subst (λ x. ModifierStops l x) (sym (only-one m)) (modifier-unknown s (λ k t w. none-some e (modifier-called w .0)))
   modifier-stated s (some ofRepeat) e m =
       let h = in-complaint _ 5 (l .number) m in
-      subst (λ x. ModifierStops l x) (sym (h .1)) (repeat-setting (settingOf l) (calls-modifier l ofRepeat s e) (unread-exact repeated (repeatIn (settingOf l)) (repeat-exact (settingOf l)) .0 (h .0)))
+      subst (λ x. ModifierStops l x) (sym (h .1))
+      (repeat-setting (settingOf l) (calls-modifier l ofRepeat s e) (unread-exact repeated (repeatIn (settingOf l)) (repeat-exact (settingOf l)) .0 (h .0)))
   modifier-stated s (some ofCutStart) e m =
       let h = in-complaint _ 5 (l .number) m in
-      subst (λ x. ModifierStops l x) (sym (h .1)) (cut-start-setting (settingOf l) (calls-modifier l ofCutStart s e) (unread-exact cutStart (cutIn (settingOf l)) (cut-exact (settingOf l)) .0 (h .0)))
+      subst (λ x. ModifierStops l x) (sym (h .1))
+      (cut-start-setting (settingOf l) (calls-modifier l ofCutStart s e) (unread-exact cutStart (cutIn (settingOf l)) (cut-exact (settingOf l)) .0 (h .0)))
   modifier-stated s (some ofCutEnd) e m =
       let h = in-complaint _ 5 (l .number) m in
-      subst (λ x. ModifierStops l x) (sym (h .1)) (cut-end-setting (settingOf l) (calls-modifier l ofCutEnd s e) (unread-exact cutEnd (cutIn (settingOf l)) (cut-exact (settingOf l)) .0 (h .0)))
+      subst (λ x. ModifierStops l x) (sym (h .1))
+      (cut-end-setting (settingOf l) (calls-modifier l ofCutEnd s e) (unread-exact cutEnd (cutIn (settingOf l)) (cut-exact (settingOf l)) .0 (h .0)))
   modifier-stated s (some ofBefore) e m =
       let h = in-complaint _ 7 (l .number) m in
-      subst (λ x. ModifierStops l x) (sym (h .1)) (lead-in-text (settingOf l) (calls-modifier l ofBefore s e) (unread-exact (before (l .number)) (sideText (settingOf l)) (side-exact (settingOf l)) .0 (h .0)))
+      subst (λ x. ModifierStops l x) (sym (h .1))
+      (lead-in-text (settingOf l) (calls-modifier l ofBefore s e)
+      (unread-exact (before (l .number)) (sideText (settingOf l)) (side-exact (settingOf l)) .0 (h .0)))
   modifier-stated s (some ofAfter) e m =
       let h = in-complaint _ 7 (l .number) m in
-      subst (λ x. ModifierStops l x) (sym (h .1)) (tail-text (settingOf l) (calls-modifier l ofAfter s e) (unread-exact (after (l .number)) (sideText (settingOf l)) (side-exact (settingOf l)) .0 (h .0)))
+      subst (λ x. ModifierStops l x) (sym (h .1))
+      (tail-text (settingOf l) (calls-modifier l ofAfter s e) (unread-exact (after (l .number)) (sideText (settingOf l)) (side-exact (settingOf l)) .0 (h .0)))
 
   stated-modifier : {c : Complaint} → ModifierStops l c → List·Memᴰ c (modifierFaults l)
   unfolding modifierFaults modifierFaultsBy modifierIn settingRefusal
@@ -213,9 +224,11 @@ module _ (l : Line) where
   stated-modifier (cut-end-setting setting w h) =
       rw (modifier-called w .0, modifier-called w .1) (complaint-in 5 (l .number) (unread-exact cutEnd (cutIn setting) (cut-exact setting) .1 h))
   stated-modifier (lead-in-text setting w h) =
-      rw (modifier-called w .0, modifier-called w .1) (complaint-in 7 (l .number) (unread-exact (before (l .number)) (sideText setting) (side-exact setting) .1 h))
+      rw (modifier-called w .0, modifier-called w .1)
+      (complaint-in 7 (l .number) (unread-exact (before (l .number)) (sideText setting) (side-exact setting) .1 h))
   stated-modifier (tail-text setting w h) =
-      rw (modifier-called w .0, modifier-called w .1) (complaint-in 7 (l .number) (unread-exact (after (l .number)) (sideText setting) (side-exact setting) .1 h))
+      rw (modifier-called w .0, modifier-called w .1)
+      (complaint-in 7 (l .number) (unread-exact (after (l .number)) (sideText setting) (side-exact setting) .1 h))
 
   pub modifier-stops-exact : IsModifier l → {c : Complaint} → List·Memᴰ c (modifierFaults l) ↔ ModifierStops l c
   unfolding modifierFaults

@@ -1,24 +1,20 @@
 -- What stops a song in stages 6 and 7 is stated exactly where the answer complains of it.
-use Prim.Native.Nat.{ℕ}
 use mathlib.Core.Path.{_≡_, refl, ap, sym, subst, _∙_}
 use mathlib.Core.Logic.{_↔_}
-use mathlib.Core.List.{List, [], _∷_, _++_, List·Memᴰ, List·Memᴰ·head, List·Memᴰ·tail, List·Memᴰ·not-nil, List·Memᴰ·cases-cons}
-use mathlib.Core.Bool.{Bool, true, false, _||_, _&&_, not}
-use mathlib.Core.Option.{Option, none, some}
+use mathlib.Core.List.{List, [], _∷_, List·Memᴰ, List·Memᴰ·head, List·Memᴰ·tail, List·Memᴰ·not-nil}
+use mathlib.Core.Bool.{Bool, true, _&&_, not}
 use lib.Dec.{eqb}
 use lib.ListN.{length}
 use borrow.Author.Tests.{eqb-true, eq-eqb, not-true, not-false}
 use Rattle.songcode.specs.Lists.{if_then_else_, isEmpty, any, gather, isSome}
-use Rattle.songcode.specs.Complaints.{Complaint, complaint, complainIf}
-use Rattle.songcode.specs.Song.{Items, LyricLine, Section, Song}
+use Rattle.songcode.specs.Complaints.{Complaint, complainIf}
+use Rattle.songcode.specs.Song.{LyricLine, Section, Song}
 use Rattle.songcode.specs.References.{patternItems}
 use Rattle.songcode.specs.Playing.{played}
 use Rattle.songcode.specs.Lyrics.{isCounted, isPlayed, linesTaken, hasCounts, countFaults, counted, sumFault, sumFaults}
-use Rattle.songcode.specs.Performance.{Parts, PlaysSection, joined}
-use Rattle.songcode.specs.Fits.{Counted}
+use Rattle.songcode.specs.Performance.{PlaysSection, joined}
 use Rattle.songcode.specs.StoppedSong.{Taken, HasCount, Stops6, uncounted, Stops7, sums-not}
 use Rattle.songcode.proofs.ListLaws.{by-cases, true-is-not-false, both-pass, pass-both, complainIf-nil}
-use Rattle.songcode.proofs.PatternLaws.{none-some}
 use Rattle.songcode.proofs.ChoiceLaws.{isSome-some, some-isSome}
 use Rattle.songcode.proofs.MemberLaws.{in-gather, gather-in, in-complaint, complaint-in}
 use Rattle.songcode.proofs.MeterAgree.{plays-section, joined-played, parts-of}
@@ -51,7 +47,8 @@ module _ (s : Song) where
   unfolding if_then_else_ isPlayed
   taken-here x l i m =
       by-cases (isPlayed s x)
-      (λ t. let r = isSome-some (patternItems (s .definitions) (x .pattern)) t in record { section = x; pattern = r .0; listed = i; filled = r .1; sung = rw t at m })
+      (λ t. let r = isSome-some (patternItems (s .definitions) (x .pattern)) t in record
+      { section = x; pattern = r .0; listed = i; filled = r .1; sung = rw t at m })
       (λ f. absurd (List·Memᴰ·not-nil {a = l} (rw f at m)))
 
   line-taken : (l : LyricLine) → List·Memᴰ l (linesTaken s) → Taken s l
@@ -81,7 +78,8 @@ module _ (s : Song) where
       let g = in-gather (λ l. complainIf (not (isCounted l)) 16 (l .number)) (linesTaken s) {c = c} (rw t at m) in
       let h = in-complaint (not (isCounted (g .0))) 16 (g .0 .number) (g .2) in
       let o = counts-found t in
-      subst (λ z. Stops6 s z) (sym (h .1)) (uncounted (g .0) (o .0) (line-taken (g .0) (g .1)) (λ k. true-is-not-false (count-exact (g .0) .1 k) (not-true _ (h .0))) (o .1) (o .2)))
+      subst (λ z. Stops6 s z) (sym (h .1))
+      (uncounted (g .0) (o .0) (line-taken (g .0) (g .1)) (λ k. true-is-not-false (count-exact (g .0) .1 k) (not-true _ (h .0))) (o .1) (o .2)))
       (λ f. absurd (List·Memᴰ·not-nil {a = c} (rw f at m)))
 
   stated-count : {c : Complaint} → Stops6 s c → List·Memᴰ c (countFaults s)
@@ -124,7 +122,9 @@ module _ (s : Song) (quiet : countFaults s ≡ []) (plays : (x : Section) → Li
       let l = first-line (x .lyrics) (b .1) in
       let taken : (y : LyricLine) → List·Memᴰ y (x .lyrics) → Taken s y = λ y j. record { section = x; pattern = r .0; listed = i; filled = r .1; sung = j } in
       let sums = all-counted (x .lyrics) (gather-none bare (x .lyrics) (λ y j. bare-none t y (taken y j))) in
-      let has = count-exact (l .0) .0 (not-false (isCounted (l .0)) (complainIf-nil (not (isCounted (l .0))) 16 (l .0 .number) (bare-none t (l .0) (taken (l .0) (l .1))))) in
+      let has =
+      count-exact (l .0) .0
+      (not-false (isCounted (l .0)) (complainIf-nil (not (isCounted (l .0))) 16 (l .0 .number) (bare-none t (l .0) (taken (l .0) (l .1))))) in
       subst (λ z. Stops7 s z) (sym (h .1))
       (sums-not (l .0) (taken (l .0) (l .1)) (counted (x .lyrics)) (parts-of s x) has sums (plays x i)
       (λ e. true-is-not-false (eq-eqb (counted (x .lyrics)) (length (played s x)) (e ∙ ap length (joined-played s x))) (not-true _ (a .1))))

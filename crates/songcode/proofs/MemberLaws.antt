@@ -1,9 +1,10 @@
 -- What stands in a list of complaints: in one part or the other, in what some element gives, where a test passes.
 use Prim.Native.Nat.{ℕ}
 use mathlib.Core.Path.{_≡_, refl, ap, sym, subst}
-use mathlib.Core.Logic.{⊎-elim}
-use mathlib.Core.List.{List, [], _∷_, _++_, map, List·Memᴰ, List·Memᴰ·head, List·Memᴰ·tail, List·Memᴰ·not-nil, List·Memᴰ·cases-cons, List·Memᴰ·append-cases, Memᴰ·append-left, Memᴰ·append-right}
-use mathlib.Core.Bool.{Bool, true, false}
+use mathlib.Core.Logic.{_⊎_, inl, inr, ⊎-elim}
+use mathlib.Core.List.{List, [], _∷_, _++_, List·Memᴰ, List·Memᴰ·head, List·Memᴰ·tail, List·Memᴰ·not-nil, List·Memᴰ·cases-cons, List·Memᴰ·append-cases}
+use mathlib.Core.List.{Memᴰ·append-left, Memᴰ·append-right}
+use mathlib.Core.Bool.{Bool, true, false, _||_}
 use Rattle.songcode.specs.Lists.{gather, when}
 use Rattle.songcode.specs.Complaints.{Complaint, complaint, complainIf}
 
@@ -43,6 +44,18 @@ module _ {A B : Type 0} where
   unfolding gather
   gather-in f {xs = y ∷ ys} {c = c} (List·Memᴰ·head e) m = Memᴰ·append-left (gather f ys) (subst (λ z. List·Memᴰ c (f z)) e m)
   gather-in f {xs = y ∷ ys} (List·Memᴰ·tail i) m = Memᴰ·append-right (f y) (gather-in f i m)
+
+-- One of two tests passes.
+pub either-passes : (a b : Bool) → a || b ≡ true → (a ≡ true) ⊎ (b ≡ true)
+either-passes true b e = inl refl
+either-passes false b e = inr e
+
+pub pass-left : {a : Bool} (b : Bool) → a ≡ true → a || b ≡ true
+pass-left b e = rw e
+
+pub pass-right : (a : Bool) {b : Bool} → b ≡ true → a || b ≡ true
+pass-right true e = refl
+pass-right false e = e
 
 -- Complained of exactly where the test passes.
 pub in-complaint : (b : Bool) (number line : ℕ) {c : Complaint} → List·Memᴰ c (complainIf b number line) → (b ≡ true) × (c ≡ complaint number line)

@@ -1,30 +1,31 @@
 -- What stops a song in stage 4 is stated exactly where the answer complains of it.
-use Prim.Native.Nat.{ℕ, zero, suc, _+_, _*_, _/_, _%_, _≤_}
+use Prim.Native.Nat.{ℕ, _*_, _/_, _%_}
 use mathlib.Core.Path.{_≡_, refl, ap, sym, subst, _∙_}
 use mathlib.Core.Logic.{_↔_, _⊎_, inl, inr, ⊎-elim}
-use mathlib.Core.List.{List, [], _∷_, _++_, map, List·Memᴰ, List·Memᴰ·head, List·Memᴰ·tail, List·Memᴰ·not-nil, List·Memᴰ·cases-cons, Memᴰ·append-left, Memᴰ·append-right, Memᴰ·map}
+use mathlib.Core.List.{List, [], _∷_, _++_, map, List·Memᴰ, List·Memᴰ·head, List·Memᴰ·tail, List·Memᴰ·not-nil, List·Memᴰ·cases-cons, Memᴰ·append-left}
+use mathlib.Core.List.{Memᴰ·append-right, Memᴰ·map}
 use mathlib.Core.Bool.{Bool, true, false, _||_, _&&_, not}
 use mathlib.Core.Option.{Option, none, some}
-use native.Mathlib.Nat.{add-zero, div-add-mod'}
+use native.Mathlib.Nat.{div-add-mod'}
 use native.Mathlib.Omega.{arith}
-use lib.Dec.{eqb}
 use borrow.Author.Tests.{eqb-true, eq-eqb, not-true}
-use Rattle.songcode.specs.Lists.{gather, isSome, firstThere}
+use Rattle.songcode.specs.Lists.{isSome, firstThere}
 use Rattle.songcode.specs.Lines.{Block}
-use Rattle.songcode.specs.Complaints.{Complaint, complaint, complainIf}
+use Rattle.songcode.specs.Complaints.{Complaint, complainIf}
 use Rattle.songcode.specs.Chords.{Chord}
-use Rattle.songcode.specs.Song.{Sound, chord, again, silence, Sounds, only, also, Measure, Item, measure, loop, refer, Items, one, next, time, Modifier, repeated, cutStart, cutEnd, before, after, Section, Song}
+use Rattle.songcode.specs.Song.{Sound, chord, again, silence, Sounds, only, also, Measure, Item, measure, loop, refer, Items, one, next, Modifier}
+use Rattle.songcode.specs.Song.{repeated, cutStart, cutEnd, before, after, Section, Song}
 use Rattle.songcode.specs.References.{patternItems}
 use Rattle.songcode.specs.Playing.{Side, timeOf, positions, chordAfter, lastSounds, lastItem, lastItems, saidBy, beforeSaid, afterSaid}
-use Rattle.songcode.specs.Meter.{fits, allFitItem, allFit, strays, strayAmong, strayItem, stray, rowFaults, playedFaults, sideFaults, sectionMeter, meterFaults}
-use Rattle.songcode.specs.WrittenSection.{TimeText, Each, none-each, and-each, Absent, Distinct, modifierNumber}
-use Rattle.songcode.specs.WrittenSong.{SectionBlock, WrittenSong}
-use Rattle.songcode.specs.Performance.{Inherits}
+use Rattle.songcode.specs.Meter.{fits, allFitItem, allFit, strays, strayAmong, strayItem, stray, rowFaults, playedFaults, sideFaults, sectionMeter}
+use Rattle.songcode.specs.Meter.{meterFaults}
+use Rattle.songcode.specs.WrittenSection.{Each, none-each, and-each, Distinct, modifierNumber}
+use Rattle.songcode.specs.WrittenSong.{WrittenSong}
 use Rattle.songcode.specs.Fits.{DefinitionsRefer}
-use Rattle.songcode.specs.StoppedSong.{MeasureOf, MeasureIn, soundsWritten, itemWritten, itemsWritten, NoChord, AgainFirst, RowStops, undivided, again-first, Stops4, of-pattern, of-lead-in, of-tail}
-use Rattle.songcode.proofs.ListLaws.{by-cases, true-is-not-false, pass-none}
+use Rattle.songcode.specs.StoppedSong.{MeasureOf, MeasureIn, soundsWritten, itemWritten, itemsWritten, NoChord, RowStops, undivided, again-first}
+use Rattle.songcode.specs.StoppedSong.{Stops4, of-pattern, of-lead-in, of-tail}
+use Rattle.songcode.proofs.ListLaws.{by-cases, true-is-not-false}
 use Rattle.songcode.proofs.PatternLaws.{none-some}
-use Rattle.songcode.proofs.ChoiceLaws.{zero-is-not-one}
 use Rattle.songcode.proofs.MemberLaws.{either, in-gather, gather-in, in-complaint, complaint-in}
 use Rattle.songcode.proofs.ReferenceStops.{absent-member}
 use Rattle.songcode.proofs.PlayingAgree.{positions-some, share-is}
@@ -96,7 +97,9 @@ or-assoc false b c = refl
 stray-append : (last : Option Chord) (xs ys : List Sound) → stray-list last (xs ++ ys) ≡ stray-list last xs || stray-list (last-list last xs) ys
 unfolding stray-list last-list
 stray-append last [] ys = refl
-stray-append last (x ∷ xs) ys = rw (stray-append (chordAfter last x) xs ys) (sym (or-assoc (strays last x) (stray-list (chordAfter last x) xs) (stray-list (last-list (chordAfter last x) xs) ys)))
+stray-append last (x ∷ xs) ys =
+    rw (stray-append (chordAfter last x) xs ys)
+    (sym (or-assoc (strays last x) (stray-list (chordAfter last x) xs) (stray-list (last-list (chordAfter last x) xs) ys)))
 
 last-append : (last : Option Chord) (xs ys : List Sound) → last-list last (xs ++ ys) ≡ last-list (last-list last xs) ys
 unfolding last-list
@@ -209,7 +212,8 @@ said-after (before l r ∷ ms) y e = List·Memᴰ·tail (said-after ms y e)
 said-after (after l r ∷ ms) y e = let h : record { line = l; items = r } ≡ y = cc in List·Memᴰ·head (ap (λ z. after (z .line) (z .items)) (sym h))
 
 module _ (l : ℕ) (r : Items) where
-  before-said : (ms : List Modifier) → Distinct (map modifierNumber ms) → List·Memᴰ (before l r) ms → saidBy beforeSaid ms ≡ some (record { line = l; items = r })
+  before-said : (ms : List Modifier) → Distinct (map modifierNumber ms) → List·Memᴰ (before l r) ms
+      → saidBy beforeSaid ms ≡ some (record { line = l; items = r })
   unfolding saidBy beforeSaid firstThere Distinct modifierNumber
   before-said [] d m = absurd (List·Memᴰ·not-nil m)
   before-said (x ∷ ms) d m =
@@ -218,7 +222,8 @@ module _ (l : ℕ) (r : Items) where
       (λ i. go x (λ e. absent-member (modifierNumber x) 3 (map modifierNumber ms) (d .0) (Memᴰ·map modifierNumber i) e) (before-said ms (d .1) i))
       (List·Memᴰ·cases-cons m)
     where
-      go : (x : Modifier) → (modifierNumber x ≡ 3 → ⊥) → saidBy beforeSaid ms ≡ some (record { line = l; items = r }) → saidBy beforeSaid (x ∷ ms) ≡ some (record { line = l; items = r })
+      go : (x : Modifier) → (modifierNumber x ≡ 3 → ⊥) → saidBy beforeSaid ms ≡ some (record { line = l; items = r })
+          → saidBy beforeSaid (x ∷ ms) ≡ some (record { line = l; items = r })
       go (repeated n) h e = e
       go (cutStart c) h e = e
       go (cutEnd c) h e = e
@@ -234,7 +239,8 @@ module _ (l : ℕ) (r : Items) where
       (λ i. go x (λ e. absent-member (modifierNumber x) 4 (map modifierNumber ms) (d .0) (Memᴰ·map modifierNumber i) e) (after-said ms (d .1) i))
       (List·Memᴰ·cases-cons m)
     where
-      go : (x : Modifier) → (modifierNumber x ≡ 4 → ⊥) → saidBy afterSaid ms ≡ some (record { line = l; items = r }) → saidBy afterSaid (x ∷ ms) ≡ some (record { line = l; items = r })
+      go : (x : Modifier) → (modifierNumber x ≡ 4 → ⊥) → saidBy afterSaid ms ≡ some (record { line = l; items = r })
+          → saidBy afterSaid (x ∷ ms) ≡ some (record { line = l; items = r })
       go (repeated n) h e = e
       go (cutStart c) h e = e
       go (cutEnd c) h e = e
@@ -258,20 +264,25 @@ module _ (s : Song) {bs : List Block} (w : WrittenSong bs s) (refers : Definitio
   once : (x : Section) → List·Memᴰ x (s .sections) → Distinct (map modifierNumber (x .modifiers))
   once x m = each-member (w .sections) m .1 .section .modifiersOnce
 
-  pattern-in : (x : Section) → List·Memᴰ x (s .sections) → (o : Option Items) → patternItems (s .definitions) (x .pattern) ≡ o → {c : Complaint} → List·Memᴰ c (playedFaults (timeOf s x) (x .header) o) → Stops4 s c
+  pattern-in : (x : Section) → List·Memᴰ x (s .sections) → (o : Option Items) → patternItems (s .definitions) (x .pattern) ≡ o → {c : Complaint}
+      → List·Memᴰ c (playedFaults (timeOf s x) (x .header) o) → Stops4 s c
   unfolding playedFaults
   pattern-in x i none e m = absurd (List·Memᴰ·not-nil m)
   pattern-in x i (some r) e m = of-pattern x (timeOf s x) r i (plain x i .meter) e (row-in (timeOf s x) (x .header) r m)
 
-  lead-in : (x : Section) → List·Memᴰ x (s .sections) → (o : Option Side) → saidBy beforeSaid (x .modifiers) ≡ o → {c : Complaint} → List·Memᴰ c (sideFaults (timeOf s x) o) → Stops4 s c
+  lead-in : (x : Section) → List·Memᴰ x (s .sections) → (o : Option Side) → saidBy beforeSaid (x .modifiers) ≡ o → {c : Complaint}
+      → List·Memᴰ c (sideFaults (timeOf s x) o) → Stops4 s c
   unfolding sideFaults
   lead-in x i none e m = absurd (List·Memᴰ·not-nil m)
-  lead-in x i (some y) e m = of-lead-in x (timeOf s x) (y .line) (y .items) i (plain x i .meter) (said-before (x .modifiers) y e) (row-in (timeOf s x) (y .line) (y .items) m)
+  lead-in x i (some y) e m =
+      of-lead-in x (timeOf s x) (y .line) (y .items) i (plain x i .meter) (said-before (x .modifiers) y e) (row-in (timeOf s x) (y .line) (y .items) m)
 
-  tail-in : (x : Section) → List·Memᴰ x (s .sections) → (o : Option Side) → saidBy afterSaid (x .modifiers) ≡ o → {c : Complaint} → List·Memᴰ c (sideFaults (timeOf s x) o) → Stops4 s c
+  tail-in : (x : Section) → List·Memᴰ x (s .sections) → (o : Option Side) → saidBy afterSaid (x .modifiers) ≡ o → {c : Complaint}
+      → List·Memᴰ c (sideFaults (timeOf s x) o) → Stops4 s c
   unfolding sideFaults
   tail-in x i none e m = absurd (List·Memᴰ·not-nil m)
-  tail-in x i (some y) e m = of-tail x (timeOf s x) (y .line) (y .items) i (plain x i .meter) (said-after (x .modifiers) y e) (row-in (timeOf s x) (y .line) (y .items) m)
+  tail-in x i (some y) e m =
+      of-tail x (timeOf s x) (y .line) (y .items) i (plain x i .meter) (said-after (x .modifiers) y e) (row-in (timeOf s x) (y .line) (y .items) m)
 
   meter-stated : {c : Complaint} → List·Memᴰ c (meterFaults s) → Stops4 s c
   unfolding meterFaults sectionMeter
@@ -298,11 +309,13 @@ module _ (s : Song) {bs : List Block} (w : WrittenSong bs s) (refers : Definitio
       let row = subst (λ k. List·Memᴰ c (rowFaults k l r)) (says-meter s x n h) (in-row n l r t) in
       of-section x i
       (Memᴰ·append-left _
-      (Memᴰ·append-right (playedFaults (timeOf s x) (x .header) (patternItems (s .definitions) (x .pattern))) (subst (λ o. List·Memᴰ c (sideFaults (timeOf s x) o)) (sym (before-said l r (x .modifiers) (once x i) m)) row)))
+      (Memᴰ·append-right (playedFaults (timeOf s x) (x .header) (patternItems (s .definitions) (x .pattern)))
+      (subst (λ o. List·Memᴰ c (sideFaults (timeOf s x) o)) (sym (before-said l r (x .modifiers) (once x i) m)) row)))
   stated-meter {c} (of-tail x n l r i h m t) =
       let row = subst (λ k. List·Memᴰ c (rowFaults k l r)) (says-meter s x n h) (in-row n l r t) in
       of-section x i
-      (Memᴰ·append-right (playedFaults (timeOf s x) (x .header) (patternItems (s .definitions) (x .pattern)) ++ sideFaults (timeOf s x) (saidBy beforeSaid (x .modifiers)))
+      (Memᴰ·append-right
+      (playedFaults (timeOf s x) (x .header) (patternItems (s .definitions) (x .pattern)) ++ sideFaults (timeOf s x) (saidBy beforeSaid (x .modifiers)))
       (subst (λ o. List·Memᴰ c (sideFaults (timeOf s x) o)) (sym (after-said l r (x .modifiers) (once x i) m)) row))
 
   pub meter-stops-exact : {c : Complaint} → List·Memᴰ c (meterFaults s) ↔ Stops4 s c

@@ -2,15 +2,17 @@
 use Prim.Native.Nat.{ℕ}
 use mathlib.Core.Path.{_≡_, refl, ap, sym, subst, _∙_}
 use mathlib.Core.Logic.{_⊎_, inl, inr, ⊎-elim}
-use mathlib.Core.List.{List, [], _∷_, _++_, map, append-nil, append-assoc, List·Memᴰ, List·Memᴰ·head, List·Memᴰ·tail, List·Memᴰ·not-nil, List·Memᴰ·cases-cons, List·Memᴰ·append-cases, Memᴰ·append-left, Memᴰ·append-right}
-use mathlib.Core.Bool.{Bool, true, false, _||_}
+use mathlib.Core.List.{List, [], _∷_, _++_, map, append-nil, append-assoc, List·Memᴰ, List·Memᴰ·head, List·Memᴰ·tail, List·Memᴰ·not-nil, List·Memᴰ·cases-cons}
+use mathlib.Core.List.{Memᴰ·append-left, Memᴰ·append-right}
+use mathlib.Core.Bool.{true}
 use mathlib.Core.Option.{Option, none, some}
 use lib.Dec.{eqb}
 use borrow.Author.Tests.{eqb-true, eq-eqb}
 use Rattle.songcode.specs.Lists.{any, prepend}
 use Rattle.songcode.specs.Lines.{Line}
-use Rattle.songcode.specs.Complaints.{Complaint, complaint, complainIf}
-use Rattle.songcode.specs.Sections.{Kind, keyLine, modifierLine, patternLine, kindOfLine, twiceBy, twice, Place, amongKeys, early, inPattern, behind, misplaced, placeAfter, order}
+use Rattle.songcode.specs.Complaints.{Complaint, complaint}
+use Rattle.songcode.specs.Sections.{Kind, keyLine, modifierLine, patternLine, kindOfLine, twiceBy, twice, Place, amongKeys, early, inPattern, behind}
+use Rattle.songcode.specs.Sections.{misplaced, placeAfter, order}
 use Rattle.songcode.specs.StoppedText.{IsKey, IsModifier, IsPattern, Past, PlaceStops, key-after, modifier-before, pattern-past}
 use Rattle.songcode.proofs.ListLaws.{by-cases}
 use Rattle.songcode.proofs.ChoiceLaws.{zero-is-not-one}
@@ -69,10 +71,12 @@ At inPattern before = ((e : Line) × List·Memᴰ e before × IsPattern e) × (P
 At behind before = Past before
 
 module _ (l : Line) (before : List Line) where
-  in-place : (p : Place) (k : Kind) → kindOfLine l ≡ k → At p before → {c : Complaint} → List·Memᴰ c (map (λ n. complaint n (l .number)) (misplaced p k)) → PlaceStops before l c
+  in-place : (p : Place) (k : Kind) → kindOfLine l ≡ k → At p before → {c : Complaint} → List·Memᴰ c (map (λ n. complaint n (l .number)) (misplaced p k))
+      → PlaceStops before l c
   unfolding misplaced At
   in-place amongKeys keyLine e a m = absurd (List·Memᴰ·not-nil m)
-  in-place amongKeys modifierLine e a m = subst (λ x. PlaceStops before l x) (sym (only-one m)) (modifier-before (modifier-exact l .1 e) (λ x i p. p .0 (a x i)))
+  in-place amongKeys modifierLine e a m =
+      subst (λ x. PlaceStops before l x) (sym (only-one m)) (modifier-before (modifier-exact l .1 e) (λ x i p. p .0 (a x i)))
   in-place amongKeys patternLine e a m = absurd (List·Memᴰ·not-nil m)
   in-place early keyLine e a m = subst (λ x. PlaceStops before l x) (sym (only-one m)) (key-after (a .1 .0) (key-exact l .1 e) (a .1 .1) (a .1 .2))
   in-place early modifierLine e a m = subst (λ x. PlaceStops before l x) (sym (only-one m)) (modifier-before (modifier-exact l .1 e) (a .0))
@@ -144,7 +148,14 @@ unfolding order
 order-in p before [] a m = absurd (List·Memᴰ·not-nil m)
 order-in p before (l ∷ ls) a {c} m =
     either (map (λ n. complaint n (l .number)) (misplaced p (kindOfLine l)))
-    (λ i. record { before = []; line = l; behind = ls; written = refl; holds = subst (λ x. PlaceStops x l c) (sym (append-nil before)) (in-place l before p (kindOfLine l) refl a i) })
+    (λ i. record {
+      before = [];
+      line = l;
+      behind = ls;
+      written = refl;
+      holds = subst (λ x. PlaceStops x l c) (sym (append-nil before))
+          (in-place l before p (kindOfLine l) refl a i);
+    })
     (λ i.
     let r = order-in (placeAfter p (kindOfLine l)) (before ++ (l ∷ [])) ls (next-place l before p (kindOfLine l) refl a) i in
     record {
@@ -156,12 +167,14 @@ order-in p before (l ∷ ls) a {c} m =
     })
     m
 
-in-order : (p : Place) (before xs : List Line) (l : Line) (ys : List Line) → At p before → {c : Complaint} → PlaceStops (before ++ xs) l c → List·Memᴰ c (order p (xs ++ (l ∷ ys)))
+in-order : (p : Place) (before xs : List Line) (l : Line) (ys : List Line) → At p before → {c : Complaint} → PlaceStops (before ++ xs) l c
+    → List·Memᴰ c (order p (xs ++ (l ∷ ys)))
 unfolding order
 in-order p before [] l ys a {c} h = Memᴰ·append-left _ (place-in l before p a (subst (λ x. PlaceStops x l c) (append-nil before) h))
 in-order p before (x ∷ xs) l ys a {c} h =
     Memᴰ·append-right (map (λ n. complaint n (x .number)) (misplaced p (kindOfLine x)))
-    (in-order (placeAfter p (kindOfLine x)) (before ++ (x ∷ [])) xs l ys (next-place x before p (kindOfLine x) refl a) (subst (λ z. PlaceStops z l c) (sym (append-assoc before (x ∷ []) xs)) h))
+    (in-order (placeAfter p (kindOfLine x)) (before ++ (x ∷ [])) xs l ys (next-place x before p (kindOfLine x) refl a)
+    (subst (λ z. PlaceStops z l c) (sym (append-assoc before (x ∷ []) xs)) h))
 
 at-start : At amongKeys []
 unfolding At
@@ -170,7 +183,8 @@ at-start e m = absurd (List·Memᴰ·not-nil m)
 pub order-stated : (ls : List Line) {c : Complaint} → List·Memᴰ c (order amongKeys ls) → Among ls (λ xs l. PlaceStops xs l c)
 order-stated ls m = order-in amongKeys [] ls at-start m
 
-pub stated-order : (before : List Line) (l : Line) (behind : List Line) {c : Complaint} → PlaceStops before l c → List·Memᴰ c (order amongKeys (before ++ (l ∷ behind)))
+pub stated-order : (before : List Line) (l : Line) (behind : List Line) {c : Complaint} → PlaceStops before l c
+    → List·Memᴰ c (order amongKeys (before ++ (l ∷ behind)))
 stated-order before l rest h = in-order amongKeys [] before l rest at-start h
 
 -- What is said a second time.
@@ -237,7 +251,8 @@ module _ (number : ℕ) (said : Line → Option ℕ) where
       })
       m
 
-  pub in-twice : (seen : List ℕ) (xs : List Line) (l : Line) (ys : List Line) {c : Complaint} → Again seen xs l c → List·Memᴰ c (twice number said seen (xs ++ (l ∷ ys)))
+  pub in-twice : (seen : List ℕ) (xs : List Line) (l : Line) (ys : List Line) {c : Complaint} → Again seen xs l c
+      → List·Memᴰ c (twice number said seen (xs ++ (l ∷ ys)))
   unfolding twice twiceBy prepend
   in-twice seen [] l ys {c} h =
       let m = ⊎-elim (λ i. i) (λ i. absurd (List·Memᴰ·not-nil (i .1))) (h .earlier) in

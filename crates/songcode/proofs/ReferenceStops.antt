@@ -1,26 +1,28 @@
 -- What stops a song in stage 3 is stated exactly where the answer complains of it.
-use Prim.Native.Nat.{ℕ, zero, suc, _<_, _≤_, max}
+use Prim.Native.Nat.{ℕ, _≤_, max}
 use mathlib.Core.Path.{_≡_, refl, ap, sym, subst, _∙_}
 use mathlib.Core.Logic.{_↔_, _⊎_, inl, inr, ⊎-elim}
-use mathlib.Core.List.{List, [], _∷_, _++_, map, List·Memᴰ, List·Memᴰ·head, List·Memᴰ·tail, List·Memᴰ·not-nil, List·Memᴰ·cases-cons, Memᴰ·append-left, Memᴰ·append-right, Memᴰ·map}
-use mathlib.Core.Bool.{Bool, true, false, not}
+use mathlib.Core.List.{List, [], _∷_, _++_, map, List·Memᴰ, List·Memᴰ·head, List·Memᴰ·tail, List·Memᴰ·not-nil, List·Memᴰ·cases-cons, Memᴰ·append-left}
+use mathlib.Core.List.{Memᴰ·append-right, Memᴰ·map}
+use mathlib.Core.Bool.{true, false, not}
 use mathlib.Core.Option.{Option, none, some}
 use native.Mathlib.Omega.{arith}
 use lib.Dec.{eqb, leb}
-use borrow.Author.Tests.{eqb-true, eq-eqb, not-true, leb-true, leb-false, le-leb, lt-leb}
+use borrow.Author.Tests.{eqb-true, eq-eqb, not-true, leb-true, leb-false, lt-leb}
 use Rattle.songcode.specs.Lists.{if_then_else_, gather, orElse, andThen}
-use Rattle.songcode.specs.Complaints.{Complaint, complaint, complainIf}
+use Rattle.songcode.specs.Complaints.{Complaint, complaint}
 use Rattle.songcode.specs.Song.{Separator, Item, measure, loop, refer, Items, one, next, Pattern, items, named, Definition, Section, Song}
 use Rattle.songcode.specs.PatternText.{depthI, depth, loopsDeep, referencesI, references, noReference}
-use Rattle.songcode.specs.References.{definitionOf, itemsOf, glue, putInItem, putIn, itemsFault, referenceFault, depthFault, definitionReferences, definitionsReferences, namedFault, sectionReference, referenceFaults}
+use Rattle.songcode.specs.References.{definitionOf, itemsOf, glue, putInItem, putIn, itemsFault, referenceFault, depthFault, definitionReferences}
+use Rattle.songcode.specs.References.{definitionsReferences, namedFault, sectionReference, referenceFaults}
 use Rattle.songcode.specs.WrittenSection.{Each, none-each, and-each, Absent, Distinct}
 use Rattle.songcode.specs.WrittenSong.{idOf, DefinitionLines, WrittenDefinition, WrittenSong}
 use Rattle.songcode.specs.Lines.{Line, Block}
-use Rattle.songcode.specs.StoppedSong.{InLoopItem, InLoop, IsLoop, HoldsLoop, Refers, Stops3, undefined, undefined-named, too-deep, loop-in-loop, to-empty}
+use Rattle.songcode.specs.StoppedSong.{InLoopItem, InLoop, IsLoop, HoldsLoop, Refers, Stops3, undefined, undefined-named, too-deep, loop-in-loop}
+use Rattle.songcode.specs.StoppedSong.{to-empty}
 use Rattle.songcode.proofs.ListLaws.{by-cases, true-is-not-false}
 use Rattle.songcode.proofs.PatternLaws.{none-some, andThen-some}
-use Rattle.songcode.proofs.ChoiceLaws.{zero-is-not-one}
-use Rattle.songcode.proofs.MemberLaws.{Found, found, either, only-one, in-gather, gather-in, in-complaint, complaint-in}
+use Rattle.songcode.proofs.MemberLaws.{either, only-one, in-gather, gather-in, in-complaint, complaint-in}
 
 -- Definitions looked up by their number.
 no-definition : (n : ℕ) (ds : List Definition) → definitionOf n ds ≡ none → (e : Definition) → List·Memᴰ e ds → e .id ≡ n → ⊥
@@ -29,7 +31,8 @@ no-definition n [] h e m i = List·Memᴰ·not-nil m
 no-definition n (d ∷ ds) h e m i =
     by-cases (eqb (d .id) n)
     (λ t. none-some {o = some d} (rw t at h) refl)
-    (λ f. ⊎-elim (λ p. true-is-not-false (eq-eqb (d .id) n (ap (λ x. x .id) (sym p) ∙ i)) f) (λ j. no-definition n ds (rw f at h) e j i) (List·Memᴰ·cases-cons m))
+    (λ f. ⊎-elim (λ p. true-is-not-false (eq-eqb (d .id) n (ap (λ x. x .id) (sym p) ∙ i)) f) (λ j. no-definition n ds (rw f at h) e j i)
+    (List·Memᴰ·cases-cons m))
 
 a-definition : (n : ℕ) (ds : List Definition) (d : Definition) → definitionOf n ds ≡ some d → List·Memᴰ d ds × (d .id ≡ n)
 unfolding definitionOf if_then_else_
@@ -94,13 +97,24 @@ unfolding HoldsLoop depth
 loop-items (one i) = loop-item i
 loop-items (next r s i) =
     let a = loop-items r in
-    let b = loop-item i in
-    ((λ h. ⊎-elim (λ x. inl (a .0 x)) (λ x. inr (b .0 x)) (max-some (depth r) (depthI i) 1 h)), (λ h. ⊎-elim (λ x. let y = a .1 x in omega arith) (λ x. let y = b .1 x in omega arith) h))
+    let b = loop-item i in (
+      (λ h. ⊎-elim (λ x. inl (a .0 x)) (λ x. inr (b .0 x)) (max-some (depth r) (depthI i) 1 h)),
+      (λ h. ⊎-elim (λ x. let y = a .1 x in omega arith) (λ x. let y = b .1 x in omega arith) h),
+    )
 
-depth-glue : (r : Items) (s : Separator) (q : Items) → depth (glue r s q) ≡ max (depth r) (depth q)
+glued-deep : (k : ℕ) (r : Items) (s : Separator) (q : Items) → k ≤ depth (glue r s q) → (k ≤ depth r) ⊎ (k ≤ depth q)
 unfolding glue depth
-depth-glue r s (one i) = refl
-depth-glue r s (next q t i) = let h = depth-glue r s q in omega arith
+glued-deep k r s (one i) h = max-some (depth r) (depthI i) k h
+glued-deep k r s (next q t i) h =
+    ⊎-elim
+    (λ x. ⊎-elim (λ y. inl y) (λ y. inr (omega arith)) (glued-deep k r s q x))
+    (λ x. inr (omega arith))
+    (max-some (depth (glue r s q)) (depthI i) k h)
+
+deep-glued : (r : Items) (s : Separator) (q : Items) → (depth r ≤ depth (glue r s q)) × (depth q ≤ depth (glue r s q))
+unfolding glue depth
+deep-glued r s (one i) = (omega arith, omega arith)
+deep-glued r s (next q t i) = let h = deep-glued r s q in (omega arith, omega arith)
 
 module _ (f : ℕ → Option Items) where
   -- A reference to items that hold a loop.
@@ -126,11 +140,10 @@ module _ (f : ℕ → Option Items) where
     flat-items : (r : Items) → depth r ≤ 0 → 1 ≤ depth (putIn f r) → (n : ℕ) × List·Memᴰ n (references r) × Looped n
     flat-items (one i) z h = flat-item i z h
     flat-items (next r s i) z h =
-        let g : 1 ≤ max (depth (putIn f r)) (depth (putInItem f i)) = rw (← depth-glue (putIn f r) s (putInItem f i)) h in
         ⊎-elim
         (λ x. let a = flat-items r (omega arith) x in (a .0, Memᴰ·append-left (referencesI i) (a .1), a .2))
         (λ x. let a = flat-item i (omega arith) x in (a .0, Memᴰ·append-right (references r) (a .1), a .2))
-        (max-some (depth (putIn f r)) (depth (putInItem f i)) 1 g)
+        (glued-deep 1 (putIn f r) s (putInItem f i) h)
 
   mutual
     unfolding depth depthI putIn putInItem references referencesI
@@ -143,7 +156,7 @@ module _ (f : ℕ → Option Items) where
     items-flat : (r : Items) (n : ℕ) → List·Memᴰ n (references r) → Looped n → 1 ≤ depth (putIn f r)
     items-flat (one i) n m h = item-flat i n m h
     items-flat (next r s i) n m h =
-        let g = depth-glue (putIn f r) s (putInItem f i) in
+        let g = deep-glued (putIn f r) s (putInItem f i) in
         either (references r) (λ x. let a = items-flat r n x h in omega arith) (λ x. let a = item-flat i n x h in omega arith) m
 
   deep-item : (i : Item) → ((n : ℕ) (q : Items) → f n ≡ some q → depth q ≤ 1) → depthI i ≤ 1 → 2 ≤ depth (putInItem f i) → (n : ℕ) × InLoopItem n i × Looped n
@@ -161,11 +174,10 @@ module _ (f : ℕ → Option Items) where
   unfolding depth putIn InLoop
   deep-items (one i) a z h = deep-item i a z h
   deep-items (next r s i) a z h =
-      let g : 2 ≤ max (depth (putIn f r)) (depth (putInItem f i)) = rw (← depth-glue (putIn f r) s (putInItem f i)) h in
       ⊎-elim
       (λ x. let b = deep-items r a (omega arith) x in (b .0, inl (b .1), b .2))
       (λ x. let b = deep-item i a (omega arith) x in (b .0, inr (b .1), b .2))
-      (max-some (depth (putIn f r)) (depth (putInItem f i)) 2 g)
+      (glued-deep 2 (putIn f r) s (putInItem f i) h)
 
   item-deep : (i : Item) (n : ℕ) → InLoopItem n i → Looped n → 2 ≤ depth (putInItem f i)
   unfolding depth depthI putInItem InLoopItem
@@ -177,7 +189,7 @@ module _ (f : ℕ → Option Items) where
   unfolding depth putIn InLoop
   items-deep (one i) n l h = item-deep i n l h
   items-deep (next r s i) n l h =
-      let g = depth-glue (putIn f r) s (putInItem f i) in
+      let g = deep-glued (putIn f r) s (putInItem f i) in
       ⊎-elim (λ x. let a = items-deep r n x h in omega arith) (λ x. let a = item-deep i n x h in omega arith) l
 
 -- Definitions behind those before them, which the answer keeps from the last to the first.
@@ -202,7 +214,8 @@ member-onto earlier (d ∷ ds) e m =
     (⊎-elim (λ i. inl (List·Memᴰ·tail i)) (λ i. ⊎-elim (λ p. inl (List·Memᴰ·head p)) (λ j. inr j) (List·Memᴰ·cases-cons i)) m)
 
 definitions-in : (earlier ds : List Definition) {c : Complaint} → List·Memᴰ c (definitionsReferences earlier ds)
-    → (xs : List Definition) × (d : Definition) × (ys : List Definition) × (ds ≡ xs ++ (d ∷ ys)) × List·Memᴰ c (definitionReferences (onto earlier xs) (d .items) (d .head))
+    → (xs : List Definition) × (d : Definition) × (ys : List Definition) × (ds ≡ xs ++ (d ∷ ys)) × List·Memᴰ c
+    (definitionReferences (onto earlier xs) (d .items) (d .head))
 unfolding definitionsReferences onto
 definitions-in earlier [] m = absurd (List·Memᴰ·not-nil m)
 definitions-in earlier (d ∷ ds) m =
@@ -211,7 +224,8 @@ definitions-in earlier (d ∷ ds) m =
     (λ i. let r = definitions-in (d ∷ earlier) ds i in (d ∷ r .0, r .1, r .2, ap (λ z. d ∷ z) (r .3), r .4))
     m
 
-in-definitions : (earlier xs : List Definition) (d : Definition) (ys : List Definition) {c : Complaint} → List·Memᴰ c (definitionReferences (onto earlier xs) (d .items) (d .head))
+in-definitions : (earlier xs : List Definition) (d : Definition) (ys : List Definition) {c : Complaint}
+    → List·Memᴰ c (definitionReferences (onto earlier xs) (d .items) (d .head))
     → List·Memᴰ c (definitionsReferences earlier (xs ++ (d ∷ ys)))
 unfolding definitionsReferences onto
 in-definitions earlier [] d ys m = Memᴰ·append-left (definitionsReferences (d ∷ earlier) ys) m
@@ -237,7 +251,8 @@ refers-somewhere q n m = go (references q) refl m
 abbrev pub Shallow : List Definition → Type 0
 Shallow ds = (d : Definition) (q : Items) → List·Memᴰ d ds → d .items ≡ some q → depth q ≤ 1
 
-module _ (s : Song) (only-ones : One (s .definitions)) (shallow : Shallow (s .definitions)) (xs : List Definition) (d : Definition) (ys : List Definition) (w : s .definitions ≡ xs ++ (d ∷ ys)) where
+module _ (s : Song) (only-ones : One (s .definitions)) (shallow : Shallow (s .definitions)) (xs : List Definition) (d : Definition) (ys : List Definition)
+    (w : s .definitions ≡ xs ++ (d ∷ ys)) where
   abbrev earlier : List Definition
   earlier = onto [] xs
 
@@ -257,7 +272,8 @@ module _ (s : Song) (only-ones : One (s .definitions)) (shallow : Shallow (s .de
   refers : (r : Items) → d .items ≡ some r → Refers s d r xs
   refers r e = record { behind = ys; written = w; text = e }
 
-  items-in : (e : Definition) (n : ℕ) → List·Memᴰ e xs → (r : Items) → d .items ≡ some r → List·Memᴰ (e .id) (references r) → (o : Option Items) → e .items ≡ o → {c : Complaint} → List·Memᴰ c (itemsFault o (d .head)) → Stops3 s c
+  items-in : (e : Definition) (n : ℕ) → List·Memᴰ e xs → (r : Items) → d .items ≡ some r → List·Memᴰ (e .id) (references r) → (o : Option Items)
+      → e .items ≡ o → {c : Complaint} → List·Memᴰ c (itemsFault o (d .head)) → Stops3 s c
   unfolding itemsFault
   items-in e n m r t i none h j = subst (λ x. Stops3 s x) (sym (only-one j)) (to-empty d e r xs (refers r t) i m h)
   items-in e n m r t i (some q) h j =
@@ -265,7 +281,8 @@ module _ (s : Song) (only-ones : One (s .definitions)) (shallow : Shallow (s .de
       let b = referring q (a .0) in
       subst (λ x. Stops3 s x) (sym (a .1)) (too-deep d e r q xs (b .0) (refers r t) i m h (b .1))
 
-  reference-in : (r : Items) → d .items ≡ some r → (n : ℕ) → List·Memᴰ n (references r) → (o : Option Definition) → definitionOf n earlier ≡ o → {c : Complaint} → List·Memᴰ c (referenceFault o (d .head)) → Stops3 s c
+  reference-in : (r : Items) → d .items ≡ some r → (n : ℕ) → List·Memᴰ n (references r) → (o : Option Definition) → definitionOf n earlier ≡ o
+      → {c : Complaint} → List·Memᴰ c (referenceFault o (d .head)) → Stops3 s c
   unfolding referenceFault
   reference-in r t n i none h j =
       subst (λ x. Stops3 s x) (sym (only-one j)) (undefined d r xs n (refers r t) i (λ e m k. no-definition n earlier h e (before-is e m) k))
@@ -300,36 +317,43 @@ module _ (s : Song) (only-ones : One (s .definitions)) (shallow : Shallow (s .de
   definition-in none t m = absurd (List·Memᴰ·not-nil m)
   definition-in (some r) t m =
       either (gather (λ n. referenceFault (definitionOf n earlier) (d .head)) (references r))
-      (λ i. let g = in-gather (λ n. referenceFault (definitionOf n earlier) (d .head)) (references r) i in reference-in r t (g .0) (g .1) (definitionOf (g .0) earlier) refl (g .2))
+      (λ i. let g = in-gather (λ n. referenceFault (definitionOf n earlier) (d .head)) (references r) i in reference-in r t (g .0) (g .1)
+      (definitionOf (g .0) earlier) refl (g .2))
       (λ i. depth-in r t (shallow d r (subst (λ z. List·Memᴰ d z) (sym w) (Memᴰ·append-right xs (List·Memᴰ·head refl))) t) i)
       m
 
   -- Back.
-  of-reference : (r : Items) → d .items ≡ some r → (n : ℕ) → List·Memᴰ n (references r) → {c : Complaint} → List·Memᴰ c (referenceFault (definitionOf n earlier) (d .head)) → List·Memᴰ c (definitionReferences earlier (d .items) (d .head))
+  of-reference : (r : Items) → d .items ≡ some r → (n : ℕ) → List·Memᴰ n (references r) → {c : Complaint}
+      → List·Memᴰ c (referenceFault (definitionOf n earlier) (d .head)) → List·Memᴰ c (definitionReferences earlier (d .items) (d .head))
   unfolding definitionReferences
   of-reference r t n i {c} m =
       subst (λ o. List·Memᴰ c (definitionReferences earlier o (d .head))) (sym t)
       (Memᴰ·append-left (depthFault earlier r (d .head)) (gather-in (λ k. referenceFault (definitionOf k earlier) (d .head)) i m))
 
-  of-depth : (r : Items) → d .items ≡ some r → {c : Complaint} → List·Memᴰ c (depthFault earlier r (d .head)) → List·Memᴰ c (definitionReferences earlier (d .items) (d .head))
+  of-depth : (r : Items) → d .items ≡ some r → {c : Complaint} → List·Memᴰ c (depthFault earlier r (d .head))
+      → List·Memᴰ c (definitionReferences earlier (d .items) (d .head))
   unfolding definitionReferences
   of-depth r t {c} m =
       subst (λ o. List·Memᴰ c (definitionReferences earlier o (d .head))) (sym t)
       (Memᴰ·append-right (gather (λ k. referenceFault (definitionOf k earlier) (d .head)) (references r)) m)
 
-  is-undefined : (r : Items) (n : ℕ) → d .items ≡ some r → List·Memᴰ n (references r) → ((e : Definition) → List·Memᴰ e xs → e .id ≡ n → ⊥) → List·Memᴰ (complaint 10 (d .head)) (definitionReferences earlier (d .items) (d .head))
+  is-undefined : (r : Items) (n : ℕ) → d .items ≡ some r → List·Memᴰ n (references r) → ((e : Definition) → List·Memᴰ e xs → e .id ≡ n → ⊥)
+      → List·Memᴰ (complaint 10 (d .head)) (definitionReferences earlier (d .items) (d .head))
   unfolding referenceFault
   is-undefined r n t i h = of-reference r t n i (rw (missing n earlier (λ e m k. h e (is-before e m) k)) (List·Memᴰ·head refl))
 
-  is-deep : (e : Definition) (r q : Items) (n : ℕ) → d .items ≡ some r → List·Memᴰ (e .id) (references r) → List·Memᴰ e xs → e .items ≡ some q → List·Memᴰ n (references q) → List·Memᴰ (complaint 11 (d .head)) (definitionReferences earlier (d .items) (d .head))
+  is-deep : (e : Definition) (r q : Items) (n : ℕ) → d .items ≡ some r → List·Memᴰ (e .id) (references r) → List·Memᴰ e xs → e .items ≡ some q
+      → List·Memᴰ n (references q) → List·Memᴰ (complaint 11 (d .head)) (definitionReferences earlier (d .items) (d .head))
   unfolding referenceFault itemsFault
   is-deep e r q n t i m h j = of-reference r t (e .id) i (rw (found-before e m, h) (complaint-in 11 (d .head) (refers-somewhere q n j)))
 
-  is-empty : (e : Definition) (r : Items) → d .items ≡ some r → List·Memᴰ (e .id) (references r) → List·Memᴰ e xs → e .items ≡ none → List·Memᴰ (complaint 11 (d .head)) (definitionReferences earlier (d .items) (d .head))
+  is-empty : (e : Definition) (r : Items) → d .items ≡ some r → List·Memᴰ (e .id) (references r) → List·Memᴰ e xs → e .items ≡ none
+      → List·Memᴰ (complaint 11 (d .head)) (definitionReferences earlier (d .items) (d .head))
   unfolding referenceFault itemsFault
   is-empty e r t i m h = of-reference r t (e .id) i (rw (found-before e m, h) (List·Memᴰ·head refl))
 
-  is-looped : (e : Definition) (r q : Items) → d .items ≡ some r → InLoop (e .id) r → List·Memᴰ e xs → e .items ≡ some q → HoldsLoop q → List·Memᴰ (complaint 11 (d .head)) (definitionReferences earlier (d .items) (d .head))
+  is-looped : (e : Definition) (r q : Items) → d .items ≡ some r → InLoop (e .id) r → List·Memᴰ e xs → e .items ≡ some q → HoldsLoop q
+      → List·Memᴰ (complaint 11 (d .head)) (definitionReferences earlier (d .items) (d .head))
   unfolding depthFault loopsDeep Looped
   is-looped e r q t i m h l =
       let deep = items-deep (itemsOf earlier) r (e .id) i (q, meant e q m h, loop-items q .1 l) in
@@ -350,12 +374,14 @@ each-shallow (and-each {x} {y} w ws) d q m e =
     ⊎-elim (λ p. lines-shallow (x .others) (y .items) q (w .text) (ap (λ z. z .items) (sym p) ∙ e)) (λ i. each-shallow ws d q i e) (List·Memᴰ·cases-cons m)
 
 -- Sections.
-named-in : (s : Song) (x : Section) (n : ℕ) → List·Memᴰ x (s .sections) → x .pattern ≡ named n → (o : Option Definition) → definitionOf n (s .definitions) ≡ o → {c : Complaint} → List·Memᴰ c (namedFault o (x .header)) → Stops3 s c
+named-in : (s : Song) (x : Section) (n : ℕ) → List·Memᴰ x (s .sections) → x .pattern ≡ named n → (o : Option Definition) → definitionOf n (s .definitions) ≡ o
+    → {c : Complaint} → List·Memᴰ c (namedFault o (x .header)) → Stops3 s c
 unfolding namedFault
 named-in s x n i t none h m = subst (λ z. Stops3 s z) (sym (only-one m)) (undefined-named x n i t (λ e j k. no-definition n (s .definitions) h e j k))
 named-in s x n i t (some d) h m = absurd (List·Memᴰ·not-nil m)
 
-section-in : (s : Song) (x : Section) → List·Memᴰ x (s .sections) → (p : Pattern) → x .pattern ≡ p → {c : Complaint} → List·Memᴰ c (sectionReference (s .definitions) p (x .header)) → Stops3 s c
+section-in : (s : Song) (x : Section) → List·Memᴰ x (s .sections) → (p : Pattern) → x .pattern ≡ p → {c : Complaint}
+    → List·Memᴰ c (sectionReference (s .definitions) p (x .header)) → Stops3 s c
 unfolding sectionReference
 section-in s x i (items r) t m = absurd (List·Memᴰ·not-nil m)
 section-in s x i (named n) t m = named-in s x n i t (definitionOf n (s .definitions)) refl m
@@ -372,10 +398,12 @@ module _ (s : Song) {bs : List Block} (w : WrittenSong bs s) where
   reference-stated m =
       either (definitionsReferences [] (s .definitions))
       (λ i. let r = definitions-in [] (s .definitions) i in definition-in s ones shallows (r .0) (r .1) (r .2) (r .3) (r .1 .items) refl (r .4))
-      (λ i. let g = in-gather (λ x. sectionReference (s .definitions) (x .pattern) (x .header)) (s .sections) i in section-in s (g .0) (g .1) (g .0 .pattern) refl (g .2))
+      (λ i. let g = in-gather (λ x. sectionReference (s .definitions) (x .pattern) (x .header)) (s .sections) i in section-in s (g .0) (g .1)
+      (g .0 .pattern) refl (g .2))
       m
 
-  of-definition : {d : Definition} {r : Items} {xs : List Definition} {c : Complaint} → (v : Refers s d r xs) → List·Memᴰ c (definitionReferences (onto [] xs) (d .items) (d .head)) → List·Memᴰ c (referenceFaults s)
+  of-definition : {d : Definition} {r : Items} {xs : List Definition} {c : Complaint} → (v : Refers s d r xs)
+      → List·Memᴰ c (definitionReferences (onto [] xs) (d .items) (d .head)) → List·Memᴰ c (referenceFaults s)
   unfolding referenceFaults
   of-definition {d} {r} {xs} {c} v m =
       Memᴰ·append-left (gather (λ x. sectionReference (s .definitions) (x .pattern) (x .header)) (s .sections))

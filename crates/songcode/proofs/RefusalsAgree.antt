@@ -1,16 +1,15 @@
 -- Each refusal is given exactly when it is stated, in the table's words, and earlier ones are not.
-use Prim.Native.Nat.{ℕ, _<_, _≤_}
+use Prim.Native.Nat.{ℕ, _<_}
 use mathlib.Core.Path.{_≡_, refl, ap, sym, subst, _∙_}
 use mathlib.Core.Logic.{_↔_, _⊎_, inl, inr, ⊎-elim}
-use mathlib.Core.List.{List, [], _∷_, _++_, List·Memᴰ, List·Memᴰ·head, List·Memᴰ·tail, List·Memᴰ·not-nil, List·Memᴰ·cases-cons}
+use mathlib.Core.List.{List, [], _∷_, List·Memᴰ, List·Memᴰ·head, List·Memᴰ·not-nil, List·Memᴰ·cases-cons}
 use mathlib.Core.Bool.{Bool, true, false, _||_}
-use mathlib.Core.Option.{Option, none, some}
 use lib.Dec.{ltb}
 use lib.ListN.{length}
 use borrow.Author.Tests.{ltb-true, lt-ltb}
 use Rattle.songcode.specs.Bytes.{placed}
-use Rattle.songcode.specs.Lines.{Line, Block, lines, blocks}
-use Rattle.songcode.specs.Complaints.{Complaint, complaint, complainIf}
+use Rattle.songcode.specs.Lines.{lines, blocks}
+use Rattle.songcode.specs.Complaints.{Complaint, complaint}
 use Rattle.songcode.specs.Song.{Section, Song}
 use Rattle.songcode.specs.SongText.{textFaults}
 use Rattle.songcode.specs.References.{referenceFaults}
@@ -18,17 +17,17 @@ use Rattle.songcode.specs.Meter.{meterFaults, lengthFaults}
 use Rattle.songcode.specs.Lyrics.{countFaults, sumFaults}
 use Rattle.songcode.specs.Tables.{keyWords, keyOrder, Tables, tables}
 use Rattle.songcode.specs.Answer.{inputFaults, blocksOf, songOf, Room, roomFaults, stages, refused, answer}
-use Rattle.songcode.specs.WrittenText.{WrittenLines, WrittenBlocks}
 use Rattle.songcode.specs.WrittenSection.{Each, none-each, and-each}
 use Rattle.songcode.specs.WrittenSong.{WrittenSong, WrittenChart}
 use Rattle.songcode.specs.Performance.{Parts, PlaysSection}
 use Rattle.songcode.specs.Fits.{Fits}
 use Rattle.songcode.specs.WrittenTables.{WrittenTables}
 use Rattle.songcode.specs.Given.{Before, FirstOf, Given, in-this, in-later}
-use Rattle.songcode.specs.StoppedText.{Stops2}
-use Rattle.songcode.specs.StoppedSong.{Stops1, Stops3, Stops4, Stops5, Stops6, Stops7, Stops8, keys-short, sections-short, measures-short, beats-short, items-short}
-use Rattle.songcode.specs.Refusals.{Stage, stage1, stage2, stage3, stage4, stage5, stage6, stage7, stage8, Stated, Nothing, before, NothingIn, complaintsIn, Refused}
-use Rattle.songcode.proofs.MemberLaws.{in-complaint, complaint-in}
+use Rattle.songcode.specs.StoppedSong.{Stops3, Stops4, Stops5, Stops6, Stops7, Stops8, keys-short, sections-short, measures-short, beats-short}
+use Rattle.songcode.specs.StoppedSong.{items-short}
+use Rattle.songcode.specs.Refusals.{Stage, stage1, stage2, stage3, stage4, stage5, stage6, stage7, stage8, Stated, Nothing, before, NothingIn}
+use Rattle.songcode.specs.Refusals.{complaintsIn, Refused}
+use Rattle.songcode.proofs.MemberLaws.{either-passes, pass-left, pass-right, in-complaint, complaint-in}
 use Rattle.songcode.proofs.LinesAgree.{lines-sound, lines-complete}
 use Rattle.songcode.proofs.BlocksAgree.{blocks-sound, blocks-complete}
 use Rattle.songcode.proofs.InputStops.{input-stops-exact}
@@ -46,21 +45,6 @@ use Rattle.songcode.proofs.TablesAgree.{tables-exact}
 use Rattle.songcode.proofs.AnswerAgree.{chart-of, of-chart, song-read, refused-exactly}
 
 -- Stage 8: room.
-eight-keys : (s : Song) → length (tables s .keys) ≡ 8
-unfolding tables keyWords keyOrder
-eight-keys s = refl
-
-either-passes : (a b : Bool) → a || b ≡ true → (a ≡ true) ⊎ (b ≡ true)
-either-passes true b e = inl refl
-either-passes false b e = inr e
-
-pass-left : {a : Bool} (b : Bool) → a ≡ true → a || b ≡ true
-pass-left b e = rw e
-
-pass-right : (a : Bool) {b : Bool} → b ≡ true → a || b ≡ true
-pass-right true e = refl
-pass-right false e = e
-
 module _ (room : Room) (s : Song) (ps : List Parts) (written : (t : Tables) → (t ≡ tables s) ↔ WrittenTables s ps t) where
   abbrev keys-under : Bool
   keys-under = ltb (room .keys) (length (tables s .keys))
@@ -78,7 +62,7 @@ module _ (room : Room) (s : Song) (ps : List Parts) (written : (t : Tables) → 
   items-under = ltb (room .items) (length (tables s .items))
 
   room-stated : {c : Complaint} → List·Memᴰ c (roomFaults room (tables s)) → Stops8 room s ps c
-  unfolding roomFaults
+  unfolding roomFaults tables keyWords keyOrder
   room-stated m =
       let h = in-complaint (keys-under || sections-under || measures-under || beats-under || items-under) 18 0 m in
       let w = written (tables s) .0 refl in
@@ -90,7 +74,7 @@ module _ (room : Room) (s : Song) (ps : List Parts) (written : (t : Tables) → 
       ⊎-elim
       (λ c.
       ⊎-elim
-      (λ d. keys-short (rw (eight-keys s) at (ltb-true (room .keys) (length (tables s .keys)) d)))
+      (λ d. keys-short (ltb-true (room .keys) 8 d))
       (λ d. sections-short (tables s) w (ltb-true (room .sections) (length (tables s .sections)) d))
       (either-passes keys-under sections-under c))
       (λ c. measures-short (tables s) w (ltb-true (room .measures) (length (tables s .measures)) c))
@@ -104,17 +88,24 @@ module _ (room : Room) (s : Song) (ps : List Parts) (written : (t : Tables) → 
   same {t} w = written t .1 w
 
   stated-room : {c : Complaint} → Stops8 room s ps c → List·Memᴰ c (roomFaults room (tables s))
-  unfolding roomFaults
+  unfolding roomFaults tables keyWords keyOrder
   stated-room (keys-short h) =
-      complaint-in 18 0 (pass-left items-under (pass-left beats-under (pass-left measures-under (pass-left sections-under (lt-ltb (room .keys) (length (tables s .keys)) (rw (eight-keys s) h))))))
+      complaint-in 18 0 (pass-left items-under (pass-left beats-under (pass-left measures-under (pass-left sections-under (lt-ltb (room .keys) 8 h)))))
   stated-room (sections-short t w h) =
-      complaint-in 18 0 (pass-left items-under (pass-left beats-under (pass-left measures-under (pass-right keys-under (lt-ltb _ _ (subst (λ z. room .sections < length (z .sections)) (same w) h))))))
+      complaint-in 18 0
+      (pass-left items-under
+      (pass-left beats-under (pass-left measures-under (pass-right keys-under (lt-ltb _ _ (subst (λ z. room .sections < length (z .sections)) (same w) h))))))
   stated-room (measures-short t w h) =
-      complaint-in 18 0 (pass-left items-under (pass-left beats-under (pass-right (keys-under || sections-under) (lt-ltb _ _ (subst (λ z. room .measures < length (z .measures)) (same w) h)))))
+      complaint-in 18 0
+      (pass-left items-under
+      (pass-left beats-under (pass-right (keys-under || sections-under) (lt-ltb _ _ (subst (λ z. room .measures < length (z .measures)) (same w) h)))))
   stated-room (beats-short t w h) =
-      complaint-in 18 0 (pass-left items-under (pass-right (keys-under || sections-under || measures-under) (lt-ltb _ _ (subst (λ z. room .beats < length (z .beats)) (same w) h))))
+      complaint-in 18 0
+      (pass-left items-under
+      (pass-right (keys-under || sections-under || measures-under) (lt-ltb _ _ (subst (λ z. room .beats < length (z .beats)) (same w) h))))
   stated-room (items-short t w h) =
-      complaint-in 18 0 (pass-right (keys-under || sections-under || measures-under || beats-under) (lt-ltb _ _ (subst (λ z. room .items < length (z .items)) (same w) h)))
+      complaint-in 18 0
+      (pass-right (keys-under || sections-under || measures-under || beats-under) (lt-ltb _ _ (subst (λ z. room .items < length (z .items)) (same w) h)))
 
 -- A thing that stands at the place of another.
 each-left : {A B : Type 0} {R : A → B → Type 0} {xs : List A} {ys : List B} {x : A} → Each R xs ys → List·Memᴰ x xs → (y : B) × R x y
@@ -133,7 +124,14 @@ module _ (room : Room) (bs : List ℕ) where
   says-2 : Says stage2 (textFaults (blocksOf bs))
   unfolding Stated blocksOf
   says-2 c = (
-    (λ m. (lines (placed 0 bs), blocks (lines (placed 0 bs)), lines-sound (placed 0 bs), blocks-sound (lines (placed 0 bs)), text-stops-exact (blocks (lines (placed 0 bs))) .0 m)),
+    (λ m. (
+      lines (placed 0 bs),
+      blocks (lines (placed 0 bs)),
+      lines-sound (placed 0 bs),
+      blocks-sound (lines (placed 0 bs)),
+      text-stops-exact
+          (blocks (lines (placed 0 bs))) .0 m,
+    )),
     (λ w.
         let l = lines-complete (placed 0 bs) (w .0) (w .2) in
         let b = blocks-complete (w .3) in
@@ -157,7 +155,8 @@ module _ (room : Room) (bs : List ℕ) where
     that-song s w = song-read bs s (of-chart bs s w)
 
     -- A stage said of the song.
-    of-song : (list : List Complaint) (P : Song → Complaint → Type 0) (c : Complaint) → (List·Memᴰ c list ↔ P song c) → List·Memᴰ c list ↔ ((s : Song) × WrittenChart bs s × P s c)
+    of-song : (list : List Complaint) (P : Song → Complaint → Type 0) (c : Complaint) → (List·Memᴰ c list ↔ P song c)
+        → List·Memᴰ c list ↔ ((s : Song) × WrittenChart bs s × P s c)
     of-song list P c e = ((λ m. (song, chart, e .0 m)), (λ w. e .1 (subst (λ z. P z c) (sym (that-song (w .0) (w .1))) (w .2))))
 
     says-3 : Says stage3 (referenceFaults song)
@@ -234,7 +233,8 @@ module _ (room : Room) (bs : List ℕ) where
   at : (k : Stage) (list : List Complaint) (c : Complaint) → Says k list → FirstOf list c → NothingIn room bs (before k) → Refused room bs c
   at k list c says f none-before = record { stage = k; stated = says c .0 (f .stated); first = λ d h. f .first d (says d .1 h); noneEarlier = none-before }
 
-  first-of : (k : Stage) (list : List Complaint) (c : Complaint) → Says k list → Stated room bs k c → ((d : Complaint) → Stated room bs k d → Before c d) → FirstOf list c
+  first-of : (k : Stage) (list : List Complaint) (c : Complaint) → Says k list → Stated room bs k c → ((d : Complaint) → Stated room bs k d → Before c d)
+      → FirstOf list c
   first-of k list c says h f = record { stated = says c .1 h; first = λ d m. f d (says d .0 m) }
 
   given-refused : (c : Complaint) → Given (stages room bs) c → Refused room bs c
@@ -249,23 +249,70 @@ module _ (room : Room) (bs : List ℕ) where
       at stage3 (referenceFaults (songOf bs)) c (says-3 e1 e2) f
       (silent stage1 (inputFaults bs) says-1 e1, (silent stage2 (textFaults (blocksOf bs)) says-2 e2, tt))
   given-refused c (in-later e1 (in-later e2 (in-later e3 (in-this f)))) =
-      at stage4 (meterFaults (songOf bs)) c (says-4 e1 e2 e3) f
-      (silent stage1 (inputFaults bs) says-1 e1, (silent stage2 (textFaults (blocksOf bs)) says-2 e2, (silent stage3 (referenceFaults (songOf bs)) (says-3 e1 e2) e3, tt)))
+      at stage4 (meterFaults (songOf bs)) c (says-4 e1 e2 e3) f (
+        silent stage1 (inputFaults bs) says-1 e1,
+        (silent stage2 (textFaults (blocksOf bs)) says-2 e2, (silent stage3 (referenceFaults (songOf bs)) (says-3 e1 e2) e3, tt)),
+      )
   given-refused c (in-later e1 (in-later e2 (in-later e3 (in-later e4 (in-this f))))) =
-      at stage5 (lengthFaults (songOf bs) 0 (songOf bs .sections)) c (says-5 e1 e2 e3 e4) f
-      (silent stage1 (inputFaults bs) says-1 e1, (silent stage2 (textFaults (blocksOf bs)) says-2 e2, (silent stage3 (referenceFaults (songOf bs)) (says-3 e1 e2) e3, (silent stage4 (meterFaults (songOf bs)) (says-4 e1 e2 e3) e4, tt))))
+      at stage5 (lengthFaults (songOf bs) 0 (songOf bs .sections)) c (says-5 e1 e2 e3 e4) f (
+        silent stage1 (inputFaults bs) says-1 e1,
+        (
+          silent stage2 (textFaults (blocksOf bs)) says-2 e2,
+          (silent stage3 (referenceFaults (songOf bs)) (says-3 e1 e2) e3, (silent stage4 (meterFaults (songOf bs)) (says-4 e1 e2 e3) e4, tt)),
+        ),
+      )
   given-refused c (in-later e1 (in-later e2 (in-later e3 (in-later e4 (in-later e5 (in-this f)))))) =
-      at stage6 (countFaults (songOf bs)) c (says-6 e1 e2 e3 e4 e5) f
-      (silent stage1 (inputFaults bs) says-1 e1, (silent stage2 (textFaults (blocksOf bs)) says-2 e2, (silent stage3 (referenceFaults (songOf bs)) (says-3 e1 e2) e3, (silent stage4 (meterFaults (songOf bs)) (says-4 e1 e2 e3) e4, (silent stage5 (lengthFaults (songOf bs) 0 (songOf bs .sections)) (says-5 e1 e2 e3 e4) e5, tt)))))
+      at stage6 (countFaults (songOf bs)) c (says-6 e1 e2 e3 e4 e5) f (
+        silent stage1 (inputFaults bs) says-1 e1,
+        (
+          silent stage2 (textFaults (blocksOf bs)) says-2 e2,
+          (
+            silent stage3 (referenceFaults (songOf bs)) (says-3 e1 e2) e3,
+            (
+              silent stage4 (meterFaults (songOf bs)) (says-4 e1 e2 e3) e4,
+              (silent stage5 (lengthFaults (songOf bs) 0 (songOf bs .sections)) (says-5 e1 e2 e3 e4) e5, tt),
+            ),
+          ),
+        ),
+      )
   given-refused c (in-later e1 (in-later e2 (in-later e3 (in-later e4 (in-later e5 (in-later e6 (in-this f))))))) =
-      at stage7 (sumFaults (songOf bs)) c (says-7 e1 e2 e3 e4 e5 e6) f
-      (silent stage1 (inputFaults bs) says-1 e1, (silent stage2 (textFaults (blocksOf bs)) says-2 e2, (silent stage3 (referenceFaults (songOf bs)) (says-3 e1 e2) e3, (silent stage4 (meterFaults (songOf bs)) (says-4 e1 e2 e3) e4, (silent stage5 (lengthFaults (songOf bs) 0 (songOf bs .sections)) (says-5 e1 e2 e3 e4) e5, (silent stage6 (countFaults (songOf bs)) (says-6 e1 e2 e3 e4 e5) e6, tt))))))
+      at stage7 (sumFaults (songOf bs)) c (says-7 e1 e2 e3 e4 e5 e6) f (
+        silent stage1 (inputFaults bs) says-1 e1,
+        (
+          silent stage2 (textFaults (blocksOf bs)) says-2 e2,
+          (
+            silent stage3 (referenceFaults (songOf bs)) (says-3 e1 e2) e3,
+            (
+              silent stage4 (meterFaults (songOf bs)) (says-4 e1 e2 e3) e4,
+              (
+                silent stage5 (lengthFaults (songOf bs) 0 (songOf bs .sections)) (says-5 e1 e2 e3 e4) e5,
+                (silent stage6 (countFaults (songOf bs)) (says-6 e1 e2 e3 e4 e5) e6, tt),
+              ),
+            ),
+          ),
+        ),
+      )
   given-refused c (in-later e1 (in-later e2 (in-later e3 (in-later e4 (in-later e5 (in-later e6 (in-later e7 (in-this f)))))))) =
-      at stage8 (roomFaults room (tables (songOf bs))) c (says-8 e1 e2 e3 e4 e5 e6 e7) f
-      (silent stage1 (inputFaults bs) says-1 e1, (silent stage2 (textFaults (blocksOf bs)) says-2 e2, (silent stage3 (referenceFaults (songOf bs)) (says-3 e1 e2) e3, (silent stage4 (meterFaults (songOf bs)) (says-4 e1 e2 e3) e4, (silent stage5 (lengthFaults (songOf bs) 0 (songOf bs .sections)) (says-5 e1 e2 e3 e4) e5, (silent stage6 (countFaults (songOf bs)) (says-6 e1 e2 e3 e4 e5) e6, (silent stage7 (sumFaults (songOf bs)) (says-7 e1 e2 e3 e4 e5 e6) e7, tt)))))))
+      at stage8 (roomFaults room (tables (songOf bs))) c (says-8 e1 e2 e3 e4 e5 e6 e7) f (
+        silent stage1 (inputFaults bs) says-1 e1,
+        (
+          silent stage2 (textFaults (blocksOf bs)) says-2 e2,
+          (
+            silent stage3 (referenceFaults (songOf bs)) (says-3 e1 e2) e3,
+            (
+              silent stage4 (meterFaults (songOf bs)) (says-4 e1 e2 e3) e4,
+              (
+                silent stage5 (lengthFaults (songOf bs) 0 (songOf bs .sections)) (says-5 e1 e2 e3 e4) e5,
+                (silent stage6 (countFaults (songOf bs)) (says-6 e1 e2 e3 e4 e5) e6, (silent stage7 (sumFaults (songOf bs)) (says-7 e1 e2 e3 e4 e5 e6) e7, tt)),
+              ),
+            ),
+          ),
+        ),
+      )
 
   -- The lists of the stages before one that states something are empty.
-  stated-given : (c : Complaint) (k : Stage) → Stated room bs k c → ((d : Complaint) → Stated room bs k d → Before c d) → NothingIn room bs (before k) → Given (stages room bs) c
+  stated-given : (c : Complaint) (k : Stage) → Stated room bs k c → ((d : Complaint) → Stated room bs k d → Before c d) → NothingIn room bs (before k)
+      → Given (stages room bs) c
   unfolding stages before NothingIn
   stated-given c stage1 h f n =
       in-this (first-of stage1 (inputFaults bs) c says-1 h f)
@@ -286,31 +333,39 @@ module _ (room : Room) (bs : List ℕ) where
       let e2 : textFaults (blocksOf bs) ≡ [] = empty stage2 (textFaults (blocksOf bs)) says-2 (n .1 .0) in
       let e3 : referenceFaults (songOf bs) ≡ [] = empty stage3 (referenceFaults (songOf bs)) (says-3 e1 e2) (n .1 .1 .0) in
       let e4 : meterFaults (songOf bs) ≡ [] = empty stage4 (meterFaults (songOf bs)) (says-4 e1 e2 e3) (n .1 .1 .1 .0) in
-      in-later e1 (in-later e2 (in-later e3 (in-later e4 (in-this (first-of stage5 (lengthFaults (songOf bs) 0 (songOf bs .sections)) c (says-5 e1 e2 e3 e4) h f)))))
+      in-later e1
+      (in-later e2 (in-later e3 (in-later e4 (in-this (first-of stage5 (lengthFaults (songOf bs) 0 (songOf bs .sections)) c (says-5 e1 e2 e3 e4) h f)))))
   stated-given c stage6 h f n =
       let e1 : inputFaults bs ≡ [] = empty stage1 (inputFaults bs) says-1 (n .0) in
       let e2 : textFaults (blocksOf bs) ≡ [] = empty stage2 (textFaults (blocksOf bs)) says-2 (n .1 .0) in
       let e3 : referenceFaults (songOf bs) ≡ [] = empty stage3 (referenceFaults (songOf bs)) (says-3 e1 e2) (n .1 .1 .0) in
       let e4 : meterFaults (songOf bs) ≡ [] = empty stage4 (meterFaults (songOf bs)) (says-4 e1 e2 e3) (n .1 .1 .1 .0) in
-      let e5 : lengthFaults (songOf bs) 0 (songOf bs .sections) ≡ [] = empty stage5 (lengthFaults (songOf bs) 0 (songOf bs .sections)) (says-5 e1 e2 e3 e4) (n .1 .1 .1 .1 .0) in
+      let e5 : lengthFaults (songOf bs) 0 (songOf bs .sections) ≡ [] =
+      empty stage5 (lengthFaults (songOf bs) 0 (songOf bs .sections)) (says-5 e1 e2 e3 e4) (n .1 .1 .1 .1 .0) in
       in-later e1 (in-later e2 (in-later e3 (in-later e4 (in-later e5 (in-this (first-of stage6 (countFaults (songOf bs)) c (says-6 e1 e2 e3 e4 e5) h f))))))
   stated-given c stage7 h f n =
       let e1 : inputFaults bs ≡ [] = empty stage1 (inputFaults bs) says-1 (n .0) in
       let e2 : textFaults (blocksOf bs) ≡ [] = empty stage2 (textFaults (blocksOf bs)) says-2 (n .1 .0) in
       let e3 : referenceFaults (songOf bs) ≡ [] = empty stage3 (referenceFaults (songOf bs)) (says-3 e1 e2) (n .1 .1 .0) in
       let e4 : meterFaults (songOf bs) ≡ [] = empty stage4 (meterFaults (songOf bs)) (says-4 e1 e2 e3) (n .1 .1 .1 .0) in
-      let e5 : lengthFaults (songOf bs) 0 (songOf bs .sections) ≡ [] = empty stage5 (lengthFaults (songOf bs) 0 (songOf bs .sections)) (says-5 e1 e2 e3 e4) (n .1 .1 .1 .1 .0) in
+      let e5 : lengthFaults (songOf bs) 0 (songOf bs .sections) ≡ [] =
+      empty stage5 (lengthFaults (songOf bs) 0 (songOf bs .sections)) (says-5 e1 e2 e3 e4) (n .1 .1 .1 .1 .0) in
       let e6 : countFaults (songOf bs) ≡ [] = empty stage6 (countFaults (songOf bs)) (says-6 e1 e2 e3 e4 e5) (n .1 .1 .1 .1 .1 .0) in
-      in-later e1 (in-later e2 (in-later e3 (in-later e4 (in-later e5 (in-later e6 (in-this (first-of stage7 (sumFaults (songOf bs)) c (says-7 e1 e2 e3 e4 e5 e6) h f)))))))
+      in-later e1
+      (in-later e2 (in-later e3 (in-later e4 (in-later e5 (in-later e6 (in-this (first-of stage7 (sumFaults (songOf bs)) c (says-7 e1 e2 e3 e4 e5 e6) h f)))))))
   stated-given c stage8 h f n =
       let e1 : inputFaults bs ≡ [] = empty stage1 (inputFaults bs) says-1 (n .0) in
       let e2 : textFaults (blocksOf bs) ≡ [] = empty stage2 (textFaults (blocksOf bs)) says-2 (n .1 .0) in
       let e3 : referenceFaults (songOf bs) ≡ [] = empty stage3 (referenceFaults (songOf bs)) (says-3 e1 e2) (n .1 .1 .0) in
       let e4 : meterFaults (songOf bs) ≡ [] = empty stage4 (meterFaults (songOf bs)) (says-4 e1 e2 e3) (n .1 .1 .1 .0) in
-      let e5 : lengthFaults (songOf bs) 0 (songOf bs .sections) ≡ [] = empty stage5 (lengthFaults (songOf bs) 0 (songOf bs .sections)) (says-5 e1 e2 e3 e4) (n .1 .1 .1 .1 .0) in
+      let e5 : lengthFaults (songOf bs) 0 (songOf bs .sections) ≡ [] =
+      empty stage5 (lengthFaults (songOf bs) 0 (songOf bs .sections)) (says-5 e1 e2 e3 e4) (n .1 .1 .1 .1 .0) in
       let e6 : countFaults (songOf bs) ≡ [] = empty stage6 (countFaults (songOf bs)) (says-6 e1 e2 e3 e4 e5) (n .1 .1 .1 .1 .1 .0) in
       let e7 : sumFaults (songOf bs) ≡ [] = empty stage7 (sumFaults (songOf bs)) (says-7 e1 e2 e3 e4 e5 e6) (n .1 .1 .1 .1 .1 .1 .0) in
-      in-later e1 (in-later e2 (in-later e3 (in-later e4 (in-later e5 (in-later e6 (in-later e7 (in-this (first-of stage8 (roomFaults room (tables (songOf bs))) c (says-8 e1 e2 e3 e4 e5 e6 e7) h f))))))))
+      in-later e1
+      (in-later e2 (in-later e3
+      (in-later e4 (in-later e5
+      (in-later e6 (in-later e7 (in-this (first-of stage8 (roomFaults room (tables (songOf bs))) c (says-8 e1 e2 e3 e4 e5 e6 e7) h f))))))))
 
   -- Every stage's complaints are what is stated in it, where nothing is stated before.
   pub stage-as-stated : (k : Stage) → NothingIn room bs (before k) → (c : Complaint) → List·Memᴰ c (complaintsIn room bs k) ↔ Stated room bs k c
@@ -340,14 +395,16 @@ module _ (room : Room) (bs : List ℕ) where
       let e2 : textFaults (blocksOf bs) ≡ [] = empty stage2 (textFaults (blocksOf bs)) says-2 (n .1 .0) in
       let e3 : referenceFaults (songOf bs) ≡ [] = empty stage3 (referenceFaults (songOf bs)) (says-3 e1 e2) (n .1 .1 .0) in
       let e4 : meterFaults (songOf bs) ≡ [] = empty stage4 (meterFaults (songOf bs)) (says-4 e1 e2 e3) (n .1 .1 .1 .0) in
-      let e5 : lengthFaults (songOf bs) 0 (songOf bs .sections) ≡ [] = empty stage5 (lengthFaults (songOf bs) 0 (songOf bs .sections)) (says-5 e1 e2 e3 e4) (n .1 .1 .1 .1 .0) in
+      let e5 : lengthFaults (songOf bs) 0 (songOf bs .sections) ≡ [] =
+      empty stage5 (lengthFaults (songOf bs) 0 (songOf bs .sections)) (says-5 e1 e2 e3 e4) (n .1 .1 .1 .1 .0) in
       says-6 e1 e2 e3 e4 e5 c
   stage-as-stated stage7 n c =
       let e1 : inputFaults bs ≡ [] = empty stage1 (inputFaults bs) says-1 (n .0) in
       let e2 : textFaults (blocksOf bs) ≡ [] = empty stage2 (textFaults (blocksOf bs)) says-2 (n .1 .0) in
       let e3 : referenceFaults (songOf bs) ≡ [] = empty stage3 (referenceFaults (songOf bs)) (says-3 e1 e2) (n .1 .1 .0) in
       let e4 : meterFaults (songOf bs) ≡ [] = empty stage4 (meterFaults (songOf bs)) (says-4 e1 e2 e3) (n .1 .1 .1 .0) in
-      let e5 : lengthFaults (songOf bs) 0 (songOf bs .sections) ≡ [] = empty stage5 (lengthFaults (songOf bs) 0 (songOf bs .sections)) (says-5 e1 e2 e3 e4) (n .1 .1 .1 .1 .0) in
+      let e5 : lengthFaults (songOf bs) 0 (songOf bs .sections) ≡ [] =
+      empty stage5 (lengthFaults (songOf bs) 0 (songOf bs .sections)) (says-5 e1 e2 e3 e4) (n .1 .1 .1 .1 .0) in
       let e6 : countFaults (songOf bs) ≡ [] = empty stage6 (countFaults (songOf bs)) (says-6 e1 e2 e3 e4 e5) (n .1 .1 .1 .1 .1 .0) in
       says-7 e1 e2 e3 e4 e5 e6 c
   stage-as-stated stage8 n c =
@@ -355,7 +412,8 @@ module _ (room : Room) (bs : List ℕ) where
       let e2 : textFaults (blocksOf bs) ≡ [] = empty stage2 (textFaults (blocksOf bs)) says-2 (n .1 .0) in
       let e3 : referenceFaults (songOf bs) ≡ [] = empty stage3 (referenceFaults (songOf bs)) (says-3 e1 e2) (n .1 .1 .0) in
       let e4 : meterFaults (songOf bs) ≡ [] = empty stage4 (meterFaults (songOf bs)) (says-4 e1 e2 e3) (n .1 .1 .1 .0) in
-      let e5 : lengthFaults (songOf bs) 0 (songOf bs .sections) ≡ [] = empty stage5 (lengthFaults (songOf bs) 0 (songOf bs .sections)) (says-5 e1 e2 e3 e4) (n .1 .1 .1 .1 .0) in
+      let e5 : lengthFaults (songOf bs) 0 (songOf bs .sections) ≡ [] =
+      empty stage5 (lengthFaults (songOf bs) 0 (songOf bs .sections)) (says-5 e1 e2 e3 e4) (n .1 .1 .1 .1 .0) in
       let e6 : countFaults (songOf bs) ≡ [] = empty stage6 (countFaults (songOf bs)) (says-6 e1 e2 e3 e4 e5) (n .1 .1 .1 .1 .1 .0) in
       let e7 : sumFaults (songOf bs) ≡ [] = empty stage7 (sumFaults (songOf bs)) (says-7 e1 e2 e3 e4 e5 e6) (n .1 .1 .1 .1 .1 .1 .0) in
       says-8 e1 e2 e3 e4 e5 e6 e7 c

@@ -3,37 +3,44 @@ use Prim.Native.Nat.{ℕ}
 use Prim.Native.Char.{code}
 use mathlib.Core.Path.{_≡_, refl, ap, sym, subst, _∙_}
 use mathlib.Core.Logic.{_↔_, _⊎_, inl, inr, ⊎-elim}
-use mathlib.Core.List.{List, [], _∷_, _++_, map, List·Memᴰ, List·Memᴰ·head, List·Memᴰ·not-nil, Memᴰ·append-left, Memᴰ·append-right}
+use mathlib.Core.List.{List, [], _∷_, _++_, List·Memᴰ, List·Memᴰ·head, List·Memᴰ·not-nil, Memᴰ·append-left, Memᴰ·append-right}
 use mathlib.Core.Bool.{Bool, true, false, _&&_, not}
-use mathlib.Core.Option.{Option, none, some}
+use mathlib.Core.Option.{some}
 use lib.Dec.{leb}
 use lib.ListN.{getElem?}
-use borrow.Author.Tests.{not-true, not-false}
 use Rattle.songcode.specs.Lists.{if_then_else_, taken, left, isEmpty, gather, isSome, andThen}
-use Rattle.songcode.specs.Bytes.{Byte, values, ascii, isByte}
+use Rattle.songcode.specs.Bytes.{Byte, isByte}
 use Rattle.songcode.specs.Characters.{characters}
 use Rattle.songcode.specs.Lines.{Line, Block}
 use Rattle.songcode.specs.Complaints.{Complaint, complaint, complainIf}
-use Rattle.songcode.specs.Song.{KeyName, name, artist, original, capo, bpm, time, warning, end, Pattern}
+use Rattle.songcode.specs.Song.{KeyName, name, artist, original, capo, bpm, time, warning, end}
 use Rattle.songcode.specs.Keys.{keyPlace, ofSection}
 use Rattle.songcode.specs.Modifiers.{ModifierName, ofRepeat, ofCutStart, ofCutEnd, ofBefore, ofAfter, modifierPlace}
 use Rattle.songcode.specs.PatternText.{sectionText}
 use Rattle.songcode.specs.Tables.{keyOrder}
-use Rattle.songcode.specs.Sections.{Kind, keyLine, modifierLine, patternLine, kindOfLine, isPatternLine, notPatternLine, settingOf, keyNameOf, keyFaults, modifierNameOf, modifierFaults, twice, keySaid, modifierSaid, faults, amongKeys, order, patternRun, patternFaults, headerFaults, notDashes, lyricFaults, body, ending, sectionFaults}
+use Rattle.songcode.specs.Sections.{kindOfLine, isPatternLine, notPatternLine, settingOf, keyNameOf, modifierNameOf, twice, keySaid, modifierSaid}
+use Rattle.songcode.specs.Sections.{faults, amongKeys, order, patternRun, patternFaults, headerFaults, notDashes, lyricFaults, body, ending}
+use Rattle.songcode.specs.Sections.{sectionFaults}
 use Rattle.songcode.specs.WrittenText.{All, Stops}
-use Rattle.songcode.specs.WrittenPattern.{WrittenPattern}
 use Rattle.songcode.specs.WrittenSection.{OfSection, Header}
-use Rattle.songcode.specs.StoppedText.{IsKey, IsModifier, IsPattern, CallsKey, CallsModifier, KeyStops, key-unknown, key-not-allowed, key-setting, KeyDoubled, key-twice, ModifierStops, modifier-unknown, repeat-setting, cut-start-setting, cut-end-setting, lead-in-text, tail-text, ModifierDoubled, modifier-twice, Undashed, Dashed, Split, NoPattern, AllPattern, RunEnds, FirstRun, SectionStops, name-wrong, out-of-place, key-doubled, modifier-doubled, key-stops, modifier-stops, pattern-text, no-pattern, no-lyrics}
-use Rattle.songcode.proofs.ListLaws.{by-cases, true-is-not-false, nil-is-not-cons, isEmpty-true, taken-left, taken-all, left-stops, taken-is, left-is, complainIf-nil, nil-complainIf}
+use Rattle.songcode.specs.StoppedText.{IsKey, IsModifier, IsPattern, CallsKey, CallsModifier, KeyStops, key-unknown, key-not-allowed, key-setting}
+use Rattle.songcode.specs.StoppedText.{KeyDoubled, key-twice, ModifierStops, modifier-unknown, repeat-setting, cut-start-setting, cut-end-setting}
+use Rattle.songcode.specs.StoppedText.{lead-in-text, tail-text, ModifierDoubled, modifier-twice, Undashed, Dashed, Split, NoPattern, AllPattern}
+use Rattle.songcode.specs.StoppedText.{RunEnds, FirstRun, SectionStops, name-wrong, out-of-place, key-doubled, modifier-doubled, key-stops}
+use Rattle.songcode.specs.StoppedText.{modifier-stops, pattern-text, no-pattern, no-lyrics}
+use Rattle.songcode.proofs.ListLaws.{by-cases, true-is-not-false, nil-is-not-cons, isEmpty-true, taken-left, taken-all, left-stops, taken-is, left-is}
+use Rattle.songcode.proofs.ListLaws.{complainIf-nil, nil-complainIf}
 use Rattle.songcode.proofs.PatternLaws.{none-some, andThen-some}
-use Rattle.songcode.proofs.ChoiceLaws.{zero-is-not-one, isSome-exact}
+use Rattle.songcode.proofs.ChoiceLaws.{isSome-exact}
 use Rattle.songcode.proofs.MemberLaws.{either, only-one, in-gather, gather-in, in-complaint, complaint-in}
 use Rattle.songcode.proofs.PatternAgree.{pattern-exact as text-exact}
 use Rattle.songcode.proofs.LineAgree.{by-kind, notDashes-exact, dashes-notDashes, notDashes-dashes}
 use Rattle.songcode.proofs.KeyAgree.{of-section-exact}
-use Rattle.songcode.proofs.LineStops.{key-exact, modifier-exact, pattern-exact, calls-key, key-called, calls-modifier, modifier-called, fails-exact, key-stops-exact, modifier-stops-exact}
-use Rattle.songcode.proofs.OrderStops.{Among, order-stated, stated-order, Again, twice-in, in-twice}
+use Rattle.songcode.proofs.LineStops.{key-exact, modifier-exact, pattern-exact, calls-key, key-called, calls-modifier, modifier-called, fails-exact}
+use Rattle.songcode.proofs.LineStops.{key-stops-exact, modifier-stops-exact}
+use Rattle.songcode.proofs.OrderStops.{order-stated, stated-order, Again, twice-in, in-twice}
 use Rattle.songcode.proofs.HeaderAgree.{header-exact}
+use Rattle.songcode.proofs.InheritsAgree.{same-key}
 
 -- A section's lines before and from the `--` on.
 undashed-exact : (ls : List Line) → All notDashes ls ↔ Undashed ls
@@ -73,7 +80,8 @@ split-once {x = x} {y = y} w = (
 is-pattern : (l : Line) → (isPatternLine l ≡ true) ↔ IsPattern l
 unfolding isPatternLine
 is-pattern l = (
-  (λ e. by-kind (kindOfLine l) (λ k. true-is-not-false e (rw (k, isPatternLine))) (λ k. true-is-not-false e (rw (k, isPatternLine))) (λ k. pattern-exact l .1 k)),
+  (λ e. by-kind (kindOfLine l) (λ k. true-is-not-false e (rw (k, isPatternLine))) (λ k. true-is-not-false e (rw (k, isPatternLine)))
+      (λ k. pattern-exact l .1 k)),
   (λ p. rw (pattern-exact l .0 p, isPatternLine)),
 )
 
@@ -161,20 +169,6 @@ said-key : {l : Line} {k : KeyName} {setting : List Byte} → CallsKey l k setti
 unfolding keySaid andThen
 said-key {l} {k} w = rw (key-exact l .0 (w .sign), keySaid, key-called w .0)
 
-key-ordered : (k : KeyName) → getElem? keyOrder (keyPlace k) ≡ some k
-unfolding keyOrder keyPlace getElem?
-key-ordered name = refl
-key-ordered artist = refl
-key-ordered original = refl
-key-ordered capo = refl
-key-ordered bpm = refl
-key-ordered time = refl
-key-ordered warning = refl
-key-ordered end = refl
-
-one-key : (k j : KeyName) → keyPlace k ≡ keyPlace j → k ≡ j
-one-key k j e = let a = key-ordered k in let b = key-ordered j in cc
-
 pub key-again : {before : List Line} {l : Line} {c : Complaint} → Again 4 keySaid [] before l c ↔ KeyDoubled before l c
 key-again {before} {l} {c} = (to, from)
   where
@@ -185,8 +179,9 @@ key-again {before} {l} {c} = (to, from)
         (λ (i : (e : Line) × List·Memᴰ e before × (keySaid e ≡ some (h .what))).
         let a = key-says l (h .what) (h .says) in
         let b = key-says (i .0) (h .what) (i .2) in
-        let same : b .0 ≡ a .0 = one-key (b .0) (a .0) (b .2 ∙ sym (a .2)) in
-        subst (λ x. KeyDoubled before l x) (sym (h .complained)) (key-twice (a .0) (settingOf (i .0)) (settingOf l) (i .0) (i .1) (subst (λ k. CallsKey (i .0) k (settingOf (i .0))) same (b .1)) (a .1)))
+        let same : b .0 ≡ a .0 = same-key (b .0) (a .0) (b .2 ∙ sym (a .2)) in
+        subst (λ x. KeyDoubled before l x) (sym (h .complained))
+        (key-twice (a .0) (settingOf (i .0)) (settingOf l) (i .0) (i .1) (subst (λ k. CallsKey (i .0) k (settingOf (i .0))) same (b .1)) (a .1)))
         (h .earlier)
 
     from : {c : Complaint} → KeyDoubled before l c → Again 4 keySaid [] before l c
@@ -230,11 +225,13 @@ modifier-again {before} {l} {c} = (to, from)
         let a = modifier-says l (h .what) (h .says) in
         let b = modifier-says (i .0) (h .what) (i .2) in
         let same : b .0 ≡ a .0 = one-modifier (b .0) (a .0) (b .2 ∙ sym (a .2)) in
-        subst (λ x. ModifierDoubled before l x) (sym (h .complained)) (modifier-twice (a .0) (settingOf (i .0)) (settingOf l) (i .0) (i .1) (subst (λ k. CallsModifier (i .0) k (settingOf (i .0))) same (b .1)) (a .1)))
+        subst (λ x. ModifierDoubled before l x) (sym (h .complained))
+        (modifier-twice (a .0) (settingOf (i .0)) (settingOf l) (i .0) (i .1) (subst (λ k. CallsModifier (i .0) k (settingOf (i .0))) same (b .1)) (a .1)))
         (h .earlier)
 
     from : {c : Complaint} → ModifierDoubled before l c → Again 8 modifierSaid [] before l c
-    from (modifier-twice k other setting e m w v) = record { what = modifierPlace k; says = said-modifier v; earlier = inr (e, m, said-modifier w); complained = refl }
+    from (modifier-twice k other setting e m w v) =
+        record { what = modifierPlace k; says = said-modifier v; earlier = inr (e, m, said-modifier w); complained = refl }
 
 -- A line by itself.
 pub key-sign : {allowed : KeyName → Type 0} {l : Line} {c : Complaint} → KeyStops allowed l c → IsKey l
@@ -267,11 +264,13 @@ unfolding faults
 stated-modifier l h = rw (modifier-exact l .0 (modifier-sign h), faults) (modifier-stops-exact l (modifier-sign h) .1 h)
 
 -- One test's complaint is stated exactly where what it asks for does not hold.
-pub test-stated : {P : Type 0} (b : Bool) (number line : ℕ) → ((complainIf b number line ≡ []) ↔ P) → {c : Complaint} → List·Memᴰ c (complainIf b number line) → (P → ⊥) × (c ≡ complaint number line)
+pub test-stated : {P : Type 0} (b : Bool) (number line : ℕ) → ((complainIf b number line ≡ []) ↔ P) → {c : Complaint} → List·Memᴰ c (complainIf b number line)
+    → (P → ⊥) × (c ≡ complaint number line)
 test-stated b number line p m =
     let h = in-complaint b number line m in ((λ q. true-is-not-false (h .0) (complainIf-nil b number line (p .1 q))), h .1)
 
-pub stated-test : {P : Type 0} (b : Bool) (number line : ℕ) → ((complainIf b number line ≡ []) ↔ P) → (P → ⊥) → List·Memᴰ (complaint number line) (complainIf b number line)
+pub stated-test : {P : Type 0} (b : Bool) (number line : ℕ) → ((complainIf b number line ≡ []) ↔ P) → (P → ⊥)
+    → List·Memᴰ (complaint number line) (complainIf b number line)
 stated-test b number line p n = by-cases b (λ t. complaint-in number line t) (λ f. absurd (n (p .0 (nil-complainIf number line f))))
 
 abbrev name-fails : Line → Bool
@@ -280,7 +279,9 @@ name-fails l = let n = characters (taken (λ b. not (isByte (code "!") b)) (l .t
 module _ (b : Block) where
   header-stated : {c : Complaint} → List·Memᴰ c (headerFaults (b .first)) → SectionStops b c
   unfolding headerFaults
-  header-stated m = let h = test-stated (name-fails (b .first)) 8 (b .first .number) (header-exact (b .first)) m in subst (λ x. SectionStops b x) (sym (h .1)) (name-wrong (h .0))
+  header-stated m =
+      let h = test-stated (name-fails (b .first)) 8 (b .first .number) (header-exact (b .first)) m in subst (λ x. SectionStops b x) (sym (h .1))
+      (name-wrong (h .0))
 
   stated-header : (Header (b .first .text) → ⊥) → List·Memᴰ (complaint 8 (b .first .number)) (headerFaults (b .first))
   unfolding headerFaults
@@ -292,14 +293,16 @@ module _ (b : Block) where
   run-stated (l ∷ ls) e m =
       let h = in-complaint (not (isSome (sectionText l ls))) 7 (l .number) m in
       let wrong = fails-exact (isSome (sectionText l ls)) (isSome-exact (sectionText l ls) (text-exact l ls)) .0 (h .0) in
-      subst (λ x. SectionStops b x) (sym (h .1)) (pattern-text (body b) (ending b) ls l (split-of b) (subst (λ r. FirstRun (body b) r) e (run-of (body b))) (λ p w. wrong (p, w)))
+      subst (λ x. SectionStops b x) (sym (h .1))
+      (pattern-text (body b) (ending b) ls l (split-of b) (subst (λ r. FirstRun (body b) r) e (run-of (body b))) (λ p w. wrong (p, w)))
 
   lyrics-stated : (ls : List Line) → ending b ≡ ls → {c : Complaint} → List·Memᴰ c (lyricFaults ls) → SectionStops b c
   unfolding lyricFaults
   lyrics-stated [] e m = absurd (List·Memᴰ·not-nil m)
   lyrics-stated (d ∷ ls) e m =
       let h = in-complaint (isEmpty ls) 8 (d .number) m in
-      subst (λ x. SectionStops b x) (sym (h .1)) (no-lyrics (body b) d (subst (λ x. Split b (body b) x) (e ∙ ap (λ x. d ∷ x) (isEmpty-true ls (h .0))) (split-of b)))
+      subst (λ x. SectionStops b x) (sym (h .1))
+      (no-lyrics (body b) d (subst (λ x. Split b (body b) x) (e ∙ ap (λ x. d ∷ x) (isEmpty-true ls (h .0))) (split-of b)))
 
   section-stated : {c : Complaint} → List·Memᴰ c (sectionFaults b) → SectionStops b c
   unfolding sectionFaults
@@ -311,11 +314,14 @@ module _ (b : Block) where
       (either _
       (either (headerFaults (b .first)) header-stated
       (λ i. let a = order-stated (body b) i in out-of-place (body b) (ending b) (a .before) (a .behind) (a .line) (split-of b) (a .written) (a .holds)))
-      (λ i. let a = twice-in 4 keySaid [] (body b) i in key-doubled (body b) (ending b) (a .before) (a .behind) (a .line) (split-of b) (a .written) (key-again .0 (a .holds))))
-      (λ i. let a = twice-in 8 modifierSaid [] (body b) i in modifier-doubled (body b) (ending b) (a .before) (a .behind) (a .line) (split-of b) (a .written) (modifier-again .0 (a .holds))))
+      (λ i. let a = twice-in 4 keySaid [] (body b) i in key-doubled (body b) (ending b) (a .before) (a .behind) (a .line) (split-of b) (a .written)
+      (key-again .0 (a .holds))))
+      (λ i. let a = twice-in 8 modifierSaid [] (body b) i in modifier-doubled (body b) (ending b) (a .before) (a .behind) (a .line) (split-of b) (a .written)
+      (modifier-again .0 (a .holds))))
       (λ i.
       let g = in-gather faults (body b) i in
-      ⊎-elim (λ h. key-stops (body b) (ending b) (g .0) (split-of b) (g .1) h) (λ h. modifier-stops (body b) (ending b) (g .0) (split-of b) (g .1) h) (line-stated (g .0) (g .2))))
+      ⊎-elim (λ h. key-stops (body b) (ending b) (g .0) (split-of b) (g .1) h) (λ h. modifier-stops (body b) (ending b) (g .0) (split-of b) (g .1) h)
+      (line-stated (g .0) (g .2))))
       (λ i. run-stated (patternRun (body b)) refl i))
       (λ i. lyrics-stated (ending b) refl i)
       m
@@ -327,7 +333,8 @@ module _ (b : Block) where
   abbrev first-four : List Complaint
   first-four = first-two ++ twice 4 keySaid [] (body b) ++ twice 8 modifierSaid [] (body b)
 
-  of-six : {c : Complaint} → List·Memᴰ c (first-four ++ gather faults (body b) ++ patternFaults (b .first .number) (patternRun (body b))) → List·Memᴰ c (sectionFaults b)
+  of-six : {c : Complaint} → List·Memᴰ c (first-four ++ gather faults (body b) ++ patternFaults (b .first .number) (patternRun (body b)))
+      → List·Memᴰ c (sectionFaults b)
   unfolding sectionFaults
   of-six m = Memᴰ·append-left (lyricFaults (ending b)) m
 
@@ -347,11 +354,17 @@ module _ (b : Block) where
   unfolding sectionFaults patternFaults lyricFaults isEmpty
   stated-section (name-wrong n) = of-two (Memᴰ·append-left (order amongKeys (body b)) (stated-header n))
   stated-section {c} (out-of-place x y before rest l w e h) =
-      of-two (Memᴰ·append-right (headerFaults (b .first)) (subst (λ z. List·Memᴰ c (order amongKeys z)) (sym (split-once w .0 ∙ e)) (stated-order before l rest h)))
+      of-two
+      (Memᴰ·append-right (headerFaults (b .first)) (subst (λ z. List·Memᴰ c (order amongKeys z)) (sym (split-once w .0 ∙ e)) (stated-order before l rest h)))
   stated-section {c} (key-doubled x y before rest l w e h) =
-      of-four (Memᴰ·append-left (twice 8 modifierSaid [] (body b)) (Memᴰ·append-right first-two (subst (λ z. List·Memᴰ c (twice 4 keySaid [] z)) (sym (split-once w .0 ∙ e)) (in-twice 4 keySaid [] before l rest (key-again .1 h)))))
+      of-four
+      (Memᴰ·append-left (twice 8 modifierSaid [] (body b))
+      (Memᴰ·append-right first-two
+      (subst (λ z. List·Memᴰ c (twice 4 keySaid [] z)) (sym (split-once w .0 ∙ e)) (in-twice 4 keySaid [] before l rest (key-again .1 h)))))
   stated-section {c} (modifier-doubled x y before rest l w e h) =
-      of-four (Memᴰ·append-right (first-two ++ twice 4 keySaid [] (body b)) (subst (λ z. List·Memᴰ c (twice 8 modifierSaid [] z)) (sym (split-once w .0 ∙ e)) (in-twice 8 modifierSaid [] before l rest (modifier-again .1 h))))
+      of-four
+      (Memᴰ·append-right (first-two ++ twice 4 keySaid [] (body b))
+      (subst (λ z. List·Memᴰ c (twice 8 modifierSaid [] z)) (sym (split-once w .0 ∙ e)) (in-twice 8 modifierSaid [] before l rest (modifier-again .1 h))))
   stated-section (key-stops x y l w m h) = of-line (subst (λ z. List·Memᴰ l z) (sym (split-once w .0)) m) (stated-key l h)
   stated-section (modifier-stops x y l w m h) = of-line (subst (λ z. List·Memᴰ l z) (sym (split-once w .0)) m) (stated-modifier l h)
   stated-section (pattern-text x y run l w r n) =

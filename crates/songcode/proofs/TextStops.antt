@@ -1,11 +1,12 @@
 -- What stops a file in stage 2 is stated exactly where the answer complains of it.
-use Prim.Native.Nat.{ℕ, zero, suc, _+_, _<_, _≤_, max}
+use Prim.Native.Nat.{ℕ, suc, _+_, _<_, _≤_, max}
 use Prim.Native.Char.{code}
 use mathlib.Core.Path.{_≡_, refl, ap, sym, subst, _∙_}
 use mathlib.Core.Logic.{_↔_, _⊎_, inl, inr, ⊎-elim}
-use mathlib.Core.List.{List, [], _∷_, _++_, map, List·Memᴰ, List·Memᴰ·head, List·Memᴰ·tail, List·Memᴰ·not-nil, List·Memᴰ·cases-cons, Memᴰ·append-left, Memᴰ·append-right, Memᴰ·map, Memᴰ·of-map, head-eq-of-cons-eq, tail-eq-of-cons-eq}
+use mathlib.Core.List.{List, [], _∷_, _++_, map, List·Memᴰ, List·Memᴰ·head, List·Memᴰ·tail, List·Memᴰ·not-nil, List·Memᴰ·cases-cons, Memᴰ·append-left}
+use mathlib.Core.List.{Memᴰ·append-right, Memᴰ·map, Memᴰ·of-map, head-eq-of-cons-eq, tail-eq-of-cons-eq}
 use mathlib.Core.Bool.{Bool, true, false, _||_, not}
-use mathlib.Core.Option.{Option, none, some}
+use mathlib.Core.Option.{some}
 use native.Mathlib.Omega.{arith}
 use lib.Dec.{leb, ltb}
 use lib.ListN.{length}
@@ -13,24 +14,27 @@ use borrow.Author.Tests.{eqb-true, ltb-true, ltb-false, lt-ltb, leb-true, le-leb
 use Rattle.songcode.specs.Lists.{isEmpty, gather, isSome}
 use Rattle.songcode.specs.Bytes.{Byte, isByte}
 use Rattle.songcode.specs.Lines.{Line, Block}
-use Rattle.songcode.specs.Numbers.{countIn}
 use Rattle.songcode.specs.Complaints.{Complaint, complaint, complainIf}
 use Rattle.songcode.specs.Song.{KeyName, Items}
 use Rattle.songcode.specs.Keys.{ofMetadata}
 use Rattle.songcode.specs.PatternText.{definitionText}
-use Rattle.songcode.specs.Sections.{kindOfLine, keyFaults, twice, keySaid, behindFirst, sectionFaults}
-use Rattle.songcode.specs.SongText.{BlockKind, metadata, definition, section, kindOfText, blockKind, turn, blockOrder, linesIf, metadataLines, metadataFault, metadataFaults, headIn, definitionIf, sectionIf, definitionBlocks, sectionBlocks, headsFaults, firstLine, definitionFaults, definitionsFaults, orNoSection, textFaults}
+use Rattle.songcode.specs.Sections.{kindOfLine, twice, keySaid, behindFirst, sectionFaults}
+use Rattle.songcode.specs.SongText.{metadata, definition, section, kindOfText, blockKind, turn, blockOrder, linesIf, metadataLines, metadataFault}
+use Rattle.songcode.specs.SongText.{metadataFaults, headIn, definitionIf, sectionIf, definitionBlocks, sectionBlocks, headsFaults, firstLine}
+use Rattle.songcode.specs.SongText.{definitionFaults, definitionsFaults, orNoSection, textFaults}
 use Rattle.songcode.specs.WrittenPattern.{WrittenDefinitionText}
 use Rattle.songcode.specs.WrittenSong.{BeginsWith, linesOf, DefinitionHead}
-use Rattle.songcode.specs.StoppedText.{IsKey, KeyStops, KeyDoubled, MetadataStops, of-key, of-keys, no-key, DefinitionStops, head-malformed, head-twice, head-27th, definition-text, IsMetadata, IsDefinition, IsSection, OfKind, no-more, this-one, another, LaterKind, TextStops, kind-late, in-metadata, in-definition, in-section, Stops2, stated, no-section}
-use Rattle.songcode.proofs.ListLaws.{by-cases, true-is-not-false, isEmpty-true, nil-is-not-cons}
+use Rattle.songcode.specs.StoppedText.{IsKey, KeyStops, MetadataStops, of-key, of-keys, no-key, DefinitionStops, head-malformed, head-twice, head-27th}
+use Rattle.songcode.specs.StoppedText.{definition-text, IsMetadata, IsDefinition, IsSection, OfKind, no-more, this-one, another, LaterKind, TextStops}
+use Rattle.songcode.specs.StoppedText.{kind-late, in-metadata, in-definition, in-section, Stops2, stated, no-section}
+use Rattle.songcode.proofs.ListLaws.{by-cases, isEmpty-true, nil-is-not-cons}
 use Rattle.songcode.proofs.ChoiceLaws.{zero-is-not-one, isSome-exact}
-use Rattle.songcode.proofs.MemberLaws.{Found, found, either, only-one, in-gather, gather-in, in-complaint, complaint-in}
+use Rattle.songcode.proofs.MemberLaws.{either-passes, pass-left, pass-right, found, either, only-one, in-gather, gather-in, in-complaint, complaint-in}
 use Rattle.songcode.proofs.NumbersAgree.{count-exact}
 use Rattle.songcode.proofs.PatternAgree.{definition-exact}
 use Rattle.songcode.proofs.LineAgree.{by-kind as by-line-kind}
-use Rattle.songcode.proofs.LineStops.{key-exact, modifier-exact, pattern-exact, fails-exact, key-stops-exact}
-use Rattle.songcode.proofs.OrderStops.{Among, Again, twice-in, in-twice}
+use Rattle.songcode.proofs.LineStops.{key-exact, fails-exact, key-stops-exact}
+use Rattle.songcode.proofs.OrderStops.{Again, twice-in, in-twice}
 use Rattle.songcode.proofs.SectionStops.{key-again, key-sign, section-stops-exact}
 use Rattle.songcode.proofs.BlockKinds.{by-kind, metadata-begins, begins-metadata, definition-begins, begins-definition, section-begins, begins-section}
 use Rattle.songcode.proofs.DefinitionAgree.{head-of}
@@ -179,7 +183,8 @@ in-order : (latest : ℕ) (before : List Block) (b : Block) (behind : List Block
 unfolding blockOrder
 in-order latest [] b behind h =
     Memᴰ·append-left _
-    (complaint-in 3 (b .first .number) (lt-ltb _ _ (⊎-elim (λ x. x) (λ (i : (a : Block) × List·Memᴰ a [] × (turn (blockKind b) < turn (blockKind a))). absurd (List·Memᴰ·not-nil (i .1))) h)))
+    (complaint-in 3 (b .first .number)
+    (lt-ltb _ _ (⊎-elim (λ x. x) (λ (i : (a : Block) × List·Memᴰ a [] × (turn (blockKind b) < turn (blockKind a))). absurd (List·Memᴰ·not-nil (i .1))) h)))
 in-order latest (x ∷ before) b behind h =
     Memᴰ·append-right (complainIf (ltb (turn (blockKind x)) latest) 3 (x .first .number))
     (in-order (max latest (turn (blockKind x))) before b behind
@@ -223,7 +228,8 @@ metadata-stated bs {c} m =
     either (twice 4 keySaid [] (metadataLines bs))
     (λ i.
     let a = twice-in 4 keySaid [] (metadataLines bs) i in
-    in-metadata (metadataBlocks bs) (a .before) (a .behind) (a .line) (metadata-are bs) (sym (metadata-lines bs) ∙ a .written) (of-keys (key-again .0 (a .holds))))
+    in-metadata (metadataBlocks bs) (a .before) (a .behind) (a .line) (metadata-are bs) (sym (metadata-lines bs) ∙ a .written)
+    (of-keys (key-again .0 (a .holds))))
     (λ i.
     let g = in-gather metadataFault (metadataLines bs) i in
     let f = found (g .1) in
@@ -232,14 +238,18 @@ metadata-stated bs {c} m =
     in-metadata (metadataBlocks bs) (f .before) (f .behind) (g .0) (metadata-are bs) (sym (metadata-lines bs) ∙ f .written) stops)
     m
 
-stated-metadata : (bs : List Block) (before behind : List Line) (l : Line) → metadataLines bs ≡ before ++ (l ∷ behind) → {c : Complaint} → MetadataStops before l c → List·Memᴰ c (metadataFaults bs)
+stated-metadata : (bs : List Block) (before behind : List Line) (l : Line) → metadataLines bs ≡ before ++ (l ∷ behind) → {c : Complaint}
+    → MetadataStops before l c → List·Memᴰ c (metadataFaults bs)
 unfolding metadataFaults
 stated-metadata bs before behind l e {c} (of-keys h) =
-    Memᴰ·append-left (gather metadataFault (metadataLines bs)) (subst (λ z. List·Memᴰ c (twice 4 keySaid [] z)) (sym e) (in-twice 4 keySaid [] before l behind (key-again .1 h)))
+    Memᴰ·append-left (gather metadataFault (metadataLines bs))
+    (subst (λ z. List·Memᴰ c (twice 4 keySaid [] z)) (sym e) (in-twice 4 keySaid [] before l behind (key-again .1 h)))
 stated-metadata bs before behind l e {c} (of-key h) =
-    Memᴰ·append-right (twice 4 keySaid [] (metadataLines bs)) (gather-in metadataFault (subst (λ z. List·Memᴰ l z) (sym e) (Memᴰ·append-right before (List·Memᴰ·head refl))) (stated-key l h))
+    Memᴰ·append-right (twice 4 keySaid [] (metadataLines bs))
+    (gather-in metadataFault (subst (λ z. List·Memᴰ l z) (sym e) (Memᴰ·append-right before (List·Memᴰ·head refl))) (stated-key l h))
 stated-metadata bs before behind l e {c} (no-key n) =
-    Memᴰ·append-right (twice 4 keySaid [] (metadataLines bs)) (gather-in metadataFault (subst (λ z. List·Memᴰ l z) (sym e) (Memᴰ·append-right before (List·Memᴰ·head refl))) (stated-other l n))
+    Memᴰ·append-right (twice 4 keySaid [] (metadataLines bs))
+    (gather-in metadataFault (subst (λ z. List·Memᴰ l z) (sym e) (Memᴰ·append-right before (List·Memᴰ·head refl))) (stated-other l n))
 
 -- Heads of definitions.
 head-exact : (b : Block) (n : ℕ) → IsDefinition b → (headIn (b .first) ≡ some n) ↔ DefinitionHead (b .first .text) n
@@ -254,10 +264,6 @@ head-fails b s =
     let p = fails-exact (isSome (headIn (b .first))) (isSome-exact (headIn (b .first)) (λ n. head-exact b n s)) in
     ((λ e n w. p .0 e (n, w)), (λ h. p .1 (λ q. h (q .0) (q .1))))
 
-either-passes : (a b : Bool) → a || b ≡ true → (a ≡ true) ⊎ (b ≡ true)
-either-passes true b e = inl refl
-either-passes false b e = inr e
-
 -- A definition behind others, of which something is stated.
 record AmongBlocks (ds : List Block) (c : Complaint) : Type 0 where
   before : List Block
@@ -267,32 +273,35 @@ record AmongBlocks (ds : List Block) (c : Complaint) : Type 0 where
   holds : DefinitionStops before block c
 
 heads-in : (front ds : List Block) → ((b : Block) → List·Memᴰ b ds → IsDefinition b) → {c : Complaint} → List·Memᴰ c (headsFaults (length front) ds)
-    → (before : List Block) × (b : Block) × (behind : List Block) × (ds ≡ before ++ (b ∷ behind)) × (c ≡ complaint 6 (b .first .number)) × (((n : ℕ) → DefinitionHead (b .first .text) n → ⊥) ⊎ (26 ≤ length front + length before))
+    → (before : List Block) × (b : Block) × (behind : List Block) × (ds ≡ before ++ (b ∷ behind)) × (c ≡ complaint 6 (b .first .number)) ×
+    (((n : ℕ) → DefinitionHead (b .first .text) n → ⊥) ⊎ (26 ≤ length front + length before))
 unfolding headsFaults
 heads-in front [] k m = absurd (List·Memᴰ·not-nil m)
 heads-in front (d ∷ ds) k {c} m =
     either (complainIf (not (isSome (headIn (d .first))) || leb 26 (length front)) 6 (d .first .number))
     (λ i.
-    let h = in-complaint (not (isSome (headIn (d .first))) || leb 26 (length front)) 6 (d .first .number) i in
-    ([], d, ds, refl, h .1, ⊎-elim (λ t. inl (head-fails d (k d (List·Memᴰ·head refl)) .0 t)) (λ t. let g = leb-true 26 (length front) t in inr (omega arith)) (either-passes _ _ (h .0))))
+    let h = in-complaint (not (isSome (headIn (d .first))) || leb 26 (length front)) 6 (d .first .number) i in (
+      [],
+      d,
+      ds,
+      refl,
+      h .1,
+      ⊎-elim (λ t. inl (head-fails d (k d (List·Memᴰ·head refl)) .0 t)) (λ t. let g = leb-true 26 (length front) t in inr (omega arith))
+          (either-passes _ _ (h .0)),
+    ))
     (λ i.
     let r = heads-in (d ∷ front) ds (λ b j. k b (List·Memᴰ·tail j)) i in
     (d ∷ r .0, r .1, r .2, ap (λ z. d ∷ z) (r .3), r .4, ⊎-elim (λ t. inl t) (λ t. inr (omega arith)) (r .5)))
     m
 
-pass-left : {a : Bool} (b : Bool) → a ≡ true → a || b ≡ true
-pass-left b e = rw e
-
-pass-right : (a : Bool) {b : Bool} → b ≡ true → a || b ≡ true
-pass-right true e = refl
-pass-right false e = e
-
-in-heads : (front before : List Block) (b : Block) (behind : List Block) → IsDefinition b → ((n : ℕ) → DefinitionHead (b .first .text) n → ⊥) ⊎ (26 ≤ length front + length before)
+in-heads : (front before : List Block) (b : Block) (behind : List Block) → IsDefinition b
+    → ((n : ℕ) → DefinitionHead (b .first .text) n → ⊥) ⊎ (26 ≤ length front + length before)
     → List·Memᴰ (complaint 6 (b .first .number)) (headsFaults (length front) (before ++ (b ∷ behind)))
 unfolding headsFaults
 in-heads front [] b behind k h =
     let fails : not (isSome (headIn (b .first))) || leb 26 (length front) ≡ true =
-    ⊎-elim (λ n. pass-left (leb 26 (length front)) (head-fails b k .1 n)) (λ n. pass-right (not (isSome (headIn (b .first)))) (le-leb 26 (length front) (omega arith))) h in
+    ⊎-elim (λ n. pass-left (leb 26 (length front)) (head-fails b k .1 n))
+    (λ n. pass-right (not (isSome (headIn (b .first)))) (le-leb 26 (length front) (omega arith))) h in
     Memᴰ·append-left (headsFaults (suc (length front)) behind) (complaint-in 6 (b .first .number) fails)
 in-heads front (d ∷ before) b behind k h =
     Memᴰ·append-right (complainIf (not (isSome (headIn (d .first))) || leb 26 (length front)) 6 (d .first .number))
@@ -308,11 +317,13 @@ map-parted (d ∷ ds) (x ∷ xs) l ys e =
     let r = map-parted ds xs l ys (tail-eq-of-cons-eq e) in
     (d ∷ r .0, r .1, r .2, ap (λ z. d ∷ z) (r .3), (λ i. head-eq-of-cons-eq e i ∷ r .4 i), r .5)
 
-joined-map : (before : List Block) (b : Block) (behind : List Block) → map firstLine (before ++ (b ∷ behind)) ≡ map firstLine before ++ (firstLine b ∷ map firstLine behind)
+joined-map : (before : List Block) (b : Block) (behind : List Block)
+    → map firstLine (before ++ (b ∷ behind)) ≡ map firstLine before ++ (firstLine b ∷ map firstLine behind)
 joined-map [] b behind = refl
 joined-map (d ∷ before) b behind = ap (λ z. firstLine d ∷ z) (joined-map before b behind)
 
-again-head : (ds : List Block) → ((b : Block) → List·Memᴰ b ds → IsDefinition b) → {c : Complaint} → List·Memᴰ c (twice 6 headIn [] (map firstLine ds)) → AmongBlocks ds c
+again-head : (ds : List Block) → ((b : Block) → List·Memᴰ b ds → IsDefinition b) → {c : Complaint} → List·Memᴰ c (twice 6 headIn [] (map firstLine ds))
+    → AmongBlocks ds c
 unfolding firstLine
 again-head ds k {c} m =
     let a = twice-in 6 headIn [] (map firstLine ds) m in
@@ -332,7 +343,9 @@ again-head ds k {c} m =
       block = p .1;
       behind = p .2;
       written = p .3;
-      holds = subst (λ x. DefinitionStops (p .0) (p .1) x) (sym where-c) (head-twice (h .what) (o .0) (o .1) (head-exact (o .0) (h .what) (k (o .0) e-in) .0 e-says) (head-exact (p .1) (h .what) (k (p .1) b-in) .0 b-says));
+      holds =
+          subst (λ x. DefinitionStops (p .0) (p .1) x) (sym where-c)
+          (head-twice (h .what) (o .0) (o .1) (head-exact (o .0) (h .what) (k (o .0) e-in) .0 e-says) (head-exact (p .1) (h .what) (k (p .1) b-in) .0 b-says));
     })
     (h .earlier)
 
@@ -342,14 +355,16 @@ text-fails l ls =
     let p = fails-exact (isSome (definitionText l ls)) (isSome-exact (definitionText l ls) (definition-exact l ls)) in
     ((λ e r w. p .0 e (r, w)), (λ h. p .1 (λ q. h (q .0) (q .1))))
 
-text-stated : (before : List Block) (b : Block) (ls : List Line) → b .others ≡ ls → {c : Complaint} → List·Memᴰ c (definitionFaults ls) → DefinitionStops before b c
+text-stated : (before : List Block) (b : Block) (ls : List Line) → b .others ≡ ls → {c : Complaint} → List·Memᴰ c (definitionFaults ls)
+    → DefinitionStops before b c
 unfolding definitionFaults
 text-stated before b [] e m = absurd (List·Memᴰ·not-nil m)
 text-stated before b (l ∷ ls) e m =
     let h = in-complaint (not (isSome (definitionText l ls))) 7 (l .number) m in
     subst (λ x. DefinitionStops before b x) (sym (h .1)) (definition-text l ls e (text-fails l ls .0 (h .0)))
 
-definition-stated : (ds : List Block) → ((b : Block) → List·Memᴰ b ds → IsDefinition b) → {c : Complaint} → List·Memᴰ c (definitionsFaults ds) → AmongBlocks ds c
+definition-stated : (ds : List Block) → ((b : Block) → List·Memᴰ b ds → IsDefinition b) → {c : Complaint} → List·Memᴰ c (definitionsFaults ds)
+    → AmongBlocks ds c
 unfolding definitionsFaults
 definition-stated ds k {c} m =
     either (headsFaults 0 ds ++ twice 6 headIn [] (map firstLine ds))
@@ -371,7 +386,8 @@ definition-stated ds k {c} m =
     m
 
 module _ (before : List Block) (b : Block) (behind : List Block) (k : (d : Block) → List·Memᴰ d (before ++ (b ∷ behind)) → IsDefinition d) where
-  of-heads : {c : Complaint} → List·Memᴰ c (headsFaults 0 (before ++ (b ∷ behind)) ++ twice 6 headIn [] (map firstLine (before ++ (b ∷ behind)))) → List·Memᴰ c (definitionsFaults (before ++ (b ∷ behind)))
+  of-heads : {c : Complaint} → List·Memᴰ c (headsFaults 0 (before ++ (b ∷ behind)) ++ twice 6 headIn [] (map firstLine (before ++ (b ∷ behind))))
+      → List·Memᴰ c (definitionsFaults (before ++ (b ∷ behind)))
   unfolding definitionsFaults
   of-heads m = Memᴰ·append-left (gather (λ d. definitionFaults (d .others)) (before ++ (b ∷ behind))) m
 
@@ -388,11 +404,13 @@ module _ (before : List Block) (b : Block) (behind : List Block) (k : (d : Block
       record { what = n; says = head-exact b n (k b here) .1 v; earlier = inr (e .first, Memᴰ·map firstLine m, says); complained = refl } in
       of-heads
       (Memᴰ·append-right (headsFaults 0 (before ++ (b ∷ behind)))
-      (subst (λ z. List·Memᴰ (complaint 6 (b .first .number)) (twice 6 headIn [] z)) (sym (joined-map before b behind)) (in-twice 6 headIn [] (map firstLine before) (b .first) (map firstLine behind) again)))
+      (subst (λ z. List·Memᴰ (complaint 6 (b .first .number)) (twice 6 headIn [] z)) (sym (joined-map before b behind))
+      (in-twice 6 headIn [] (map firstLine before) (b .first) (map firstLine behind) again)))
   stated-definition (definition-text l ls e n) =
       let m : List·Memᴰ (complaint 7 (l .number)) (definitionFaults (b .others)) =
       subst (λ z. List·Memᴰ (complaint 7 (l .number)) (definitionFaults z)) (sym e) (complaint-in 7 (l .number) (text-fails l ls .1 n)) in
-      Memᴰ·append-right (headsFaults 0 (before ++ (b ∷ behind)) ++ twice 6 headIn [] (map firstLine (before ++ (b ∷ behind)))) (gather-in (λ d. definitionFaults (d .others)) here m)
+      Memᴰ·append-right (headsFaults 0 (before ++ (b ∷ behind)) ++ twice 6 headIn [] (map firstLine (before ++ (b ∷ behind))))
+      (gather-in (λ d. definitionFaults (d .others)) here m)
 
 -- Rows 3 to 8 over the whole file.
 module _ (bs : List Block) where
@@ -409,18 +427,23 @@ module _ (bs : List Block) where
       ⊎-elim
       (λ h. let z : ⊥ = omega arith in absurd z)
       (λ (h : (a : Block) × List·Memᴰ a (r .before) × (turn (blockKind (r .block)) < turn (blockKind a))).
-      subst (λ x. TextStops bs x) (sym (r .complained)) (kind-late (r .before) (r .behind) (h .0) (r .block) (r .written) (h .1) (later-turn (h .0) (r .block) (h .2))))
+      subst (λ x. TextStops bs x) (sym (r .complained))
+      (kind-late (r .before) (r .behind) (h .0) (r .block) (r .written) (h .1) (later-turn (h .0) (r .block) (h .2))))
       (r .late))
       (λ i. metadata-stated bs i))
       (λ i.
       let r = definition-stated (definitionBlocks bs) (λ b j. kind-member (definitions-are bs) j) i in
       in-definition (definitionBlocks bs) (r .before) (r .behind) (r .block) (definitions-are bs) (r .written) (r .holds)))
-      (λ i. let g = in-gather sectionFaults (sectionBlocks bs) i in in-section (sectionBlocks bs) (g .0) (sections-are bs) (g .1) (section-stops-exact (g .0) .0 (g .2)))
+      (λ i. let g = in-gather sectionFaults (sectionBlocks bs) i in in-section (sectionBlocks bs) (g .0) (sections-are bs) (g .1)
+      (section-stops-exact (g .0) .0 (g .2)))
       m
 
   text-by-stated : {c : Complaint} → TextStops bs c → List·Memᴰ c all-faults
   text-by-stated (kind-late before behind a b e m h) =
-      Memᴰ·append-left _ (Memᴰ·append-left _ (Memᴰ·append-left _ (subst (λ z. List·Memᴰ (complaint 3 (b .first .number)) (blockOrder 0 z)) (sym e) (in-order 0 before b behind (inr (a, m, turn-later a b h))))))
+      Memᴰ·append-left _
+      (Memᴰ·append-left _
+      (Memᴰ·append-left _
+      (subst (λ z. List·Memᴰ (complaint 3 (b .first .number)) (blockOrder 0 z)) (sym e) (in-order 0 before b behind (inr (a, m, turn-later a b h))))))
   text-by-stated {c} (in-metadata ms before behind l k e h) =
       let w : metadataLines bs ≡ before ++ (l ∷ behind) = metadata-lines bs ∙ ap (λ z. linesOf z) (kind-once (metadata-are bs) k) ∙ e in
       Memᴰ·append-left _ (Memᴰ·append-left _ (Memᴰ·append-right (blockOrder 0 bs) (stated-metadata bs before behind l w h)))
@@ -428,7 +451,8 @@ module _ (bs : List Block) where
       let same : definitionBlocks bs ≡ before ++ (b ∷ behind) = kind-once (definitions-are bs) k ∙ e in
       let all : (d : Block) → List·Memᴰ d (before ++ (b ∷ behind)) → IsDefinition d = λ d m. kind-member k (subst (λ z. List·Memᴰ d z) (sym e) m) in
       Memᴰ·append-left _
-      (Memᴰ·append-right (blockOrder 0 bs ++ metadataFaults bs) (subst (λ z. List·Memᴰ c (definitionsFaults z)) (sym same) (stated-definition before b behind all h)))
+      (Memᴰ·append-right (blockOrder 0 bs ++ metadataFaults bs)
+      (subst (λ z. List·Memᴰ c (definitionsFaults z)) (sym same) (stated-definition before b behind all h)))
   text-by-stated (in-section ss b k m h) =
       Memᴰ·append-right (blockOrder 0 bs ++ metadataFaults bs ++ definitionsFaults (definitionBlocks bs))
       (gather-in sectionFaults (subst (λ z. List·Memᴰ b z) (kind-once k (sections-are bs)) m) (section-stops-exact b .1 h))
@@ -438,14 +462,17 @@ module _ (bs : List Block) where
   nothing-else [] h = refl
   nothing-else (c ∷ cs) h = absurd (h c (List·Memᴰ·head refl))
 
-  or-stated : (cs : List Complaint) → ((c : Complaint) → List·Memᴰ c cs ↔ TextStops bs c) → {c : Complaint} → List·Memᴰ c (orNoSection cs (sectionBlocks bs)) → Stops2 bs c
+  or-stated : (cs : List Complaint) → ((c : Complaint) → List·Memᴰ c cs ↔ TextStops bs c) → {c : Complaint} → List·Memᴰ c (orNoSection cs (sectionBlocks bs))
+      → Stops2 bs c
   unfolding orNoSection
   or-stated [] p m =
       let h = in-complaint (isEmpty (sectionBlocks bs)) 9 0 m in
-      subst (λ x. Stops2 bs x) (sym (h .1)) (no-section (subst (λ z. OfKind IsSection bs z) (isEmpty-true (sectionBlocks bs) (h .0)) (sections-are bs)) (λ c t. List·Memᴰ·not-nil (p c .1 t)))
+      subst (λ x. Stops2 bs x) (sym (h .1))
+      (no-section (subst (λ z. OfKind IsSection bs z) (isEmpty-true (sectionBlocks bs) (h .0)) (sections-are bs)) (λ c t. List·Memᴰ·not-nil (p c .1 t)))
   or-stated (x ∷ xs) p {c} m = stated (p c .0 m)
 
-  stated-or : (cs : List Complaint) → ((c : Complaint) → List·Memᴰ c cs ↔ TextStops bs c) → {c : Complaint} → Stops2 bs c → List·Memᴰ c (orNoSection cs (sectionBlocks bs))
+  stated-or : (cs : List Complaint) → ((c : Complaint) → List·Memᴰ c cs ↔ TextStops bs c) → {c : Complaint} → Stops2 bs c
+      → List·Memᴰ c (orNoSection cs (sectionBlocks bs))
   unfolding orNoSection isEmpty
   stated-or [] p {c} (stated t) = absurd (List·Memᴰ·not-nil (p c .1 t))
   stated-or (x ∷ xs) p {c} (stated t) = p c .1 t

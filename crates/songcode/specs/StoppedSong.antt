@@ -7,9 +7,9 @@ use mathlib.Core.Option.{Option, none, some}
 use lib.ListN.{length}
 use Rattle.songcode.specs.Lists.{sum}
 use Rattle.songcode.specs.Bytes.{Byte, placed}
-use Rattle.songcode.specs.Chords.{Chord}
 use Rattle.songcode.specs.Complaints.{Complaint, complaint}
-use Rattle.songcode.specs.Song.{Sound, chord, again, silence, Sounds, only, also, Measure, Item, measure, loop, refer, Items, one, next, Pattern, named, time, Modifier, before, after, LyricLine, Definition, Section, Song}
+use Rattle.songcode.specs.Song.{Sound, chord, again, silence, Sounds, only, also, Measure, Item, measure, loop, refer, Items, one, next, named, time}
+use Rattle.songcode.specs.Song.{Modifier, before, after, LyricLine, Definition, Section, Song}
 use Rattle.songcode.specs.PatternText.{references}
 use Rattle.songcode.specs.References.{patternItems}
 use Rattle.songcode.specs.Playing.{Beat, positions, saidBy, beforeSaid, afterSaid, repeats}
@@ -28,7 +28,8 @@ pub data Stops1 (bs : List ℕ) : Complaint → Type 0 where
   over-long : 65536 < length bs → Stops1 bs (complaint 1 0)
   -- 2: "bad UTF-8 or zero byte (after 1)", on the line "of the first place, read character by character, with a zero or no whole character":
   -- the last line of the text before it
-  bad-bytes : (place : ℕ) (stuck : FirstBad bs place) (lines : List (List Byte)) → length bs ≤ 65536 → place < length bs → Cuts (placed 0 (stuck .front)) lines → Stops1 bs (complaint 2 (length lines))
+  bad-bytes : (place : ℕ) (stuck : FirstBad bs place) (lines : List (List Byte)) → length bs ≤ 65536 → place < length bs
+      → Cuts (placed 0 (stuck .front)) lines → Stops1 bs (complaint 2 (length lines))
 
 -- References that stand in a loop; items that hold a loop.
 unfoldable pub InLoopItem : ℕ → Item → Type 0
@@ -60,14 +61,19 @@ pub record Refers (s : Song) (d : Definition) (r : Items) (before : List Definit
 -- Stage 3, on the block's first line.
 pub data Stops3 (s : Song) : Complaint → Type 0 where
   -- 10: "reference not defined earlier"
-  undefined : (d : Definition) (r : Items) (before : List Definition) (n : ℕ) → Refers s d r before → List·Memᴰ n (references r) → ((e : Definition) → List·Memᴰ e before → e .id ≡ n → ⊥) → Stops3 s (complaint 10 (d .head))
-  undefined-named : (x : Section) (n : ℕ) → List·Memᴰ x (s .sections) → x .pattern ≡ named n → ((e : Definition) → List·Memᴰ e (s .definitions) → e .id ≡ n → ⊥) → Stops3 s (complaint 10 (x .header))
+  undefined : (d : Definition) (r : Items) (before : List Definition) (n : ℕ) → Refers s d r before → List·Memᴰ n (references r)
+      → ((e : Definition) → List·Memᴰ e before → e .id ≡ n → ⊥) → Stops3 s (complaint 10 (d .head))
+  undefined-named : (x : Section) (n : ℕ) → List·Memᴰ x (s .sections) → x .pattern ≡ named n
+      → ((e : Definition) → List·Memᴰ e (s .definitions) → e .id ≡ n → ⊥) → Stops3 s (complaint 10 (x .header))
   -- 11: "reference too deep": "a definition that holds a reference can't itself be referred to by a definition"
-  too-deep : (d e : Definition) (r q : Items) (before : List Definition) (n : ℕ) → Refers s d r before → List·Memᴰ (e .id) (references r) → List·Memᴰ e before → e .items ≡ some q → List·Memᴰ n (references q) → Stops3 s (complaint 11 (d .head))
+  too-deep : (d e : Definition) (r q : Items) (before : List Definition) (n : ℕ) → Refers s d r before → List·Memᴰ (e .id) (references r) → List·Memᴰ e before
+      → e .items ≡ some q → List·Memᴰ n (references q) → Stops3 s (complaint 11 (d .head))
   -- 11: "making a loop in a loop"
-  loop-in-loop : (d e : Definition) (r q : Items) (before : List Definition) → Refers s d r before → InLoop (e .id) r → List·Memᴰ e before → e .items ≡ some q → HoldsLoop q → Stops3 s (complaint 11 (d .head))
+  loop-in-loop : (d e : Definition) (r q : Items) (before : List Definition) → Refers s d r before → InLoop (e .id) r → List·Memᴰ e before → e .items ≡ some q
+      → HoldsLoop q → Stops3 s (complaint 11 (d .head))
   -- 11: "or from a definition to an empty one"
-  to-empty : (d e : Definition) (r : Items) (before : List Definition) → Refers s d r before → List·Memᴰ (e .id) (references r) → List·Memᴰ e before → e .items ≡ none → Stops3 s (complaint 11 (d .head))
+  to-empty : (d e : Definition) (r : Items) (before : List Definition) → Refers s d r before → List·Memᴰ (e .id) (references r) → List·Memᴰ e before
+      → e .items ≡ none → Stops3 s (complaint 11 (d .head))
 
 -- A measure of a row; what its positions sound, "in the written order of its own text".
 unfoldable mutual
@@ -116,9 +122,12 @@ pub data RowStops (n line : ℕ) (r : Items) : Complaint → Type 0 where
 
 -- Stage 4: "header; lead-in, tail: own". "A pattern is judged only where it is played, in that section's N; a lead-in or tail always."
 pub data Stops4 (s : Song) : Complaint → Type 0 where
-  of-pattern : {c : Complaint} (x : Section) (n : ℕ) (r : Items) → List·Memᴰ x (s .sections) → Inherits time TimeText 4 s x n → patternItems (s .definitions) (x .pattern) ≡ some r → RowStops n (x .header) r c → Stops4 s c
-  of-lead-in : {c : Complaint} (x : Section) (n line : ℕ) (r : Items) → List·Memᴰ x (s .sections) → Inherits time TimeText 4 s x n → List·Memᴰ (before line r) (x .modifiers) → RowStops n line r c → Stops4 s c
-  of-tail : {c : Complaint} (x : Section) (n line : ℕ) (r : Items) → List·Memᴰ x (s .sections) → Inherits time TimeText 4 s x n → List·Memᴰ (after line r) (x .modifiers) → RowStops n line r c → Stops4 s c
+  of-pattern : {c : Complaint} (x : Section) (n : ℕ) (r : Items) → List·Memᴰ x (s .sections) → Inherits time TimeText 4 s x n
+      → patternItems (s .definitions) (x .pattern) ≡ some r → RowStops n (x .header) r c → Stops4 s c
+  of-lead-in : {c : Complaint} (x : Section) (n line : ℕ) (r : Items) → List·Memᴰ x (s .sections) → Inherits time TimeText 4 s x n
+      → List·Memᴰ (before line r) (x .modifiers) → RowStops n line r c → Stops4 s c
+  of-tail : {c : Complaint} (x : Section) (n line : ℕ) (r : Items) → List·Memᴰ x (s .sections) → Inherits time TimeText 4 s x n
+      → List·Memᴰ (after line r) (x .modifiers) → RowStops n line r c → Stops4 s c
 
 -- A section's measures, "lead-ins and tails in, before cuts".
 unfoldable pub PlaysPass : ℕ → Option Items → List (List Beat) → Type 0
@@ -139,11 +148,15 @@ pub record Uncut (s : Song) (x : Section) (measures : ℕ) : Type 0 where
 -- Stage 5, on the header.
 pub data Stops5 (s : Song) : Complaint → Type 0 where
   -- 14: "song passes 65,535 measures ...", "header where it passes"
-  too-long : (front behind : List Section) (x : Section) (counts : List ℕ) (measures : ℕ) → s .sections ≡ front ++ (x ∷ behind) → Each (Uncut s) front counts → Uncut s x measures → sum counts ≤ 65535 → 65535 < sum counts + measures → Stops5 s (complaint 14 (x .header))
+  too-long : (front behind : List Section) (x : Section) (counts : List ℕ) (measures : ℕ) → s .sections ≡ front ++ (x ∷ behind) → Each (Uncut s) front counts
+      → Uncut s x measures → sum counts ≤ 65535 → 65535 < sum counts + measures → Stops5 s (complaint 14 (x .header))
   -- 15: "cuts leave no beat"
-  no-beat : (x : Section) (n : ℕ) (r : Items) (pass : List (List Beat)) → List·Memᴰ x (s .sections) → Inherits time TimeText 4 s x n → patternItems (s .definitions) (x .pattern) ≡ some r → PlaysAlone n r pass → ((middle : List (List Beat)) → PlaysPattern n (x .modifiers) (some r) pass middle → ⊥) → Stops5 s (complaint 15 (x .header))
+  no-beat : (x : Section) (n : ℕ) (r : Items) (pass : List (List Beat)) → List·Memᴰ x (s .sections) → Inherits time TimeText 4 s x n
+      → patternItems (s .definitions) (x .pattern) ≡ some r → PlaysAlone n r pass
+      → ((middle : List (List Beat)) → PlaysPattern n (x .modifiers) (some r) pass middle → ⊥) → Stops5 s (complaint 15 (x .header))
   -- 15: "or a modifier on an empty pattern"
-  empty-modified : (x : Section) (m : Modifier) → List·Memᴰ x (s .sections) → patternItems (s .definitions) (x .pattern) ≡ none → List·Memᴰ m (x .modifiers) → Stops5 s (complaint 15 (x .header))
+  empty-modified : (x : Section) (m : Modifier) → List·Memᴰ x (s .sections) → patternItems (s .definitions) (x .pattern) ≡ none → List·Memᴰ m (x .modifiers)
+      → Stops5 s (complaint 15 (x .header))
 
 -- "Take the lyric lines of all sections whose pattern isn't empty".
 pub record Taken (s : Song) (l : LyricLine) : Type 0 where
@@ -162,7 +175,8 @@ pub data Stops6 (s : Song) : Complaint → Type 0 where
 
 -- Stage 7. 17: "counts don't sum", on the header: "each such section with lyrics sums to its measures".
 pub data Stops7 (s : Song) : Complaint → Type 0 where
-  sums-not : (l : LyricLine) (counted : Taken s l) (total : ℕ) (p : Parts) → HasCount l → Counted (counted .section .lyrics) total → PlaysSection s (counted .section) p → (total ≡ length (joined p) → ⊥) → Stops7 s (complaint 17 (counted .section .header))
+  sums-not : (l : LyricLine) (counted : Taken s l) (total : ℕ) (p : Parts) → HasCount l → Counted (counted .section .lyrics) total
+      → PlaysSection s (counted .section) p → (total ≡ length (joined p) → ⊥) → Stops7 s (complaint 17 (counted .section .header))
 
 -- Stage 8. 18: "keys table under 8, or another table too short", line 0.
 pub data Stops8 (room : Room) (s : Song) (ps : List Parts) : Complaint → Type 0 where

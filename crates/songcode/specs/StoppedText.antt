@@ -73,21 +73,26 @@ pub data KeyStops (allowed : KeyName → Type 0) (l : Line) : Complaint → Type
 
 -- 4: "twice", over the lines before this one.
 pub data KeyDoubled (before : List Line) (l : Line) : Complaint → Type 0 where
-  key-twice : (k : KeyName) (other setting : List Byte) (e : Line) → List·Memᴰ e before → CallsKey e k other → CallsKey l k setting → KeyDoubled before l (complaint 4 (l .number))
+  key-twice : (k : KeyName) (other setting : List Byte) (e : Line) → List·Memᴰ e before → CallsKey e k other → CallsKey l k setting
+      → KeyDoubled before l (complaint 4 (l .number))
 
 -- 5: "setting of a ... repeat or cut malformed or out of range"; 7: "pattern text against the rules", of a lead-in or tail on its own line;
 -- 8: "unknown ... modifier".
 pub data ModifierStops (l : Line) : Complaint → Type 0 where
   modifier-unknown : IsModifier l → ((m : ModifierName) (setting : List Byte) → CallsModifier l m setting → ⊥) → ModifierStops l (complaint 8 (l .number))
-  repeat-setting : (setting : List Byte) → CallsModifier l ofRepeat setting → ((n : ℕ) → Number 2 9999 setting n → ⊥) → ModifierStops l (complaint 5 (l .number))
-  cut-start-setting : (setting : List Byte) → CallsModifier l ofCutStart setting → ((c : Cut) → CutText setting c → ⊥) → ModifierStops l (complaint 5 (l .number))
+  repeat-setting : (setting : List Byte) → CallsModifier l ofRepeat setting → ((n : ℕ) → Number 2 9999 setting n → ⊥)
+      → ModifierStops l (complaint 5 (l .number))
+  cut-start-setting : (setting : List Byte) → CallsModifier l ofCutStart setting → ((c : Cut) → CutText setting c → ⊥)
+      → ModifierStops l (complaint 5 (l .number))
   cut-end-setting : (setting : List Byte) → CallsModifier l ofCutEnd setting → ((c : Cut) → CutText setting c → ⊥) → ModifierStops l (complaint 5 (l .number))
-  lead-in-text : (setting : List Byte) → CallsModifier l ofBefore setting → ((r : Items) → WrittenSide setting r → ⊥) → ModifierStops l (complaint 7 (l .number))
+  lead-in-text : (setting : List Byte) → CallsModifier l ofBefore setting → ((r : Items) → WrittenSide setting r → ⊥)
+      → ModifierStops l (complaint 7 (l .number))
   tail-text : (setting : List Byte) → CallsModifier l ofAfter setting → ((r : Items) → WrittenSide setting r → ⊥) → ModifierStops l (complaint 7 (l .number))
 
 -- 8: "doubled modifier".
 pub data ModifierDoubled (before : List Line) (l : Line) : Complaint → Type 0 where
-  modifier-twice : (m : ModifierName) (other setting : List Byte) (e : Line) → List·Memᴰ e before → CallsModifier e m other → CallsModifier l m setting → ModifierDoubled before l (complaint 8 (l .number))
+  modifier-twice : (m : ModifierName) (other setting : List Byte) (e : Line) → List·Memᴰ e before → CallsModifier e m other → CallsModifier l m setting
+      → ModifierDoubled before l (complaint 8 (l .number))
 
 -- A pattern line, and behind it a line that is none: the first run has ended.
 unfoldable pub Past : List Line → Type 0
@@ -140,14 +145,18 @@ pub data SectionStops (b : Block) : Complaint → Type 0 where
   -- 8: "name empty or long", on the header
   name-wrong : (Header (b .first .text) → ⊥) → SectionStops b (complaint 8 (b .first .number))
   -- 4 and 8: "out of place"; 4: "twice"; 8: "doubled modifier"
-  out-of-place : {c : Complaint} (body ending before behind : List Line) (l : Line) → Split b body ending → body ≡ before ++ (l ∷ behind) → PlaceStops before l c → SectionStops b c
-  key-doubled : {c : Complaint} (body ending before behind : List Line) (l : Line) → Split b body ending → body ≡ before ++ (l ∷ behind) → KeyDoubled before l c → SectionStops b c
-  modifier-doubled : {c : Complaint} (body ending before behind : List Line) (l : Line) → Split b body ending → body ≡ before ++ (l ∷ behind) → ModifierDoubled before l c → SectionStops b c
+  out-of-place : {c : Complaint} (body ending before behind : List Line) (l : Line) → Split b body ending → body ≡ before ++ (l ∷ behind)
+      → PlaceStops before l c → SectionStops b c
+  key-doubled : {c : Complaint} (body ending before behind : List Line) (l : Line) → Split b body ending → body ≡ before ++ (l ∷ behind)
+      → KeyDoubled before l c → SectionStops b c
+  modifier-doubled : {c : Complaint} (body ending before behind : List Line) (l : Line) → Split b body ending → body ≡ before ++ (l ∷ behind)
+      → ModifierDoubled before l c → SectionStops b c
   -- 4, 5, 7 and 8: a key or modifier by itself
   key-stops : {c : Complaint} (body ending : List Line) (l : Line) → Split b body ending → List·Memᴰ l body → KeyStops OfSection l c → SectionStops b c
   modifier-stops : {c : Complaint} (body ending : List Line) (l : Line) → Split b body ending → List·Memᴰ l body → ModifierStops l c → SectionStops b c
   -- 7: "pattern text against the rules", on its first line
-  pattern-text : (body ending run : List Line) (l : Line) → Split b body ending → FirstRun body (l ∷ run) → ((p : Pattern) → WrittenPattern l run p → ⊥) → SectionStops b (complaint 7 (l .number))
+  pattern-text : (body ending run : List Line) (l : Line) → Split b body ending → FirstRun body (l ∷ run) → ((p : Pattern) → WrittenPattern l run p → ⊥)
+      → SectionStops b (complaint 7 (l .number))
   -- 8: "no pattern line", on the header; "`--` without lyrics", on the `--`
   no-pattern : (body ending : List Line) → Split b body ending → NoPattern body → SectionStops b (complaint 8 (b .first .number))
   no-lyrics : (body : List Line) (dashes : Line) → Split b body (dashes ∷ []) → SectionStops b (complaint 8 (dashes .number))
@@ -158,12 +167,15 @@ pub data MetadataStops (before : List Line) (l : Line) : Complaint → Type 0 wh
   of-keys : {c : Complaint} → KeyDoubled before l c → MetadataStops before l c
   no-key : (IsKey l → ⊥) → MetadataStops before l (complaint 8 (l .number))
 
--- What stops a definition, behind the definitions before it. 6: "definition head malformed, twice, or the 27th"; 7: "pattern text against the rules", on its first line.
+-- What stops a definition, behind the definitions before it. 6: "definition head malformed, twice, or the 27th"; 7: "pattern text against the rules", on its
+-- first line.
 pub data DefinitionStops (before : List Block) (b : Block) : Complaint → Type 0 where
   head-malformed : ((n : ℕ) → DefinitionHead (b .first .text) n → ⊥) → DefinitionStops before b (complaint 6 (b .first .number))
-  head-twice : (n : ℕ) (e : Block) → List·Memᴰ e before → DefinitionHead (e .first .text) n → DefinitionHead (b .first .text) n → DefinitionStops before b (complaint 6 (b .first .number))
+  head-twice : (n : ℕ) (e : Block) → List·Memᴰ e before → DefinitionHead (e .first .text) n → DefinitionHead (b .first .text) n
+      → DefinitionStops before b (complaint 6 (b .first .number))
   head-27th : 26 ≤ length before → DefinitionStops before b (complaint 6 (b .first .number))
-  definition-text : (l : Line) (ls : List Line) → b .others ≡ l ∷ ls → ((r : Items) → WrittenDefinitionText l ls r → ⊥) → DefinitionStops before b (complaint 7 (l .number))
+  definition-text : (l : Line) (ls : List Line) → b .others ≡ l ∷ ls → ((r : Items) → WrittenDefinitionText l ls r → ⊥)
+      → DefinitionStops before b (complaint 7 (l .number))
 
 -- "Its first byte gives its kind: `@` metadata, `$` definition, else section."
 abbrev pub IsMetadata : Block → Type 0
@@ -188,9 +200,12 @@ LaterKind a b = (IsSection a × (IsSection b → ⊥)) ⊎ (IsDefinition a × Is
 -- What stops a file in stage 2, but for row 9.
 pub data TextStops (bs : List Block) : Complaint → Type 0 where
   -- 3: "block kind after a later kind", on the block's first line
-  kind-late : (before behind : List Block) (a b : Block) → bs ≡ before ++ (b ∷ behind) → List·Memᴰ a before → LaterKind a b → TextStops bs (complaint 3 (b .first .number))
-  in-metadata : {c : Complaint} (ms : List Block) (before behind : List Line) (l : Line) → OfKind IsMetadata bs ms → linesOf ms ≡ before ++ (l ∷ behind) → MetadataStops before l c → TextStops bs c
-  in-definition : {c : Complaint} (ds before behind : List Block) (b : Block) → OfKind IsDefinition bs ds → ds ≡ before ++ (b ∷ behind) → DefinitionStops before b c → TextStops bs c
+  kind-late : (before behind : List Block) (a b : Block) → bs ≡ before ++ (b ∷ behind) → List·Memᴰ a before → LaterKind a b
+      → TextStops bs (complaint 3 (b .first .number))
+  in-metadata : {c : Complaint} (ms : List Block) (before behind : List Line) (l : Line) → OfKind IsMetadata bs ms → linesOf ms ≡ before ++ (l ∷ behind)
+      → MetadataStops before l c → TextStops bs c
+  in-definition : {c : Complaint} (ds before behind : List Block) (b : Block) → OfKind IsDefinition bs ds → ds ≡ before ++ (b ∷ behind)
+      → DefinitionStops before b c → TextStops bs c
   in-section : {c : Complaint} (ss : List Block) (b : Block) → OfKind IsSection bs ss → List·Memᴰ b ss → SectionStops b c → TextStops bs c
 
 -- 9: "no section, nothing else in stage 2", on line 0.
