@@ -1,4 +1,5 @@
 /* From the cause of a refusal to the advice. */
+#include "chords.h"
 #include "page.h"
 
 /* A mark that some programs write at a file's beginning, and that is read as a character of the first line. */
@@ -6,6 +7,21 @@ static bool begins_with_mark(const struct page *page)
 {
     return begins_with(page->text, (struct stretch){0, page->text.length}, "\xEF\xBB\xBF") && page->cause->refusal > TURNIPCART_BAD_TEXT
         && page->cause->line > 0 && block_first(page->text, page->cause->line) == 1;
+}
+
+/* The block of the refusal begins with the dashes that should part its lyrics from the chords above. */
+static bool begins_with_dashes(const struct page *page)
+{
+    size_t line = page->cause->place_line;
+    size_t first = line > 0 ? block_first(page->text, line) : 0;
+    return page->cause->refusal >= TURNIPCART_PATTERN && first > 1 && is_dashes(page->text, line_at(page->text, first));
+}
+
+static void advise_dashes_as_name(struct page *page)
+{
+    point_at_line(page, block_first(page->text, page->cause->place_line));
+    say(page, "these dashes are read as a section's name, for a blank line parts them from the chords above");
+    repair(page, "delete the blank line %n before them", page->advice->line - 1);
 }
 
 static void advise_mark(struct page *page)
@@ -51,6 +67,8 @@ void advise(struct text text, const struct turnipcart_cause *cause, char *room, 
         point_at(&page, page.place);
     if (begins_with_mark(&page))
         advise_mark(&page);
+    else if (begins_with_dashes(&page))
+        advise_dashes_as_name(&page);
     else if (cause->cause == TURNIPCART_CAUSE_NONE)
         advise_plainly(&page);
     else

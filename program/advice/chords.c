@@ -142,7 +142,11 @@ bool looks_like_lyrics(struct text text, struct stretch line)
     size_t chords;
     size_t others;
     weigh(text, line, &chords, &others);
-    others += count_at_end(text, line).length > 0;
+    if (count_at_end(text, line).length > 0)
+        return others + 1 > chords;
+    for (size_t at = line.start; at < end_of(line); at++)
+        if (text.bytes[at] == ';')
+            return false;
     return others > chords && line.length > 2;
 }
 

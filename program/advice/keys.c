@@ -19,30 +19,43 @@ static struct stretch setting_meant(struct text text, struct stretch line, size_
     return (struct stretch){from, end_of(line) - from};
 }
 
-/* Says which name to write in place of an unknown one; false where none is near. */
+/* A name that is whole but for what stands directly behind it, as `@bpm=120` or `_repeat2`. */
+static bool repair_joined(struct page *page, struct stretch letters, struct stretch setting, size_t first, size_t last)
+{
+    size_t meant = name_meant(page->text, letters, first, last);
+    if (meant == NAMES || end_of(letters) == end_of(page->place))
+        return false;
+    if (setting.length > 0)
+        repair(page, "write `%s %w`, with a space behind the name", name_of(meant), setting);
+    else
+        repair(page, "write `%s`", name_of(meant));
+    return true;
+}
+
+/* A name behind a space, as `@ bpm 120`. */
+static bool repair_parted(struct page *page, struct stretch setting, size_t first, size_t last)
+{
+    size_t meant = name_meant(page->text, next_word(page->text, setting, setting.start), first, last);
+    if (page->place.length > 1 || meant == NAMES)
+        return false;
+    repair(page, "write `%s` without a space in it", name_of(meant));
+    return true;
+}
+
 bool repair_name(struct page *page, size_t first, size_t last)
 {
     struct stretch name = page->place;
     struct stretch letters = letters_of(page->text, name);
     struct stretch setting = setting_meant(page->text, line_here(page), end_of(letters));
-    size_t meant = name_meant(page->text, (struct stretch){name.start + 1, name.length - 1}, first, last);
-    if (meant < NAMES) {
-        repair(page, page->text.bytes[name.start] == '@' ? "write %s" : "write `%s`", name_of(meant));
+    if (repair_joined(page, letters, setting, first, last) || repair_parted(page, setting, first, last))
         return true;
-    }
-    if (letters.length == 0 && setting.length > 0) {
-        struct stretch word = next_word(page->text, setting, setting.start);
-        meant = name_meant(page->text, word, first, last);
-        if (meant < NAMES)
-            repair(page, "write `%s` without a space in it", name_of(meant));
-        return meant < NAMES;
-    }
-    meant = name_meant(page->text, letters, first, last);
-    if (meant < NAMES && setting.length > 0)
-        repair(page, "write `%s %w`, with a space behind the name", name_of(meant), setting);
-    else if (meant < NAMES)
-        repair(page, "write `%s`", name_of(meant));
-    return meant < NAMES;
+    size_t meant = name_meant(page->text, (struct stretch){name.start + 1, name.length - 1}, first, last);
+    if (meant == NAMES)
+        return false;
+    repair(page, page->text.bytes[name.start] == '@' ? "write %s" : "write `%s`", name_of(meant));
+    if (meant == NAME_CUT_END && is_word_loosely(page->text, letters, "cut"))
+        repair(page, "write `_cutStart` for the beginning, `_cutEnd` for the end");
+    return true;
 }
 
 static void advise_unknown(struct page *page)

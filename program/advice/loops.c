@@ -98,12 +98,26 @@ static void advise_loop_in_loop(struct page *page)
     go_on(page, "%w`", (struct stretch){end_of(digits), end_of(line) - end_of(digits)});
 }
 
+/* A loop's bracket and its count stand directly before a place, blanks aside. */
+static bool stands_behind_loop(struct text text, size_t at)
+{
+    while (at > 0 && is_blank(text.bytes[at - 1]))
+        at--;
+    while (at > 0 && is_digit(text.bytes[at - 1]))
+        at--;
+    return at > 0 && text.bytes[at - 1] == ']';
+}
+
 static void advise_not_parted(struct page *page)
 {
     if (page->text.bytes[page->place.start] == '[') {
-        bool chord_before = page->place.start > 0 && page->text.bytes[page->place.start - 1] != ' ';
-        say(page, chord_before ? "a loop stands beside a chord" : "no `;` stands before this loop");
-        repair(page, "between measures write `;`; `[C]` is a loop here, not a chord over words; write chords alone and lyrics below `--`");
+        if (stands_behind_loop(page->text, page->place.start)) {
+            say(page, "no `;` stands between these two loops");
+            repair(page, "write one before this `[`");
+            return;
+        }
+        say(page, "a loop stands beside a chord");
+        repair(page, "write `;` before it; `[C]` is a loop here, not a chord over words; write chords alone and lyrics below `--`");
     } else {
         say(page, "no `;` stands before `%w`", page->place);
         repair(page, "write one: `;%w`", page->place);

@@ -39,6 +39,16 @@ static void advise_missing(struct page *page)
     repair(page, "end it with a space, `_` and its measures, as ` _2`");
 }
 
+static void advise_wrong(struct page *page)
+{
+    struct stretch digits = next_number(page->text, page->place, page->place.start);
+    size_t count = value_of(page->text, digits);
+    say(page, "`%w` is no count", page->place);
+    repair(page, "a count is a whole number from 1 to 9999 of measures");
+    if (end_of(digits) == end_of(page->place) && count >= 1 && count <= LARGEST_COUNT)
+        go_on(page, ": ` _%n`", count);
+}
+
 /* A count without a plain space before it. */
 static void advise_tight(struct page *page)
 {
@@ -84,10 +94,7 @@ void advise_lyrics(struct page *page)
     switch (page->cause->cause) {
     case TURNIPCART_CAUSE_COUNT_SUM: advise_sum(page); return;
     case TURNIPCART_CAUSE_COUNT_TIGHT: advise_tight(page); break;
-    case TURNIPCART_CAUSE_COUNT_WRONG:
-        say(page, "`%w` is no count", page->place);
-        repair(page, "a count is a whole number from 1 to 9999 of measures");
-        break;
+    case TURNIPCART_CAUSE_COUNT_WRONG: advise_wrong(page); break;
     case TURNIPCART_CAUSE_COUNT_ALONE:
         say(page, "`%w` stands alone, so it is no count", page->place);
         repair(page, "write words before it, as `***Solo*** %w`", page->place);

@@ -76,6 +76,10 @@ static void advise_reference_here(struct page *page)
         return;
     }
     say(page, "`%w` must be the only thing in a section's pattern", page->place);
+    if (page->place.length == line_here(page).length) {
+        repair(page, "put all of it into a definition, as `$%n`, and name that here; to repeat it use `_repeat 2`", free_reference(page->text));
+        return;
+    }
     repair(page, "put the rest into a definition, as `$%n` / `%w`, and name that here; to repeat it use `_repeat 2`", free_reference(page->text),
            line_here(page));
 }

@@ -61,21 +61,19 @@ static void advise_no_chord_before(struct page *page)
     note_header(page);
 }
 
-/* The modifiers of the section that change its length. */
+/* The cuts of the section. */
 static void write_cuts(struct page *page)
 {
-    size_t line = page->advice->line;
-    size_t last = block_last(page->text, line);
+    size_t at = line_start(page->text, page->place.start);
     const char *between = "it has `";
+    struct stretch line = next_line(page->text, &at);
     repair(page, "%s", "");
-    for (line++; line <= last; line++) {
-        struct stretch found = line_at(page->text, line);
-        if (is_word(page->text, found, "--"))
-            break;
-        if (begins_with(page->text, found, name_of(NAME_CUT_START)) || begins_with(page->text, found, name_of(NAME_CUT_END))) {
-            go_on(page, "%s%w`", between, found);
-            between = ", `";
-        }
+    while (line.length > 0 && !is_word(page->text, line, "--")) {
+        line = next_line(page->text, &at);
+        if (!begins_with(page->text, line, name_of(NAME_CUT_START)) && !begins_with(page->text, line, name_of(NAME_CUT_END)))
+            continue;
+        go_on(page, "%s%w`", between, line);
+        between = ", `";
     }
 }
 

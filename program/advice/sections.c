@@ -21,10 +21,24 @@ static void advise_blank_in_lyrics(struct page *page, size_t line)
     repair(page, "if it is a lyric line, delete the blank line %n before it", line - 1);
 }
 
-static void advise_chords_as_name(struct page *page)
+static void advise_chords_as_name(struct page *page, size_t line)
 {
+    size_t before = written_before(page->text, line);
     say(page, "these chords stand where the section's name should be");
     repair(page, "write a name above them, as `Verse`");
+    if (before > 0 && before < line - 1 && looks_like_chords(page->text, line_at(page->text, before)) && block_first(page->text, before) < before)
+        go_on(page, "; if they belong to the section above, delete the blank line %n", line - 1);
+}
+
+/* A key of the song without its `@`, as `name Blue Moon`: its number, NAMES where the line is none; and the setting. */
+static size_t bare_key(struct text text, struct stretch line, struct stretch *setting)
+{
+    struct stretch word = next_word(text, line, line.start);
+    size_t at = end_of(word);
+    while (at < end_of(line) && (is_blank(text.bytes[at]) || text.bytes[at] == ':' || text.bytes[at] == '='))
+        at++;
+    *setting = (struct stretch){at, end_of(line) - at};
+    return setting->length > 0 && word.length > 2 ? name_meant(text, word, 0, KEYS) : NAMES;
 }
 
 /* A header alone in its block, with chords in the next one. */
@@ -51,11 +65,15 @@ static bool is_row_of_chords(struct text text, struct stretch line)
 static void advise_bare_header(struct page *page, size_t line, struct stretch name)
 {
     struct stretch below = line_at(page->text, line + 1);
+    struct stretch setting;
+    size_t key = bare_key(page->text, name, &setting);
     say(page, "`%w` has no chords", name);
     if (below.length > 0 && is_word(page->text, below, "--"))
         repair(page, "write them between this line and the `--`; a measure of silence is `_`");
     else if (below.length > 0 && page->text.bytes[below.start] == '_')
         repair(page, "write them directly under it, above `%w`", below);
+    else if (key < NAMES && written_before(page->text, line) == 0)
+        repair(page, "if it is a key of the song, write `%s %w`", name_of(key), setting);
     else if (line == 1)
         repair(page, "if it is the song's title, write `@name %w`; if a section's name, write its chords on the next line", name);
     else if (below.length > 0)
@@ -78,7 +96,7 @@ static void advise_no_pattern(struct page *page)
                                                       && text.bytes[line_at(text, line + 1).start] != '@')))
         advise_blank_in_lyrics(page, line);
     else if (is_row_of_chords(text, header))
-        advise_chords_as_name(page);
+        advise_chords_as_name(page, line);
     else if (last == line && chords_next)
         advise_blank_below(page, name, line);
     else if (behind_lyrics && last == line && !looks_like_header(text, header))

@@ -92,8 +92,8 @@ static void repair_cut(struct page *page)
     struct stretch lower = next_number(text, page->place, end_of(upper));
     size_t measures = value_of(text, upper);
     size_t beats = value_of(text, lower);
-    bool in_beats = has_word(text, page->place, "beat");
-    bool in_measures = has_word(text, page->place, "mea") || has_word(text, page->place, "bar");
+    bool in_measures = has_word(text, page->place, "mea") || has_word(text, page->place, "bar") || has_word(text, page->place, "m");
+    bool in_beats = has_word(text, page->place, "b") && !in_measures;
     struct character sign = character_at(text.bytes, text.length, page->place.start);
     bool led_by_dash = is_dash(sign.code);
     if (lower.length > 0 && measures > 0 && beats > 0 && !(measures > LARGEST_COUNT || beats > LARGEST_COUNT))
