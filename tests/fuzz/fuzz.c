@@ -17,7 +17,7 @@ enum { GUARD = 16, MOST = 65536 * 32 + 64, REFUSALS = 20 };
 static const size_t sizes[TABLES] = {4, 8, 4, 4, 8};
 
 /* A table lent inside a larger piece of memory. */
-struct lent {
+struct table {
     unsigned char *memory;
     size_t length; /* in words */
 };
@@ -25,7 +25,7 @@ struct lent {
 struct trial {
     struct chart chart, kept;
     size_t wanted[TABLES];
-    struct lent ours[TABLES], theirs[TABLES];
+    struct table ours[TABLES], theirs[TABLES];
     struct {
         size_t before[4];
         struct turnipcart_answer answer;
@@ -53,7 +53,7 @@ static unsigned char filling(const struct trial *trial, size_t place)
     return (unsigned char)((trial->fill >> place % 8 * 8) + place / 8 * 37);
 }
 
-static unsigned char *words_of(const struct lent *lent, int table)
+static unsigned char *table_words(const struct table *lent, int table)
 {
     return lent->memory + GUARD * sizes[table];
 }
@@ -66,14 +66,14 @@ static void lend(struct trial *trial, int table)
     memcpy(trial->theirs[table].memory, trial->ours[table].memory, bytes);
 }
 
-static struct reader_tables tables_of(struct lent *lent)
+static struct reader_tables tables_of(struct table *lent)
 {
     struct reader_tables tables = {
-        (uint32_t *)(void *)words_of(&lent[KEYS], KEYS), lent[KEYS].length,
-        (uint64_t *)(void *)words_of(&lent[SECTIONS], SECTIONS), lent[SECTIONS].length,
-        (uint32_t *)(void *)words_of(&lent[MEASURES], MEASURES), lent[MEASURES].length,
-        (uint32_t *)(void *)words_of(&lent[BEATS], BEATS), lent[BEATS].length,
-        (uint64_t *)(void *)words_of(&lent[ITEMS], ITEMS), lent[ITEMS].length,
+        (uint32_t *)(void *)table_words(&lent[KEYS], KEYS), lent[KEYS].length,
+        (uint64_t *)(void *)table_words(&lent[SECTIONS], SECTIONS), lent[SECTIONS].length,
+        (uint32_t *)(void *)table_words(&lent[MEASURES], MEASURES), lent[MEASURES].length,
+        (uint32_t *)(void *)table_words(&lent[BEATS], BEATS), lent[BEATS].length,
+        (uint64_t *)(void *)table_words(&lent[ITEMS], ITEMS), lent[ITEMS].length,
     };
     return tables;
 }
@@ -94,7 +94,7 @@ static void choose_lengths(struct numbers *numbers, struct trial *trial)
 }
 
 /* Bytes of a table, from one place to another, that are not as they were: the first such place, or `end`. */
-static size_t first_changed(const struct trial *trial, const struct lent *lent, size_t start, size_t end)
+static size_t first_changed(const struct trial *trial, const struct table *lent, size_t start, size_t end)
 {
     while (start < end && lent->memory[start] == filling(trial, start))
         start++;
@@ -107,7 +107,7 @@ static const char *judge_tables(struct trial *trial)
     int accepted = answer.refusal == READER_ACCEPTED;
     size_t written[TABLES] = {accepted ? READER_KEYS : 0, answer.sections, answer.measures, answer.beats, answer.items};
     for (int table = 0; table < TABLES; table++) {
-        struct lent *ours = &trial->ours[table];
+        struct table *ours = &trial->ours[table];
         size_t size = sizes[table];
         size_t guard = GUARD * size;
         size_t past = guard + written[table] * size;
@@ -142,14 +142,14 @@ static const char *judge_answer(const struct trial *trial, size_t refusal)
 /* One byte changed after the call, to see that it is noticed. */
 static void spoil(struct trial *trial, const char *part)
 {
-    struct lent *beats = &trial->ours[BEATS];
+    struct table *beats = &trial->ours[BEATS];
     size_t accepted = trial->expected.refusal == READER_ACCEPTED;
     if (strcmp(part, "read-guard") == 0)
         beats->memory[(GUARD + beats->length) * 4] ^= 1;
     if (strcmp(part, "read-past") == 0 && beats->length > trial->expected.beats)
-        words_of(beats, BEATS)[4 * beats->length - 1] ^= 1, words_of(&trial->theirs[BEATS], BEATS)[4 * beats->length - 1] ^= 1;
+        table_words(beats, BEATS)[4 * beats->length - 1] ^= 1, table_words(&trial->theirs[BEATS], BEATS)[4 * beats->length - 1] ^= 1;
     if (strcmp(part, "read-word") == 0 && accepted && trial->expected.beats > 0)
-        words_of(beats, BEATS)[0] ^= 1;
+        table_words(beats, BEATS)[0] ^= 1;
     if (strcmp(part, "read-count") == 0 && accepted)
         trial->given.answer.measures++;
     if (strcmp(part, "read-text") == 0)
