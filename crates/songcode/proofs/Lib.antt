@@ -84,6 +84,7 @@ pub mod LayoutLaws
 pub mod StarredProved
 pub mod EdgesProved
 pub mod EitherOrderProved
+pub mod EachSectionProved
 pub mod ShownProved
 pub mod ClausesProved
 pub mod Demanded

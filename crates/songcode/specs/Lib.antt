@@ -43,6 +43,7 @@ pub mod Layout
 pub mod Starred
 pub mod Edges
 pub mod EitherOrder
+pub mod EachSection
 pub mod Shown
 pub mod Clauses
 pub mod Demands
