@@ -20,6 +20,7 @@ pub mod BlocksAgree
 -- Pattern text.
 pub mod PatternLaws
 pub mod NumbersAgree
+pub mod DecimalAgree
 pub mod Spellings
 pub mod LongestBase
 pub mod ChordsAgree
@@ -52,7 +53,9 @@ pub mod TextStops
 -- References and playing.
 pub mod ReferencesAgree
 pub mod ReferenceStops
+pub mod SaidOnce
 pub mod PutInPlain
+pub mod PutInAgree
 pub mod PlayingAgree
 pub mod RowLaws
 pub mod TurnedRows
@@ -79,6 +82,7 @@ pub mod TablesAgree
 pub mod AnswerAgree
 pub mod RefusalsAgree
 pub mod RefusalNumbers
+pub mod ApartAgree
 pub mod FindingAgree
 pub mod LayoutLaws
 pub mod StarredProved

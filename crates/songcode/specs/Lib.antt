@@ -44,6 +44,7 @@ pub mod Starred
 pub mod Edges
 pub mod EitherOrder
 pub mod EachSection
+pub mod Apart
 pub mod Shown
 pub mod Clauses
 pub mod Demands
