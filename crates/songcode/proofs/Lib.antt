@@ -21,6 +21,7 @@ pub mod BlocksAgree
 -- Pattern text.
 pub mod PatternLaws
 pub mod NumbersAgree
+pub mod DecimalAgree
 pub mod Spellings
 pub mod ChordNumbers
 pub mod LongestBase
@@ -54,7 +55,9 @@ pub mod TextStops
 -- References and playing.
 pub mod ReferencesAgree
 pub mod ReferenceStops
+pub mod SaidOnce
 pub mod PutInPlain
+pub mod PutInAgree
 pub mod PlayingAgree
 pub mod RowLaws
 pub mod TurnedRows
@@ -81,11 +84,13 @@ pub mod TablesAgree
 pub mod AnswerAgree
 pub mod RefusalsAgree
 pub mod RefusalNumbers
+pub mod ApartAgree
 pub mod LayoutLaws
 pub mod SongAlone
 pub mod StarredProved
 pub mod EdgesProved
 pub mod EitherOrderProved
+pub mod EachSectionProved
 pub mod ShownProved
 pub mod ClausesProved
 pub mod Demanded

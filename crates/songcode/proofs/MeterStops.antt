@@ -27,7 +27,7 @@ use Rattle.songcode.specs.StoppedSong.{Stops4, of-pattern, of-lead-in, o
 use Rattle.songcode.proofs.ListLaws.{by-cases, true-is-not-false}
 use Rattle.songcode.proofs.PatternLaws.{none-some}
 use Rattle.songcode.proofs.MemberLaws.{either, in-gather, gather-in, in-complaint, complaint-in}
-use Rattle.songcode.proofs.ReferenceStops.{absent-member}
+use Rattle.songcode.proofs.SaidOnce.{SaidOnce, lead-in-said, tail-said}
 use Rattle.songcode.proofs.PlayingAgree.{positions-some, share-is}
 use Rattle.songcode.proofs.InheritsAgree.{says-meter}
 use Rattle.songcode.proofs.MeterAgree.{PlainSection, PlainSections}
@@ -192,61 +192,6 @@ in-row n line r (again-first a) =
     Memᴰ·append-right (complainIf (not (allFit n r)) 12 line)
     (complaint-in 13 line (items-stray none r ∙ ap (λ z. stray-list none z) (a .written) ∙ found-stray (a .front) (a .back) (a .noneBefore)))
 
--- What the modifiers of a section say: each stands once.
-said-before : (ms : List Modifier) (y : Side) → saidBy beforeSaid ms ≡ some y → List·Memᴰ (before (y .line) (y .items)) ms
-unfolding saidBy beforeSaid firstThere
-said-before [] y e = none-some refl e
-said-before (repeated n ∷ ms) y e = List·Memᴰ·tail (said-before ms y e)
-said-before (cutStart c ∷ ms) y e = List·Memᴰ·tail (said-before ms y e)
-said-before (cutEnd c ∷ ms) y e = List·Memᴰ·tail (said-before ms y e)
-said-before (before l r ∷ ms) y e = let h : record { line = l; items = r } ≡ y = cc in List·Memᴰ·head (ap (λ z. before (z .line) (z .items)) (sym h))
-said-before (after l r ∷ ms) y e = List·Memᴰ·tail (said-before ms y e)
-
-said-after : (ms : List Modifier) (y : Side) → saidBy afterSaid ms ≡ some y → List·Memᴰ (after (y .line) (y .items)) ms
-unfolding saidBy afterSaid firstThere
-said-after [] y e = none-some refl e
-said-after (repeated n ∷ ms) y e = List·Memᴰ·tail (said-after ms y e)
-said-after (cutStart c ∷ ms) y e = List·Memᴰ·tail (said-after ms y e)
-said-after (cutEnd c ∷ ms) y e = List·Memᴰ·tail (said-after ms y e)
-said-after (before l r ∷ ms) y e = List·Memᴰ·tail (said-after ms y e)
-said-after (after l r ∷ ms) y e = let h : record { line = l; items = r } ≡ y = cc in List·Memᴰ·head (ap (λ z. after (z .line) (z .items)) (sym h))
-
-module _ (l : ℕ) (r : Items) where
-  before-said : (ms : List Modifier) → Distinct (map modifierNumber ms) → List·Memᴰ (before l r) ms
-      → saidBy beforeSaid ms ≡ some (record { line = l; items = r })
-  unfolding saidBy beforeSaid firstThere Distinct modifierNumber
-  before-said [] d m = absurd (List·Memᴰ·not-nil m)
-  before-said (x ∷ ms) d m =
-      ⊎-elim
-      (λ e. subst (λ z. saidBy beforeSaid (z ∷ ms) ≡ some (record { line = l; items = r })) e refl)
-      (λ i. go x (λ e. absent-member (modifierNumber x) 3 (map modifierNumber ms) (d .0) (Memᴰ·map modifierNumber i) e) (before-said ms (d .1) i))
-      (List·Memᴰ·cases-cons m)
-    where
-      go : (x : Modifier) → (modifierNumber x ≡ 3 → ⊥) → saidBy beforeSaid ms ≡ some (record { line = l; items = r })
-          → saidBy beforeSaid (x ∷ ms) ≡ some (record { line = l; items = r })
-      go (repeated n) h e = e
-      go (cutStart c) h e = e
-      go (cutEnd c) h e = e
-      go (before k q) h e = absurd (h refl)
-      go (after k q) h e = e
-
-  after-said : (ms : List Modifier) → Distinct (map modifierNumber ms) → List·Memᴰ (after l r) ms → saidBy afterSaid ms ≡ some (record { line = l; items = r })
-  unfolding saidBy afterSaid firstThere Distinct modifierNumber
-  after-said [] d m = absurd (List·Memᴰ·not-nil m)
-  after-said (x ∷ ms) d m =
-      ⊎-elim
-      (λ e. subst (λ z. saidBy afterSaid (z ∷ ms) ≡ some (record { line = l; items = r })) e refl)
-      (λ i. go x (λ e. absent-member (modifierNumber x) 4 (map modifierNumber ms) (d .0) (Memᴰ·map modifierNumber i) e) (after-said ms (d .1) i))
-      (List·Memᴰ·cases-cons m)
-    where
-      go : (x : Modifier) → (modifierNumber x ≡ 4 → ⊥) → saidBy afterSaid ms ≡ some (record { line = l; items = r })
-          → saidBy afterSaid (x ∷ ms) ≡ some (record { line = l; items = r })
-      go (repeated n) h e = e
-      go (cutStart c) h e = e
-      go (cutEnd c) h e = e
-      go (before k q) h e = e
-      go (after k q) h e = absurd (h refl)
-
 -- Sections of a written song.
 pub each-member : {A B : Type 0} {R : A → B → Type 0} {xs : List A} {ys : List B} {y : B} → Each R xs ys → List·Memᴰ y ys → (x : A) × R x y
 each-member none-each m = absurd (List·Memᴰ·not-nil m)
@@ -275,14 +220,14 @@ module _ (s : Song) {bs : List Block} (w : WrittenSong bs s) (refers : Definitio
   unfolding sideFaults
   lead-in x i none e m = absurd (List·Memᴰ·not-nil m)
   lead-in x i (some y) e m =
-      of-lead-in x (timeOf s x) (y .line) (y .items) i (plain x i .meter) (said-before (x .modifiers) y e) (row-in (timeOf s x) (y .line) (y .items) m)
+      of-lead-in x (timeOf s x) (y .line) (y .items) i (plain x i .meter) (lead-in-said .member (x .modifiers) y e) (row-in (timeOf s x) (y .line) (y .items) m)
 
   tail-in : (x : Section) → List·Memᴰ x (s .sections) → (o : Option Side) → saidBy afterSaid (x .modifiers) ≡ o → {c : Complaint}
       → List·Memᴰ c (sideFaults (timeOf s x) o) → Stops4 s c
   unfolding sideFaults
   tail-in x i none e m = absurd (List·Memᴰ·not-nil m)
   tail-in x i (some y) e m =
-      of-tail x (timeOf s x) (y .line) (y .items) i (plain x i .meter) (said-after (x .modifiers) y e) (row-in (timeOf s x) (y .line) (y .items) m)
+      of-tail x (timeOf s x) (y .line) (y .items) i (plain x i .meter) (tail-said .member (x .modifiers) y e) (row-in (timeOf s x) (y .line) (y .items) m)
 
   meter-stated : {c : Complaint} → List·Memᴰ c (meterFaults s) → Stops4 s c
   unfolding meterFaults sectionMeter
@@ -310,13 +255,13 @@ module _ (s : Song) {bs : List Block} (w : WrittenSong bs s) (refers : Definitio
       of-section x i
       (Memᴰ·append-left _
       (Memᴰ·append-right (playedFaults (timeOf s x) (x .header) (patternItems (s .definitions) (x .pattern)))
-      (subst (λ o. List·Memᴰ c (sideFaults (timeOf s x) o)) (sym (before-said l r (x .modifiers) (once x i) m)) row)))
+      (subst (λ o. List·Memᴰ c (sideFaults (timeOf s x) o)) (sym (lead-in-said .said (x .modifiers) (record { line = l; items = r }) (once x i) m)) row)))
   stated-meter {c} (of-tail x n l r i h m t) =
       let row = subst (λ k. List·Memᴰ c (rowFaults k l r)) (says-meter s x n h) (in-row n l r t) in
       of-section x i
       (Memᴰ·append-right
       (playedFaults (timeOf s x) (x .header) (patternItems (s .definitions) (x .pattern)) ++ sideFaults (timeOf s x) (saidBy beforeSaid (x .modifiers)))
-      (subst (λ o. List·Memᴰ c (sideFaults (timeOf s x) o)) (sym (after-said l r (x .modifiers) (once x i) m)) row))
+      (subst (λ o. List·Memᴰ c (sideFaults (timeOf s x) o)) (sym (tail-said .said (x .modifiers) (record { line = l; items = r }) (once x i) m)) row))
 
   pub meter-stops-exact : {c : Complaint} → List·Memᴰ c (meterFaults s) ↔ Stops4 s c
   meter-stops-exact = (meter-stated, stated-meter)

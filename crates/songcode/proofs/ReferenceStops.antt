@@ -34,7 +34,7 @@ no-definition n (d ∷ ds) h e m i =
     (λ f. ⊎-elim (λ p. true-is-not-false (eq-eqb (d .id) n (ap (λ x. x .id) (sym p) ∙ i)) f) (λ j. no-definition n ds (rw f at h) e j i)
     (List·Memᴰ·cases-cons m))
 
-a-definition : (n : ℕ) (ds : List Definition) (d : Definition) → definitionOf n ds ≡ some d → List·Memᴰ d ds × (d .id ≡ n)
+pub a-definition : (n : ℕ) (ds : List Definition) (d : Definition) → definitionOf n ds ≡ some d → List·Memᴰ d ds × (d .id ≡ n)
 unfolding definitionOf if_then_else_
 a-definition n [] d h = none-some refl h
 a-definition n (x ∷ ds) d h =
@@ -53,7 +53,7 @@ missing n ds h = go (definitionOf n ds) refl
 abbrev pub One : List Definition → Type 0
 One ds = (a b : Definition) → List·Memᴰ a ds → List·Memᴰ b ds → a .id ≡ b .id → a ≡ b
 
-there : (ds : List Definition) → One ds → (d : Definition) → List·Memᴰ d ds → definitionOf (d .id) ds ≡ some d
+pub there : (ds : List Definition) → One ds → (d : Definition) → List·Memᴰ d ds → definitionOf (d .id) ds ≡ some d
 there ds o d m = go (definitionOf (d .id) ds) refl
   where
     go : (x : Option Definition) → definitionOf (d .id) ds ≡ x → definitionOf (d .id) ds ≡ some d
@@ -92,7 +92,7 @@ loop-item (refer k) = ((λ h. let z : ⊥ = omega arith in z), (λ h. absurd h))
 max-some : (a b k : ℕ) → k ≤ max a b → (k ≤ a) ⊎ (k ≤ b)
 max-some a b k h = by-cases (leb k a) (λ t. inl (leb-true k a t)) (λ f. let n = leb-false k a f in inr (omega arith))
 
-loop-items : (r : Items) → (1 ≤ depth r) ↔ HoldsLoop r
+pub loop-items : (r : Items) → (1 ≤ depth r) ↔ HoldsLoop r
 unfolding HoldsLoop depth
 loop-items (one i) = loop-item i
 loop-items (next r s i) =
@@ -387,7 +387,7 @@ section-in s x i (items r) t m = absurd (List·Memᴰ·not-nil m)
 section-in s x i (named n) t m = named-in s x n i t (definitionOf n (s .definitions)) refl m
 
 module _ (s : Song) {bs : List Block} (w : WrittenSong bs s) where
-  ones : One (s .definitions)
+  pub ones : One (s .definitions)
   ones = distinct-one (s .definitions) (w .definitionsOnce)
 
   shallows : Shallow (s .definitions)

@@ -45,6 +45,8 @@ pub mod Layout
 pub mod Starred
 pub mod Edges
 pub mod EitherOrder
+pub mod EachSection
+pub mod Apart
 pub mod Shown
 pub mod Clauses
 pub mod Demands

@@ -1,0 +1,134 @@
+-- Each section's stretch of the tables holds the words of what it plays.
+use Prim.Native.Nat.{ℕ, _+_}
+use mathlib.Core.Path.{_≡_, refl, ap, sym, subst, _∙_}
+use mathlib.Core.List.{List, [], _∷_, _++_, map, append-assoc}
+use native.Mathlib.Nat.{zero-add, add-zero, add-assoc}
+use native.Mathlib.Omega.{arith}
+use lib.ListN.{length, length-append}
+use Rattle.songcode.specs.Lists.{gather}
+use Rattle.songcode.specs.Song.{Section, Song}
+use Rattle.songcode.specs.Playing.{Beat}
+use Rattle.songcode.specs.Tables.{Tables, sectionWord, measureWord, measureWords, beatWord}
+use Rattle.songcode.specs.Answer.{Room, accepted, answer}
+use Rattle.songcode.specs.WrittenSection.{Each, none-each, and-each}
+use Rattle.songcode.specs.Performance.{Parts, PlaysSection, joined, total}
+use Rattle.songcode.specs.WrittenTables.{partsWords, WrittenTables}
+use Rattle.songcode.specs.EachSection.{Stretch, EachSection}
+use Rattle.songcode.proofs.ListLaws.{gather-append, nil-is-not-cons}
+use Rattle.songcode.proofs.LayoutLaws.{words-laid}
+use Rattle.songcode.proofs.AnswerAgree.{accepted-exactly}
+
+-- Things that stand at the places of sections parted as the sections are.
+record Parted {A B : Type 0} (R : A → B → Type 0) (front : List A) (x : A) (behind : List A) (ys : List B) : Type 0 where
+  before : List B
+  thing : B
+  after : List B
+  written : ys ≡ before ++ (thing ∷ after)
+  holds : R x thing
+  ofFront : Each R front before
+  ofBehind : Each R behind after
+
+parted : {A B : Type 0} {R : A → B → Type 0} (front : List A) (x : A) (behind xs : List A) (ys : List B) → xs ≡ front ++ (x ∷ behind) → Each R xs ys
+    → Parted R front x behind ys
+parted [] x behind xs ys e none-each = nil-is-not-cons e
+parted {R = R} [] x behind xs ys e (and-each {x = a} {y = b} {xs = cs} {ys = bs} h hs) =
+    let p : a ≡ x = cc in
+    let q : cs ≡ behind = cc in
+    record { before = []; thing = b; after = bs; written = refl; holds = subst (λ z. R z b) p h; ofFront = none-each; ofBehind = subst (λ z. Each R z bs) q hs }
+parted (f ∷ front) x behind xs ys e none-each = nil-is-not-cons e
+parted {R = R} (f ∷ front) x behind xs ys e (and-each {x = a} {y = b} {xs = cs} {ys = bs} h hs) =
+    let p : a ≡ f = cc in
+    let q : cs ≡ front ++ (x ∷ behind) = cc in
+    let r = parted front x behind cs bs q hs in
+    record {
+      before = b ∷ r .before;
+      thing = r .thing;
+      after = r .after;
+      written = ap (λ z. b ∷ z) (r .written);
+      holds = r .holds;
+      ofFront = and-each (subst (λ z. R z b) p h) (r .ofFront);
+      ofBehind = r .ofBehind;
+    }
+
+-- Words of sections, measures and beats in a row.
+abbrev section-word : Section → ℕ → Parts → ℕ
+section-word x first p = sectionWord (x .header) first (length (joined p)) (p .meter) (p .tempo)
+
+sections-parted : {R : Section → Parts → Type 0} (first : ℕ) (front : List Section) (x : Section) (behind : List Section)
+    (ps : List Parts) (p : Parts) (qs : List Parts) → Each R front ps
+    → (partsWords first (front ++ (x ∷ behind)) (ps ++ (p ∷ qs))
+    ≡ partsWords first front ps
+    ++ (section-word x (first + length (gather joined ps)) p ∷ partsWords (first + length (gather joined ps) + length (joined p)) behind qs))
+    × (length (partsWords first front ps) ≡ length front)
+unfolding partsWords gather
+sections-parted first [] x behind [] p qs none-each = (rw (add-zero first), refl)
+sections-parted {R = R} first (f ∷ front) x behind (g ∷ ps) p qs (and-each h hs) =
+    let r = sections-parted {R = R} (first + length (joined g)) front x behind ps p qs hs in
+    let e : first + length (joined g ++ gather joined ps) ≡ first + length (joined g) + length (gather joined ps) =
+    rw (length-append (joined g) (gather joined ps)) (omega arith) in
+    (rw e (ap (λ z. sectionWord (f .header) first (length (joined g)) (g .meter) (g .tempo) ∷ z) (r .0)), let s = r .1 in omega arith)
+
+measures-joined : (first : ℕ) (a b : List (List Beat)) → measureWords first (a ++ b) ≡ measureWords first a ++ measureWords (first + total a) b
+unfolding measureWords total
+measures-joined first [] b = rw (add-zero first)
+measures-joined first (m ∷ a) b =
+    rw (← add-assoc first (length m) (total a)) (ap (λ z. measureWord first (length m) ∷ z) (measures-joined (first + length m) a b))
+
+measures-length : (first : ℕ) (a : List (List Beat)) → length (measureWords first a) ≡ length a
+unfolding measureWords
+measures-length first [] = refl
+measures-length first (m ∷ a) = let h = measures-length (first + length m) a in omega arith
+
+map-length : {A B : Type 0} (f : A → B) (xs : List A) → length (map f xs) ≡ length xs
+map-length f [] = refl
+map-length f (x ∷ xs) = let h = map-length f xs in omega arith
+
+beats-length : (a : List (List Beat)) → length (gather (map beatWord) a) ≡ total a
+unfolding gather total
+beats-length [] = refl
+beats-length (m ∷ a) = let h = beats-length a in let g = map-length beatWord m in rw (length-append (map beatWord m) (gather (map beatWord) a)) (omega arith)
+
+module _ (s : Song) (ps : List Parts) (t : Tables) (w : WrittenTables s ps t) (each : Each (PlaysSection s) (s .sections) ps) where
+  stretch-of : (front behind : List Section) (x : Section) → s .sections ≡ front ++ (x ∷ behind)
+      → (p : Parts) × PlaysSection s x p × Stretch t (length front) x p
+  unfolding gather
+  stretch-of front behind x e =
+      let r = parted front x behind (s .sections) ps e each in
+      let rows = gather joined (r .before) in
+      let p = r .thing in
+      let rest = gather joined (r .after) in
+      let all : gather joined ps ≡ rows ++ (joined p ++ rest) = ap (λ z. gather joined z) (r .written) ∙ gather-append joined (r .before) (p ∷ r .after) in
+      let words = sections-parted {R = PlaysSection s} 0 front x behind (r .before) p (r .after) (r .ofFront) in
+      let measures : t .measures ≡ measureWords 0 rows ++ (measureWords (total rows) (joined p) ++ measureWords (total rows + total (joined p)) rest) =
+      w .measures ∙ ap (λ z. measureWords 0 z) all ∙ measures-joined 0 rows (joined p ++ rest)
+      ∙ rw (zero-add (total rows)) (ap (λ z. measureWords 0 rows ++ z) (measures-joined (total rows) (joined p) rest)) in
+      let beats : t .beats ≡ gather (map beatWord) rows ++ (gather (map beatWord) (joined p) ++ gather (map beatWord) rest) =
+      w .beats ∙ ap (λ z. gather (map beatWord) z) all ∙ gather-append (map beatWord) rows (joined p ++ rest)
+      ∙ ap (λ z. gather (map beatWord) rows ++ z) (gather-append (map beatWord) (joined p) rest) in
+      let sections : t .sections ≡ partsWords 0 front (r .before)
+      ++
+      (sectionWord (x .header) (0 + length rows) (length (joined p)) (p .meter) (p .tempo) ∷ partsWords (0 + length rows + length (joined p)) behind
+      (r .after)) =
+      w .sections ∙ ap (λ z. partsWords 0 z ps) e ∙ ap (λ z. partsWords 0 (front ++ (x ∷ behind)) z) (r .written) ∙ words .0 in
+      let long : length (measureWords 0 rows) ≡ length rows = measures-length 0 rows in
+      let beaten : length (gather (map beatWord) rows) ≡ total rows = beats-length rows in (
+        p,
+        r .holds,
+        record {
+          sectionsBefore = partsWords 0 front (r .before);
+          sectionsBehind = partsWords (0 + length rows + length (joined p)) behind (r .after);
+          measuresBefore = measureWords 0 rows;
+          measuresBehind = measureWords (total rows + total (joined p)) rest;
+          beatsBefore = gather (map beatWord) rows;
+          beatsBehind = gather (map beatWord) rest;
+          inPlace = words .1;
+          sections = sections ∙ rw (zero-add (length rows), long, words-laid .section (x .header) (length rows) (length (joined p)) (p .meter) (p .tempo));
+          measures = rw beaten measures;
+          beats = beats;
+        },
+      )
+
+pub each-section : (room : Room) (bs : List ℕ) (t : Tables) → answer room bs ≡ accepted t → EachSection bs t
+each-section room bs t e =
+    let d = accepted-exactly room bs t .0 e in
+    record { song = d .song; written = d .written; stretches = stretch-of (d .song) (d .parts) t (d .words) (d .fits .plays) }
