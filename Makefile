@@ -4,8 +4,8 @@ DESTDIR =
 CFLAGS = -O2
 WARNINGS = -Wall -Wextra -Wpedantic -Wshadow -Wconversion -Wstrict-prototypes -Werror
 
-sources = $(wildcard program/*.c program/advice/*.c)
-headers = $(wildcard program/*.h program/advice/*.h)
+sources = $(wildcard program/*.c program/advice/*.c program/causes/*.c)
+headers = $(wildcard program/*.h program/advice/*.h program/causes/*.h)
 version = $(shell sed -n 's/^\#define TURNIPCART_VERSION "\(.*\)"/\1/p' include/turnipcart.h)
 flags = -std=c11 -D_POSIX_C_SOURCE=200809L $(WARNINGS) $(CFLAGS) -Ibuild -Ibuild/program
 

@@ -93,10 +93,15 @@ void put_name(const char *name)
         put_safely(name, strlen(name));
 }
 
-static void put_escape(unsigned code)
+/* A code point as JSON writes it where it must not stand as it is: one number of four digits, or two. */
+static void put_escape(uint32_t code)
 {
     static const char digits[] = "0123456789abcdef";
     char escape[] = "\\u0000";
+    if (code > 0xFFFF) {
+        put_escape(0xD7C0 + (code >> 10));
+        code = 0xDC00 + (code & 0x3FF);
+    }
     for (int place = 5; place >= 2; place--, code /= 16)
         escape[place] = digits[code % 16];
     put(escape);
@@ -110,8 +115,8 @@ void put_json(const void *bytes, size_t length)
         struct character character = character_at(from, length, at);
         if (character.code == NO_CHARACTER)
             put_escape(0xFFFD);
-        else if (character.code == '"' || character.code == '\\' || character.code < ' ' || character.code == 0x7F)
-            put_escape((unsigned)character.code);
+        else if (character.code == '"' || character.code == '\\' || character_sign(character) != NULL)
+            put_escape(character.code);
         else
             put_bytes(from + at, character.bytes);
         at += character.bytes;

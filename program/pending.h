@@ -1,5 +1,4 @@
-/* Calls that the archive does not have yet: the counts without tables, and the cause of a refusal. Here the counts are read into tables for
-   any song, and the cause is the refusal's line alone. */
+/* The call that the archive does not have yet: the cause of a refusal. */
 #ifndef PENDING_H
 #define PENDING_H
 
@@ -117,7 +116,5 @@ enum turnipcart_cause_kind {
 /* Why the chart of text_length bytes at text is refused, and where. Returns the refusal. Lent for reading: text; for writing: cause, all ten
    numbers of it, whatever they held. */
 size_t turnipcart_explain(const unsigned char *text, size_t text_length, struct turnipcart_cause *cause);
-
-size_t turnipcart_count(const unsigned char *text, size_t text_length, struct turnipcart_answer *answer);
 
 #endif

@@ -5,6 +5,7 @@ const struct subcommand *const subcommands[] = {
     &grid_subcommand,
     &list_subcommand,
     &find_subcommand,
+    &concert_subcommand,
     &explain_subcommand,
     NULL,
 };

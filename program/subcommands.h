@@ -8,6 +8,7 @@ extern const struct subcommand check_subcommand;
 extern const struct subcommand list_subcommand;
 extern const struct subcommand grid_subcommand;
 extern const struct subcommand find_subcommand;
+extern const struct subcommand concert_subcommand;
 extern const struct subcommand explain_subcommand;
 
 /* All of them, null at the end. */

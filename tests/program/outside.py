@@ -14,7 +14,7 @@ LIMIT = 65536
 SMALL_STACK = 512 * 1024
 MANY = 3000
 SECONDS = 1.0 if platform.machine() == "x86_64" else 15.0  # of processor time; an emulator takes more
-SUBCOMMANDS = ["check", "grid", "list", "find", "explain"]
+SUBCOMMANDS = ["check", "grid", "list", "find", "concert", "explain"]
 
 
 def usage(tests, folder):
@@ -54,6 +54,7 @@ def files(tests, folder):
     for length, refusal in ((LIMIT, FINE), (LIMIT + 1, REFUSAL)):
         long = write(folder, "long.sc", b"Song\nC\n--\n" + b"x" * (length - 10))
         tests.expect(f"{length} bytes", status("check", long), refusal)
+    tests.expect("a file far too long", b"has 200,000 bytes" in run("check", write(folder, "vast.sc", b"x" * 200000))[1], True)
 
 
 def from_socket(content, reset):
@@ -85,6 +86,7 @@ def outputs(tests, folder):
     """Every write is checked."""
     chart = write(folder, "output.sc", CHART)
     for words in (["check", chart], ["check", "--json", chart], ["grid", chart], ["list", chart], ["find", chart, "0"], ["explain", "7"],
+                  ["concert", "2", chart],
                   ["--help"], ["--version"], ["check", "--help"]):
         with open("/dev/full", "wb") as full:
             done = subprocess.run([PROGRAM, *words], stdout=full, stderr=subprocess.PIPE)
