@@ -102,7 +102,8 @@ pub alone-is-whole : (ts : List Token) → isAlone (checkRun first (kindsOf ts) 
 unfolding checkRun checkStep nextPlace kindsOf kindOf wholeReference isSome isAlone isLate
 alone-is-whole [] = refl
 alone-is-whole (reference n ∷ []) = refl
-alone-is-whole (reference n ∷ t ∷ ts) = late-is-not-alone (checkStep (check Alone 0 true) (kindOf t)) (kindsOf ts) (late-step (check Alone 0 true) (kindOf t) (full-late (kindOf t)))
+alone-is-whole (reference n ∷ t ∷ ts) = late-is-not-alone (checkStep (check Alone 0 true) (kindOf t)) (kindsOf ts)
+    (late-step (check Alone 0 true) (kindOf t) (full-late (kindOf t)))
 alone-is-whole (sound s ∷ ts) = late-is-not-alone (check Sounds 0 false) (kindsOf ts) refl
 alone-is-whole (opens ∷ ts) = late-is-not-alone (opened first) (kindsOf ts) (late-opened first)
 alone-is-whole (remover ∷ ts) = late-is-not-alone spoiled (kindsOf ts) refl

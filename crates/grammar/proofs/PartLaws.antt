@@ -10,7 +10,6 @@ use lib.Seq.{drop-cons}
 use Rattle.songcode.specs.Lists.{any}
 use Rattle.songcode.specs.Bytes.{placed, isByte}
 use Rattle.songcode.specs.PatternText.{barred}
-use Rattle.text.specs.Spans.{part}
 use Rattle.grammar.specs.Sides.{barredByte, anyBarred}
 
 module _ {A : Type 0} (s : List A) (i e : ℕ) where

@@ -60,12 +60,15 @@ alike-within d c e k h = by-limit d (λ l. rw (within-limit d c l, within-limit 
 
 -- One more loop is open: the depth is at least their number.
 module _ (d n : ℕ) (b : Bool) (p : Place) (low : n ≤ d) where
-  pub opened-within : opened (check p n b) ≡ checkStep (check p n b) Opens → within (max (suc n) d) (check Wants (suc n) b) ≡ checkStep (within d (check p n b)) Opens
+  pub opened-within : opened (check p n b) ≡ checkStep (check p n b) Opens
+      → within (max (suc n) d) (check Wants (suc n) b) ≡ checkStep (within d (check p n b)) Opens
   unfolding checkStep
   opened-within h =
       by-limit
       (suc n)
-      (λ m. by-limit d (λ l. rw (within-limit d (check p n b) l, within-limit (max (suc n) d) (check Wants (suc n) b) (omega arith)) (sym (opens-within p n b m) ∙ h)) (λ l. rw (past-limit d (check p n b) l, past-limit (max (suc n) d) (check Wants (suc n) b) (omega arith)) refl))
+      (λ m. by-limit d (λ l. rw (within-limit d (check p n b) l, within-limit (max (suc n) d) (check Wants (suc n) b) (omega arith))
+      (sym (opens-within p n b m) ∙ h)) (λ l. rw (past-limit d (check p n b) l, past-limit (max (suc n) d) (check Wants (suc n) b) (omega arith))
+      refl))
       (λ m. past-limit (max (suc n) d) (check Wants (suc n) b) (omega arith) ∙ spoiled-within d (check p n b) Opens (sym (opens-past p n b (omega arith)) ∙ h))
 
 -- An item in a row adds its depth and its references.
@@ -89,7 +92,8 @@ module _ (p : Place) (r : Begun) (os : List Begun) where
   pub separated : (i : Item) (s : Separator) → checkRows p (more (add r i) s) os ≡ checkItem p r os i
   unfolding checkRows checkItem depthRows depthBegun referencesRows referencesBegun
   separated i s =
-      let d : max (length os + depth (add r i)) (depthRows os) ≡ max (max (length os + depthBegun r) (depthRows os)) (length os + depthI i) = omega (arith, depth-added r i) in
+      let d : max (length os + depth (add r i)) (depthRows os) ≡ max (max (length os + depthBegun r) (depthRows os)) (length os + depthI i) = omega
+      (arith, depth-added r i) in
       rw (d, references-added r i, ← append-assoc (referencesRows os) (referencesBegun r) (referencesI i)) refl
 
   pub with-measure : (m : Measure) → checkItem p r os (measure m) ≡ checkRows p r os
@@ -105,7 +109,8 @@ module _ (p : Place) (r : Begun) (os : List Begun) where
       rw (d, some-behind (referencesRows (r ∷ os)) n) refl
 
   -- A loop that opens, where one may.
-  pub row-opened : ((n : ℕ) (b : Bool) → opened (check p n b) ≡ checkStep (check p n b) Opens) → checkRows Wants start (r ∷ os) ≡ checkStep (checkRows p r os) Opens
+  pub row-opened : ((n : ℕ) (b : Bool) → opened (check p n b) ≡ checkStep (check p n b) Opens)
+      → checkRows Wants start (r ∷ os) ≡ checkStep (checkRows p r os) Opens
   unfolding checkRows depthRows depthBegun referencesRows referencesBegun
   row-opened h =
       let b = not (isEmpty (referencesRows os ++ referencesBegun r)) in
@@ -119,7 +124,8 @@ module _ (p : Place) (r : Begun) (i : Item) (h : (n : ℕ) (b : Bool) → closed
   pub row-closed : (o : Begun) (os : List Begun) (n : ℕ) → checkItem Full o os (loop (add r i) n) ≡ checkStep (checkItem p r (o ∷ os) i) Closes
   unfolding checkItem depthRows depthBegun referencesRows depthI referencesI closed
   row-closed o os n =
-      let d : max (depthRows (o ∷ os)) (length os + suc (depth (add r i))) ≡ max (max (suc (length os) + depthBegun r) (depthRows (o ∷ os))) (suc (length os) + depthI i) = omega (arith, depth-added r i) in
+      let d : max (depthRows (o ∷ os)) (length os + suc (depth (add r i))) ≡ max (max (suc (length os) + depthBegun r) (depthRows (o ∷ os)))
+      (suc (length os) + depthI i) = omega (arith, depth-added r i) in
       rw
       (d, references-added r i, ← append-assoc (referencesRows (o ∷ os)) (referencesBegun r) (referencesI i))
       (step-within _ _ Closes _ (sym (closes-one p (length os) _) ∙ h (suc (length os)) _))

@@ -33,4 +33,5 @@ pub check-next-line : (l : Line) (ls : List Line) (m : Line) → checkLines l (l
 unfolding checkRun kindsOf kindOf
 check-next-line l ls m =
     ap (λ (ts : List Token). checkRun first (kindsOf ts)) (tokens-snoc l ls m)
-    ∙ (ap (checkRun first) (kinds-append (tokensOf l ls) (lineEnd ∷ tokens (m .text))) ∙ run-append first (kindsOf (tokensOf l ls)) (LineEnd ∷ kindsOf (tokens (m .text))))
+    ∙ (ap (checkRun first) (kinds-append (tokensOf l ls) (lineEnd ∷ tokens (m .text)))
+    ∙ run-append first (kindsOf (tokensOf l ls)) (LineEnd ∷ kindsOf (tokens (m .text))))

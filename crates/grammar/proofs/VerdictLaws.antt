@@ -12,7 +12,8 @@ use Rattle.songcode.specs.Lists.{if_then_else_, isEmpty, isSome, andThen}
 use Rattle.songcode.specs.Lines.{Line}
 use Rattle.songcode.specs.Song.{Item, Items, items}
 use Rattle.songcode.specs.Tokens.{Token, sound, remover, reference, semicolon, colon, lineEnd, opens, closes, wrong, tokensOf}
-use Rattle.songcode.specs.PatternText.{Begun, start, State, wants, has, ended, bad, add, run, done, itemsIn, depth, depthI, loopsDeep, references, noReference, kept, definitionText, wholeReference, patternBy, sectionText}
+use Rattle.songcode.specs.PatternText.{Begun, start, State, wants, has, ended, bad, add, run, done, itemsIn, depth, depthI, loopsDeep, references}
+use Rattle.songcode.specs.PatternText.{noReference, kept, definitionText, wholeReference, patternBy, sectionText}
 use Rattle.text.proofs.TestLaws.{by-cases}
 use Rattle.grammar.specs.declared.checks.Place.{Place}
 use Rattle.grammar.specs.declared.checks.Check.{Check}
@@ -61,13 +62,15 @@ module _ (test : Bool → Bool) where
   unfolding kept if_then_else_ isSome
   kept-some r = by-cases (leb (depth r) loopsDeep && test (isEmpty (references r))) (λ t. simp t) (λ t. simp t)
 
-  whole-row : (p : Place) (r : Begun) (i : Item) → isBehind p ≡ true → fine test (checkItem p r [] i) ≡ (leb (depth (add r i)) loopsDeep && test (isEmpty (references (add r i))))
+  whole-row : (p : Place) (r : Begun) (i : Item) → isBehind p ≡ true
+      → fine test (checkItem p r [] i) ≡ (leb (depth (add r i)) loopsDeep && test (isEmpty (references (add r i))))
   unfolding checkItem depthRows referencesRows
   whole-row p r i h =
       let d : max (max (0 + depthBegun r) 0) (0 + depthI i) ≡ depth (add r i) = omega (arith, depth-added r i) in
       rw
       (d, ← references-added r i)
-      (finished (depth (add r i)) p (not (isEmpty (references (add r i)))) h ∙ ap (λ (b : Bool). leb (depth (add r i)) loopsDeep && test b) (not-not (isEmpty (references (add r i)))))
+      (finished (depth (add r i)) p (not (isEmpty (references (add r i)))) h
+      ∙ ap (λ (b : Bool). leb (depth (add r i)) loopsDeep && test b) (not-not (isEmpty (references (add r i)))))
 
   pub fine-state : (s : State) → fine test (checkOf s) ≡ isSome (andThen (done s) (kept (λ q. test (isEmpty (references q)))))
   unfolding checkOf done andThen isSome checkRows checkItem definitionFine isBehind
@@ -84,7 +87,8 @@ run-check ts = sym (check-run (wants start []) ts ∙ ap (λ (c : Check). checkR
 
 pub items-fine : (ts : List Token) → definitionFine (checkRun first (kindsOf ts)) ≡ isSome (andThen (itemsIn ts) (kept (λ r. true)))
 unfolding itemsIn
-items-fine ts = sym (and-true (definitionFine (checkRun first (kindsOf ts)))) ∙ (ap (fine (λ b. true)) (run-check ts) ∙ fine-state (λ b. true) (run (wants start []) ts))
+items-fine ts = sym (and-true (definitionFine (checkRun first (kindsOf ts))))
+    ∙ (ap (fine (λ b. true)) (run-check ts) ∙ fine-state (λ b. true) (run (wants start []) ts))
 
 pub definition-fine : (l : Line) (ls : List Line) → definitionFine (checkLines l ls) ≡ isSome (definitionText l ls)
 unfolding definitionText
@@ -105,7 +109,8 @@ kept-unnamed (some r) = rw (no-reference r) refl
 
 pub unnamed-fine : (ts : List Token) → unnamedFine (checkRun first (kindsOf ts)) ≡ isSome (andThen (itemsIn ts) (kept noReference))
 unfolding itemsIn unnamedFine
-unnamed-fine ts = ap (fine (λ b. b)) (run-check ts) ∙ (fine-state (λ b. b) (run (wants start []) ts) ∙ ap isSome (kept-unnamed (done (run (wants start []) ts))))
+unnamed-fine ts = ap (fine (λ b. b)) (run-check ts) ∙ (fine-state (λ b. b) (run (wants start []) ts)
+    ∙ ap isSome (kept-unnamed (done (run (wants start []) ts))))
 
 -- A section's text: `$n` alone, or items without one.
 items-there : (o : Option Items) → isSome (andThen o (λ r. some (items r))) ≡ isSome o

@@ -41,7 +41,7 @@ unfoldable pub closed : Check → Check
 unfolding if_then_else_
 closed c = if eqb (c .loops) 0 then spoiled else check Full (c .loops - 1) (c .named)
 
-unfoldable pub isBad : Place → Bool
+abbrev pub isBad : Place → Bool
 isBad Bad = true
 isBad Fresh = false
 isBad Wants = false

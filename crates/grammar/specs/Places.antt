@@ -5,7 +5,7 @@ use Rattle.grammar.specs.declared.checks.Place.{Place}
 use Rattle.grammar.specs.declared.checks.Place.the-variants.{Fresh, Wants, Joins, Sounds, Removed, Alone, Full, Ended, Bad}
 
 -- Where an item is to come; so it is at the beginning, behind a `:`, and behind a line end.
-unfoldable pub afterWants : Kind → Place
+abbrev pub afterWants : Kind → Place
 afterWants Sound = Sounds
 afterWants Reference = Full
 afterWants Opens = Wants
@@ -16,8 +16,7 @@ afterWants LineEnd = Bad
 afterWants Closes = Bad
 afterWants Wrong = Bad
 
-unfoldable pub afterFresh : Kind → Place
-unfolding afterWants
+abbrev pub afterFresh : Kind → Place
 afterFresh Reference = Alone
 afterFresh Sound = afterWants Sound
 afterFresh Remover = afterWants Remover
@@ -28,8 +27,7 @@ afterFresh Opens = afterWants Opens
 afterFresh Closes = afterWants Closes
 afterFresh Wrong = afterWants Wrong
 
-unfoldable pub afterJoins : Kind → Place
-unfolding afterWants
+abbrev pub afterJoins : Kind → Place
 afterJoins LineEnd = Wants
 afterJoins Sound = afterWants Sound
 afterJoins Remover = afterWants Remover
@@ -40,8 +38,7 @@ afterJoins Opens = afterWants Opens
 afterJoins Closes = afterWants Closes
 afterJoins Wrong = afterWants Wrong
 
-unfoldable pub afterEnded : Kind → Place
-unfolding afterWants
+abbrev pub afterEnded : Kind → Place
 afterEnded Colon = Joins
 afterEnded Sound = afterWants Sound
 afterEnded Remover = afterWants Remover
@@ -53,7 +50,7 @@ afterEnded Closes = afterWants Closes
 afterEnded Wrong = afterWants Wrong
 
 -- Where an item is there: a loop or `$n`, a measure, a measure with removers.
-unfoldable pub afterFull : Kind → Place
+abbrev pub afterFull : Kind → Place
 afterFull Semicolon = Wants
 afterFull Colon = Joins
 afterFull LineEnd = Ended
@@ -64,8 +61,7 @@ afterFull Reference = Bad
 afterFull Opens = Bad
 afterFull Wrong = Bad
 
-unfoldable pub afterSounds : Kind → Place
-unfolding afterFull
+abbrev pub afterSounds : Kind → Place
 afterSounds Sound = Sounds
 afterSounds Remover = Removed
 afterSounds Reference = afterFull Reference
@@ -76,8 +72,7 @@ afterSounds Opens = afterFull Opens
 afterSounds Closes = afterFull Closes
 afterSounds Wrong = afterFull Wrong
 
-unfoldable pub afterRemoved : Kind → Place
-unfolding afterFull
+abbrev pub afterRemoved : Kind → Place
 afterRemoved Remover = Removed
 afterRemoved Sound = afterFull Sound
 afterRemoved Reference = afterFull Reference
@@ -88,8 +83,7 @@ afterRemoved Opens = afterFull Opens
 afterRemoved Closes = afterFull Closes
 afterRemoved Wrong = afterFull Wrong
 
-unfoldable pub nextPlace : Place → Kind → Place
-unfolding afterFresh afterWants afterJoins afterSounds afterRemoved afterFull afterEnded
+abbrev pub nextPlace : Place → Kind → Place
 nextPlace Fresh k = afterFresh k
 nextPlace Wants k = afterWants k
 nextPlace Joins k = afterJoins k

@@ -12,7 +12,7 @@ use Rattle.text.specs.declared.lines.Line.{Line}
 use Rattle.songcode.specs.Bytes as bytes
 use Rattle.songcode.specs.Numbers.{countIn}
 use Rattle.songcode.specs.SongText.{headIn}
-use Rattle.text.specs.Spans.{part, lineAt, lineText, Found}
+use Rattle.text.specs.Spans.{part, lineText, Found}
 use Rattle.tokens.specs.declared.numbers.Number.{Number}
 use Rattle.tokens.specs.Decimals.{numberOf}
 use Rattle.settings.proofs.OfLineLaws.{head-of-line}

@@ -63,7 +63,8 @@ module _ (s : List ℕ) (ls : List Line) {r : Said} (line : r .line ≡ 0) (star
       }
 
 -- One line more.
-module _ {s : List ℕ} {l : Line} {ls rest all : List Line} {slot : ℕ} {new : Said} (here : ls ≡ l ∷ rest) (e : slot ≡ slotOf l) (says : SaysLine s slot l new) where
+module _ {s : List ℕ} {l : Line} {ls rest all : List Line} {slot : ℕ} {new : Said} (here : ls ≡ l ∷ rest) (e : slot ≡ slotOf l)
+    (says : SaysLine s slot l new) where
   module _ (k : ℕ) (old : Said) (below : k < 13) (h : Sought s ls all k old) where
     stays : (old .line ≡ 0 → ⊥) → Sought s rest all k old
     unfolding firstThere

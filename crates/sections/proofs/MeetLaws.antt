@@ -1,19 +1,18 @@
 -- From section to section: the blocks behind a section's are those from the next place on, and their lines stand behind it.
 use Prim.Native.Nat.{ℕ, zero, suc, _+_, _-_, _<_, _≤_}
 use mathlib.Core.Path.{_≡_, refl, sym, ap, _∙_, subst}
-use mathlib.Core.List.{List, [], _∷_, _++_, map}
-use mathlib.Core.Bool.{Bool, true, false, not}
+use mathlib.Core.List.{List, [], _∷_, map}
+use mathlib.Core.Bool.{false, not}
 use mathlib.Core.Option.{Option, none, some}
 use native.Mathlib.Omega.{arith}
 use lib.ListN.{length, drop}
-use Rattle.songcode.specs.Lists.{if_then_else_, isEmpty, gather, taken, left, isSome, orElse}
+use Rattle.songcode.specs.Lists.{isEmpty, gather, isSome, orElse}
 use Rattle.songcode.specs.Lines.{Line, Block, shut, join, runs, blocks}
-use Rattle.songcode.specs.Song.{Section, Pattern, named}
+use Rattle.songcode.specs.Song.{Pattern, named}
 use Rattle.songcode.specs.PatternText.{sectionText}
 use Rattle.songcode.specs.Sections.{sectionFaults, sectionIn, patternIn, patternFaults, patternRun, body}
 use Rattle.songcode.proofs.ListLaws.{Each, each-map, append-is-nil, nil-is-not-cons, complainIf-nil, true-is-not-false}
 use Rattle.text.specs.Spans.{lineOf, lineAt, lineText, spansFrom}
-use Rattle.text.specs.declared.lines.Line as text
 use Rattle.text.proofs.TestLaws.{by-cases}
 use Rattle.sections.specs.declared.blocks.Place.{Place}
 use Rattle.sections.specs.declared.blocks.Parts.{Parts}
@@ -21,9 +20,8 @@ use Rattle.sections.specs.declared.blocks.SectionRead.{SectionRead}
 use Rattle.sections.specs.declared.walking.Passed.{Passed}
 use Rattle.sections.specs.declared.runs.Run.{Run}
 use Rattle.sections.specs.declared.runs.Test.the-variants.{Full}
-use Rattle.sections.specs.Runs.{textLines, passing, passes, linesOf, linesBehind}
+use Rattle.sections.specs.Runs.{textLines, passing, linesOf, linesBehind}
 use Rattle.sections.specs.BlockParts.{blockAt, linesPast, PartsAt, PartsRead, NextAt}
-use Rattle.sections.specs.SectionSays.{SectionSays}
 use Rattle.sections.specs.Onward.{sectionsFrom, Onward, sectionAt, Later, Passes, Meets}
 use Rattle.sections.proofs.ListLaws.{each-left}
 use Rattle.sections.proofs.NextLaws.{blocks-over}
@@ -41,8 +39,11 @@ from-spans : (s : List ℕ) (n at k : ℕ) (bs : List ℕ) → Each (From n) (ma
 unfolding Each spansFrom lineOf
 from-spans s n at k [] = tt
 from-spans s n at (suc k) (b ∷ bs) = from-spans s n (suc at) k bs
-from-spans s n at zero (b ∷ bs) =
-    (omega arith, each-map (λ l h. omega arith) (map (lineText s) (spansFrom (suc n) (suc at) (lineOf n at (b ∷ bs) .next - suc at) bs)) (from-spans s (suc n) (suc at) (lineOf n at (b ∷ bs) .next - suc at) bs))
+from-spans s n at zero (b ∷ bs) = (
+  omega arith,
+  each-map (λ l h. omega arith) (map (lineText s) (spansFrom (suc n) (suc at) (lineOf n at (b ∷ bs) .next - suc at) bs))
+      (from-spans s (suc n) (suc at) (lineOf n at (b ∷ bs) .next - suc at) bs),
+)
 
 pub from-lines : (s : List ℕ) (n at : ℕ) → Each (From n) (textLines s n at)
 unfolding textLines
@@ -90,7 +91,8 @@ pattern-there header (l ∷ ls) h = some-there (sectionText l ls) (complainIf-ni
     some-there none e = true-is-not-false refl e
     some-there (some q) e = refl
 
-module _ (s : List ℕ) (p : Place) (x : Parts) (q : Place) (o : Onward s p) (inside : p .at < length s) (w : PartsAt s (p .number) (p .at) x) (e : NextAt s (x .lyrics .number + x .lyrics .lines) (x .lyrics .next) q) where
+module _ (s : List ℕ) (p : Place) (x : Parts) (q : Place) (o : Onward s p) (inside : p .at < length s) (w : PartsAt s (p .number) (p .at) x)
+    (e : NextAt s (x .lyrics .number + x .lyrics .lines) (x .lyrics .next) q) where
   block : Block
   block = blockAt s (p .number) (p .at)
 
@@ -104,7 +106,8 @@ module _ (s : List ℕ) (p : Place) (x : Parts) (q : Place) (o : Onward s p) (in
 
   no-faults : (sectionFaults block ≡ []) × (gather sectionFaults (blocks (textLines s (q .number) (q .at))) ≡ [])
   unfolding gather
-  no-faults = append-is-nil (sectionFaults block) (gather sectionFaults (blocks (textLines s (q .number) (q .at)))) (ap (gather sectionFaults) (sym opened) ∙ o .fair)
+  no-faults = append-is-nil (sectionFaults block) (gather sectionFaults (blocks (textLines s (q .number) (q .at))))
+      (ap (gather sectionFaults) (sym opened) ∙ o .fair)
 
   next-onward : Onward s q
   next-onward = record { number = e .number; counted = e .counted; inside = e .inside; opens = λ h. sym (e .same) ∙ e .there h; fair = no-faults .1 }
@@ -117,7 +120,8 @@ module _ (s : List ℕ) (p : Place) (x : Parts) (q : Place) (o : Onward s p) (in
   unfolding sectionsFrom linesPast
   later =
       let n = p .number in
-      let f = blocks-from (n + 1) (linesPast s n (p .at)) (each-left (From (n + 1)) (passing Full) (textLines s (n + 1) (lineAt s n (p .at) .next)) (from-lines s (n + 1) (lineAt s n (p .at) .next))) in
+      let f = blocks-from (n + 1) (linesPast s n (p .at)) (each-left (From (n + 1)) (passing Full) (textLines s (n + 1) (lineAt s n (p .at) .next))
+      (from-lines s (n + 1) (lineAt s n (p .at) .next))) in
       rw header-is (firsts-later n (blocks (textLines s (q .number) (q .at))) (subst (Firsts (n + 1)) behind f))
 
   has-pattern : patternIn (linesOf s (x .pattern)) ≡ some (sectionAt s p .pattern)
@@ -143,11 +147,13 @@ module _ (s : List ℕ) (p : Place) (x : Parts) (q : Place) (o : Onward s p) (in
       }
 
 -- A section that is passed and read.
-pub section-meets : (s : List ℕ) (p : Place) (x : Passed) (r : SectionRead) → Onward s p → p .at < length s → Passes s p x → PartsRead s (x .section) r → Meets s p (record { section = r; next = x .next })
+pub section-meets : (s : List ℕ) (p : Place) (x : Passed) (r : SectionRead) → Onward s p → p .at < length s → Passes s p x
+    → PartsRead s (x .section) r → Meets s p (record { section = r; next = x .next })
 unfolding gather sectionAt
 section-meets s p x r o inside w e =
     let b = blockAt s (p .number) (p .at) in
-    let clean = append-is-nil (sectionFaults b) (gather sectionFaults (blocks (linesPast s (p .number) (p .at)))) (ap (gather sectionFaults) (sym (o .opens inside)) ∙ o .fair) .0 in
+    let clean = append-is-nil (sectionFaults b) (gather sectionFaults (blocks (linesPast s (p .number) (p .at))))
+    (ap (gather sectionFaults) (sym (o .opens inside)) ∙ o .fair) .0 in
     let at = parts-read s (p .number) (p .at) (x .section) r (w .read) e in
     record {
       read = at;

@@ -1,12 +1,12 @@
 -- From block to block: the lines of a text up to a block, the block, and the blocks behind it.
 use Prim.Native.Nat.{ℕ, _+_, _<_, _≤_}
 use mathlib.Core.Path.{_≡_, refl, sym, ap, _∙_, subst}
-use mathlib.Core.List.{List, [], _∷_, map}
-use mathlib.Core.Bool.{true, false, not}
+use mathlib.Core.List.{List, [], _∷_}
+use mathlib.Core.Bool.{false}
 use native.Mathlib.Omega.{arith}
-use lib.ListN.{length, drop}
+use lib.ListN.{length}
 use Rattle.songcode.specs.Lists.{if_then_else_, isEmpty, taken, left}
-use Rattle.songcode.specs.Lines.{Line, Block, shut, join, runs, blocks}
+use Rattle.songcode.specs.Lines.{Line, shut, join, runs, blocks}
 use Rattle.songcode.specs.Answer.{blocksOf}
 use Rattle.songcode.specs.SongText.{kindOfText, blockKind}
 use Rattle.songcode.specs.Bytes.{placed}
@@ -42,7 +42,8 @@ unfolding runs join blocks shut left passing passes if_then_else_
 blocks-skip [] = refl
 blocks-skip (l ∷ ls) = by-cases (isEmpty (l .text)) (λ e. rw e (blocks-skip ls)) (λ e. rw e (rw e))
 
-blocks-first : (l : Line) (ls : List Line) → isEmpty (l .text) ≡ false → blocks (l ∷ ls) ≡ record { first = l; others = taken (passing Full) ls } ∷ blocks (left (passing Full) ls)
+blocks-first : (l : Line) (ls : List Line) → isEmpty (l .text) ≡ false
+    → blocks (l ∷ ls) ≡ record { first = l; others = taken (passing Full) ls } ∷ blocks (left (passing Full) ls)
 unfolding runs join blocks shut
 blocks-first l ls e = rw (e, runs-front ls, runs-rest ls) refl
 
@@ -67,7 +68,8 @@ module _ (s : List ℕ) (n at : ℕ) (blank : Run) (r : Longest s Empty n at bla
       let m = n + blank .lines in
       let l = lineText s (lineAt s m (blank .next)) in
       let lines = behind ∙ lines-next s m (blank .next) h in
-      sym (blocks-skip (textLines s n at)) ∙ ap blocks lines ∙ blocks-first l (textLines s (m + 1) (lineAt s m (blank .next) .next)) (subst (Stops (passing Empty)) lines (left-stops (passing Empty) (textLines s n at)))
+      sym (blocks-skip (textLines s n at)) ∙ ap blocks lines ∙ blocks-first l (textLines s (m + 1) (lineAt s m (blank .next) .next))
+      (subst (Stops (passing Empty)) lines (left-stops (passing Empty) (textLines s n at)))
 
   same : blocks (textLines s n at) ≡ blocks (textLines s (n + blank .lines) (blank .next))
   same = sym (blocks-skip (textLines s n at)) ∙ ap blocks behind
@@ -87,6 +89,7 @@ module _ (s : List ℕ) (n at : ℕ) (blank : Run) (r : Longest s Empty n at bla
         there = there;
       }
 
-pub kind-is : (s : List ℕ) (n at : ℕ) {l : text.Line} {k : BlockKind} → Found s n at l → k ≡ blockKindIs (kindOfText (placed 0 (part (l .start) (l .stop) s))) → k ≡ blockKindIs (blockKind (blockAt s n at))
+pub kind-is : (s : List ℕ) (n at : ℕ) {l : text.Line} {k : BlockKind} → Found s n at l
+    → k ≡ blockKindIs (kindOfText (placed 0 (part (l .start) (l .stop) s))) → k ≡ blockKindIs (blockKind (blockAt s n at))
 unfolding blockKind blockAt
 kind-is s n at {l} f e = e ∙ rw (← (f .is)) (ap blockKindIs (sym (kindOfText-placeless (l .start) (part (l .start) (l .stop) s))))

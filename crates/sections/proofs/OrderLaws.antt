@@ -1,21 +1,20 @@
 -- Where lines stand in order, the keys are said before the pattern and the modifiers behind it.
 use Prim.Native.Nat.{ℕ, _+_}
-use mathlib.Core.Path.{_≡_, refl, sym, ap, _∙_}
-use mathlib.Core.List.{List, [], _∷_, _++_, map}
-use mathlib.Core.Bool.{true, false, not}
+use mathlib.Core.Path.{_≡_, refl, sym, _∙_}
+use mathlib.Core.List.{List, [], _∷_, map}
+use mathlib.Core.Bool.{true, false}
 use mathlib.Core.Option.{none}
 use native.Mathlib.Omega.{arith}
-use lib.Dec.{eqb}
 use borrow.Author.Tests.{ne-eqb}
 use Rattle.songcode.specs.Lists.{if_then_else_, taken, left}
 use Rattle.songcode.specs.Lines.{Line}
-use Rattle.songcode.specs.Complaints.{Complaint, complaint}
+use Rattle.songcode.specs.Complaints.{complaint}
 use Rattle.songcode.specs.Song.{KeyName}
 use Rattle.songcode.specs.Keys.{keyPlace}
 use Rattle.songcode.specs.Modifiers.{ModifierName, modifierPlace}
-use Rattle.songcode.specs.Sections.{Kind, keyLine, modifierLine, patternLine, kindOfLine, isPatternLine, notPatternLine, Place, amongKeys, early, inPattern, behind, misplaced, placeAfter, order}
+use Rattle.songcode.specs.Sections.{Kind, keyLine, modifierLine, patternLine, kindOfLine, isPatternLine, notPatternLine, Place, amongKeys}
+use Rattle.songcode.specs.Sections.{inPattern, behind, misplaced, placeAfter, order}
 use Rattle.songcode.proofs.ListLaws.{append-is-nil, nil-is-not-cons}
-use Rattle.text.proofs.TestLaws.{by-cases}
 use Rattle.sections.specs.Slots.{slotOf, settingAmong}
 use Rattle.sections.specs.BlockParts.{earlyLines, lateLines}
 use Rattle.sections.proofs.SaidLaws.{by-kind, key-below, modifier-below, slot-pattern-line, key-line-no-modifier, modifier-line-no-key}
@@ -25,7 +24,8 @@ map-nil f [] e = refl
 map-nil f (x ∷ xs) e = nil-is-not-cons (sym e)
 
 -- A line in its place, and those behind it.
-in-order : (p : Place) (l : Line) (ls : List Line) (k : Kind) → kindOfLine l ≡ k → order p (l ∷ ls) ≡ [] → (misplaced p k ≡ []) × (order (placeAfter p k) ls ≡ [])
+in-order : (p : Place) (l : Line) (ls : List Line) (k : Kind) → kindOfLine l ≡ k → order p (l ∷ ls) ≡ [] → (misplaced p k ≡ [])
+    × (order (placeAfter p k) ls ≡ [])
 unfolding order
 in-order p l ls k e h =
     let split = append-is-nil (map (λ n. complaint n (l .number)) (misplaced p (kindOfLine l))) (order (placeAfter p (kindOfLine l)) ls) h in
@@ -95,7 +95,8 @@ module _ (k : KeyName) where
       rw (not-pattern l (is-pattern l e)) (sym none-later))
 
 module _ (m : ModifierName) where
-  pattern-no-modifier : (l : Line) (ls : List Line) → kindOfLine l ≡ patternLine → settingAmong (8 + modifierPlace m) (l ∷ ls) ≡ settingAmong (8 + modifierPlace m) ls
+  pattern-no-modifier : (l : Line) (ls : List Line) → kindOfLine l ≡ patternLine
+      → settingAmong (8 + modifierPlace m) (l ∷ ls) ≡ settingAmong (8 + modifierPlace m) ls
   pattern-no-modifier l ls e = let b = modifier-below m in let c = slot-pattern-line l e in passed (8 + modifierPlace m) l ls (λ z. omega arith)
 
   behind-pattern : (ls : List Line) → settingAmong (8 + modifierPlace m) (left isPatternLine ls) ≡ settingAmong (8 + modifierPlace m) ls
@@ -114,6 +115,7 @@ module _ (m : ModifierName) where
   modifiers-late (l ∷ ls) h =
       by-kind
       (kindOfLine l)
-      (λ e. rw (yes-pattern l (is-key l e)) (modifiers-late ls (in-order amongKeys l ls keyLine e h .1) ∙ sym (passed (8 + modifierPlace m) l ls (key-line-no-modifier l e m))))
+      (λ e. rw (yes-pattern l (is-key l e)) (modifiers-late ls (in-order amongKeys l ls keyLine e h .1)
+      ∙ sym (passed (8 + modifierPlace m) l ls (key-line-no-modifier l e m))))
       (λ e. nil-is-not-cons (sym (in-order amongKeys l ls modifierLine e h .0)))
       (λ e. rw (not-pattern l (is-pattern l e)) (behind-pattern (l ∷ ls)))

@@ -1,8 +1,7 @@
 -- The parts of a section, by the runs that its lines are passed over in.
-use mathlib.Core.Path.{_≡_, refl, sym, ap, _∙_}
+use mathlib.Core.Path.{_≡_, ap, _∙_}
 use mathlib.Core.List.{List}
-use Rattle.songcode.specs.Lists.{taken, left, isEmpty}
-use Rattle.songcode.specs.Bytes.{is}
+use Rattle.songcode.specs.Lists.{taken, left}
 use Rattle.songcode.specs.Lines.{Line}
 use Rattle.songcode.specs.Sections.{kindOfLine, isPatternLine, notPatternLine, notDashes, patternRun}
 use Rattle.sections.specs.declared.runs.Test.the-variants.{Full, Body, Early, Pattern}

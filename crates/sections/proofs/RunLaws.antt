@@ -2,21 +2,17 @@
 use Prim.Native.Nat.{ℕ, _+_, _<_, _≤_}
 use mathlib.Core.Path.{_≡_, refl, sym, ap, _∙_}
 use mathlib.Core.List.{List, [], _∷_, _++_, map, append-nil, append-assoc}
-use mathlib.Core.Bool.{Bool, true, false, not, _&&_}
+use mathlib.Core.Bool.{Bool, true, false}
 use native.Mathlib.Omega.{arith}
 use native.Mathlib.Nat.{add-zero}
-use lib.Dec.{eqb}
 use lib.ListN.{length, take, drop}
 use Rattle.songcode.specs.Lists.{if_then_else_, isEmpty, taken, left}
 use Rattle.songcode.specs.Bytes.{placed}
-use Rattle.songcode.specs.Sections.{kindOf}
-use Rattle.songcode.specs.Lines as songcode
 use Rattle.text.specs.declared.lines.Line.{Line}
-use Rattle.text.specs.Spans.{part, lineAt, spansFrom, lineText, Found}
+use Rattle.text.specs.Spans.{part, lineAt, lineText, Found}
 use Rattle.text.proofs.WalkLaws.{spans-next, spans-found, spans-over}
 use Rattle.settings.proofs.PlaceLaws.{Placeless}
 use Rattle.settings.proofs.ValueLaws.{kindOf-placeless, is-placeless}
-use Rattle.sections.specs.declared.runs.Run.{Run}
 use Rattle.sections.specs.declared.runs.Test.{Test}
 use Rattle.sections.specs.declared.runs.Test.the-variants.{Empty, Full, Body, Early, Pattern}
 use Rattle.sections.specs.Runs.{textLines, inBody, isPatternText, passes, passing, linesOf, linesBehind, Longest}
@@ -81,7 +77,8 @@ module _ (s : List ℕ) (t : Test) (n at : ℕ) where
         let p = tested e in
         let rest = textLines s (n + (k + 1)) (l .next) in
         record {
-          lines = w .lines ∙ rw (here, p, take-more k (textLines s n at) (w .rest ∙ here)) (sym (append-assoc (take k (textLines s n at)) (lineText s l ∷ []) (taken (passing t) rest)));
+          lines = w .lines ∙ rw (here, p, take-more k (textLines s n at) (w .rest ∙ here))
+              (sym (append-assoc (take k (textLines s n at)) (lineText s l ∷ []) (taken (passing t) rest)));
           behind = w .behind ∙ rw (here, p);
           rest = drop-more k (textLines s n at) (w .rest ∙ here);
         }
@@ -91,7 +88,8 @@ module _ (s : List ℕ) (t : Test) (n at : ℕ) where
     unfolding taken left if_then_else_
     walked-stop e = let p = tested e in (rw (here, p), rw (here, p))
 
-  pub walked-over : (k i : ℕ) → length s ≤ i → (taken (passing t) (textLines s (n + k) i) ≡ []) × (left (passing t) (textLines s (n + k) i) ≡ textLines s (n + k) i)
+  pub walked-over : (k i : ℕ) → length s ≤ i → (taken (passing t) (textLines s (n + k) i) ≡ [])
+      × (left (passing t) (textLines s (n + k) i) ≡ textLines s (n + k) i)
   unfolding taken left
   walked-over k i h = let e = lines-over s (n + k) i h in (rw e, rw e)
 

@@ -14,8 +14,9 @@ use Rattle.songcode.specs.Song as song
 use Rattle.songcode.specs.Song.{Key, Modifier}
 use Rattle.songcode.specs.Keys.{keyPlace}
 use Rattle.songcode.specs.Modifiers.{ModifierName, ofRepeat, ofCutStart, ofCutEnd, ofBefore, ofAfter, modifierPlace, modifierIn, settingRefusal}
-use Rattle.songcode.specs.Sections.{Kind, keyLine, modifierLine, patternLine, kindOfLine, keyNameOf, modifierNameOf, settingOf, keyOf, modifierOf, keyIn, modifierOn, modifierFaultsBy, modifierFaults, faults}
-use Rattle.songcode.specs.Complaints.{Complaint, complainIf}
+use Rattle.songcode.specs.Sections.{Kind, keyLine, modifierLine, patternLine, kindOfLine, keyNameOf, modifierNameOf, settingOf, keyOf, modifierOf}
+use Rattle.songcode.specs.Sections.{keyIn, modifierOn, modifierFaultsBy, modifierFaults, faults}
+use Rattle.songcode.specs.Complaints.{complainIf}
 use Rattle.songcode.proofs.ListLaws.{append-is-nil, complainIf-nil}
 use Rattle.songcode.proofs.ChoiceLaws.{isSome-some}
 use Rattle.songcode.specs.Playing as playing
@@ -55,7 +56,8 @@ module _ (l : Line) where
   abbrev keySaid : song.KeyName → Key
   keySaid j = record { key = j; setting = settingOf l }
 
-  slot-of-kind : (k : Kind) (o : Option song.KeyName) (p : Option ModifierName) → kindOfLine l ≡ k → keyNameOf l ≡ o → modifierNameOf l ≡ p → slotOf l ≡ slotBy k o p
+  slot-of-kind : (k : Kind) (o : Option song.KeyName) (p : Option ModifierName) → kindOfLine l ≡ k → keyNameOf l ≡ o → modifierNameOf l ≡ p
+      → slotOf l ≡ slotBy k o p
   unfolding slotOf
   slot-of-kind k o p e f g = rw (e, f, g)
 
@@ -73,7 +75,8 @@ module _ (l : Line) where
       (λ m n. let z = slot-of-kind modifierLine (keyNameOf l) (some m) e refl n in f (rw (e, keyIn)) (omega arith)))
       (λ e. let z = slot-of-kind patternLine (keyNameOf l) (modifierNameOf l) e refl refl in f (rw (e, keyIn)) (omega arith))
 
-  unfaulted : {m : ModifierName} → kindOfLine l ≡ modifierLine → modifierNameOf l ≡ some m → faults l ≡ [] → isSome (modifierIn m (l .number) (settingOf l)) ≡ true
+  unfaulted : {m : ModifierName} → kindOfLine l ≡ modifierLine → modifierNameOf l ≡ some m → faults l ≡ []
+      → isSome (modifierIn m (l .number) (settingOf l)) ≡ true
   unfolding faults modifierFaults modifierFaultsBy
   unfaulted {m} e n h =
       let z : faults l ≡ complainIf (not (isSome (modifierIn m (l .number) (settingOf l)))) (settingRefusal m) (l .number) = rw (e, faults, n) in
@@ -81,7 +84,8 @@ module _ (l : Line) where
 
   -- A line says a modifier, or it says none.
   by-modifier : {X : Type 0} → (modifierOn l ≡ none → ((m : ModifierName) → slotOf l ≡ 8 + modifierPlace m → ⊥) → X)
-      → ((m : ModifierName) → modifierOn l ≡ modifierIn m (l .number) (settingOf l) → slotOf l ≡ 8 + modifierPlace m → (faults l ≡ [] → isSome (modifierIn m (l .number) (settingOf l)) ≡ true) → X) → X
+      → ((m : ModifierName) → modifierOn l ≡ modifierIn m (l .number) (settingOf l) → slotOf l ≡ 8 + modifierPlace m
+      → (faults l ≡ [] → isSome (modifierIn m (l .number) (settingOf l)) ≡ true) → X) → X
   unfolding modifierOn modifierOf andThen slotBy
   by-modifier {X} f g =
       by-kind
@@ -92,7 +96,8 @@ module _ (l : Line) where
       (λ e. by-option (modifierNameOf l)
       (λ n. let z = slot-of-kind modifierLine (keyNameOf l) none e refl n in f (rw (e, modifierOn, n)) (λ m h. let b = modifier-below m in omega arith))
       (λ m n. g m (rw (e, modifierOn, n)) (slot-of-kind modifierLine (keyNameOf l) (some m) e refl n) (unfaulted e n)))
-      (λ e. let z = slot-of-kind patternLine (keyNameOf l) (modifierNameOf l) e refl refl in f (rw (e, modifierOn)) (λ m h. let b = modifier-below m in omega arith))
+      (λ e. let z = slot-of-kind patternLine (keyNameOf l) (modifierNameOf l) e refl refl in f (rw (e, modifierOn))
+      (λ m h. let b = modifier-below m in omega arith))
 
   pub slot-pattern-line : kindOfLine l ≡ patternLine → slotOf l ≡ 13
   unfolding slotBy
@@ -161,7 +166,9 @@ module _ {B : Type 0} (m : ModifierName) (g : Modifier → Option B) (said : Set
       (λ j e h there.
       let y = isSome-some (modifierIn j (l .number) (settingOf l)) (there (split .0)) in
       let x : Setting = record { line = l .number; text = settingOf l } in
-      let told : (b : Bool) → eqb (modifierPlace j) (modifierPlace m) ≡ b → Told b (g (y .0)) (said x) = λ b t. subst (λ (b : Bool). Told b (g (y .0)) (said x)) t (tells j (l .number) (settingOf l) (y .0) (y .1)) in
+      let told : (b : Bool) → eqb (modifierPlace j) (modifierPlace m) ≡ b
+      → Told b (g (y .0)) (said x) = λ b t. subst (λ (b : Bool). Told b (g (y .0)) (said x)) t (tells j (l .number) (settingOf l) (y .0) (y .1))
+      in
       by-cases
       (eqb (modifierPlace j) (modifierPlace m))
       (λ t. said-here l ls (e ∙ y .1) h (ap (λ (k : ℕ). 8 + k) (eqb-true (modifierPlace j) (modifierPlace m) t)) (told true t .1) (told true t .2))

@@ -1,20 +1,20 @@
 -- A section without fault is read as songcode reads it; so is every definition.
 use Prim.Native.Nat.{ℕ, _+_}
 use mathlib.Core.Path.{_≡_, refl, sym, ap, _∙_, subst}
-use mathlib.Core.List.{List, [], _∷_, _++_, map}
+use mathlib.Core.List.{List, [], _∷_, map}
 use mathlib.Core.Option.{Option}
 use Rattle.songcode.specs.Lists.{gather, collect, andThen, orElse}
 use Rattle.songcode.specs.Bytes.{Byte}
 use Rattle.songcode.specs.Lines.{Line, Block}
 use Rattle.songcode.specs.Song as song
-use Rattle.songcode.specs.Song.{Cut}
 use Rattle.songcode.specs.Keys.{keyPlace, timeIn, bpmIn}
 use Rattle.songcode.specs.Numbers.{repeatIn}
 use Rattle.songcode.specs.Modifiers.{ModifierName, ofRepeat, ofCutStart, ofCutEnd, ofBefore, ofAfter, modifierPlace, cutIn}
-use Rattle.songcode.specs.Sections.{keyIn, modifierOn, body, ending, headerFaults, amongKeys, order, twice, keySaid, modifierSaid, faults, patternRun, patternFaults, lyricFaults, sectionFaults, patternIn, lyricLine, lyricsIn, sectionIn}
+use Rattle.songcode.specs.Sections.{keyIn, modifierOn, body, ending, headerFaults, amongKeys, order, twice, keySaid, modifierSaid, faults, patternRun}
+use Rattle.songcode.specs.Sections.{patternFaults, lyricFaults, sectionFaults, patternIn, lyricLine, lyricsIn, sectionIn}
 use Rattle.songcode.specs.SongText.{definitionItems, definitionIn}
 use Rattle.songcode.specs.Playing as playing
-use Rattle.songcode.specs.Playing.{timeAmong, bpmAmong, saidBy, repeats, Side, repeatSaid, cutStartSaid, cutEndSaid, beforeSaid, afterSaid}
+use Rattle.songcode.specs.Playing.{timeAmong, bpmAmong, saidBy, repeats, repeatSaid, cutStartSaid, cutEndSaid, beforeSaid, afterSaid}
 use Rattle.songcode.proofs.ListLaws.{append-is-nil}
 use Rattle.text.specs.Spans.{lineOf}
 use Rattle.settings.specs.Cuts.{cutIs}
@@ -22,7 +22,7 @@ use Rattle.sections.specs.declared.blocks.Parts.{Parts}
 use Rattle.sections.specs.declared.blocks.SectionRead.{SectionRead}
 use Rattle.sections.specs.declared.blocks.DefinitionRead.{DefinitionRead}
 use Rattle.sections.specs.Runs.{linesOf, linesBehind}
-use Rattle.sections.specs.Slots.{Setting, settingAmong, settingAt}
+use Rattle.sections.specs.Slots.{Setting, settingAmong}
 use Rattle.sections.specs.Values as values
 use Rattle.sections.specs.Values.{KeysAre, ModifiersAre}
 use Rattle.sections.specs.BlockParts.{blockAt, earlyLines, lateLines, behindDashes, Placed, PartsAt, PartsRead, SectionAt, DefinitionAt}
@@ -32,7 +32,8 @@ use Rattle.sections.proofs.TellLaws.{repeat-tells, cut-start-tells, cut
 use Rattle.sections.proofs.OrderLaws.{keys-early, modifiers-late}
 
 -- A block without fault: its lines stand in order, and none of them is faulted.
-pub clean-order : (b : Block) → sectionFaults b ≡ [] → (order amongKeys (body b) ≡ []) × (gather faults (body b) ≡ []) × (patternFaults (b .first .number) (patternRun (body b)) ≡ [])
+pub clean-order : (b : Block) → sectionFaults b ≡ [] → (order amongKeys (body b) ≡ []) × (gather faults (body b) ≡ [])
+    × (patternFaults (b .first .number) (patternRun (body b)) ≡ [])
 unfolding sectionFaults
 clean-order b h =
     let v = append-is-nil _ (lyricFaults (ending b)) h .0 in
@@ -43,7 +44,8 @@ clean-order b h =
     (append-is-nil (headerFaults (b .first)) (order amongKeys (body b)) k .1, g .1, p .1)
 
 module _ (ls : List Line) (ordered : order amongKeys ls ≡ []) (clean : gather faults ls ≡ []) where
-  key-said : (f : List Byte → Option ℕ) (k : song.KeyName) → andThen (settingAmong (keyPlace k) (earlyLines ls)) (λ x. f (x .text)) ≡ andThen (playing.settingOf k (collect keyIn ls)) f
+  key-said : (f : List Byte → Option ℕ) (k : song.KeyName) → andThen (settingAmong (keyPlace k) (earlyLines ls)) (λ x. f (x .text)) ≡ andThen
+      (playing.settingOf k (collect keyIn ls)) f
   key-said f k = ap (λ (o : Option Setting). andThen o (λ x. f (x .text))) (keys-early k ls ordered) ∙ sym (key-among f k ls)
 
   modifier-said : {B : Type 0} (m : ModifierName) (g : song.Modifier → Option B) (said : Setting → Option B) → Tells m g said
@@ -71,7 +73,8 @@ parts-say s n at r w =
 pub parts-read : (s : List ℕ) (n at : ℕ) (p : Parts) (r : SectionRead) → PartsAt s n at p → PartsRead s p r → SectionAt s n at r
 parts-read s n at p r w e =
     let k : KeysAre (earlyLines (body (blockAt s n at))) (r .keys) = subst (λ (ls : List Line). KeysAre ls (r .keys)) (w .early) (e .keys) in
-    let m : ModifiersAre s (lateLines (body (blockAt s n at))) (r .modifiers) = subst (λ (ls : List Line). ModifiersAre s ls (r .modifiers)) (w .late) (e .modifiers) in
+    let m : ModifiersAre s (lateLines (body (blockAt s n at))) (r .modifiers) = subst (λ (ls : List Line). ModifiersAre s ls (r .modifiers)) (w .late)
+    (e .modifiers) in
     record {
       header = e .header ∙ w .header;
       keys = k;
@@ -84,7 +87,8 @@ parts-read s n at p r w e =
       onward = rw (e .lyrics) (w .onward);
     }
 
-pub section-says : (s : List ℕ) (n at : ℕ) (r : SectionRead) → SectionAt s n at r → sectionFaults (blockAt s n at) ≡ [] → SectionSays s (sectionIn (blockAt s n at)) r
+pub section-says : (s : List ℕ) (n at : ℕ) (r : SectionRead) → SectionAt s n at r → sectionFaults (blockAt s n at) ≡ []
+    → SectionSays s (sectionIn (blockAt s n at)) r
 unfolding sectionIn timeAmong bpmAmong repeats values.timeSaid values.bpmSaid values.repeatSaid values.cutSaid keyPlace modifierPlace
 section-says s n at r w h =
     let ls = body (blockAt s n at) in
@@ -93,10 +97,12 @@ section-says s n at r w h =
       header = w .header ∙ sym (first-number s n at);
       time = w .keys .time ∙ ap (λ (x : Option ℕ). orElse x 0) (key-said ls (o .0) (o .1) timeIn song.time);
       bpm = w .keys .bpm ∙ ap (λ (x : Option ℕ). orElse x 511) (key-said ls (o .0) (o .1) bpmIn song.bpm);
-      repeat = w .modifiers .repeat ∙ ap (λ (x : Option ℕ). orElse x 1) (modifier-said ls (o .0) (o .1) ofRepeat repeatSaid (λ x. repeatIn (x .text)) repeat-tells);
+      repeat = w .modifiers .repeat ∙ ap (λ (x : Option ℕ). orElse x 1)
+          (modifier-said ls (o .0) (o .1) ofRepeat repeatSaid (λ x. repeatIn (x .text)) repeat-tells);
       front = w .modifiers .front ∙ ap cutIs (modifier-said ls (o .0) (o .1) ofCutStart cutStartSaid (λ x. cutIn (x .text)) cut-start-tells);
       back = w .modifiers .back ∙ ap cutIs (modifier-said ls (o .0) (o .1) ofCutEnd cutEndSaid (λ x. cutIn (x .text)) cut-end-tells);
-      before = ap (λ (x : Option Setting). andThen x sideSaid) (w .modifiers .before) ∙ modifier-said ls (o .0) (o .1) ofBefore beforeSaid sideSaid before-tells;
+      before = ap (λ (x : Option Setting). andThen x sideSaid) (w .modifiers .before)
+          ∙ modifier-said ls (o .0) (o .1) ofBefore beforeSaid sideSaid before-tells;
       after = ap (λ (x : Option Setting). andThen x sideSaid) (w .modifiers .after) ∙ modifier-said ls (o .0) (o .1) ofAfter afterSaid sideSaid after-tells;
       pattern = ap (λ (x : List Line). orElse (patternIn x) (song.named 0)) (w .pattern);
       lyrics = ap (map lyricLine) (w .lyrics) ∙ lyrics-said (ending (blockAt s n at));

@@ -62,13 +62,15 @@ module _ (n : ℕ) (s : List ℕ) (a e : ℕ) where
   slot-pattern h = rw (kind-of-line, h)
 
   module _ (q : ℕ) (name : nameIn (placed (a + 1) (part (a + 1) e s)) ≡ placed (a + 1) (part (a + 1) q s)) where
-    pub slot-key : {k : KeyName} {r : ℕ} → kindOf (placed 0 (part a e s)) ≡ keyLine → k ≡ keyIs (keyNamed (placed 0 (part (a + 1) q s))) → r ≡ keyNumber k → r ≡ slotOf (lineFrom n s a e)
+    pub slot-key : {k : KeyName} {r : ℕ} → kindOf (placed 0 (part a e s)) ≡ keyLine → k ≡ keyIs (keyNamed (placed 0 (part (a + 1) q s)))
+        → r ≡ keyNumber k → r ≡ slotOf (lineFrom n s a e)
     unfolding slotOf
     slot-key h i j =
         j ∙ ap keyNumber i ∙ key-number (keyNamed (placed 0 (part (a + 1) q s))) (modifierNameOf (lineFrom n s a e))
         ∙ rw (kind-of-line, h, key-name-of-line n s a e q name)
 
-    pub slot-modifier : {m : ModifierName} {r : ℕ} → kindOf (placed 0 (part a e s)) ≡ modifierLine → m ≡ modifierIs (modifierNamed (placed 0 (part (a + 1) q s))) → r ≡ modifierNumber m
+    pub slot-modifier : {m : ModifierName} {r : ℕ} → kindOf (placed 0 (part a e s)) ≡ modifierLine
+        → m ≡ modifierIs (modifierNamed (placed 0 (part (a + 1) q s))) → r ≡ modifierNumber m
         → r ≡ slotOf (lineFrom n s a e)
     unfolding slotOf
     slot-modifier h i j =
@@ -81,7 +83,8 @@ module _ (s : List ℕ) (said : Said) where
   unfolding settingAt if_then_else_
   setting-none h = rw (eq-eqb _ _ h)
 
-  pub setting-some : (said .line ≡ 0 → ⊥) → settingAt s said ≡ some (record { line = said .line; text = placed (said .start) (part (said .start) (said .stop) s) })
+  pub setting-some : (said .line ≡ 0 → ⊥) → settingAt s said ≡ some (record
+      { line = said .line; text = placed (said .start) (part (said .start) (said .stop) s) })
   unfolding settingAt if_then_else_
   setting-some h = rw (ne-eqb _ _ h)
 

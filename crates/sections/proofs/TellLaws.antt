@@ -1,13 +1,9 @@
 -- What each of the five modifiers says, by its setting.
 use Prim.Native.Nat.{ℕ}
 use mathlib.Core.Path.{_≡_, refl, ap}
-use mathlib.Core.List.{List}
-use mathlib.Core.Bool.{true, false}
 use mathlib.Core.Option.{Option, none, some}
 use native.Mathlib.Omega.{arith}
-use lib.Dec.{eqb}
 use Rattle.songcode.specs.Lists.{andThen}
-use Rattle.songcode.specs.Bytes.{Byte}
 use Rattle.songcode.specs.Numbers.{repeatIn}
 use Rattle.songcode.specs.Song.{repeated, cutStart, cutEnd, before, after}
 use Rattle.songcode.specs.Modifiers.{ofRepeat, ofCutStart, ofCutEnd, ofBefore, ofAfter, modifierPlace, modifierIn, cutIn}
@@ -51,7 +47,8 @@ unfolding modifierIn modifierPlace Told beforeSaid sideSaid sideOn andThen
 before-tells ofRepeat n bs y e = let r = then-some (repeatIn bs) repeated e in rw (r .2) refl
 before-tells ofCutStart n bs y e = let r = then-some (cutIn bs) cutStart e in rw (r .2) refl
 before-tells ofCutEnd n bs y e = let r = then-some (cutIn bs) cutEnd e in rw (r .2) refl
-before-tells ofBefore n bs y e = let r = then-some (sideText bs) (λ k. before n k) e in (record { line = n; items = r .0 }, ap beforeSaid (r .2), ap (sideOn n) (r .1))
+before-tells ofBefore n bs y e = let r = then-some (sideText bs) (λ k. before n k) e in
+    (record { line = n; items = r .0 }, ap beforeSaid (r .2), ap (sideOn n) (r .1))
 before-tells ofAfter n bs y e = let r = then-some (sideText bs) (λ k. after n k) e in rw (r .2) refl
 
 pub after-tells : Tells ofAfter afterSaid sideSaid
@@ -60,4 +57,5 @@ after-tells ofRepeat n bs y e = let r = then-some (repeatIn bs) repeated e in rw
 after-tells ofCutStart n bs y e = let r = then-some (cutIn bs) cutStart e in rw (r .2) refl
 after-tells ofCutEnd n bs y e = let r = then-some (cutIn bs) cutEnd e in rw (r .2) refl
 after-tells ofBefore n bs y e = let r = then-some (sideText bs) (λ k. before n k) e in rw (r .2) refl
-after-tells ofAfter n bs y e = let r = then-some (sideText bs) (λ k. after n k) e in (record { line = n; items = r .0 }, ap afterSaid (r .2), ap (sideOn n) (r .1))
+after-tells ofAfter n bs y e = let r = then-some (sideText bs) (λ k. after n k) e in
+    (record { line = n; items = r .0 }, ap afterSaid (r .2), ap (sideOn n) (r .1))

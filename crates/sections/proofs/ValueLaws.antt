@@ -49,8 +49,11 @@ module _ (s : List ℕ) (said : Said) where
     unfolding andThen
     said-number P h p g line {m} {r} e i =
         let o = f (placed 0 (part (said .start) (said .stop) s)) in
-        let k : r ≡ orElse o d = i ∙ ap (λ (x : Number). numberOr x d) e ∙ number-or o d in
-        (k ∙ rw (setting-some s said line, h (said .start) (part (said .start) (said .stop) s)), subst P (sym k) (or-holds P o d p (g (placed 0 (part (said .start) (said .stop) s)))))
+        let k : r ≡ orElse o d = i ∙ ap (λ (x : Number). numberOr x d) e ∙ number-or o d in (
+          k ∙ rw (setting-some s said line, h (said .start) (part (said .start) (said .stop) s)),
+          subst P (sym k)
+              (or-holds P o d p (g (placed 0 (part (said .start) (said .stop) s)))),
+        )
 
   pub no-cut : said .line ≡ 0 → (read.Not ≡ cutSaid (settingAt s said)) × CutFits read.Not
   unfolding cutSaid cutIs andThen CutFits

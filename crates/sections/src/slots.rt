@@ -98,7 +98,8 @@ pub fn said_on(s: &[u8], n: usize, a: usize, e: usize, slot: usize) -> Said
 // The first setting of a number among the lines of a run.
 pub fn find(s: &[u8], slot: usize, run: Run) -> Said
     requires { ⌜ (1 ≤ run .number) × (run .number ≤ run .at + 1) × (run .at ≤ length (now s)) × (slot < 13) ⌝ }
-    ensures { λ r. ⌜ (settingAt (now (s .entry)) r ≡ settingAmong slot (linesOf (now (s .entry)) run)) × (r .start ≤ r .stop) × (r .stop ≤ length (now (s .entry))) ⌝ }
+    ensures { λ r. ⌜ (settingAt (now (s .entry)) r ≡ settingAmong slot (linesOf (now (s .entry)) run)) × (r .start ≤ r .stop)
+        × (r .stop ≤ length (now (s .entry))) ⌝ }
 {
     let mut n = run.number;
     let mut at = run.at;

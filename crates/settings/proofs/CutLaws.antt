@@ -29,7 +29,8 @@ unfolding cutIn
 cut-parts a w q e = rw (taken-placed _ _ not-dash-values a w, left-placed _ _ not-dash-values a w, e)
 
 -- With something before the dash.
-cut-front : (a b : ℕ) (m : List ℕ) (d : ℕ) (w : List ℕ) → 0 < length m → cutBy (placed a m) (placed b (d ∷ w)) ≡ cutPair (countIn (placed 0 m)) (countIn (placed 0 w))
+cut-front : (a b : ℕ) (m : List ℕ) (d : ℕ) (w : List ℕ) → 0 < length m
+    → cutBy (placed a m) (placed b (d ∷ w)) ≡ cutPair (countIn (placed 0 m)) (countIn (placed 0 w))
 unfolding cutBy cutPair placed andThen
 cut-front a b [] d w h = let z : ⊥ = omega arith in absurd z
 cut-front a b (x ∷ m) d w h = rw (countIn-placeless (suc b) w, countIn-placeless a (x ∷ m))
@@ -45,7 +46,8 @@ module _ (a : ℕ) (w : List ℕ) where
   unfolding cutBy cutPair placed andThen
   cut-beats e h = cut-parts a w 0 e ∙ rw (drop-cons w 0 0 h, countIn-placeless (suc (a + 0)) (drop 1 w))
 
-  pub cut-both : (q : ℕ) → q ≡ lengthBefore 45 w → 0 < q → q < length w → cutIn (placed a w) ≡ cutPair (countIn (placed 0 (take q w))) (countIn (placed 0 (drop (q + 1) w)))
+  pub cut-both : (q : ℕ) → q ≡ lengthBefore 45 w → 0 < q → q < length w
+      → cutIn (placed a w) ≡ cutPair (countIn (placed 0 (take q w))) (countIn (placed 0 (drop (q + 1) w)))
   cut-both q e h k =
       let n = length-take-le q w (omega arith) in
       cut-parts a w q e

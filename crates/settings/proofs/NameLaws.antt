@@ -30,7 +30,8 @@ keyBy a b c d e f g h =
     else if h then some end
     else none
 
-pub key-by : (w : List Byte) → keyNamed w ≡ keyBy (is "name" w) (is "artist" w) (is "original" w) (is "capo" w) (is "bpm" w) (is "time" w) (is "warning" w) (is "end" w)
+pub key-by : (w : List Byte) → keyNamed w ≡ keyBy (is "name" w) (is "artist" w) (is "original" w) (is "capo" w) (is "bpm" w) (is "time" w)
+    (is "warning" w) (is "end" w)
 unfolding keyNamed keyBy
 key-by w = refl
 

@@ -29,7 +29,8 @@ abbrev pub lineFrom : ℕ → List ℕ → ℕ → ℕ → Line
 lineFrom n s a e = record { number = n; text = placed a (part a e s) }
 
 module _ (n : ℕ) (s : List ℕ) (a e q : ℕ) where
-  pub name-of-line : nameIn (placed (a + 1) (part (a + 1) e s)) ≡ placed (a + 1) (part (a + 1) q s) → nameOf (lineFrom n s a e) ≡ placed (a + 1) (part (a + 1) q s)
+  pub name-of-line : nameIn (placed (a + 1) (part (a + 1) e s)) ≡ placed (a + 1) (part (a + 1) q s)
+      → nameOf (lineFrom n s a e) ≡ placed (a + 1) (part (a + 1) q s)
   unfolding nameOf
   name-of-line h = rw (behindFirst-part s a e) h
 
@@ -37,11 +38,13 @@ module _ (n : ℕ) (s : List ℕ) (a e q : ℕ) where
   unfolding settingOf
   setting-of-line h = rw (behindFirst-part s a e) h
 
-  pub key-name-of-line : nameIn (placed (a + 1) (part (a + 1) e s)) ≡ placed (a + 1) (part (a + 1) q s) → keyNameOf (lineFrom n s a e) ≡ keyNamed (placed 0 (part (a + 1) q s))
+  pub key-name-of-line : nameIn (placed (a + 1) (part (a + 1) e s)) ≡ placed (a + 1) (part (a + 1) q s)
+      → keyNameOf (lineFrom n s a e) ≡ keyNamed (placed 0 (part (a + 1) q s))
   unfolding keyNameOf
   key-name-of-line h = rw (name-of-line h) (keyNamed-placeless (a + 1) (part (a + 1) q s))
 
-  pub modifier-name-of-line : nameIn (placed (a + 1) (part (a + 1) e s)) ≡ placed (a + 1) (part (a + 1) q s) → modifierNameOf (lineFrom n s a e) ≡ modifierNamed (placed 0 (part (a + 1) q s))
+  pub modifier-name-of-line : nameIn (placed (a + 1) (part (a + 1) e s)) ≡ placed (a + 1) (part (a + 1) q s)
+      → modifierNameOf (lineFrom n s a e) ≡ modifierNamed (placed 0 (part (a + 1) q s))
   unfolding modifierNameOf
   modifier-name-of-line h = rw (name-of-line h) (modifierNamed-placeless (a + 1) (part (a + 1) q s))
 

@@ -90,7 +90,8 @@ pub same-stop : (v w : List ℕ) (i : ℕ) → i < length v → i < length w →
 unfolding same
 same-stop v w i h k n = rw (drop-cons v i 0 h, drop-cons w i 0 k, ne-eqb (getD v i 0) (getD w i 0) (λ e. n (sym e)))
 
-pub same-more : (v w : List ℕ) (i : ℕ) → i < length v → i < length w → getD w i 0 ≡ getD v i 0 → same (drop i v) (drop i w) ≡ same (drop (i + 1) v) (drop (i + 1) w)
+pub same-more : (v w : List ℕ) (i : ℕ) → i < length v → i < length w → getD w i 0 ≡ getD v i 0
+    → same (drop i v) (drop i w) ≡ same (drop (i + 1) v) (drop (i + 1) w)
 unfolding same
 same-more v w i h k e = rw (add-one i, drop-cons v i 0 h, drop-cons w i 0 k, eq-eqb (getD v i 0) (getD w i 0) (sym e))
 

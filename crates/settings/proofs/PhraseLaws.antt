@@ -17,15 +17,18 @@ use Rattle.settings.specs.Phrases.{nameCharacters}
 use Rattle.settings.proofs.PartLaws.{taken-placed}
 use Rattle.settings.proofs.PlaceLaws.{not-byte-values, characters-placeless}
 
-pub characters-cons : (w : List ℕ) (i : ℕ) → i < length w → characters (placed 0 (drop i w)) ≡ (if isTail (getD w i 0) then characters (placed 0 (drop (i + 1) w)) else suc (characters (placed 0 (drop (i + 1) w))))
+pub characters-cons : (w : List ℕ) (i : ℕ) → i < length w → characters (placed 0 (drop i w))
+    ≡ (if isTail (getD w i 0) then characters (placed 0 (drop (i + 1) w)) else suc (characters (placed 0 (drop (i + 1) w))))
 unfolding characters placed
 characters-cons w i h = rw (add-one i, drop-cons w i 0 h, characters-placeless 1 (drop (suc i) w))
 
-pub characters-tail : (w : List ℕ) (i : ℕ) → i < length w → isTail (getD w i 0) ≡ true → characters (placed 0 (drop i w)) ≡ characters (placed 0 (drop (i + 1) w))
+pub characters-tail : (w : List ℕ) (i : ℕ) → i < length w → isTail (getD w i 0) ≡ true
+    → characters (placed 0 (drop i w)) ≡ characters (placed 0 (drop (i + 1) w))
 unfolding if_then_else_
 characters-tail w i h e = characters-cons w i h ∙ rw e
 
-pub characters-first : (w : List ℕ) (i : ℕ) → i < length w → isTail (getD w i 0) ≡ false → characters (placed 0 (drop i w)) ≡ 1 + characters (placed 0 (drop (i + 1) w))
+pub characters-first : (w : List ℕ) (i : ℕ) → i < length w → isTail (getD w i 0) ≡ false
+    → characters (placed 0 (drop i w)) ≡ 1 + characters (placed 0 (drop (i + 1) w))
 unfolding if_then_else_
 characters-first w i h e = characters-cons w i h ∙ rw e (omega arith)
 

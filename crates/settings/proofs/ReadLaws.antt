@@ -9,7 +9,6 @@ use borrow.Author.Tests.{eq-eqb, ne-eqb}
 use lib.ListN.{getD, take, drop}
 use Rattle.songcode.specs.Lists.{if_then_else_, isSome, andThen}
 use Rattle.songcode.specs.Bytes.{Byte, placed, ascii, same, isByte}
-use Rattle.songcode.specs.Song.{time}
 use Rattle.songcode.specs.Keys.{timeIn}
 use Rattle.songcode.specs.Modifiers.{cut, cutIn}
 use Rattle.songcode.specs.Numbers.{numberIn, countIn}
@@ -61,7 +60,8 @@ pair-read none p = refl
 pair-read (some m) none = refl
 pair-read (some m) (some b) = refl
 
-pub cut-read : (bs : List Byte) (o p : Option ℕ) {m b : Number} {r : CutRead} → cutIn bs ≡ cutPair o p → m ≡ numberOf o → b ≡ numberOf p → r ≡ cutRead m b → (r ≡ cutIs (cutIn bs)) × CutFits r
+pub cut-read : (bs : List Byte) (o p : Option ℕ) {m b : Number} {r : CutRead} → cutIn bs ≡ cutPair o p → m ≡ numberOf o → b ≡ numberOf p
+    → r ≡ cutRead m b → (r ≡ cutIs (cutIn bs)) × CutFits r
 cut-read bs o p {m} {b} {r} h x y e =
     let k : r ≡ cutIs (cutIn bs) = e ∙ rw (x, y, h) (pair-read o p) in
     (k, rw k (cut-fits bs))

@@ -31,11 +31,19 @@ lastThree w = getD w (length w - 1) 0 ∷ getD w (length w - 2) 0 ∷ getD w (le
 pub marked-short : (mark w : List ℕ) → length w < 7 → bracketed mark (placed 0 w) ≡ false
 marked-short mark w h = bracketed-values mark 0 w ∙ rw (lt-leb 7 (length w) h) (and-false (begins mark w && begins mark (reverse w)))
 
-pub marked-by : (m : ℕ) (w : List ℕ) → 7 ≤ length w → bracketed (m ∷ m ∷ m ∷ []) (placed 0 w) ≡ begins (m ∷ m ∷ m ∷ []) (firstThree w) && begins (m ∷ m ∷ m ∷ []) (lastThree w)
+pub marked-by : (m : ℕ) (w : List ℕ) → 7 ≤ length w → bracketed (m ∷ m ∷ m ∷ []) (placed 0 w) ≡ begins (m ∷ m ∷ m ∷ []) (firstThree w) && begins
+    (m ∷ m ∷ m ∷ []) (lastThree w)
 marked-by m w h =
     let n = length-reverse w in
     bracketed-values (m ∷ m ∷ m ∷ []) 0 w
-    ∙ rw (le-leb 7 (length w) h, begins-three m w (omega arith), begins-three m (reverse w) (omega arith), getD-reverse w 0 (omega arith), getD-reverse w 1 (omega arith), getD-reverse w 2 (omega arith))
+    ∙ rw (
+      le-leb 7 (length w) h,
+      begins-three m w (omega arith),
+      begins-three m (reverse w) (omega arith),
+      getD-reverse w 0 (omega arith),
+      getD-reverse w 1 (omega arith),
+      getD-reverse w 2 (omega arith),
+    )
     (and-true (begins (m ∷ m ∷ m ∷ []) (firstThree w) && begins (m ∷ m ∷ m ∷ []) (lastThree w)))
 
 pub marked-length : (mark w : List ℕ) → bracketed mark (placed 0 w) ≡ true → 7 ≤ length w
@@ -53,7 +61,15 @@ unfolding between
 between-part s a e h k =
     let n = length-part s a e (omega arith) k in
     let f : a + 3 + (e - a - 6) ≡ e - 3 = omega arith in
-    rw (drop-placed 3 a (part a e s), length-placed a (part a e s), n, part-back s a e 3, take-placed (e - a - 6) (a + 3) (part (a + 3) e s), part-front s (a + 3) e (e - a - 6) (omega arith), f)
+    rw (
+      drop-placed 3 a (part a e s),
+      length-placed a (part a e s),
+      n,
+      part-back s a e 3,
+      take-placed (e - a - 6) (a + 3) (part (a + 3) e s),
+      part-front s (a + 3) e (e - a - 6) (omega arith),
+      f,
+    )
 
 pub style-one : (bs : List Byte) → bracketed (ascii "***") bs ≡ true → styled bs ≡ record { style = 1; text = between bs }
 unfolding styled if_then_else_

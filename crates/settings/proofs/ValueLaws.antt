@@ -29,7 +29,16 @@ is-placeless word a w = rw (values-placed a w, values-placed 0 w)
 pub keyNamed-placeless : Placeless keyNamed
 keyNamed-placeless a w =
     key-by (placed a w)
-    ∙ rw (is-placeless "name" a w, is-placeless "artist" a w, is-placeless "original" a w, is-placeless "capo" a w, is-placeless "bpm" a w, is-placeless "time" a w, is-placeless "warning" a w, is-placeless "end" a w)
+    ∙ rw (
+      is-placeless "name" a w,
+      is-placeless "artist" a w,
+      is-placeless "original" a w,
+      is-placeless "capo" a w,
+      is-placeless "bpm" a w,
+      is-placeless "time" a w,
+      is-placeless "warning" a w,
+      is-placeless "end" a w,
+    )
     (sym (key-by (placed 0 w)))
 
 pub modifierNamed-placeless : Placeless modifierNamed
@@ -49,7 +58,11 @@ bpmIn-placeless a w = numberIn-placeless 0 400 a w
 pub timeIn-placeless : Placeless timeIn
 unfolding timeIn
 timeIn-placeless a w =
-    rw (left-placeless (is "/4") (is-placeless "/4") _ _ (not-byte-values 47) a w, taken-placeless (numberIn 1 32) (numberIn-placeless 1 32) _ _ (not-byte-values 47) a w)
+    rw (
+      left-placeless (is "/4") (is-placeless "/4") _ _ (not-byte-values 47) a w,
+      taken-placeless (numberIn 1 32) (numberIn-placeless 1 32) _ _
+          (not-byte-values 47) a w,
+    )
 
 pub isSetting-placeless : (k : KeyName) → Placeless (isSetting k)
 unfolding isSetting

@@ -32,11 +32,14 @@ pub last-word : (s : List ℕ) (a r e : ℕ) → a ≤ r → r ≤ e → e ≤ l
 last-word s a r e h k l f =
     let whole = ap reverse (placed-parts s a r e h k l) ∙ reverse-append (placed a (part a r s)) (placed r (part r e s)) in
     let split = sym (ap (λ ys. taken notBlank (reverse (placed a (part a e s))) ++ ys) f) ∙ taken-left notBlank (reverse (placed a (part a e s))) in
-    let same : taken notBlank (reverse (placed a (part a e s))) ≡ reverse (placed r (part r e s)) = append-cancel-right _ _ (reverse (placed a (part a r s))) (split ∙ whole) in
+    let same : taken notBlank (reverse (placed a (part a e s))) ≡ reverse (placed r (part r e s)) = append-cancel-right _ _
+    (reverse (placed a (part a r s))) (split ∙ whole) in
     ap reverse same ∙ reverse-reverse (placed r (part r e s))
 
-module _ (s : List ℕ) (a r e : ℕ) (h : a ≤ r) (k : r ≤ e) (l : e ≤ length s) (f : left notBlank (reverse (placed a (part a e s))) ≡ reverse (placed a (part a r s))) where
-  words-by : (o : Option ℕ) → countBehind (placed r (part r e s)) ≡ o → wordsOf (placed a (part a e s)) ≡ wordsBy (placed a (part a e s)) (reverse (placed a (part a r s))) o
+module _ (s : List ℕ) (a r e : ℕ) (h : a ≤ r) (k : r ≤ e) (l : e ≤ length s)
+    (f : left notBlank (reverse (placed a (part a e s))) ≡ reverse (placed a (part a r s))) where
+  words-by : (o : Option ℕ) → countBehind (placed r (part r e s)) ≡ o
+      → wordsOf (placed a (part a e s)) ≡ wordsBy (placed a (part a e s)) (reverse (placed a (part a r s))) o
   unfolding wordsOf
   words-by o g = rw (last-word s a r e h k l f, f, g)
 
@@ -45,7 +48,8 @@ module _ (s : List ℕ) (a r e : ℕ) (h : a ≤ r) (k : r ≤ e) (l : e ≤ len
   unfolding wordsBy placed
   words-alone g = let z : r - a ≡ 0 = omega arith in words-by (countBehind (placed r (part r e s))) refl ∙ rw z
 
-  pub words-uncounted : a < r → countBehind (placed r (part r e s)) ≡ none → wordsOf (placed a (part a e s)) ≡ record { text = placed a (part a e s); count = none }
+  pub words-uncounted : a < r → countBehind (placed r (part r e s)) ≡ none
+      → wordsOf (placed a (part a e s)) ≡ record { text = placed a (part a e s); count = none }
   unfolding wordsBy
   words-uncounted b g = words-by none g ∙ rw (reverse-part s a r b (omega arith))
 
@@ -55,4 +59,5 @@ module _ (s : List ℕ) (a r e : ℕ) (h : a ≤ r) (k : r ≤ e) (l : e ≤ len
   words-counted m n b g c d =
       words-by (some n) g
       ∙ rw (reverse-part s a r b (omega arith))
-      (ap (λ ys. record { text = ys; count = some n }) (ap (λ ys. reverse (left isBlank ys)) (sym (reverse-part s a r b (omega arith))) ∙ dropLast-placed a (part a r s) ∙ rw (sym c, part-front s a r m d)))
+      (ap (λ ys. record { text = ys; count = some n }) (ap (λ ys. reverse (left isBlank ys)) (sym (reverse-part s a r b (omega arith)))
+      ∙ dropLast-placed a (part a r s) ∙ rw (sym c, part-front s a r m d)))

@@ -101,7 +101,8 @@ fn is_marked(m: u8, w: &[u8]) -> bool
 // The style of a text, and what lies between its marks.
 pub fn style_of(s: &[u8], a: usize, e: usize) -> Styled
     requires { ⌜ (a ≤ e) × (e ≤ length (now s)) ⌝ }
-    ensures { λ r. ⌜ (styled (placed a (part a e (now (s .entry)))) ≡ styledFrom r (now (s .entry))) × (a ≤ r .start) × (r .start ≤ r .stop) × (r .stop ≤ e) × (r .style ≤ 2) ⌝ }
+    ensures { λ r. ⌜ (styled (placed a (part a e (now (s .entry)))) ≡ styledFrom r (now (s .entry))) × (a ≤ r .start) × (r .start ≤ r .stop)
+        × (r .stop ≤ e) × (r .style ≤ 2) ⌝ }
 {
     if is_marked(b'*', &s[a..e]) {
         return Styled {

@@ -36,9 +36,11 @@ use Rattle.stage2.specs.declared.states.State.{State}
 use Rattle.stage2.specs.declared.states.Judged.{Judged}
 use Rattle.stage2.specs.Ranks.{ranked, none, noSection, least, unless, onlyIf}
 use Rattle.stage2.specs.Walk.{pending, nothingPending, late}
-use Rattle.stage2.specs.States.{marked, keyOf, headJudged, withHead, blockState, carried, judged, fineFor, closing, keyJudged, metadataState, opening, ends}
+use Rattle.stage2.specs.States.{marked, keyOf, headJudged, withHead, blockState, carried, judged, fineFor, closing, keyJudged, metadataState}
+use Rattle.stage2.specs.States.{opening, ends}
 
-pub block-closed : (c : State) (fine : Bool) (seven x r : ℕ) → fine ≡ fineFor (c .place) (c .pending .check) → seven ≡ unless fine (c .pending .bad) → x ≡ min (c .pending .bare) seven → r ≡ min (c .pending .want) x → r ≡ closing c
+pub block-closed : (c : State) (fine : Bool) (seven x r : ℕ) → fine ≡ fineFor (c .place) (c .pending .check) → seven ≡ unless fine (c .pending .bad)
+    → x ≡ min (c .pending .bare) seven → r ≡ min (c .pending .want) x → r ≡ closing c
 unfolding closing
 block-closed c fine seven x r a b d e = rw (← a, ← b, ← d) e
 
@@ -54,26 +56,33 @@ unfolding ends
 text-ended c nine end r a b d = rw (← b, ← unless-late (c .carried .turn) noSection, ← a) d
 
 module _ (k : Carried) (l : Line) where
-  pub in-metadata : (turn note : ℕ) (m : List Bool) (q : Pending) (c : State) → note ≡ keyJudged (k .metadata) l → m ≡ marked (keyOf l) (k .metadata) → q ≡ nothingPending → c ≡ blockState place.Metadata (carried turn m (k .heads)) q
+  pub in-metadata : (turn note : ℕ) (m : List Bool) (q : Pending) (c : State) → note ≡ keyJudged (k .metadata) l → m ≡ marked (keyOf l) (k .metadata)
+      → q ≡ nothingPending → c ≡ blockState place.Metadata (carried turn m (k .heads)) q
       → judged note c ≡ judged (keyJudged (k .metadata) l) (metadataState turn k l)
   in-metadata turn note m q c a b d e = rw (a, e, b, d) refl
 
-  pub opened-metadata : (behind turn note : ℕ) (j : Judged) → behind ≡ least (complainIf (ltb 0 (k .turn)) 3 (l .number)) → turn ≡ max (k .turn) 0 → j ≡ judged (keyJudged (k .metadata) l) (metadataState turn k l) → note ≡ min behind (j .note)
+  pub opened-metadata : (behind turn note : ℕ) (j : Judged) → behind ≡ least (complainIf (ltb 0 (k .turn)) 3 (l .number)) → turn ≡ max (k .turn) 0
+      → j ≡ judged (keyJudged (k .metadata) l) (metadataState turn k l) → note ≡ min behind (j .note)
       → judged note (j .state) ≡ opening metadata k l
   unfolding opening late
   opened-metadata behind turn note j a b d e = rw (e, d, a, b) refl
 
 module _ (k : Carried) (n : ℕ) (s : List ℕ) (a e : ℕ) where
-  pub opened-definition : (behind six turn note : ℕ) (head : Number) (heads : Heads) (q : Pending) (c : State) → behind ≡ least (complainIf (ltb 1 (k .turn)) 3 n) → head ≡ numberOf (countIn (behindFirst (placed 0 (part a e s)))) → six ≡ headJudged head (k .heads) n
-      → note ≡ min behind six → heads ≡ withHead head (k .heads) → turn ≡ max (k .turn) 1 → q ≡ nothingPending → c ≡ blockState place.Head (carried turn (k .metadata) heads) q
+  pub opened-definition : (behind six turn note : ℕ) (head : Number) (heads : Heads) (q : Pending) (c : State)
+      → behind ≡ least (complainIf (ltb 1 (k .turn)) 3 n) → head ≡ numberOf (countIn (behindFirst (placed 0 (part a e s))))
+      → six ≡ headJudged head (k .heads) n
+      → note ≡ min behind six → heads ≡ withHead head (k .heads) → turn ≡ max (k .turn) 1 → q ≡ nothingPending
+      → c ≡ blockState place.Head (carried turn (k .metadata) heads) q
       → judged note c ≡ opening definition k (lineFrom n s a e)
   unfolding opening late
   opened-definition behind six turn note head heads q c x h y z w t r v =
       let same : head ≡ numberOf (headIn (lineFrom n s a e)) = h ∙ ap numberOf (sym (head-of-line n s a e)) in
       rw (z, v, x, y, w, t, r, same) refl
 
-  pub opened-section : (behind eight turn note want : ℕ) (good : Bool) (check : Check) (c : State) → behind ≡ least (complainIf (ltb 2 (k .turn)) 3 n) → good ≡ isHeader (placed 0 (part a e s)) → eight ≡ least (complainIf (not good) 8 n)
-      → note ≡ min behind eight → turn ≡ max (k .turn) 2 → want ≡ ranked 8 n → check ≡ first → c ≡ blockState (place.Body Keys) (carried turn (k .metadata) (k .heads)) (pending want none none check)
+  pub opened-section : (behind eight turn note want : ℕ) (good : Bool) (check : Check) (c : State) → behind ≡ least (complainIf (ltb 2 (k .turn)) 3 n)
+      → good ≡ isHeader (placed 0 (part a e s)) → eight ≡ least (complainIf (not good) 8 n)
+      → note ≡ min behind eight → turn ≡ max (k .turn) 2 → want ≡ ranked 8 n → check ≡ first
+      → c ≡ blockState (place.Body Keys) (carried turn (k .metadata) (k .heads)) (pending want none none check)
       → judged note c ≡ opening section k (lineFrom n s a e)
   unfolding opening late
   opened-section behind eight turn note want good check c x h y z t w r v =
@@ -108,11 +117,14 @@ module _ (k : Carried) (n : ℕ) (s : List ℕ) (a e : ℕ) where
   abbrev Opens : Judged → Type 0
   Opens j = j ≡ opening kind k (lineFrom n s a e)
 
-  pub by-metadata : (r : BlockKind) (j : Judged) → r ≡ blockKindIs (kindOfText (placed 0 (part a e s))) → r ≡ Metadata → j ≡ opening metadata k (lineFrom n s a e) → Opens j
+  pub by-metadata : (r : BlockKind) (j : Judged) → r ≡ blockKindIs (kindOfText (placed 0 (part a e s))) → r ≡ Metadata
+      → j ≡ opening metadata k (lineFrom n s a e) → Opens j
   by-metadata r j h g z = rw (is-metadata kind (found Metadata r h g)) z
 
-  pub by-definition : (r : BlockKind) (j : Judged) → r ≡ blockKindIs (kindOfText (placed 0 (part a e s))) → r ≡ Definition → j ≡ opening definition k (lineFrom n s a e) → Opens j
+  pub by-definition : (r : BlockKind) (j : Judged) → r ≡ blockKindIs (kindOfText (placed 0 (part a e s))) → r ≡ Definition
+      → j ≡ opening definition k (lineFrom n s a e) → Opens j
   by-definition r j h g z = rw (is-definition kind (found Definition r h g)) z
 
-  pub by-section : (r : BlockKind) (j : Judged) → r ≡ blockKindIs (kindOfText (placed 0 (part a e s))) → r ≡ Section → j ≡ opening section k (lineFrom n s a e) → Opens j
+  pub by-section : (r : BlockKind) (j : Judged) → r ≡ blockKindIs (kindOfText (placed 0 (part a e s))) → r ≡ Section
+      → j ≡ opening section k (lineFrom n s a e) → Opens j
   by-section r j h g z = rw (is-section kind (found Section r h g)) z

@@ -64,7 +64,8 @@ regroup : (x a b : ℕ) → min x (min a b) ≡ min (min x a) b
 regroup x a b = omega arith
 
 one-line : (w : Walk) (l : Line) (r : Runs) (f : Walk → ℕ) (t : Bool) → ((v : Walk) → f v ≡ adds v r)
-    → min ((if t then step (closed (w .place) (w .pending)) (gap (w .known)) else full w l) .note) (f ((if t then step (closed (w .place) (w .pending)) (gap (w .known)) else full w l) .walk))
+    → min ((if t then step (closed (w .place) (w .pending)) (gap (w .known)) else full w l) .note)
+    (f ((if t then step (closed (w .place) (w .pending)) (gap (w .known)) else full w l) .walk))
     ≡ adds w (join t l r)
 unfolding if_then_else_ join inBlock afterBlock
 one-line w l r f true h =

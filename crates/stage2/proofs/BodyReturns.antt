@@ -19,7 +19,8 @@ use Rattle.stage2.specs.States.{partOf, partIs, again, marked, judged, b
 use Rattle.stage2.specs.LineNotes.{keyNumber, modifierNumber}
 use Rattle.stage2.specs.BodyLines.{pastKeys, beforePattern, pastPattern, afterKey, afterModifier, afterPattern, onKey, onModifier, onPattern}
 use Rattle.stage2.proofs.RankLaws.{least-le}
-use Rattle.stage2.proofs.LineReturns.{key-of, modifier-of, modifier-no-key, pattern-no-key, key-no-modifier, pattern-no-modifier, key-in-section, modifier-in-section, pattern-in-section}
+use Rattle.stage2.proofs.LineReturns.{key-of, modifier-of, modifier-no-key, pattern-no-key, key-no-modifier, pattern-no-modifier}
+use Rattle.stage2.proofs.LineReturns.{key-in-section, modifier-in-section, pattern-in-section}
 
 module _ (l : Line) where
   -- Out of place.
@@ -93,7 +94,18 @@ module _ (p : Part) (c : State) (l : Line) where
   on-key e =
       let k = keyIs (keyNameOf l) in
       let out = complainIf (pastKeys p) 4 (l .number) in
-      rw (e, order-key l e p, key-of l e, key-no-modifier l e, key-in-section l e, nothing-again 8 (c .modifiers) (l .number), nothing-marked (c .modifiers), place-key p, second-none out (again 4 (keyNumber k) (c .keys) (l .number)))
+      rw (
+        e,
+        order-key l e p,
+        key-of l e,
+        key-no-modifier l e,
+        key-in-section l e,
+        nothing-again 8 (c .modifiers) (l .number),
+        nothing-marked
+            (c .modifiers),
+        place-key p,
+        second-none out (again 4 (keyNumber k) (c .keys) (l .number)),
+      )
       refl
 
   on-modifier : kindOfLine l ≡ modifierLine → onModifier p c l ≡ inBody
@@ -101,14 +113,36 @@ module _ (p : Part) (c : State) (l : Line) where
   on-modifier e =
       let m = modifierIs (modifierNameOf l) in
       let out = complainIf (beforePattern p) 8 (l .number) in
-      rw (e, order-modifier l e p, modifier-of l e, modifier-no-key l e, modifier-in-section l e, nothing-again 4 (c .keys) (l .number), nothing-marked (c .keys), place-modifier p, first-none out (again 8 (modifierNumber m) (c .modifiers) (l .number)))
+      rw (
+        e,
+        order-modifier l e p,
+        modifier-of l e,
+        modifier-no-key l e,
+        modifier-in-section l e,
+        nothing-again 4 (c .keys) (l .number),
+        nothing-marked (c .keys),
+        place-modifier p,
+        first-none out (again 8 (modifierNumber m) (c .modifiers) (l .number)),
+      )
       refl
 
   on-pattern : kindOfLine l ≡ patternLine → onPattern p c l ≡ inBody
   unfolding onPattern bodyJudged bodyState pendingAfter
   on-pattern e =
       let out = complainIf (pastPattern p) 8 (l .number) in
-      rw (e, order-pattern l e p, pattern-no-modifier l e, pattern-no-key l e, pattern-in-section l e, nothing-again 4 (c .keys) (l .number), nothing-again 8 (c .modifiers) (l .number), nothing-marked (c .keys), nothing-marked (c .modifiers), place-pattern p, all-none out)
+      rw (
+        e,
+        order-pattern l e p,
+        pattern-no-modifier l e,
+        pattern-no-key l e,
+        pattern-in-section l e,
+        nothing-again 4 (c .keys) (l .number),
+        nothing-again 8 (c .modifiers) (l .number),
+        nothing-marked (c .keys),
+        nothing-marked (c .modifiers),
+        place-pattern p,
+        all-none out,
+      )
       refl
 
   -- What is judged by the kind is judged.

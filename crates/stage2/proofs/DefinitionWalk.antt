@@ -14,7 +14,8 @@ use Rattle.grammar.specs.declared.checks.Check.{Check}
 use Rattle.grammar.specs.declared.kinds.Kind.the-variants.{LineEnd}
 use Rattle.grammar.proofs.VerdictLaws.{definition-fine}
 use Rattle.stage2.specs.Ranks.{ranked, none, least, unless, onlyIf}
-use Rattle.stage2.specs.Walk.{Known, known, Walk, behindHead, inDefinition, blockAt, pending, nothingPending, closed, fineAt, late, headNote, opens, stepAt}
+use Rattle.stage2.specs.Walk.{Known, known, Walk, behindHead, inDefinition, blockAt, pending, nothingPending, closed, fineAt, late, headNote}
+use Rattle.stage2.specs.Walk.{opens, stepAt}
 use Rattle.stage2.proofs.RankLaws.{least-if, min-assoc}
 use Rattle.stage2.proofs.BlockWalk.{inBlock, afterBlock, blockNote, blockAfter, unless-none}
 use Rattle.stage2.proofs.SeenLaws.{checkOn, check-lines-on}
@@ -46,10 +47,12 @@ module _ (k : Known) where
   definition-lines [] = let h = unless-none (definitionFine first) in omega arith
   definition-lines (l ∷ ls) =
       let bad = ranked 7 (l .number) in
-      let fine : definitionFine (checkOn (checkText first (l .text)) ls) ≡ isSome (definitionText l ls) = ap definitionFine (sym (check-lines-on l ls)) ∙ definition-fine l ls in
+      let fine : definitionFine (checkOn (checkText first (l .text)) ls) ≡ isSome (definitionText l ls) = ap definitionFine
+      (sym (check-lines-on l ls)) ∙ definition-fine l ls in
       let walk = text-lines bad (checkText first (l .text)) ls in
       let said = least-if (not (isSome (definitionText l ls))) 7 (l .number) in
-      let same : unless (definitionFine (checkOn (checkText first (l .text)) ls)) bad ≡ onlyIf (not (isSome (definitionText l ls))) bad = rw fine (sym (only-unless (isSome (definitionText l ls)) bad)) in
+      let same : unless (definitionFine (checkOn (checkText first (l .text)) ls)) bad ≡ onlyIf (not (isSome (definitionText l ls))) bad = rw fine
+      (sym (only-unless (isSome (definitionText l ls)) bad)) in
       omega arith
 
   definition-after : (ls : List Line) → afterBlock headWalk ls ≡ k

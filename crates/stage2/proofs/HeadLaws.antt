@@ -40,7 +40,8 @@ unfolding headIn countIn numberIn
 head-counts l =
     let bs = behindFirst (l .text) in
     let v = valueFrom 0 bs in
-    in-range (isDecimal bs && leb 1 v && leb v 9999) v (λ e. leb-true 1 v (both-pass (isDecimal bs) (leb 1 v) (both-pass (isDecimal bs && leb 1 v) (leb v 9999) e .0) .1))
+    in-range (isDecimal bs && leb 1 v && leb v 9999) v (λ e. leb-true 1 v
+    (both-pass (isDecimal bs) (leb 1 v) (both-pass (isDecimal bs && leb 1 v) (leb v 9999) e .0) .1))
 
 abbrev pub HeadsAgree : Heads → ℕ → List ℕ → Type 0
 HeadsAgree h n seen = (h .count ≡ min n 26) × (length (h .ids) ≡ 26) × (n < 26 → (x : ℕ) → 1 ≤ x → said x (take (h .count) (h .ids)) ≡ said x seen)
@@ -60,19 +61,22 @@ or-true true = refl
 or-true false = refl
 
 module _ (h : Heads) (n : ℕ) (seen : List ℕ) (a : HeadsAgree h n seen) where
-  beyond : 26 ≤ n → (o : Option ℕ) (l : Line) → headJudged (numberOf o) h (l .number) ≡ min (least (complainIf (not (isSome o) || leb 26 n) 6 (l .number))) (least (twiceBy 6 o seen l))
+  beyond : 26 ≤ n → (o : Option ℕ) (l : Line) → headJudged (numberOf o) h (l .number) ≡ min
+      (least (complainIf (not (isSome o) || leb 26 n) 6 (l .number))) (least (twiceBy 6 o seen l))
   unfolding headJudged headAgain twiceBy least numberOf isNumber isSome
   beyond g none l = refl
   beyond g (some x) l =
       let c : leb 26 (h .count) ≡ true = le-leb 26 (h .count) (omega arith) in
       rw (c, le-leb 26 n g) (same-line (hasHead h x) (l .number) ∙ sym (same-line (said x seen) (l .number)))
 
-  within : n < 26 → (o : Option ℕ) (l : Line) → Counts o → headJudged (numberOf o) h (l .number) ≡ min (least (complainIf (not (isSome o) || leb 26 n) 6 (l .number))) (least (twiceBy 6 o seen l))
+  within : n < 26 → (o : Option ℕ) (l : Line) → Counts o → headJudged (numberOf o) h (l .number) ≡ min
+      (least (complainIf (not (isSome o) || leb 26 n) 6 (l .number))) (least (twiceBy 6 o seen l))
   unfolding headJudged headAgain hasHead twiceBy least Counts numberOf isNumber isSome
   within g none l c = refl
   within g (some x) l c = let e : h .count ≡ n = omega arith in rw (a .2 g x c, e) refl
 
-  pub head-agrees : (o : Option ℕ) (l : Line) → Counts o → headJudged (numberOf o) h (l .number) ≡ min (least (complainIf (not (isSome o) || leb 26 n) 6 (l .number))) (least (twiceBy 6 o seen l))
+  pub head-agrees : (o : Option ℕ) (l : Line) → Counts o → headJudged (numberOf o) h (l .number) ≡ min
+      (least (complainIf (not (isSome o) || leb 26 n) 6 (l .number))) (least (twiceBy 6 o seen l))
   head-agrees o l c =
       by-cases (leb 26 n) (λ e. beyond (leb-true 26 n e) o l) (λ e. within (leb-false 26 n e) o l c)
 
@@ -108,4 +112,9 @@ module _ (h : Heads) (n : ℕ) (seen : List ℕ) (a : HeadsAgree h n seen) where
       (leb 26 (h .count))
       (λ e. let g = leb-true 26 (h .count) e in rw e (omega arith, a .1, λ z. absurd (omega arith)))
       (λ e. let g = leb-false 26 (h .count) e in
-      rw e (omega arith, length-set (h .ids) (h .count) (orZero (numberOf o)) ∙ a .1, λ z x p. one-more x (orZero (numberOf o)) (omega arith) ∙ (ap (λ (b : Bool). b || (eqb (orZero (numberOf o)) x || false)) (a .2 (omega arith) x p) ∙ said-more o x c p)))
+      rw e (
+        omega arith,
+        length-set (h .ids) (h .count) (orZero (numberOf o)) ∙ a .1,
+        λ z x p. one-more x (orZero (numberOf o)) (omega arith)
+            ∙ (ap (λ (b : Bool). b || (eqb (orZero (numberOf o)) x || false)) (a .2 (omega arith) x p) ∙ said-more o x c p),
+      ))

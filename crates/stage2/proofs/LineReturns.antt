@@ -9,7 +9,8 @@ use Rattle.songcode.specs.Bytes.{placed}
 use Rattle.songcode.specs.Lines.{Line}
 use Rattle.songcode.specs.Complaints.{complainIf}
 use Rattle.songcode.specs.Sections as sections
-use Rattle.songcode.specs.Sections.{keyLine, modifierLine, patternLine, kindOf, kindOfLine, keyNameOf, modifierNameOf, settingOf, keySaid, modifierSaid, keyFaults, modifierFaults, faults}
+use Rattle.songcode.specs.Sections.{keyLine, modifierLine, patternLine, kindOf, kindOfLine, keyNameOf, modifierNameOf, settingOf, keySaid}
+use Rattle.songcode.specs.Sections.{modifierSaid, keyFaults, modifierFaults, faults}
 use Rattle.songcode.specs.SongText.{metadataFault}
 use Rattle.text.specs.Spans.{part}
 use Rattle.settings.specs.Kinds.{kindIs}

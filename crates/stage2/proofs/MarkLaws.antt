@@ -68,7 +68,8 @@ pub none-agrees : Agrees noMarks []
 unfolding any
 none-agrees = (refl, λ k h. getD-replicate 8 k false false h)
 
-pub again-agrees : (number : ℕ) (o : Option ℕ) (marks : List Bool) (seen : List ℕ) (l : Line) → Below o → Agrees marks seen → again number (orElse o 8) marks (l .number) ≡ least (twiceBy number o seen l)
+pub again-agrees : (number : ℕ) (o : Option ℕ) (marks : List Bool) (seen : List ℕ) (l : Line) → Below o → Agrees marks seen
+    → again number (orElse o 8) marks (l .number) ≡ least (twiceBy number o seen l)
 unfolding again twiceBy Below least orElse if_then_else_
 again-agrees number option.none marks seen l b h = refl
 again-agrees number (option.some k) marks seen l b h = rw (lt-ltb k 8 b, h .1 k b) refl

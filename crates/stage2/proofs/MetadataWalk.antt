@@ -19,7 +19,8 @@ use Rattle.stage2.proofs.SeenLaws.{seenAfter}
 abbrev pub metadataLeast : List ℕ → List Line → ℕ
 metadataLeast seen ls = min (least (twice 4 keySaid seen ls)) (least (gather metadataFault ls))
 
-pub metadata-next : (seen : List ℕ) (l : Line) (ls : List Line) → metadataLeast seen (l ∷ ls) ≡ min (metadataNote seen l) (metadataLeast (prepend (keySaid l) seen) ls)
+pub metadata-next : (seen : List ℕ) (l : Line) (ls : List Line) → metadataLeast seen (l ∷ ls) ≡ min (metadataNote seen l)
+    (metadataLeast (prepend (keySaid l) seen) ls)
 unfolding twice gather metadataNote
 metadata-next seen l ls =
     least-both (twiceBy 4 (keySaid l) seen l) (twice 4 keySaid (prepend (keySaid l) seen) ls) (metadataFault l) (gather metadataFault ls)

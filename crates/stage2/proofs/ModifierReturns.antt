@@ -71,6 +71,7 @@ module _ (n : ℕ) (s : List ℕ) (a e q : ℕ) (m : ModifierName) (h : settingI
   unfolding settingFine
   unknown-fine t = rw t refl
 
-pub modifier-noted : (l : Line) (m : ModifierName) (fine : Bool) (number r : ℕ) → fine ≡ settingFine m (settingOf l) → number ≡ settingNumber m → r ≡ least (complainIf (not fine) number (l .number)) → r ≡ modifierNote m (settingOf l) (l .number)
+pub modifier-noted : (l : Line) (m : ModifierName) (fine : Bool) (number r : ℕ) → fine ≡ settingFine m (settingOf l) → number ≡ settingNumber m
+    → r ≡ least (complainIf (not fine) number (l .number)) → r ≡ modifierNote m (settingOf l) (l .number)
 unfolding modifierNote
 modifier-noted l m fine number r a b d = rw (← a, ← b) d

@@ -22,10 +22,12 @@ use Rattle.stage2.specs.Ranks.{least}
 use Rattle.stage2.specs.LineNotes.{allowedIn, keyNote}
 
 module _ (n : ℕ) (s : List ℕ) (a e q : ℕ) where
-  pub key-found : (r : KeyName) → nameIn (placed (a + 1) (part (a + 1) e s)) ≡ placed (a + 1) (part (a + 1) q s) → r ≡ keyIs (keyNamed (placed 0 (part (a + 1) q s))) → r ≡ keyIs (keyNameOf (lineFrom n s a e))
+  pub key-found : (r : KeyName) → nameIn (placed (a + 1) (part (a + 1) e s)) ≡ placed (a + 1) (part (a + 1) q s)
+      → r ≡ keyIs (keyNamed (placed 0 (part (a + 1) q s))) → r ≡ keyIs (keyNameOf (lineFrom n s a e))
   key-found r h g = g ∙ ap keyIs (sym (key-name-of-line n s a e q h))
 
-  pub modifier-found : (r : ModifierName) → nameIn (placed (a + 1) (part (a + 1) e s)) ≡ placed (a + 1) (part (a + 1) q s) → r ≡ modifierIs (modifierNamed (placed 0 (part (a + 1) q s))) → r ≡ modifierIs (modifierNameOf (lineFrom n s a e))
+  pub modifier-found : (r : ModifierName) → nameIn (placed (a + 1) (part (a + 1) e s)) ≡ placed (a + 1) (part (a + 1) q s)
+      → r ≡ modifierIs (modifierNamed (placed 0 (part (a + 1) q s))) → r ≡ modifierIs (modifierNameOf (lineFrom n s a e))
   modifier-found r h g = g ∙ ap modifierIs (sym (modifier-name-of-line n s a e q h))
 
 setting-placeless : (k : KeyName) → Placeless (isSettingOf k)
@@ -40,10 +42,13 @@ setting-placeless Warning a w = isSetting-placeless song.warning a w
 setting-placeless End a w = isSetting-placeless song.end a w
 setting-placeless Unknown a w = refl
 
-pub key-noted : (n : ℕ) (s : List ℕ) (a e q : ℕ) (section : Bool) (k : KeyName) (allowed good : Bool) (four five r : ℕ) → settingIn (placed (a + 1) (part (a + 1) e s)) ≡ placed q (part q e s)
-    → allowed ≡ allowedIn section k → four ≡ least (complainIf (not allowed) 4 n) → good ≡ isSettingOf k (placed 0 (part q e s)) → five ≡ least (complainIf (not good) 5 n) → r ≡ min four five
+pub key-noted : (n : ℕ) (s : List ℕ) (a e q : ℕ) (section : Bool) (k : KeyName) (allowed good : Bool) (four five r : ℕ)
+    → settingIn (placed (a + 1) (part (a + 1) e s)) ≡ placed q (part q e s)
+    → allowed ≡ allowedIn section k → four ≡ least (complainIf (not allowed) 4 n) → good ≡ isSettingOf k (placed 0 (part q e s))
+    → five ≡ least (complainIf (not good) 5 n) → r ≡ min four five
     → r ≡ keyNote section k (settingOf (lineFrom n s a e)) n
 unfolding keyNote
 key-noted n s a e q section k allowed good four five r h x f y g z =
-    let same : good ≡ isSettingOf k (settingOf (lineFrom n s a e)) = y ∙ (sym (setting-placeless k q (part q e s)) ∙ ap (isSettingOf k) (sym (setting-of-line n s a e q h))) in
+    let same : good ≡ isSettingOf k (settingOf (lineFrom n s a e)) = y
+    ∙ (sym (setting-placeless k q (part q e s)) ∙ ap (isSettingOf k) (sym (setting-of-line n s a e q h))) in
     rw (← same, ← x, ← f, ← g) z

@@ -61,7 +61,8 @@ lower-first : (line : ℕ) → min (least (complainIf true 4 line)) (least (comp
 unfolding least complainIf when
 lower-first line = omega arith
 
-pub key-note : (section : Bool) (o : Option KeyName) (l : Line) → least (keyFaultsBy (allowedBy section) o l) ≡ keyNote section (keyIs o) (settingOf l) (l .number)
+pub key-note : (section : Bool) (o : Option KeyName) (l : Line) → least (keyFaultsBy (allowedBy section) o l) ≡ keyNote section (keyIs o)
+    (settingOf l) (l .number)
 unfolding keyFaultsBy keyNote keyIs allowedIn isSettingOf
 key-note section none l = sym (lower-first (l .number))
 key-note section (some k) l =

@@ -7,7 +7,8 @@ use native.Mathlib.Omega.{arith}
 use Rattle.songcode.specs.Lists.{if_then_else_, taken, left, isSome}
 use Rattle.songcode.specs.Lines.{Line}
 use Rattle.songcode.specs.PatternText.{sectionText}
-use Rattle.songcode.specs.Sections.{Kind, keyLine, modifierLine, patternLine, kindOfLine, isPatternLine, notPatternLine, Place, amongKeys, early, inPattern, behind, placeAfter, patternRun, patternFaults}
+use Rattle.songcode.specs.Sections.{Kind, keyLine, modifierLine, patternLine, kindOfLine, isPatternLine, notPatternLine, Place, amongKeys, early}
+use Rattle.songcode.specs.Sections.{inPattern, behind, placeAfter, patternRun, patternFaults}
 use Rattle.grammar.specs.Checks.{first, checkText}
 use Rattle.grammar.specs.Verdicts.{sectionFine}
 use Rattle.grammar.proofs.VerdictLaws.{section-fine}
@@ -117,5 +118,6 @@ pub run-faults : (header : ℕ) (run : List Line) → least (patternFaults heade
 unfolding patternFaults wanted least
 run-faults header [] = omega arith
 run-faults header (l ∷ ls) =
-    let fine : sectionFine (checkOn (checkText first (l .text)) ls) ≡ isSome (sectionText l ls) = ap sectionFine (sym (check-lines-on l ls)) ∙ section-fine l ls in
+    let fine : sectionFine (checkOn (checkText first (l .text)) ls) ≡ isSome (sectionText l ls) = ap sectionFine (sym (check-lines-on l ls))
+    ∙ section-fine l ls in
     rw fine (least-if (not (isSome (sectionText l ls))) 7 (l .number) ∙ ap (min none) (only-unless (isSome (sectionText l ls)) (ranked 7 (l .number))))

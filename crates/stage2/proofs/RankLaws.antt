@@ -1,5 +1,5 @@
 -- The least number says the complaint that goes first.
-use Prim.Native.Nat.{ℕ, _+_, _/_, _%_, _≤_, min}
+use Prim.Native.Nat.{ℕ, _/_, _%_, _≤_, min}
 use mathlib.Core.Path.{_≡_, refl, ap, _∙_}
 use mathlib.Core.List.{List, [], _∷_, _++_}
 use mathlib.Core.Bool.{Bool, true, false}
@@ -10,7 +10,7 @@ use borrow.Author.Tests.{ltb-true, ltb-false, leb-true, leb-false, eqb-true, eqb
 use lib.Dec.{eqb, leb, ltb}
 use Rattle.songcode.specs.Lists.{if_then_else_, isEmpty, when}
 use Rattle.songcode.specs.Lines.{Block}
-use Rattle.songcode.specs.Complaints.{Complaint, complaint, complainIf, goesFirst, earlier, earliest}
+use Rattle.songcode.specs.Complaints.{Complaint, complainIf, goesFirst, earlier, earliest}
 use Rattle.songcode.specs.SongText.{orNoSection}
 use Rattle.songcode.proofs.ListLaws.{Each}
 use Rattle.text.specs.Refusals.{refusalOf}

@@ -7,7 +7,9 @@ use native.Mathlib.Omega.{arith}
 use Rattle.songcode.specs.Lists.{if_then_else_, taken, left, isEmpty, gather, prepend}
 use Rattle.songcode.specs.Lines.{Line, Block}
 use Rattle.songcode.specs.Complaints.{Complaint, complaint, complainIf}
-use Rattle.songcode.specs.Sections.{Kind, keyLine, modifierLine, patternLine, kindOfLine, Place, amongKeys, early, inPattern, behind, misplaced, placeAfter, order, twice, twiceBy, keySaid, modifierSaid, faults, patternRun, patternFaults, headerFaults, notDashes, lyricFaults, body, ending, sectionFaults}
+use Rattle.songcode.specs.Sections.{Kind, keyLine, modifierLine, patternLine, kindOfLine, Place, amongKeys, early, inPattern, behind, misplaced}
+use Rattle.songcode.specs.Sections.{placeAfter, order, twice, twiceBy, keySaid, modifierSaid, faults, patternRun, patternFaults, headerFaults}
+use Rattle.songcode.specs.Sections.{notDashes, lyricFaults, body, ending, sectionFaults}
 use Rattle.songcode.specs.SongText.{section, blockKind}
 use Rattle.grammar.specs.Checks.{first}
 use Rattle.grammar.specs.Verdicts.{sectionFine}
@@ -15,7 +17,8 @@ use Rattle.grammar.specs.declared.checks.Check.{Check}
 use Rattle.text.proofs.TestLaws.{by-cases}
 use Rattle.stage2.specs.declared.states.Pending.{Pending}
 use Rattle.stage2.specs.Ranks.{ranked, none, least, unless, onlyIf}
-use Rattle.stage2.specs.Walk.{Known, known, inBody, inLyrics, walkAt, pending, closed, fineAt, late, opens, pendingAfter, orderNote, bodyNote, bodyStep, lyricsWith, patternPending, stepAt}
+use Rattle.stage2.specs.Walk.{Known, known, inBody, inLyrics, walkAt, pending, closed, fineAt, late, opens, pendingAfter, orderNote, bodyNote}
+use Rattle.stage2.specs.Walk.{bodyStep, lyricsWith, patternPending, stepAt}
 use Rattle.stage2.proofs.RankLaws.{least-append, least-both, least-if, least-le, min-assoc, min-both}
 use Rattle.stage2.proofs.BlockWalk.{inBlock, afterBlock, blockNote, blockAfter}
 use Rattle.stage2.proofs.PatternWalk.{wanted, patternLeft, Fits, at-end, pattern-next, fits-next, run-faults}
@@ -39,7 +42,8 @@ body-next p ks ms l ls =
     let m' = twice 8 modifierSaid (prepend (modifierSaid l) ms) ls in
     let two = least-both o o' k k' in
     let three = min-both (min (least o) (least k)) (min (least o') (least k')) (least m) (least m') two (least-append m m') in
-    min-both (min (min (least o) (least k)) (least m)) (min (min (least o') (least k')) (least m')) (least (faults l)) (least (gather faults ls)) three (least-append (faults l) (gather faults ls))
+    min-both (min (min (least o) (least k)) (least m)) (min (min (least o') (least k')) (least m')) (least (faults l)) (least (gather faults ls))
+    three (least-append (faults l) (gather faults ls))
 
 module _ (k : Known) (ks ms : List ℕ) where
   -- Lyric lines say nothing; the first takes the complaint of the `--` away.
@@ -49,7 +53,8 @@ module _ (k : Known) (ks ms : List ℕ) where
   sung w t c (l ∷ ls) = let h = sung w t c ls in omega arith
 
   dashes : (q : Pending) (n : ℕ) (ls : List Line)
-      → min none (inBlock (walkAt inLyrics k ks ms (pending (q .want) (ranked 8 n) (q .bad) (q .check))) ls) ≡ min (least (complainIf (isEmpty ls) 8 n)) (min (q .want) (unless (sectionFine (q .check)) (q .bad)))
+      → min none (inBlock (walkAt inLyrics k ks ms (pending (q .want) (ranked 8 n) (q .bad) (q .check))) ls) ≡ min
+      (least (complainIf (isEmpty ls) 8 n)) (min (q .want) (unless (sectionFine (q .check)) (q .bad)))
   unfolding inBlock closed fineAt stepAt isEmpty onlyIf if_then_else_
   dashes q n [] = let h = least-if true 8 n in omega arith
   dashes q n (l ∷ ls) = let h = least-if false 8 n in let j = sung (q .want) (q .bad) (q .check) ls in omega arith
@@ -76,7 +81,8 @@ at-dashes : (x y z w : ℕ) → min none x ≡ min z y → y ≡ min none w → 
 at-dashes x y z w p q = omega arith
 
 module _ (k : Known) where
-  section-lines : (p : Place) (ks ms : List ℕ) (q : Pending) (ls : List Line) → q .bare ≡ none → Fits p q → inBlock (walkAt (inBody p) k ks ms q) ls ≡ sectionLeft p ks ms q ls
+  section-lines : (p : Place) (ks ms : List ℕ) (q : Pending) (ls : List Line) → q .bare ≡ none → Fits p q
+      → inBlock (walkAt (inBody p) k ks ms q) ls ≡ sectionLeft p ks ms q ls
   unfolding inBlock closed fineAt stepAt taken left lyricFaults if_then_else_ bodyStep least
   section-lines p ks ms q [] b f = let h = at-end p q f in let j = no-body p ks ms in omega arith
   section-lines p ks ms q (l ∷ ls) b f =
@@ -91,9 +97,11 @@ module _ (k : Known) where
       let note = bodyNote p ks ms l in
       let rest = min (patternLeft p' q' body) (least (lyricFaults (left notDashes ls))) in
       rw (body-next p ks ms l body, pattern-next l body p q)
-      (ap (min note) (section-lines p' ks' ms' q' ls (bare-next l p (kindOfLine l) q b) (fits-next l p (kindOfLine l) q f)) ∙ sym (min-assoc note (bodyLeft p' ks' ms' body) rest))))
+      (ap (min note) (section-lines p' ks' ms' q' ls (bare-next l p (kindOfLine l) q b) (fits-next l p (kindOfLine l) q f))
+      ∙ sym (min-assoc note (bodyLeft p' ks' ms' body) rest))))
       (λ e. rw (e, no-body p ks ms)
-      (at-dashes (inBlock (lyricsWith (walkAt (inBody p) k ks ms q) (ranked 8 (l .number))) ls) (min (q .want) (unless (sectionFine (q .check)) (q .bad))) (least (complainIf (isEmpty ls) 8 (l .number))) (patternLeft p q [])
+      (at-dashes (inBlock (lyricsWith (walkAt (inBody p) k ks ms q) (ranked 8 (l .number))) ls)
+      (min (q .want) (unless (sectionFine (q .check)) (q .bad))) (least (complainIf (isEmpty ls) 8 (l .number))) (patternLeft p q [])
       (dashes k ks ms q (l .number) ls) (at-end p q f)))
 
   sung-after : (ks ms : List ℕ) (q : Pending) (ls : List Line) → afterBlock (walkAt inLyrics k ks ms q) ls ≡ k
@@ -114,7 +122,16 @@ module _ (k : Known) where
 section-least : (h o k m f p l : List Complaint)
     → least (h ++ o ++ k ++ m ++ f ++ p ++ l) ≡ min (least h) (min (min (min (min (least o) (least k)) (least m)) (least f)) (min (least p) (least l)))
 section-least h o k m f p l =
-    simp (least-append (h ++ o ++ k ++ m ++ f ++ p) l, least-append (h ++ o ++ k ++ m ++ f) p, least-append (h ++ o ++ k ++ m) f, least-append (h ++ o ++ k) m, least-append (h ++ o) k, least-append h o, min-assoc)
+    simp (
+      least-append (h ++ o ++ k ++ m ++ f ++ p) l,
+      least-append (h ++ o ++ k ++ m ++ f) p,
+      least-append (h ++ o ++ k ++ m) f,
+      least-append
+          (h ++ o ++ k) m,
+      least-append (h ++ o) k,
+      least-append h o,
+      min-assoc,
+    )
 
 under-none : (w y : ℕ) → y ≤ none → min w y ≡ min (min none w) y
 under-none w y c = omega arith
@@ -132,9 +149,11 @@ module _ (k : Known) (b : Block) (e : blockKind b ≡ section) where
       let ls = body b in
       let want = ranked 8 (b .first .number) in
       let q = pending want none none first in
-      let said = section-least (headerFaults (b .first)) (order amongKeys ls) (twice 4 keySaid [] ls) (twice 8 modifierSaid [] ls) (gather faults ls) (patternFaults (b .first .number) (patternRun ls)) (lyricFaults (ending b)) in
+      let said = section-least (headerFaults (b .first)) (order amongKeys ls) (twice 4 keySaid [] ls) (twice 8 modifierSaid [] ls) (gather faults ls)
+      (patternFaults (b .first .number) (patternRun ls)) (lyricFaults (ending b)) in
       rw (e, section-lines opened amongKeys [] [] q (b .others) refl refl, said, run-faults (b .first .number) (patternRun ls))
-      (capped (late 2 (k .turn) (b .first)) (least (headerFaults (b .first))) (bodyLeft amongKeys [] [] ls) (wanted want (patternRun ls)) (least (lyricFaults (ending b))) (least-le (lyricFaults (ending b))))
+      (capped (late 2 (k .turn) (b .first)) (least (headerFaults (b .first))) (bodyLeft amongKeys [] [] ls) (wanted want (patternRun ls))
+      (least (lyricFaults (ending b))) (least-le (lyricFaults (ending b))))
 
   pub section-block-after : blockAfter k b ≡ opened
   unfolding afterBlock stepAt opens blockKind

@@ -16,7 +16,8 @@ module _ (number : ℕ) (said : Line → Option ℕ) where
   seenAfter seen [] = seen
   seenAfter seen (l ∷ ls) = seenAfter (prepend (said l) seen) ls
 
-  pub twice-append : (seen : List ℕ) (xs ys : List Line) → twice number said seen (xs ++ ys) ≡ twice number said seen xs ++ twice number said (seenAfter seen xs) ys
+  pub twice-append : (seen : List ℕ) (xs ys : List Line) → twice number said seen (xs ++ ys) ≡ twice number said seen xs ++ twice number said
+      (seenAfter seen xs) ys
   unfolding twice seenAfter
   twice-append seen [] ys = refl
   twice-append seen (x ∷ xs) ys = rw (twice-append (prepend (said x) seen) xs ys, append-assoc)

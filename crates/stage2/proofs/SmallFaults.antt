@@ -6,14 +6,18 @@ use native.Mathlib.Omega.{arith}
 use lib.Dec.{leb, ltb}
 use Rattle.songcode.specs.Lists.{left, isSome, gather}
 use Rattle.songcode.specs.Lines.{Line, Block}
-use Rattle.songcode.specs.Complaints.{Complaint, complaint, complainIf}
-use Rattle.songcode.specs.Sections.{isPatternLine, notPatternLine, twice, keySaid, modifierSaid, faults, amongKeys, order, patternRun, patternFaults, headerFaults, notDashes, lyricFaults, body, ending, sectionFaults}
-use Rattle.songcode.specs.SongText.{BlockKind, metadata, definition, section, blockKind, turn, blockOrder, linesIf, metadataLines, metadataFault, metadataFaults, headIn, definitionIf, sectionIf, definitionBlocks, sectionBlocks, headsFaults, firstLine, definitionFaults, definitionsFaults}
+use Rattle.songcode.specs.Complaints.{Complaint, complainIf}
+use Rattle.songcode.specs.Sections.{isPatternLine, notPatternLine, twice, keySaid, modifierSaid, faults, amongKeys, order, patternRun, patternFaults}
+use Rattle.songcode.specs.Sections.{headerFaults, notDashes, lyricFaults, body, ending, sectionFaults}
+use Rattle.songcode.specs.SongText.{BlockKind, metadata, definition, section, blockKind, turn, blockOrder, linesIf, metadataLines, metadataFault}
+use Rattle.songcode.specs.SongText.{metadataFaults, headIn, definitionIf, sectionIf, definitionBlocks, sectionBlocks, headsFaults, firstLine}
+use Rattle.songcode.specs.SongText.{definitionFaults, definitionsFaults}
 use Rattle.songcode.proofs.ListLaws.{Each, each-append}
 use Rattle.settings.specs.Phrases.{isHeader}
 use Rattle.stage2.specs.Ranks.{Small}
 use Rattle.stage2.proofs.TextWalk.{blockFaults}
-use Rattle.stage2.proofs.SmallLineFaults.{Low, LowBlock, Fine, fine-if, fine-gather, each-gather, each-taken, each-left, fine-twice, fine-faults, fine-metadata, fine-order, fine-pattern, fine-definition, fine-lyrics}
+use Rattle.stage2.proofs.SmallLineFaults.{Low, LowBlock, Fine, fine-if, fine-gather, each-gather, each-taken, each-left, fine-twice}
+use Rattle.stage2.proofs.SmallLineFaults.{fine-faults, fine-metadata, fine-order, fine-pattern, fine-definition, fine-lyrics}
 
 fine-header : (l : Line) → Low l → Fine (headerFaults l)
 unfolding headerFaults isHeader
@@ -54,13 +58,16 @@ fine-blocks-order : (t : ℕ) (bs : List Block) → Each LowBlock bs → Fine (b
 unfolding blockOrder Each LowBlock
 fine-blocks-order t [] h = tt
 fine-blocks-order t (b ∷ bs) h =
-    each-append Small (complainIf (ltb (turn (blockKind b)) t) 3 (b .first .number)) (blockOrder (max t (turn (blockKind b))) bs) (fine-if (ltb (turn (blockKind b)) t) 3 (b .first) (omega arith, omega arith) (h .0 .0)) (fine-blocks-order (max t (turn (blockKind b))) bs (h .1))
+    each-append Small (complainIf (ltb (turn (blockKind b)) t) 3 (b .first .number)) (blockOrder (max t (turn (blockKind b))) bs)
+    (fine-if (ltb (turn (blockKind b)) t) 3 (b .first) (omega arith, omega arith) (h .0 .0))
+    (fine-blocks-order (max t (turn (blockKind b))) bs (h .1))
 
 fine-heads : (n : ℕ) (bs : List Block) → Each LowBlock bs → Fine (headsFaults n bs)
 unfolding headsFaults Each LowBlock
 fine-heads n [] h = tt
 fine-heads n (b ∷ bs) h =
-    each-append Small (complainIf (not (isSome (headIn (b .first))) || leb 26 n) 6 (b .first .number)) (headsFaults (suc n) bs) (fine-if (not (isSome (headIn (b .first))) || leb 26 n) 6 (b .first) (omega arith, omega arith) (h .0 .0)) (fine-heads (suc n) bs (h .1))
+    each-append Small (complainIf (not (isSome (headIn (b .first))) || leb 26 n) 6 (b .first .number)) (headsFaults (suc n) bs)
+    (fine-if (not (isSome (headIn (b .first))) || leb 26 n) 6 (b .first) (omega arith, omega arith) (h .0 .0)) (fine-heads (suc n) bs (h .1))
 
 low-firsts : (bs : List Block) → Each LowBlock bs → Each Low (map firstLine bs)
 unfolding Each LowBlock firstLine
@@ -100,7 +107,9 @@ faults-small bs h =
     let d2 = twice 6 headIn [] (map firstLine ds) in
     let d3 = gather (λ b. definitionFaults (b .others)) ds in
     let m = each-append Small m1 m2 (fine-twice 4 (omega arith, omega arith) keySaid [] ls lines) (fine-gather metadataFault fine-metadata ls lines) in
-    let d = each-append Small d1 d2 (fine-heads 0 ds definitions) (fine-twice 6 (omega arith, omega arith) headIn [] (map firstLine ds) (low-firsts ds definitions)) in
+    let d = each-append Small d1 d2 (fine-heads 0 ds definitions) (fine-twice 6 (omega arith, omega arith) headIn [] (map firstLine ds)
+    (low-firsts ds definitions)) in
     let e = each-append Small (d1 ++ d2) d3 d (fine-gather (λ b. definitionFaults (b .others)) (λ b p. fine-definition (b .others) (p .1)) ds definitions) in
     let o = each-append Small (blockOrder 0 bs) (m1 ++ m2) (fine-blocks-order 0 bs h) m in
-    each-append Small (blockOrder 0 bs ++ (m1 ++ m2) ++ (d1 ++ d2 ++ d3)) (gather sectionFaults (sectionBlocks bs)) (each-append Small (blockOrder 0 bs ++ (m1 ++ m2)) (d1 ++ d2 ++ d3) o e) (fine-gather sectionFaults fine-section (sectionBlocks bs) sections)
+    each-append Small (blockOrder 0 bs ++ (m1 ++ m2) ++ (d1 ++ d2 ++ d3)) (gather sectionFaults (sectionBlocks bs))
+    (each-append Small (blockOrder 0 bs ++ (m1 ++ m2)) (d1 ++ d2 ++ d3) o e) (fine-gather sectionFaults fine-section (sectionBlocks bs) sections)

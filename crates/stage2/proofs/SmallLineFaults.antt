@@ -12,7 +12,9 @@ use Rattle.songcode.specs.Keys.{isSetting, ofSection, ofMetadata}
 use Rattle.songcode.specs.Modifiers.{ModifierName, ofRepeat, ofCutStart, ofCutEnd, ofBefore, ofAfter, settingRefusal, modifierIn}
 use Rattle.songcode.specs.PatternText.{sectionText, definitionText}
 use Rattle.songcode.specs.Complaints.{Complaint, complaint, complainIf}
-use Rattle.songcode.specs.Sections.{Kind, keyLine, modifierLine, patternLine, kindOfLine, settingOf, keyFaultsBy, keyFaults, keyNameOf, modifierFaultsBy, modifierFaults, modifierNameOf, twice, twiceBy, faults, Place, amongKeys, early, inPattern, behind, misplaced, placeAfter, order, patternFaults, lyricFaults}
+use Rattle.songcode.specs.Sections.{Kind, keyLine, modifierLine, patternLine, kindOfLine, settingOf, keyFaultsBy, keyFaults, keyNameOf}
+use Rattle.songcode.specs.Sections.{modifierFaultsBy, modifierFaults, modifierNameOf, twice, twiceBy, faults, Place, amongKeys, early, inPattern}
+use Rattle.songcode.specs.Sections.{behind, misplaced, placeAfter, order, patternFaults, lyricFaults}
 use Rattle.songcode.specs.SongText.{metadataFault, definitionFaults}
 use Rattle.songcode.proofs.ListLaws.{Each, each-append}
 use Rattle.songcode.proofs.LineAgree.{by-kind as by-line-kind}
@@ -44,7 +46,8 @@ unfolding gather Each
 fine-gather f h [] p = tt
 fine-gather f h (x ∷ xs) p = each-append Small (f x) (gather f xs) (h x (p .0)) (fine-gather f h xs (p .1))
 
-pub each-gather : {A B : Type 0} {P : A → Type 0} (Q : B → Type 0) (f : A → List B) → ((x : A) → P x → Each Q (f x)) → (xs : List A) → Each P xs → Each Q (gather f xs)
+pub each-gather : {A B : Type 0} {P : A → Type 0} (Q : B → Type 0) (f : A → List B) → ((x : A) → P x → Each Q (f x)) → (xs : List A) → Each P xs
+    → Each Q (gather f xs)
 unfolding gather Each
 each-gather Q f h [] p = tt
 each-gather Q f h (x ∷ xs) p = each-append Q (f x) (gather f xs) (h x (p .0)) (each-gather Q f h xs (p .1))
@@ -72,7 +75,8 @@ module _ (number : ℕ) (small : (1 ≤ number) × (number < 32)) (said : Line �
   unfolding twice Each
   fine-twice seen [] p = tt
   fine-twice seen (l ∷ ls) p =
-      each-append Small (twiceBy number (said l) seen l) (twice number said (prepend (said l) seen) ls) (fine-said (said l) seen l (p .0)) (fine-twice (prepend (said l) seen) ls (p .1))
+      each-append Small (twiceBy number (said l) seen l) (twice number said (prepend (said l) seen) ls) (fine-said (said l) seen l (p .0))
+      (fine-twice (prepend (said l) seen) ls (p .1))
 
 -- A line's own faults.
 module _ (l : Line) (h : Low l) where
@@ -80,7 +84,8 @@ module _ (l : Line) (h : Low l) where
   unfolding keyFaultsBy
   fine-key-by allowed none = one 4 l (omega arith, omega arith) h
   fine-key-by allowed (some k) =
-      each-append Small (complainIf (not (allowed k)) 4 (l .number)) (complainIf (not (isSetting k (settingOf l))) 5 (l .number)) (fine-if (not (allowed k)) 4 l (omega arith, omega arith) h) (fine-if (not (isSetting k (settingOf l))) 5 l (omega arith, omega arith) h)
+      each-append Small (complainIf (not (allowed k)) 4 (l .number)) (complainIf (not (isSetting k (settingOf l))) 5 (l .number))
+      (fine-if (not (allowed k)) 4 l (omega arith, omega arith) h) (fine-if (not (isSetting k (settingOf l))) 5 l (omega arith, omega arith) h)
 
   fine-key : (allowed : KeyName → Bool) → Fine (keyFaults allowed l)
   unfolding keyFaults
@@ -136,7 +141,8 @@ pub fine-order : (p : Place) (ls : List Line) → Each Low ls → Fine (order p 
 unfolding order Each
 fine-order p [] h = tt
 fine-order p (l ∷ ls) h =
-    each-append Small (map (λ n. complaint n (l .number)) (misplaced p (kindOfLine l))) (order (placeAfter p (kindOfLine l)) ls) (fine-misplaced l (h .0) p (kindOfLine l)) (fine-order (placeAfter p (kindOfLine l)) ls (h .1))
+    each-append Small (map (λ n. complaint n (l .number)) (misplaced p (kindOfLine l))) (order (placeAfter p (kindOfLine l)) ls)
+    (fine-misplaced l (h .0) p (kindOfLine l)) (fine-order (placeAfter p (kindOfLine l)) ls (h .1))
 
 pub fine-pattern : (b : Line) (ls : List Line) → Low b → Each Low ls → Fine (patternFaults (b .number) ls)
 unfolding patternFaults Each

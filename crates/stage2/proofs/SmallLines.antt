@@ -16,7 +16,7 @@ use Rattle.text.specs.Refusals.{refusalOf}
 use Rattle.text.specs.Spans.{lineOf, spansFrom, spans, lineText}
 use Rattle.text.specs.declared.lines.Line.{Line}
 use Rattle.text.proofs.LineLaws.{blocks-spans}
-use Rattle.stage2.specs.Ranks.{least, refusalAt}
+use Rattle.stage2.specs.Ranks.{refusalAt}
 use Rattle.stage2.specs.Walk.{walked, atFirst}
 use Rattle.stage2.proofs.RankLaws.{or-no-section, clear-faults}
 use Rattle.stage2.proofs.TextWalk.{blockFaults, walked-least}
@@ -59,7 +59,8 @@ unfolding spans textFaults
 stage-walked s h =
     let ls = map (lineText s) (spans s) in
     rw (blocks-spans s)
-    (ap refusalAt (walked-least ls) ∙ or-no-section (blockFaults (blocks ls)) (sectionBlocks (blocks ls)) (faults-small (blocks ls) (low-blocks ls (numbers s 1 0 0 s (omega arith)))))
+    (ap refusalAt (walked-least ls) ∙ or-no-section (blockFaults (blocks ls)) (sectionBlocks (blocks ls))
+    (faults-small (blocks ls) (low-blocks ls (numbers s 1 0 0 s (omega arith)))))
 
 -- Where stage 2 refuses nothing it complains of nothing.
 pub stage-clear : (s : List ℕ) → length s ≤ 65536 → refusalOf (earliest (textFaults (blocksOf s))) .number ≡ 0 → textFaults (blocksOf s) ≡ []

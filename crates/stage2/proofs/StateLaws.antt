@@ -17,9 +17,11 @@ use Rattle.stage2.specs.declared.states.Carried.{Carried}
 use Rattle.stage2.specs.declared.states.Pending.{Pending}
 use Rattle.stage2.specs.declared.states.State.{State}
 use Rattle.stage2.specs.declared.states.Judged.{Judged}
-use Rattle.stage2.specs.Ranks.{none}
-use Rattle.stage2.specs.Walk.{Where, between, inMetadata, behindHead, inDefinition, inBody, inLyrics, Known, known, Walk, Step, blockAt, pending, nothingPending, fineAt, closed, late, metadataNote, headNote, opens, bodyNote, bodyStep, stepAt, stepped, finished, atFirst}
-use Rattle.stage2.specs.States.{partOf, partIs, noMarks, marked, keyOf, headJudged, blockState, carried, judged, fineFor, closing, keyJudged, opening, bodyJudged, bodyState, judgedAt, judge, ends}
+use Rattle.stage2.specs.Walk.{Where, between, inMetadata, behindHead, inDefinition, inBody, inLyrics, Known, known, Walk, Step, blockAt}
+use Rattle.stage2.specs.Walk.{pending, nothingPending, fineAt, closed, late, metadataNote, headNote, opens, bodyNote, bodyStep, stepAt, stepped}
+use Rattle.stage2.specs.Walk.{finished, atFirst}
+use Rattle.stage2.specs.States.{partOf, partIs, noMarks, marked, keyOf, headJudged, blockState, carried, judged, fineFor, closing, keyJudged}
+use Rattle.stage2.specs.States.{opening, bodyJudged, bodyState, judgedAt, judge, ends}
 use Rattle.stage2.proofs.MarkLaws.{Agrees, none-agrees, again-agrees, marked-agrees, key-said-below, modifier-said-below}
 use Rattle.stage2.proofs.HeadLaws.{HeadsAgree, no-heads-agree, head-counts, head-agrees, with-head-agrees}
 
@@ -59,7 +61,8 @@ opened p k c q h = record { place = refl; carried = h; keys = none-agrees; modif
 
 pub starts : Stands atFirst (blockState Between (carried 0 noMarks (record { count = 0; ids = replicate 26 0 })) nothingPending)
 unfolding placeIs
-starts = opened between (known 0 [] 0 []) (carried 0 noMarks (record { count = 0; ids = replicate 26 0 })) nothingPending (record { turn = refl; metadata = none-agrees; heads = no-heads-agree })
+starts = opened between (known 0 [] 0 []) (carried 0 noMarks (record { count = 0; ids = replicate 26 0 })) nothingPending
+    (record { turn = refl; metadata = none-agrees; heads = no-heads-agree })
 
 fine-same : (p : Where) (c : Check) → fineFor (placeIs p) c ≡ fineAt p c
 unfolding fineFor fineAt placeIs
@@ -93,14 +96,26 @@ module _ (k : Known) (c : Carried) (h : Knows k c) (l : Line) where
   opening-by : (b : BlockKind) → Follows (opens b k l) (opening b c l)
   unfolding opens opening placeIs partIs
   opening-by metadata = rw (h .turn) (ap (min (late 0 (k .turn) l)) key-same, opened inMetadata _ _ nothingPending (key-known (max (k .turn) 0)))
-  opening-by definition = rw (h .turn) (ap (min (late 1 (k .turn) l)) head-same, opened behindHead _ _ nothingPending (record { turn = refl; metadata = h .metadata; heads = with-head-agrees (c .heads) (k .sofar) (k .heads) (h .heads) (headIn l) (head-counts l) }))
+  opening-by definition = rw (h .turn) (
+    ap (min (late 1 (k .turn) l)) head-same,
+    opened behindHead _ _ nothingPending
+        (record {
+          turn = refl;
+          metadata = h .metadata;
+          heads = with-head-agrees (c .heads) (k .sofar) (k .heads) (h .heads) (headIn l) (head-counts l);
+        }),
+  )
   opening-by section = rw (h .turn) (refl, opened (inBody amongKeys) _ _ _ (record { turn = refl; metadata = h .metadata; heads = h .heads }))
 
 module _ (w : Walk) (c : State) (h : Stands w c) (l : Line) where
   body-same : (p : sections.Place) → bodyJudged p (c .keys) (c .modifiers) l ≡ bodyNote p (w .keys) (w .modifiers) l
   unfolding bodyJudged bodyNote
   body-same p =
-      rw (again-agrees 4 (keySaid l) (c .keys) (w .keys) l (key-said-below l) (h .keys), again-agrees 8 (modifierSaid l) (c .modifiers) (w .modifiers) l (modifier-said-below l) (h .modifiers)) refl
+      rw (
+        again-agrees 4 (keySaid l) (c .keys) (w .keys) l (key-said-below l) (h .keys),
+        again-agrees 8 (modifierSaid l) (c .modifiers) (w .modifiers)
+            l (modifier-said-below l) (h .modifiers),
+      ) refl
 
   in-body : (p : sections.Place) → Follows (bodyStep p w l) (judged (bodyJudged p (c .keys) (c .modifiers) l) (bodyState p c l))
   unfolding bodyStep bodyState placeIs
@@ -118,7 +133,11 @@ module _ (w : Walk) (c : State) (h : Stands w c) (l : Line) where
   by-place : (p : Where) → Follows (stepAt p w l) (judgedAt (placeIs p) c l)
   unfolding stepAt judgedAt placeIs if_then_else_
   by-place between = opening-by (w .known) (c .carried) (h .carried) l (kindOfText (l .text))
-  by-place inMetadata = rw (h .carried .turn) (key-same (w .known) (c .carried) (h .carried) l, opened inMetadata _ _ nothingPending (key-known (w .known) (c .carried) (h .carried) l (w .known .turn)))
+  by-place inMetadata = rw (h .carried .turn) (
+    key-same (w .known) (c .carried) (h .carried) l,
+    opened inMetadata _ _ nothingPending
+        (key-known (w .known) (c .carried) (h .carried) l (w .known .turn)),
+  )
   by-place behindHead = rw (h .pending) (refl, opened inDefinition _ _ _ (h .carried))
   by-place inDefinition = rw (h .pending) (refl, opened inDefinition _ _ _ (h .carried))
   by-place (inBody p) =

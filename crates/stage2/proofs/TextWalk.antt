@@ -10,7 +10,9 @@ use Rattle.songcode.specs.Lists.{if_then_else_, isEmpty, isSome, gather, prepen
 use Rattle.songcode.specs.Lines.{Line, Block, blocks}
 use Rattle.songcode.specs.Complaints.{Complaint, complainIf}
 use Rattle.songcode.specs.Sections.{twice, twiceBy, keySaid, sectionFaults}
-use Rattle.songcode.specs.SongText.{BlockKind, metadata, definition, section, blockKind, turn, blockOrder, linesIf, metadataLines, metadataFault, metadataFaults, headIn, definitionIf, sectionIf, definitionBlocks, sectionBlocks, headsFaults, firstLine, definitionFaults, definitionsFaults}
+use Rattle.songcode.specs.SongText.{BlockKind, metadata, definition, section, blockKind, turn, blockOrder, linesIf, metadataLines, metadataFault}
+use Rattle.songcode.specs.SongText.{metadataFaults, headIn, definitionIf, sectionIf, definitionBlocks, sectionBlocks, headsFaults, firstLine}
+use Rattle.songcode.specs.SongText.{definitionFaults, definitionsFaults}
 use Rattle.songcode.proofs.ListLaws.{gather-append}
 use Rattle.songcode.proofs.BlockKinds.{by-kind}
 use Rattle.text.proofs.TestLaws.{by-cases}
@@ -39,17 +41,20 @@ abbrev lacking : ℕ → List Block → ℕ
 lacking t bs = onlyIf (ltb t 2) (onlyIf (isEmpty (sectionBlocks bs)) noSection)
 
 -- One block more, group by group.
-order-next : (t : ℕ) (b : Block) (bs : List Block) → least (blockOrder t (b ∷ bs)) ≡ min (late (turn (blockKind b)) t (b .first)) (least (blockOrder (max t (turn (blockKind b))) bs))
+order-next : (t : ℕ) (b : Block) (bs : List Block) → least (blockOrder t (b ∷ bs)) ≡ min (late (turn (blockKind b)) t (b .first))
+    (least (blockOrder (max t (turn (blockKind b))) bs))
 unfolding blockOrder late
 order-next t b bs = least-append (complainIf (ltb (turn (blockKind b)) t) 3 (b .first .number)) (blockOrder (max t (turn (blockKind b))) bs)
 
-metadata-more : (seen : List ℕ) (xs ys : List Line) → metadataLeast seen (xs ++ ys) ≡ min (metadataLeast seen xs) (metadataLeast (seenAfter 4 keySaid seen xs) ys)
+metadata-more : (seen : List ℕ) (xs ys : List Line) → metadataLeast seen (xs ++ ys) ≡ min (metadataLeast seen xs)
+    (metadataLeast (seenAfter 4 keySaid seen xs) ys)
 metadata-more seen xs ys =
     rw (twice-append 4 keySaid seen xs ys, gather-append metadataFault xs ys)
     (least-both (twice 4 keySaid seen xs) (twice 4 keySaid (seenAfter 4 keySaid seen xs) ys) (gather metadataFault xs) (gather metadataFault ys))
 
 definitions-more : (k : Known) (b : Block) (bs : List Block)
-    → definitionsLeast (k .sofar) (k .heads) (b ∷ bs) ≡ min (min (headNote k (b .first)) (least (definitionFaults (b .others)))) (definitionsLeast (suc (k .sofar)) (prepend (headIn (b .first)) (k .heads)) bs)
+    → definitionsLeast (k .sofar) (k .heads) (b ∷ bs) ≡ min (min (headNote k (b .first)) (least (definitionFaults (b .others))))
+    (definitionsLeast (suc (k .sofar)) (prepend (headIn (b .first)) (k .heads)) bs)
 unfolding headsFaults twice firstLine gather headNote
 definitions-more k b bs =
     let h = complainIf (not (isSome (headIn (b .first))) || leb 26 (k .sofar)) 6 (b .first .number) in
@@ -105,20 +110,50 @@ module _ (k : Known) (b : Block) (bs : List Block) where
   of-metadata : blockKind b ≡ metadata → Splits
   unfolding linesIf definitionIf sectionIf turn
   of-metadata e =
-      rw (lines-found b bs metadata e, definitions-found b bs metadata e, sections-found b bs metadata e, order-found b bs metadata e (k .turn), metadata-more (k .keys) (b .first ∷ b .others) (metadataLines bs), metadata-block k b e, metadata-block-after k b e)
-      (first-second (late 0 (k .turn) (b .first)) (order 0) (metadataLeast (k .keys) (b .first ∷ b .others)) (metadataLeast (seenAfter 4 keySaid (k .keys) (b .first ∷ b .others)) (metadataLines bs)) (definitionsLeast (k .sofar) (k .heads) (definitionBlocks bs)) sections)
+      rw (
+        lines-found b bs metadata e,
+        definitions-found b bs metadata e,
+        sections-found b bs metadata e,
+        order-found b bs metadata e (k .turn),
+        metadata-more (k .keys) (b .first ∷ b .others) (metadataLines bs),
+        metadata-block k b e,
+        metadata-block-after k b e,
+      )
+      (first-second (late 0 (k .turn) (b .first)) (order 0) (metadataLeast (k .keys) (b .first ∷ b .others))
+      (metadataLeast (seenAfter 4 keySaid (k .keys) (b .first ∷ b .others)) (metadataLines bs))
+      (definitionsLeast (k .sofar) (k .heads) (definitionBlocks bs)) sections)
 
   of-definition : blockKind b ≡ definition → Splits
   unfolding linesIf definitionIf sectionIf turn
   of-definition e =
-      rw (lines-found b bs definition e, definitions-found b bs definition e, sections-found b bs definition e, order-found b bs definition e (k .turn), definitions-more k b (definitionBlocks bs), definition-block k b e, definition-block-after k b e)
-      (first-third (late 1 (k .turn) (b .first)) (order 1) (metadataLeast (k .keys) (metadataLines bs)) (min (headNote k (b .first)) (least (definitionFaults (b .others)))) (definitionsLeast (suc (k .sofar)) (prepend (headIn (b .first)) (k .heads)) (definitionBlocks bs)) sections)
+      rw (
+        lines-found b bs definition e,
+        definitions-found b bs definition e,
+        sections-found b bs definition e,
+        order-found b bs definition e
+            (k .turn),
+        definitions-more k b (definitionBlocks bs),
+        definition-block k b e,
+        definition-block-after k b e,
+      )
+      (first-third (late 1 (k .turn) (b .first)) (order 1) (metadataLeast (k .keys) (metadataLines bs))
+      (min (headNote k (b .first)) (least (definitionFaults (b .others))))
+      (definitionsLeast (suc (k .sofar)) (prepend (headIn (b .first)) (k .heads)) (definitionBlocks bs)) sections)
 
   of-section : blockKind b ≡ section → Splits
   unfolding linesIf definitionIf sectionIf turn gather
   of-section e =
-      rw (lines-found b bs section e, definitions-found b bs section e, sections-found b bs section e, order-found b bs section e (k .turn), least-append (sectionFaults b) (gather sectionFaults (sectionBlocks bs)), section-block k b e, section-block-after k b e)
-      (first-fourth (late 2 (k .turn) (b .first)) (order 2) (metadataLeast (k .keys) (metadataLines bs)) (definitionsLeast (k .sofar) (k .heads) (definitionBlocks bs)) (least (sectionFaults b)) sections)
+      rw (
+        lines-found b bs section e,
+        definitions-found b bs section e,
+        sections-found b bs section e,
+        order-found b bs section e (k .turn),
+        least-append (sectionFaults b) (gather sectionFaults (sectionBlocks bs)),
+        section-block k b e,
+        section-block-after k b e,
+      )
+      (first-fourth (late 2 (k .turn) (b .first)) (order 2) (metadataLeast (k .keys) (metadataLines bs))
+      (definitionsLeast (k .sofar) (k .heads) (definitionBlocks bs)) (least (sectionFaults b)) sections)
 
   splits : Splits
   splits = by-kind (blockKind b) of-metadata of-definition of-section
@@ -191,7 +226,15 @@ faults-all bs =
     let d2 = twice 6 headIn [] (map firstLine ds) in
     let d3 = gather (λ b. definitionFaults (b .others)) ds in
     let s = gather sectionFaults (sectionBlocks bs) in
-    rw (least-append (o ++ (m1 ++ m2) ++ (d1 ++ d2 ++ d3)) s, least-append (o ++ (m1 ++ m2)) (d1 ++ d2 ++ d3), least-append o (m1 ++ m2), least-append m1 m2, least-append (d1 ++ d2) d3, least-append d1 d2) refl
+    rw (
+      least-append (o ++ (m1 ++ m2) ++ (d1 ++ d2 ++ d3)) s,
+      least-append (o ++ (m1 ++ m2)) (d1 ++ d2 ++ d3),
+      least-append o (m1 ++ m2),
+      least-append
+          m1 m2,
+      least-append (d1 ++ d2) d3,
+      least-append d1 d2,
+    ) refl
 
 -- The walk over the lines of a text.
 pub walked-least : (ls : List Line) → walked atFirst ls ≡ min (least (blockFaults (blocks ls))) (onlyIf (isEmpty (sectionBlocks (blocks ls))) noSection)

@@ -43,7 +43,8 @@ module _ (c : State) (p : Part) (n : ℕ) (s : List ℕ) (a e : ℕ) (t : Bool) 
   unfolding judgedAt if_then_else_
   at-dashes bare d y b g = rw (not-dashes, y, g, b) refl
 
-  pub at-body : (j : Judged) → t ≡ false → j ≡ judged (bodyJudged (partOf p) (c .keys) (c .modifiers) (lineFrom n s a e)) (bodyState (partOf p) c (lineFrom n s a e)) → j ≡ judgedAt (Body p) c (lineFrom n s a e)
+  pub at-body : (j : Judged) → t ≡ false → j ≡ judged (bodyJudged (partOf p) (c .keys) (c .modifiers) (lineFrom n s a e))
+      (bodyState (partOf p) c (lineFrom n s a e)) → j ≡ judgedAt (Body p) c (lineFrom n s a e)
   unfolding judgedAt if_then_else_
   at-body j y g = rw (not-dashes, y) g
 
@@ -56,7 +57,8 @@ module _ (c : State) (l : songcode.Line) where
   unfolding judgedAt
   first-of-text q d a b = rw (b, a) refl
 
-  pub next-of-text : (q : Pending) (d : State) → q ≡ patternMore l (c .pending) → d ≡ blockState Definition (c .carried) q → judged none d ≡ judgedAt Definition c l
+  pub next-of-text : (q : Pending) (d : State) → q ≡ patternMore l (c .pending) → d ≡ blockState Definition (c .carried) q
+      → judged none d ≡ judgedAt Definition c l
   unfolding judgedAt
   next-of-text q d a b = rw (b, a) refl
 
@@ -70,7 +72,8 @@ module _ (c : State) (s : List ℕ) (l : Line) (long : l .stop ≤ length s) whe
   unfolding judge if_then_else_
   line-full j h g = rw (empty-line s (l .start) (l .stop) (omega arith) long, ne-eqb (l .start) (l .stop) (λ z. omega arith)) g
 
-  pub line-blank : (note : ℕ) (q : Pending) (d : State) → l .start ≤ l .stop → l .stop ≤ l .start → note ≡ closing c → q ≡ nothingPending → d ≡ blockState Between (c .carried) q → judged note d ≡ judge c (lineText s l)
+  pub line-blank : (note : ℕ) (q : Pending) (d : State) → l .start ≤ l .stop → l .stop ≤ l .start → note ≡ closing c → q ≡ nothingPending
+      → d ≡ blockState Between (c .carried) q → judged note d ≡ judge c (lineText s l)
   unfolding judge if_then_else_
   line-blank note q d h g x y z = rw (empty-line s (l .start) (l .stop) h long, eq-eqb (l .start) (l .stop) (omega arith), x, z, y) refl
 
@@ -99,6 +102,7 @@ all-le s =
     let h = by-blocks-le (known 0 [] 0 []) (blocks ls) in
     omega arith
 
-pub told : (s : List ℕ) (x : ℕ) (f : Refusal) → length s ≤ 65536 → x ≡ toCome s atFirst 1 0 → f ≡ refusalAt x → f ≡ refusalOf (earliest (textFaults (blocksOf s)))
+pub told : (s : List ℕ) (x : ℕ) (f : Refusal) → length s ≤ 65536 → x ≡ toCome s atFirst 1 0 → f ≡ refusalAt x
+    → f ≡ refusalOf (earliest (textFaults (blocksOf s)))
 unfolding spans
 told s x f h e g = g ∙ (ap refusalAt e ∙ stage-walked s h)

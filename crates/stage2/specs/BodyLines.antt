@@ -17,38 +17,38 @@ use Rattle.stage2.specs.States.{partOf, again, marked, stateAt, judged}
 use Rattle.stage2.specs.LineNotes.{keyNumber, modifierNumber, keyNote, modifierNote}
 
 -- What is out of place where: a key anywhere but among keys, a modifier before the pattern, a pattern line past its run.
-unfoldable pub pastKeys : Part → Bool
+abbrev pub pastKeys : Part → Bool
 pastKeys Keys = false
 pastKeys Early = true
 pastKeys Pattern = true
 pastKeys Behind = true
 
-unfoldable pub beforePattern : Part → Bool
+abbrev pub beforePattern : Part → Bool
 beforePattern Keys = true
 beforePattern Early = true
 beforePattern Pattern = false
 beforePattern Behind = false
 
-unfoldable pub pastPattern : Part → Bool
+abbrev pub pastPattern : Part → Bool
 pastPattern Keys = false
 pastPattern Early = false
 pastPattern Pattern = false
 pastPattern Behind = true
 
 -- Where the next line stands.
-unfoldable pub afterKey : Part → Part
+abbrev pub afterKey : Part → Part
 afterKey Keys = Keys
 afterKey Early = Early
 afterKey Pattern = Behind
 afterKey Behind = Behind
 
-unfoldable pub afterModifier : Part → Part
+abbrev pub afterModifier : Part → Part
 afterModifier Keys = Early
 afterModifier Early = Early
 afterModifier Pattern = Behind
 afterModifier Behind = Behind
 
-unfoldable pub afterPattern : Part → Part
+abbrev pub afterPattern : Part → Part
 afterPattern Keys = Pattern
 afterPattern Early = Pattern
 afterPattern Pattern = Pattern
@@ -71,7 +71,8 @@ unfoldable pub onModifier : Part → State → Line → Judged
 onModifier p c l =
     let m = modifierIs (modifierNameOf l) in
     judged
-    (min (min (least (complainIf (beforePattern p) 8 (l .number))) (again 8 (modifierNumber m) (c .modifiers) (l .number))) (modifierNote m (settingOf l) (l .number)))
+    (min (min (least (complainIf (beforePattern p) 8 (l .number))) (again 8 (modifierNumber m) (c .modifiers) (l .number)))
+    (modifierNote m (settingOf l) (l .number)))
     (stateAt (Body (afterModifier p)) (c .carried) (c .keys) (marked (modifierNumber m) (c .modifiers)) (c .pending))
 
 unfoldable pub onPattern : Part → State → Line → Judged

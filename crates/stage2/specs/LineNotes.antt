@@ -20,7 +20,7 @@ use Rattle.settings.specs.declared.cuts.CutRead.the-variants as read
 use Rattle.stage2.specs.Ranks.{least}
 
 -- The places of the names, 8 for an unknown one.
-unfoldable pub keyNumber : KeyName → ℕ
+abbrev pub keyNumber : KeyName → ℕ
 keyNumber Name = 0
 keyNumber Artist = 1
 keyNumber Original = 2
@@ -31,7 +31,7 @@ keyNumber Warning = 6
 keyNumber End = 7
 keyNumber key.Unknown = 8
 
-unfoldable pub modifierNumber : ModifierName → ℕ
+abbrev pub modifierNumber : ModifierName → ℕ
 modifierNumber Repeat = 0
 modifierNumber CutStart = 1
 modifierNumber CutEnd = 2
@@ -40,7 +40,7 @@ modifierNumber After = 4
 modifierNumber modifier.Unknown = 8
 
 -- A section's keys are "bpm, time"; metadata has all eight. An unknown key is nowhere allowed.
-unfoldable pub allowedIn : Bool → KeyName → Bool
+abbrev pub allowedIn : Bool → KeyName → Bool
 allowedIn section Bpm = true
 allowedIn section Time = true
 allowedIn section Name = not section
@@ -56,7 +56,7 @@ keyNote section k bs line =
     min (least (complainIf (not (allowedIn section k)) 4 line)) (least (complainIf (not (isSettingOf k bs)) 5 line))
 
 -- A cut was read.
-unfoldable pub isCut : CutRead → Bool
+abbrev pub isCut : CutRead → Bool
 isCut (read.Cut c) = true
 isCut read.Not = false
 
@@ -69,7 +69,7 @@ settingFine Before bs = isSome (sideText bs)
 settingFine After bs = isSome (sideText bs)
 settingFine modifier.Unknown bs = false
 
-unfoldable pub settingNumber : ModifierName → ℕ
+abbrev pub settingNumber : ModifierName → ℕ
 settingNumber Repeat = 5
 settingNumber CutStart = 5
 settingNumber CutEnd = 5

@@ -78,7 +78,7 @@ unfoldable pub headJudged : Number → Heads → ℕ → ℕ
 headJudged o h line = min (least (complainIf (not (isNumber o) || leb 26 (h .count)) 6 line)) (headAgain o h line)
 
 -- One more; beyond 26 none is remembered, as every further one is complained of.
-unfoldable pub orZero : Number → ℕ
+abbrev pub orZero : Number → ℕ
 orZero Not = 0
 orZero (Is x) = x
 
@@ -155,7 +155,8 @@ judgedAt Between c l = opening (kindOfText (l .text)) (c .carried) l
 judgedAt Metadata c l = judged (keyJudged (c .carried .metadata) l) (metadataState (c .carried .turn) (c .carried) l)
 judgedAt Head c l = judged none (blockState Definition (c .carried) (patternBegun l (c .pending)))
 judgedAt Definition c l = judged none (blockState Definition (c .carried) (patternMore l (c .pending)))
-judgedAt (Body p) c l = if notDashes l then judged (bodyJudged (partOf p) (c .keys) (c .modifiers) l) (bodyState (partOf p) c l) else judged none (lyricsState c (ranked 8 (l .number)))
+judgedAt (Body p) c l = if notDashes l then judged (bodyJudged (partOf p) (c .keys) (c .modifiers) l) (bodyState (partOf p) c l) else judged none
+    (lyricsState c (ranked 8 (l .number)))
 judgedAt Lyrics c l = judged none (lyricsState c none)
 
 -- Before the first line.

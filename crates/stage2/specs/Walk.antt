@@ -6,7 +6,8 @@ use lib.Dec.{leb, ltb}
 use Rattle.songcode.specs.Lists.{if_then_else_, isEmpty, isSome, prepend}
 use Rattle.songcode.specs.Lines.{Line}
 use Rattle.songcode.specs.Complaints.{complaint, complainIf}
-use Rattle.songcode.specs.Sections.{Kind, keyLine, modifierLine, patternLine, kindOfLine, Place, amongKeys, early, inPattern, behind, misplaced, placeAfter, twiceBy, keySaid, modifierSaid, faults, headerFaults, notDashes}
+use Rattle.songcode.specs.Sections.{Kind, keyLine, modifierLine, patternLine, kindOfLine, Place, amongKeys, early, inPattern, behind, misplaced}
+use Rattle.songcode.specs.Sections.{placeAfter, twiceBy, keySaid, modifierSaid, faults, headerFaults, notDashes}
 use Rattle.songcode.specs.SongText.{BlockKind, metadata, definition, section, kindOfText, metadataFault, headIn}
 use Rattle.grammar.specs.Checks.{first, checkStep, checkText}
 use Rattle.grammar.specs.Verdicts.{definitionFine, sectionFine}
@@ -134,7 +135,8 @@ unfoldable pub bodyStep : Place → Walk → Line → Step
 bodyStep p w l =
     step
     (bodyNote p (w .keys) (w .modifiers) l)
-    (walkAt (inBody (placeAfter p (kindOfLine l))) (w .known) (prepend (keySaid l) (w .keys)) (prepend (modifierSaid l) (w .modifiers)) (pendingAfter (kindOfLine l) p l (w .pending)))
+    (walkAt (inBody (placeAfter p (kindOfLine l))) (w .known) (prepend (keySaid l) (w .keys)) (prepend (modifierSaid l) (w .modifiers))
+    (pendingAfter (kindOfLine l) p l (w .pending)))
 
 -- The `--`, and a line behind it.
 abbrev pub lyricsWith : Walk → ℕ → Walk

@@ -52,7 +52,8 @@ pub fn line_kind(s: &[u8], l: Line) -> Kind
 // A key of metadata: unknown, twice, or its setting malformed.
 fn metadata_key(s: &[u8], marks: [bool; 8], l: Line) -> Noted
     requires { ⌜ (l .start < l .stop) × (l .stop ≤ length (now s)) × (l .number ≤ 65537) ⌝ }
-    ensures { λ r. ⌜ (r .note ≡ keyAlone marks (lineText (now (s .entry)) l)) × (r .marks ≡ marked (keyNumber (keyIs (keyNameOf (lineText (now (s .entry)) l)))) marks) ⌝ }
+    ensures { λ r. ⌜ (r .note ≡ keyAlone marks (lineText (now (s .entry)) l))
+        × (r .marks ≡ marked (keyNumber (keyIs (keyNameOf (lineText (now (s .entry)) l)))) marks) ⌝ }
 {
     let k = key_at(s, l);
     let n = key_number(k);
@@ -162,7 +163,8 @@ pub fn pattern_line(s: &[u8], c: State, p: Part, l: Line) -> Judged
 // A line between a section's header and its `--`.
 pub fn body_line(s: &[u8], c: State, p: Part, l: Line) -> Judged
     requires { ⌜ (l .start < l .stop) × (l .stop ≤ length (now s)) × (l .stop ≤ 65536) × (l .number ≤ 65537) ⌝ }
-    ensures { λ r. ⌜ r ≡ judged (bodyJudged (partOf p) (c .keys) (c .modifiers) (lineText (now (s .entry)) l)) (bodyState (partOf p) c (lineText (now (s .entry)) l)) ⌝ }
+    ensures { λ r. ⌜ r ≡ judged (bodyJudged (partOf p) (c .keys) (c .modifiers) (lineText (now (s .entry)) l))
+        (bodyState (partOf p) c (lineText (now (s .entry)) l)) ⌝ }
 {
     let kind = line_kind(s, l);
     match kind {

@@ -1,5 +1,5 @@
 -- A text cut at its first line end: what songcode's cutLines does, line by line.
-use Prim.Native.Nat.{ℕ, suc, _+_, _-_}
+use Prim.Native.Nat.{ℕ, suc, _+_}
 use mathlib.Core.Path.{_≡_, refl, sym}
 use mathlib.Core.List.{List, [], _∷_}
 use mathlib.Core.Bool.{Bool, true, false}
@@ -29,7 +29,11 @@ behind false c = []
 -- The first line is what stands before the line end; the others are the lines of what stands behind it.
 abbrev Cuts : ℕ → List ℕ → Type 0
 Cuts at bs =
-    cutLines (placed at bs) ≡ record { first = placed at (take (lineLength bs) bs); others = behind (ended bs) (cutLines (placed (at + whole bs) (drop (whole bs) bs))) }
+    cutLines (placed at bs) ≡ record {
+      first = placed at (take (lineLength bs) bs);
+      others = behind (ended bs)
+          (cutLines (placed (at + whole bs) (drop (whole bs) bs)));
+    }
 
 cut-cr : (at b : ℕ) (bs : List ℕ) → end b ≡ cr → Cuts at (b ∷ bs)
 unfolding cutLines endingOf placed put lineLength longer breakLength breakWidth behind if_then_else_
@@ -66,4 +70,5 @@ unended (b ∷ bs) h =
     b
     (λ e. let g : ended bs ≡ false = rw e at h in rw (e, suc-add) (unended bs g))
     (λ e. let g : true ≡ false = rw (e, e) at h in absurd (false-not-true (sym g)))
-    (λ e. let g : ltb 0 (breakWidth cr (end (getD bs 0 0))) ≡ false = rw (e, e) at h in absurd (omega (arith, ltb-false 0 (breakWidth cr (end (getD bs 0 0))) g, cr-breaks (end (getD bs 0 0)))))
+    (λ e. let g : ltb 0 (breakWidth cr (end (getD bs 0 0))) ≡ false = rw (e, e) at h in absurd
+    (omega (arith, ltb-false 0 (breakWidth cr (end (getD bs 0 0))) g, cr-breaks (end (getD bs 0 0)))))

@@ -1,5 +1,5 @@
 -- Line ends, one byte at a time: what the loop of line_ends cites.
-use Prim.Native.Nat.{ℕ, suc, _+_, _-_, _<_, _≤_}
+use Prim.Native.Nat.{ℕ, suc, _+_, _<_, _≤_}
 use mathlib.Core.Path.{_≡_, refl, sym, ap, _∙_}
 use mathlib.Core.List.{List, [], _∷_}
 use mathlib.Core.Bool.{Bool, true, false}
@@ -41,21 +41,25 @@ unfolding endingOf placed ending if_then_else_
 ending-next at [] = refl
 ending-next at (b ∷ bs) = refl
 
-ends-cons : (at b : ℕ) (bs : List ℕ) → length (cutLines (placed at (b ∷ bs)) .others) ≡ oneIf (endsLine b (getD bs 0 0)) + length (cutLines (placed (suc at) bs) .others)
+ends-cons : (at b : ℕ) (bs : List ℕ) → length (cutLines (placed at (b ∷ bs)) .others) ≡ oneIf (endsLine b (getD bs 0 0)) + length
+    (cutLines (placed (suc at) bs) .others)
 unfolding cutLines placed
-ends-cons at b bs = rw (ending-next (suc at) bs) (put-ends (record { place = at; value = b }) (record { place = suc at; value = getD bs 0 0 }) (cutLines (placed (suc at) bs)))
+ends-cons at b bs = rw (ending-next (suc at) bs) (put-ends (record { place = at; value = b }) (record { place = suc at; value = getD bs 0 0 })
+    (cutLines (placed (suc at) bs)))
 
 -- Where the text stands does not matter.
 ends-anywhere : (at to : ℕ) (bs : List ℕ) → length (cutLines (placed at bs) .others) ≡ length (cutLines (placed to bs) .others)
 unfolding cutLines placed
 ends-anywhere at to [] = refl
-ends-anywhere at to (b ∷ bs) = ends-cons at b bs ∙ ap (λ (n : ℕ). oneIf (endsLine b (getD bs 0 0)) + n) (ends-anywhere (suc at) (suc to) bs) ∙ sym (ends-cons to b bs)
+ends-anywhere at to (b ∷ bs) = ends-cons at b bs ∙ ap (λ (n : ℕ). oneIf (endsLine b (getD bs 0 0)) + n) (ends-anywhere (suc at) (suc to) bs)
+    ∙ sym (ends-cons to b bs)
 
 ends-more : (s : List ℕ) (i : ℕ) → i < length s → lineEnds (drop i s) ≡ oneIf (endsLine (getD s i 0) (getD s (i + 1) 0)) + lineEnds (drop (i + 1) s)
 ends-more s i h =
     let next : getD (drop (suc i) s) 0 0 ≡ getD s (i + 1) 0 = simp (getD-drop, add-zero, add-one) in
     let here = ends-cons 0 (getD s i 0) (drop (suc i) s) in
-    rw (← next, add-one i, drop-cons s i 0) (here ∙ ap (λ (n : ℕ). oneIf (endsLine (getD s i 0) (getD (drop (suc i) s) 0 0)) + n) (ends-anywhere 1 0 (drop (suc i) s)))
+    rw (← next, add-one i, drop-cons s i 0) (here ∙ ap (λ (n : ℕ). oneIf (endsLine (getD s i 0) (getD (drop (suc i) s) 0 0)) + n)
+    (ends-anywhere 1 0 (drop (suc i) s)))
 
 -- The same by the two bytes as they were read, and by the test's answer.
 module _ (s : List ℕ) (i : ℕ) (h : i < length s) {next : ℕ} (n : next ≡ getD s (i + 1) 0) {test : Bool} (t : test ≡ endsLine (getD s i 0) next) where

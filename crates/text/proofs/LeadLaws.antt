@@ -26,7 +26,8 @@ pub width-by-lead : (fs : List Form) (b : ℕ) (bs : List ℕ) → widthBy fs b 
 unfolding widthBy leadBy widthFrom if_then_else_
 width-by-lead [] b bs = refl
 width-by-lead (f ∷ fs) b bs =
-    by-cases (within (f .firstLow) (f .firstHigh) b) (λ e. let k : suc (f .more) - 1 ≡ f .more = omega arith in rw (e, k, follows-range f (f .more) bs)) (λ e. rw e (width-by-lead fs b bs))
+    by-cases (within (f .firstLow) (f .firstHigh) b) (λ e. let k : suc (f .more) - 1 ≡ f .more = omega arith in rw
+    (e, k, follows-range f (f .more) bs)) (λ e. rw e (width-by-lead fs b bs))
 
 -- A lead of width 0 or 1 wants nothing behind it.
 pub width-short : (l : Lead) (bs : List ℕ) → l .width < 2 → l .width ≡ widthFrom l bs
@@ -48,7 +49,8 @@ module _ (l : Lead) (h : 2 ≤ l .width) where
   width-second [] g e = absurd (omega arith)
   width-second (b ∷ bs) g e = rw (wants, e)
 
-  module _ (bs : List ℕ) (g : 0 < length bs) (e : within (l .low) (l .high) (getD bs 0 0) ≡ true) {test : Bool} (t : test ≡ tails (l .width - 2) (take (length bs - 1) (drop 1 bs))) where
+  module _ (bs : List ℕ) (g : 0 < length bs) (e : within (l .low) (l .high) (getD bs 0 0) ≡ true) {test : Bool}
+      (t : test ≡ tails (l .width - 2) (take (length bs - 1) (drop 1 bs))) where
     width-tails : widthFrom l bs ≡ (if test then l .width else 0)
     unfolding widthFrom follows
     width-tails = rw (t, rest-part bs 1, wants, drop-cons bs 0 0) (rw e)
@@ -96,7 +98,8 @@ pub width-ascii : (b : ℕ) (bs : List ℕ) → 1 ≤ b → b < 0x80 → 1 ≡ w
 unfolding widthBy forms follows if_then_else_
 width-ascii b bs p q = rw (within-true 0x01 0x7F b p (omega arith))
 
-pub width-lead : (s : List ℕ) (i : ℕ) {l : Lead} {w : ℕ} → l ≡ leadOf (getD s i 0) → w ≡ widthFrom l (take (length s - (i + 1)) (drop (i + 1) s)) → w ≡ widthAt s i
+pub width-lead : (s : List ℕ) (i : ℕ) {l : Lead} {w : ℕ} → l ≡ leadOf (getD s i 0) → w ≡ widthFrom l (take (length s - (i + 1)) (drop (i + 1) s))
+    → w ≡ widthAt s i
 unfolding leadOf
 width-lead s i {l} {w} p q =
     let r : w ≡ widthFrom (leadOf (getD s i 0)) (drop (suc i) s) = rw (p, rest-part s (i + 1), add-one i) at q in

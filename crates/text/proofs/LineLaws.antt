@@ -47,7 +47,8 @@ module _ (s : List ℕ) (n at : ℕ) where
   module _ (h : at < length s) where
     open-next : (t : Bool) → endsOpen t (drop at s) ≡ endsOpen (ended (drop at s)) (drop (lineAt s n at .next) s)
     open-next t =
-        rw (← drop-next) (ap (λ (l : List ℕ). endsOpen t l) c ∙ open-line t (getD s at 0) (drop (suc at) s) ∙ ap (λ (l : List ℕ). endsOpen (ended l) (drop (whole l) l)) (sym c))
+        rw (← drop-next) (ap (λ (l : List ℕ). endsOpen t l) c ∙ open-line t (getD s at 0) (drop (suc at) s)
+        ∙ ap (λ (l : List ℕ). endsOpen (ended l) (drop (whole l) l)) (sym c))
       where
         c : drop at s ≡ getD s at 0 ∷ drop (suc at) s
         c = drop-cons s at 0 h
@@ -93,7 +94,8 @@ agree s (suc fuel) n at true f g =
     (λ e. read-over s true n at (ltb-false at (length s) e))
 
 -- The lines of a text.
-pub lines-spans : (s : List ℕ) → lines (placed 0 s) ≡ map (lineText s) (spans s) ++ when (endsOpen true s) (record { number = suc (length (spans s)); text = [] })
+pub lines-spans : (s : List ℕ) → lines (placed 0 s) ≡ map (lineText s) (spans s) ++ when (endsOpen true s)
+    (record { number = suc (length (spans s)); text = [] })
 unfolding lines behind spans
 lines-spans s =
     let k : 1 + length (spansFrom 1 0 0 s) ≡ suc (length (spansFrom 1 0 0 s)) = omega arith in

@@ -1,5 +1,5 @@
 -- A line without the blanks at its ends is a part of it, by frontBlanks and solidLength.
-use Prim.Native.Nat.{ℕ, zero, suc, _+_, _-_, _≤_}
+use Prim.Native.Nat.{ℕ, zero, suc, _+_, _≤_}
 use mathlib.Core.Path.{_≡_, refl, sym, _∙_}
 use mathlib.Core.List.{List, [], _∷_, _++_, reverse, reverse-cons, reverse-append}
 use mathlib.Core.Bool.{Bool, true, false}
@@ -79,6 +79,7 @@ dropLast-placed at (b ∷ bs) =
     dropLast-cons isBlank (record { place = at; value = b }) (placed (suc at) bs)
     ∙ rw (dropLast-placed (suc at) bs) (kept-placed at b (blank b) (solidLength bs) bs (solid-le bs))
 
-pub trimmed-placed : (at : ℕ) (bs : List ℕ) → trimmed (placed at bs) ≡ placed (at + frontBlanks bs) (take (solidLength (drop (frontBlanks bs) bs)) (drop (frontBlanks bs) bs))
+pub trimmed-placed : (at : ℕ) (bs : List ℕ) → trimmed (placed at bs) ≡ placed (at + frontBlanks bs)
+    (take (solidLength (drop (frontBlanks bs) bs)) (drop (frontBlanks bs) bs))
 unfolding trimmed
 trimmed-placed at bs = rw (left-placed at bs) (dropLast-placed (at + frontBlanks bs) (drop (frontBlanks bs) bs))

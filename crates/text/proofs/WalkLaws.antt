@@ -31,7 +31,8 @@ empty-line s a e p q =
     (λ t. let n = eqb-false a e t in let k : e - a ≡ suc (e - suc a) = omega arith in rw (t, k, drop-cons s a 0 (omega arith)))
 
 -- What the code finds, piece by piece, is the line.
-pub line-is : (s : List ℕ) (n at e f k w : ℕ) → e ≡ at + lineLength (drop at s) → f ≡ frontBlanks (part at e s) → k ≡ solidLength (part (at + f) e s) → w ≡ breakLength (drop e s)
+pub line-is : (s : List ℕ) (n at e f k w : ℕ) → e ≡ at + lineLength (drop at s) → f ≡ frontBlanks (part at e s) → k ≡ solidLength (part (at + f) e s)
+    → w ≡ breakLength (drop e s)
     → record { number = n; start = at + f; stop = at + f + k; next = e + w } ≡ lineAt s n at
 unfolding lineOf
 line-is s n at e f k w p q r t =
@@ -104,7 +105,8 @@ spans-next s n at h =
     ∙ ap (λ (ls : List Line). lineAt s n at ∷ ls) there
 
 -- The same by the line as it was found.
-pub spans-found : {s : List ℕ} {n at : ℕ} {l : Line} → Found s n at l → at < length s → spansFrom n at 0 (drop at s) ≡ l ∷ spansFrom (n + 1) (l .next) 0 (drop (l .next) s)
+pub spans-found : {s : List ℕ} {n at : ℕ} {l : Line} → Found s n at l → at < length s
+    → spansFrom n at 0 (drop at s) ≡ l ∷ spansFrom (n + 1) (l .next) 0 (drop (l .next) s)
 spans-found {s} {n} {at} f h = rw (f .is) (spans-next s n at h)
 
 pub spans-over : (s : List ℕ) (n at : ℕ) → length s ≤ at → spansFrom n at 0 (drop at s) ≡ []

@@ -7,12 +7,6 @@ use Rattle.text.proofs.judge_input.Tie as tie
 returns : tie.Need-returns
 returns c = too-long (c .before .before .args .s .now) (c .if1 .taken)
 
-good-bytes-requires : tie.Need-good-bytes-requires
-good-bytes-requires c κs = search needs
-
-line-of-requires : tie.Need-line-of-requires
-line-of-requires c κs = search needs
-
 returns-2 : tie.Need-returns-2
 returns-2 c = bad-character _ (c .before .before .before .if1 .left) (c .before .before .good-bytes .ensures .0) (c .before .if2 .taken) (c .line-of .ensures)
 
@@ -21,4 +15,4 @@ returns-3 c = nothing-wrong _ (c .before .before .if1 .left) (c .before .good-by
 
 pub judge-input-spec : {M : Type 1} → statement M
 judge-input-spec =
-    tie.close (tie.spec returns good-bytes-requires line-of-requires returns-2 returns-3)
+    tie.close (tie.spec returns (λ c κs. search needs) (λ c κs. search needs) returns-2 returns-3)

@@ -3,15 +3,11 @@ use Rattle.songcode.specs.PatternText.{barred}
 use borrow.Author.Tests.{ne-eqb}
 use Rattle.grammar.proofs.sides.is_barred.Statement.{statement}
 use Rattle.grammar.proofs.sides.is_barred.Tie as tie
-use Rattle.grammar.proofs.sides.is_barred.Reads as reads
-use Rattle.grammar.proofs.sides.is_barred.Lts as lts
 
--- src/sides.rt:7:1
 returns : tie.Need-returns
 unfolding barred isByte
 returns c = rw (c .if1 .taken)
 
--- src/sides.rt:7:1
 returns-2 : tie.Need-returns-2
 unfolding barred isByte
 returns-2 c = rw (ne-eqb _ _ (c .if1 .left))

@@ -4,23 +4,14 @@ use Rattle.grammar.specs.Verdicts.{definitionFine}
 use borrow.Author.Needs.{needs}
 use Rattle.grammar.proofs.verdicts.definition_fine.Statement.{statement}
 use Rattle.grammar.proofs.verdicts.definition_fine.Tie as tie
-use Rattle.grammar.proofs.verdicts.definition_fine.Reads as reads
-use Rattle.grammar.proofs.verdicts.definition_fine.Lts as lts
-use Rattle.grammar.proofs.verdicts.is_behind.Reads as is-behind-reads
 
--- src/verdicts.rt:46:9
-is-behind-requires : tie.Need-is-behind-requires
-is-behind-requires c κs = search needs
-
--- src/verdicts.rt:47:9
 returns : tie.Need-returns
 unfolding definitionFine
 returns c = and-fails (c .before .is-behind .ensures) _ (c .if1 .taken)
 
--- src/verdicts.rt:42:1
 returns-2 : tie.Need-returns-2
 unfolding definitionFine
 returns-2 c = and-passes (c .before .before .is-behind .ensures) (c .before .if1 .left) refl
 
 pub definition-fine-spec : {M : Type 1} → statement M
-definition-fine-spec = tie.close (tie.spec is-behind-requires returns returns-2)
+definition-fine-spec = tie.close (tie.spec (λ c κs. search needs) returns returns-2)

@@ -4,86 +4,39 @@ use Rattle.grammar.proofs.ArmLaws.{by-place}
 use borrow.Author.Needs.{needs}
 use Rattle.grammar.proofs.verdicts.is_alone.Statement.{statement}
 use Rattle.grammar.proofs.verdicts.is_alone.Tie as tie
-use Rattle.grammar.proofs.verdicts.is_alone.Reads as reads
-use Rattle.grammar.proofs.verdicts.is_alone.Lts as lts
 
--- src/verdicts.rt:29:25
-enum-told : tie.Need-enum-told
-enum-told c = search needs
-
--- src/verdicts.rt:30:26
-enum-told-2 : tie.Need-enum-told-2
-enum-told-2 c = search needs
-
--- src/verdicts.rt:31:27
-enum-told-3 : tie.Need-enum-told-3
-enum-told-3 c = search needs
-
--- src/verdicts.rt:32:24
-enum-told-4 : tie.Need-enum-told-4
-enum-told-4 c = search needs
-
--- src/verdicts.rt:33:25
-enum-told-5 : tie.Need-enum-told-5
-enum-told-5 c = search needs
-
--- src/verdicts.rt:34:25
-enum-told-6 : tie.Need-enum-told-6
-enum-told-6 c = search needs
-
--- src/verdicts.rt:35:25
-enum-told-7 : tie.Need-enum-told-7
-enum-told-7 c = search needs
-
--- src/verdicts.rt:36:25
-enum-told-8 : tie.Need-enum-told-8
-enum-told-8 c = search needs
-
--- src/verdicts.rt:37:23
-enum-told-9 : tie.Need-enum-told-9
-enum-told-9 c = search needs
-
--- src/verdicts.rt:25:1
 returns : tie.Need-returns
 unfolding isAlone
 returns c = by-place isAlone (c .enum-told .given .1) refl
 
--- src/verdicts.rt:25:1
 returns-2 : tie.Need-returns-2
 unfolding isAlone
 returns-2 c = by-place isAlone (c .enum-told2 .given .1) refl
 
--- src/verdicts.rt:25:1
 returns-3 : tie.Need-returns-3
 unfolding isAlone
 returns-3 c = by-place isAlone (c .enum-told3 .given .1) refl
 
--- src/verdicts.rt:25:1
 returns-4 : tie.Need-returns-4
 unfolding isAlone
 returns-4 c = by-place isAlone (c .enum-told4 .given .1) refl
 
--- src/verdicts.rt:25:1
 returns-5 : tie.Need-returns-5
 unfolding isAlone
 returns-5 c = by-place isAlone (c .enum-told5 .given .1) refl
 
--- src/verdicts.rt:25:1
 returns-6 : tie.Need-returns-6
 unfolding isAlone
 returns-6 c = by-place isAlone (c .enum-told6 .given .1) refl
 
--- src/verdicts.rt:25:1
 returns-7 : tie.Need-returns-7
 unfolding isAlone
 returns-7 c = by-place isAlone (c .enum-told7 .given .1) refl
 
--- src/verdicts.rt:25:1
 returns-8 : tie.Need-returns-8
 unfolding isAlone
 returns-8 c = by-place isAlone (c .enum-told8 .given .1) refl
 
--- src/verdicts.rt:25:1
 returns-9 : tie.Need-returns-9
 unfolding isAlone
 returns-9 c = by-place isAlone (c .enum-told9 .given .1) refl
@@ -91,22 +44,6 @@ returns-9 c = by-place isAlone (c .enum-told9 .given .1) refl
 pub is-alone-spec : {M : Type 1} → statement M
 is-alone-spec =
     tie.close
-    (tie.spec
-    enum-told
-    enum-told-2
-    enum-told-3
-    enum-told-4
-    enum-told-5
-    enum-told-6
-    enum-told-7
-    enum-told-8
-    enum-told-9
-    returns
-    returns-2
-    returns-3
-    returns-4
-    returns-5
-    returns-6
-    returns-7
-    returns-8
-    returns-9)
+    (tie.spec (λ c. search needs) (λ c. search needs) (λ c. search needs) (λ c. search needs) (λ c. search needs) (λ c. search needs)
+    (λ c. search needs) (λ c. search needs) (λ c. search needs) returns returns-2 returns-3 returns-4 returns-5 returns-6 returns-7
+    returns-8 returns-9)

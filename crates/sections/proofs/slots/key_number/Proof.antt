@@ -5,83 +5,65 @@ use Rattle.sections.proofs.slots.key_number.Tie as tie
 use Rattle.sections.proofs.slots.key_number.Reads as reads
 use Rattle.sections.proofs.slots.key_number.Lts as lts
 
--- src/slots.rt:31:26
 enum-told : tie.Need-enum-told
 enum-told c = search needs
 
--- src/slots.rt:32:28
 enum-told-2 : tie.Need-enum-told-2
 enum-told-2 c = search needs
 
--- src/slots.rt:33:30
 enum-told-3 : tie.Need-enum-told-3
 enum-told-3 c = search needs
 
--- src/slots.rt:34:26
 enum-told-4 : tie.Need-enum-told-4
 enum-told-4 c = search needs
 
--- src/slots.rt:35:25
 enum-told-5 : tie.Need-enum-told-5
 enum-told-5 c = search needs
 
--- src/slots.rt:36:26
 enum-told-6 : tie.Need-enum-told-6
 enum-told-6 c = search needs
 
--- src/slots.rt:37:29
 enum-told-7 : tie.Need-enum-told-7
 enum-told-7 c = search needs
 
--- src/slots.rt:38:25
 enum-told-8 : tie.Need-enum-told-8
 enum-told-8 c = search needs
 
--- src/slots.rt:39:29
 enum-told-9 : tie.Need-enum-told-9
 enum-told-9 c = search needs
 
--- src/slots.rt:27:1
 returns : tie.Need-returns
 unfolding keyNumber
 returns c = search needs
 
--- src/slots.rt:27:1
 returns-2 : tie.Need-returns-2
 unfolding keyNumber
 returns-2 c = search needs
 
--- src/slots.rt:27:1
 returns-3 : tie.Need-returns-3
 unfolding keyNumber
 returns-3 c = search needs
 
--- src/slots.rt:27:1
 returns-4 : tie.Need-returns-4
 unfolding keyNumber
 returns-4 c = search needs
 
--- src/slots.rt:27:1
 returns-5 : tie.Need-returns-5
 unfolding keyNumber
 returns-5 c = search needs
 
--- src/slots.rt:27:1
 returns-6 : tie.Need-returns-6
 unfolding keyNumber
 returns-6 c = search needs
 
--- src/slots.rt:27:1
 returns-7 : tie.Need-returns-7
 unfolding keyNumber
 returns-7 c = search needs
 
--- src/slots.rt:27:1
 returns-8 : tie.Need-returns-8
 unfolding keyNumber
 returns-8 c = search needs
 
--- src/slots.rt:27:1
 returns-9 : tie.Need-returns-9
 unfolding keyNumber
 returns-9 c = search needs

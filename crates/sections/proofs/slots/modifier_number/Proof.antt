@@ -5,56 +5,44 @@ use Rattle.sections.proofs.slots.modifier_number.Tie as tie
 use Rattle.sections.proofs.slots.modifier_number.Reads as reads
 use Rattle.sections.proofs.slots.modifier_number.Lts as lts
 
--- src/slots.rt:47:33
 enum-told : tie.Need-enum-told
 enum-told c = search needs
 
--- src/slots.rt:48:35
 enum-told-2 : tie.Need-enum-told-2
 enum-told-2 c = search needs
 
--- src/slots.rt:49:33
 enum-told-3 : tie.Need-enum-told-3
 enum-told-3 c = search needs
 
--- src/slots.rt:50:33
 enum-told-4 : tie.Need-enum-told-4
 enum-told-4 c = search needs
 
--- src/slots.rt:51:32
 enum-told-5 : tie.Need-enum-told-5
 enum-told-5 c = search needs
 
--- src/slots.rt:52:34
 enum-told-6 : tie.Need-enum-told-6
 enum-told-6 c = search needs
 
--- src/slots.rt:43:1
 returns : tie.Need-returns
 unfolding modifierNumber
 returns c = search needs
 
--- src/slots.rt:43:1
 returns-2 : tie.Need-returns-2
 unfolding modifierNumber
 returns-2 c = search needs
 
--- src/slots.rt:43:1
 returns-3 : tie.Need-returns-3
 unfolding modifierNumber
 returns-3 c = search needs
 
--- src/slots.rt:43:1
 returns-4 : tie.Need-returns-4
 unfolding modifierNumber
 returns-4 c = search needs
 
--- src/slots.rt:43:1
 returns-5 : tie.Need-returns-5
 unfolding modifierNumber
 returns-5 c = search needs
 
--- src/slots.rt:43:1
 returns-6 : tie.Need-returns-6
 unfolding modifierNumber
 returns-6 c = search needs

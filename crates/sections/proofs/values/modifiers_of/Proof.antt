@@ -3,29 +3,7 @@ use mathlib.Core.Path.{ap, _∙_}
 use borrow.Author.Needs.{needs}
 use Rattle.sections.proofs.values.modifiers_of.Statement.{statement}
 use Rattle.sections.proofs.values.modifiers_of.Tie as tie
-use Rattle.sections.proofs.values.modifiers_of.Reads as reads
-use Rattle.sections.proofs.values.modifiers_of.Lts as lts
-use Rattle.sections.proofs.gathering.gather.Reads as gather-reads
-use Rattle.sections.proofs.values.cut_said.Reads as cut-said-reads
-use Rattle.sections.proofs.values.repeat_said.Reads as repeat-said-reads
 
--- src/values.rt:108:9
-gather-requires : tie.Need-gather-requires
-gather-requires c κs = search needs
-
--- src/values.rt:112:17
-repeat-said-requires : tie.Need-repeat-said-requires
-repeat-said-requires c κs = search needs
-
--- src/values.rt:113:16
-cut-said-requires : tie.Need-cut-said-requires
-cut-said-requires c κs = search needs
-
--- src/values.rt:114:15
-cut-said-requires-2 : tie.Need-cut-said-requires-2
-cut-said-requires-2 c κs = search needs
-
--- src/values.rt:104:1
 returns : tie.Need-returns
 returns c = let found = c .before .before .before .before .before .gather .ensures in
     let repeats = c .before .before .repeat-said .ensures in
@@ -45,4 +23,4 @@ returns c = let found = c .before .before .before .before .before .gather .ensur
 pub modifiers-of-spec : {M : Type 1} → statement M
 modifiers-of-spec =
     tie.close
-    (tie.spec gather-requires repeat-said-requires cut-said-requires cut-said-requires-2 returns)
+    (tie.spec (λ c κs. search needs) (λ c κs. search needs) (λ c κs. search needs) (λ c κs. search needs) returns)

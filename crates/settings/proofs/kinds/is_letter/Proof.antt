@@ -3,25 +3,19 @@ use native.Mathlib.Omega.{arith}
 use Rattle.songcode.specs.Bytes.{isLetter}
 use Rattle.settings.proofs.kinds.is_letter.Statement.{statement}
 use Rattle.settings.proofs.kinds.is_letter.Tie as tie
-use Rattle.settings.proofs.kinds.is_letter.Reads as reads
-use Rattle.settings.proofs.kinds.is_letter.Lts as lts
 
--- src/kinds.rt:29:9
 returns : tie.Need-returns
 unfolding isLetter
 returns c = simp (lt-leb 65 (c .before .args .b) (c .if1 .taken), lt-leb 97 (c .before .args .b) (omega arith))
 
--- src/kinds.rt:32:9
 returns-2 : tie.Need-returns-2
 unfolding isLetter
 returns-2 c = simp (le-leb 65 (c .before .before .args .b) (c .before .if1 .left), le-leb _ 90 (c .if2 .taken))
 
--- src/kinds.rt:25:1
 returns-3 : tie.Need-returns-3
 unfolding isLetter
 returns-3 c = simp (lt-leb _ 90 (c .before .if2 .left), le-leb 65 _ (c .before .before .if1 .left), le-leb 97 _ (c .if3 .taken))
 
--- src/kinds.rt:25:1
 returns-4 : tie.Need-returns-4
 unfolding isLetter
 returns-4 c = simp (lt-leb _ 90 (c .before .if2 .left), le-leb 65 _ (c .before .before .if1 .left), lt-leb 97 _ (c .if3 .left))

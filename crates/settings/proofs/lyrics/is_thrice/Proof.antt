@@ -5,20 +5,15 @@ use mathlib.Core.Path.{sym}
 use Rattle.songcode.specs.Bytes.{begins}
 use Rattle.settings.proofs.lyrics.is_thrice.Statement.{statement}
 use Rattle.settings.proofs.lyrics.is_thrice.Tie as tie
-use Rattle.settings.proofs.lyrics.is_thrice.Reads as reads
-use Rattle.settings.proofs.lyrics.is_thrice.Lts as lts
 
--- src/lyrics.rt:40:9
 returns : tie.Need-returns
 unfolding begins
 returns c = simp (ne-eqb _ _ (c .if1 .taken))
 
--- src/lyrics.rt:43:9
 returns-2 : tie.Need-returns-2
 unfolding begins
 returns-2 c = simp (eq-eqb _ _ (c .before .if1 .left), ne-eqb _ _ (c .if2 .taken))
 
--- src/lyrics.rt:36:1
 returns-3 : tie.Need-returns-3
 unfolding begins
 returns-3 c = let a = c .before .before .args in

@@ -10,8 +10,6 @@ use Rattle.settings.proofs.PartLaws.{passing-stop, passing-more, passin
 use borrow.Author.Needs.{needs}
 use Rattle.settings.proofs.parts.length_before.Statement.{statement}
 use Rattle.settings.proofs.parts.length_before.Tie as tie
-use Rattle.settings.proofs.parts.length_before.Reads as reads
-use Rattle.settings.proofs.parts.length_before.Lts as lts
 
 abbrev Inv-loop : tie.InvT-loop
 Inv-loop c w i₀ i = (i ≤ length w) × (i + lengthBefore c (drop i w) ≡ lengthBefore c w)
@@ -19,35 +17,16 @@ Inv-loop c w i₀ i = (i ≤ length w) × (i + lengthBefore c (drop i w) ≡ len
 abbrev μ-loop : tie.MeasureT-loop
 μ-loop c w i₀ i = length w - i
 
--- src/parts.rt:47:5
-loop-holds : tie.Need-loop-holds Inv-loop μ-loop
-loop-holds c = search needs
-
--- src/parts.rt:48:12
-shared-slice-read-if1 : tie.Need-shared-slice-read-if1 Inv-loop μ-loop
-shared-slice-read-if1 c = search needs
-
--- src/parts.rt:49:13
 returns : tie.Need-returns Inv-loop μ-loop
 returns c = let q = c .before .before .before in
     let a = q .before .args in
     (omega (arith, passing-stop (λ b. not (eqb b (a .c))) (a .w .now) (q .loop .i) (omega arith) (ap not (eq-eqb _ _ (c .if1 .taken)))), omega arith)
 
--- src/parts.rt:51:9
-add-i : tie.Need-add-i Inv-loop μ-loop
-add-i c = search needs
-
--- src/parts.rt:47:5
-loop-less : tie.Need-loop-less Inv-loop μ-loop
-loop-less c = search needs
-
--- src/parts.rt:47:5
 loop-again : tie.Need-loop-again Inv-loop μ-loop
 loop-again c = let q = c .before .before .before in
     let a = q .before .args in
     (omega arith, omega (arith, passing-more (λ b. not (eqb b (a .c))) (a .w .now) (q .loop .i) (omega arith) (ap not (ne-eqb _ _ (c .if1 .left)))))
 
--- src/parts.rt:43:1
 returns-2 : tie.Need-returns-2 Inv-loop μ-loop
 returns-2 c = let a = c .before .before .args in
     (omega (arith, passing-over (λ b. not (eqb b (a .c))) (a .w .now) (c .before .loop .i) (c .loop-test .left)), omega arith)
@@ -55,13 +34,4 @@ returns-2 c = let a = c .before .before .args in
 pub length-before-spec : {M : Type 1} → statement M
 length-before-spec =
     tie.close
-    (tie.spec
-    Inv-loop
-    μ-loop
-    loop-holds
-    shared-slice-read-if1
-    returns
-    add-i
-    loop-less
-    loop-again
-    returns-2)
+    (tie.spec Inv-loop μ-loop (λ c. search needs) (λ c. search needs) returns (λ c. search needs) (λ c. search needs) loop-again returns-2)

@@ -9,9 +9,6 @@ use Rattle.settings.proofs.PartLaws.{passing-stop, passing-more, passin
 use borrow.Author.Needs.{needs}
 use Rattle.settings.proofs.parts.word_length.Statement.{statement}
 use Rattle.settings.proofs.parts.word_length.Tie as tie
-use Rattle.settings.proofs.parts.word_length.Reads as reads
-use Rattle.settings.proofs.parts.word_length.Lts as lts
-use Rattle.text.proofs.is_blank.Reads as is-blank-reads
 
 abbrev Inv-loop : tie.InvT-loop
 Inv-loop w i₀ i = (i ≤ length w) × (i + wordLength (drop i w) ≡ wordLength w)
@@ -19,53 +16,24 @@ Inv-loop w i₀ i = (i ≤ length w) × (i + wordLength (drop i w) ≡ wordLengt
 abbrev μ-loop : tie.MeasureT-loop
 μ-loop w i₀ i = length w - i
 
--- src/parts.rt:33:5
-loop-holds : tie.Need-loop-holds Inv-loop μ-loop
-loop-holds c = search needs
-
--- src/parts.rt:34:21
-shared-slice-read-is-blank : tie.Need-shared-slice-read-is-blank Inv-loop μ-loop
-shared-slice-read-is-blank c = search needs
-
--- src/parts.rt:34:12
-is-blank-requires : tie.Need-is-blank-requires Inv-loop μ-loop
-is-blank-requires c κs = search needs
-
--- src/parts.rt:35:13
 returns : tie.Need-returns Inv-loop μ-loop
 returns c = let q = c .before .before .before .before in
     let w = q .before .before .args .w .now in
     (omega (arith, passing-stop (λ b. not (blank b)) w (q .loop .i) (omega arith) (ap not (sym (c .before .is-blank .ensures) ∙ c .if1 .taken))), omega arith)
 
--- src/parts.rt:37:9
-add-i : tie.Need-add-i Inv-loop μ-loop
-add-i c = search needs
-
--- src/parts.rt:33:5
-loop-less : tie.Need-loop-less Inv-loop μ-loop
-loop-less c = search needs
-
--- src/parts.rt:33:5
 loop-again : tie.Need-loop-again Inv-loop μ-loop
 loop-again c = let q = c .before .before .before .before in
     let w = q .before .before .args .w .now in
     (omega arith, omega (arith, passing-more (λ b. not (blank b)) w (q .loop .i) (omega arith) (ap not (sym (c .before .is-blank .ensures) ∙ c .if1 .left))))
 
--- src/parts.rt:29:1
 returns-2 : tie.Need-returns-2 Inv-loop μ-loop
-returns-2 c = (omega (arith, passing-over (λ b. not (blank b)) (c .before .before .before .args .w .now) (c .before .loop .i) (c .loop-test .left)), omega arith)
+returns-2 c = (
+  omega (arith, passing-over (λ b. not (blank b)) (c .before .before .before .args .w .now) (c .before .loop .i) (c .loop-test .left)),
+  omega arith,
+)
 
 pub word-length-spec : {M : Type 1} → statement M
 word-length-spec =
     tie.close
-    (tie.spec
-    Inv-loop
-    μ-loop
-    loop-holds
-    shared-slice-read-is-blank
-    is-blank-requires
-    returns
-    add-i
-    loop-less
-    loop-again
-    returns-2)
+    (tie.spec Inv-loop μ-loop (λ c. search needs) (λ c. search needs) (λ c κs. search needs) returns (λ c. search needs) (λ c. search needs)
+    loop-again returns-2)

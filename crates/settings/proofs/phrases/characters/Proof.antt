@@ -10,9 +10,6 @@ use Rattle.settings.proofs.PhraseLaws.{characters-tail, characters-firs
 use borrow.Author.Needs.{needs}
 use Rattle.settings.proofs.phrases.characters.Statement.{statement}
 use Rattle.settings.proofs.phrases.characters.Tie as tie
-use Rattle.settings.proofs.phrases.characters.Reads as reads
-use Rattle.settings.proofs.phrases.characters.Lts as lts
-use Rattle.text.proofs.is_tail.Reads as is-tail-reads
 
 abbrev Inv-loop : tie.InvT-loop
 Inv-loop w n₀ i₀ n i = (i ≤ length w) × (n ≤ i) × (n + characters (placed 0 (drop i w)) ≡ characters (placed 0 w))
@@ -20,31 +17,6 @@ Inv-loop w n₀ i₀ n i = (i ≤ length w) × (n ≤ i) × (n + characters (pla
 abbrev μ-loop : tie.MeasureT-loop
 μ-loop w n₀ i₀ n i = length w - i
 
--- src/phrases.rt:18:5
-loop-holds : tie.Need-loop-holds Inv-loop μ-loop
-loop-holds c = search needs
-
--- src/phrases.rt:19:21
-shared-slice-read-is-tail : tie.Need-shared-slice-read-is-tail Inv-loop μ-loop
-shared-slice-read-is-tail c = search needs
-
--- src/phrases.rt:19:13
-is-tail-requires : tie.Need-is-tail-requires Inv-loop μ-loop
-is-tail-requires c κs = search needs
-
--- src/phrases.rt:20:13
-add-n : tie.Need-add-n Inv-loop μ-loop
-add-n c = search needs
-
--- src/phrases.rt:22:9
-add-i : tie.Need-add-i Inv-loop μ-loop
-add-i c = search needs
-
--- src/phrases.rt:18:5
-loop-less : tie.Need-loop-less Inv-loop μ-loop
-loop-less c = search needs
-
--- src/phrases.rt:18:5
 loop-again : tie.Need-loop-again Inv-loop μ-loop
 loop-again c = let q = c .before .before .before .before in
     let w = q .before .before .args .w .now in
@@ -55,21 +27,11 @@ loop-again c = let q = c .before .before .before .before in
     (λ v. let m = characters-tail w (q .loop .i) h (sym e ∙ not-false _ (v .0 .left)) in (omega arith, omega arith, omega arith))
     (c .if1 .came)
 
--- src/phrases.rt:13:1
 returns : tie.Need-returns Inv-loop μ-loop
 returns c = (omega (arith, characters-over (c .before .before .before .args .w .now) (c .before .loop .i) (c .loop-test .left)), omega arith)
 
 pub characters-spec : {M : Type 1} → statement M
 characters-spec =
     tie.close
-    (tie.spec
-    Inv-loop
-    μ-loop
-    loop-holds
-    shared-slice-read-is-tail
-    is-tail-requires
-    add-n
-    add-i
-    loop-less
-    loop-again
-    returns)
+    (tie.spec Inv-loop μ-loop (λ c. search needs) (λ c. search needs) (λ c κs. search needs) (λ c. search needs) (λ c. search needs)
+    (λ c. search needs) loop-again returns)

@@ -2,21 +2,13 @@ use Rattle.stage2.proofs.SmallReturns.{complained, not-complained}
 use borrow.Author.Needs.{needs}
 use Rattle.stage2.proofs.notes.complain_if.Statement.{statement}
 use Rattle.stage2.proofs.notes.complain_if.Tie as tie
-use Rattle.stage2.proofs.notes.complain_if.Reads as reads
-use Rattle.stage2.proofs.notes.complain_if.Lts as lts
-use Rattle.stage2.proofs.notes.rank.Reads as rank-reads
 
--- src/notes.rt:25:15
-rank-requires : tie.Need-rank-requires
-rank-requires c κs = search needs
-
--- src/notes.rt:21:1
 returns : tie.Need-returns
-returns c = let q = c .before .before in complained (q .args .number) (q .args .line) (q .args .test) (c .rank .result) (q .pre .0) (q .pre .1) (c .before .if1 .taken) (c .rank .ensures)
+returns c = let q = c .before .before in complained (q .args .number) (q .args .line) (q .args .test) (c .rank .result) (q .pre .0) (q .pre .1)
+    (c .before .if1 .taken) (c .rank .ensures)
 
--- src/notes.rt:21:1
 returns-2 : tie.Need-returns-2
 returns-2 c = let q = c .before in not-complained (q .args .number) (q .args .line) (q .args .test) (c .if1 .left)
 
 pub complain-if-spec : {M : Type 1} → statement M
-complain-if-spec = tie.close (tie.spec rank-requires returns returns-2)
+complain-if-spec = tie.close (tie.spec (λ c κs. search needs) returns returns-2)

@@ -2,23 +2,17 @@ use mathlib.Core.Path.{refl}
 use borrow.Author.Tests.{lt-ltb, le-ltb, eq-eqb, ne-eqb}
 use Rattle.songcode.specs.Lists.{if_then_else_}
 use Rattle.stage2.specs.Ranks.{refusalAt}
-use borrow.Author.Needs.{needs}
 use Rattle.stage2.proofs.notes.refusal_at.Statement.{statement}
 use Rattle.stage2.proofs.notes.refusal_at.Tie as tie
-use Rattle.stage2.proofs.notes.refusal_at.Reads as reads
-use Rattle.stage2.proofs.notes.refusal_at.Lts as lts
 
--- src/notes.rt:51:9
 returns : tie.Need-returns
 unfolding refusalAt if_then_else_
 returns c = rw (lt-ltb _ _ (c .if1 .taken)) refl
 
--- src/notes.rt:47:1
 returns-2 : tie.Need-returns-2
 unfolding refusalAt if_then_else_
 returns-2 c = rw (le-ltb _ _ (c .before .if1 .left), eq-eqb _ _ (c .if2 .taken)) refl
 
--- src/notes.rt:47:1
 returns-3 : tie.Need-returns-3
 unfolding refusalAt if_then_else_
 returns-3 c = rw (le-ltb _ _ (c .before .if1 .left), ne-eqb _ _ (c .if2 .left)) refl

@@ -8,14 +8,6 @@ use Prim.Native.Nat.{_+_, _-_, _≤_, min}
 use borrow.Author.Needs.{needs}
 use Rattle.stage2.proofs.walk.stage_two.Statement.{statement}
 use Rattle.stage2.proofs.walk.stage_two.Tie as tie
-use Rattle.stage2.proofs.walk.stage_two.Reads as reads
-use Rattle.stage2.proofs.walk.stage_two.Lts as lts
-use Rattle.stage2.proofs.notes.least_of.Reads as least-of-reads
-use Rattle.stage2.proofs.notes.refusal_at.Reads as refusal-at-reads
-use Rattle.stage2.proofs.walk.end_text.Reads as end-text-reads
-use Rattle.stage2.proofs.walk.first_state.Reads as first-state-reads
-use Rattle.stage2.proofs.walk.judge_line.Reads as judge-line-reads
-use Rattle.text.proofs.line_at.Reads as line-at-reads
 
 abbrev Inv-loop : tie.InvT-loop
 Inv-loop s c₀ best₀ at₀ n₀ c best at n = (at ≤ length s) × (n ≤ at + 1) × (w : Walk) × Stands w c × (min best (toCome s w n at) ≡ toCome s atFirst 1 0)
@@ -23,21 +15,11 @@ Inv-loop s c₀ best₀ at₀ n₀ c best at n = (at ≤ length s) × (n ≤ at 
 abbrev μ-loop : tie.MeasureT-loop
 μ-loop s c₀ best₀ at₀ n₀ c best at n = length s - at
 
--- src/walk.rt:131:9
-first-state-requires : tie.Need-first-state-requires Inv-loop μ-loop
-first-state-requires c κs = search needs
-
--- src/walk.rt:135:5
 loop-holds : tie.Need-loop-holds Inv-loop μ-loop
 loop-holds c = let s = c .before .before .args .s .now in
     let h = all-le s in
     (omega arith, omega arith, atFirst, rw (c .first-state .ensures) starts, omega arith)
 
--- src/walk.rt:136:13
-line-at-requires : tie.Need-line-at-requires Inv-loop μ-loop
-line-at-requires c κs = search needs
-
--- src/walk.rt:137:13
 judge-line-requires : tie.Need-judge-line-requires Inv-loop μ-loop
 judge-line-requires c κs = let f = c .line-at .ensures in
     let q = c .before .before in
@@ -45,42 +27,17 @@ judge-line-requires c κs = let f = c .line-at .ensures in
     let h = fit (i .2) (q .loop .c) (i .3) in
     search needs
 
--- src/walk.rt:138:9
-least-of-requires : tie.Need-least-of-requires Inv-loop μ-loop
-least-of-requires c κs = search needs
-
--- src/walk.rt:142:9
-add-n : tie.Need-add-n Inv-loop μ-loop
-add-n c = search needs
-
--- src/walk.rt:135:5
-loop-less : tie.Need-loop-less Inv-loop μ-loop
-loop-less c = search needs
-
--- src/walk.rt:135:5
 loop-again : tie.Need-loop-again Inv-loop μ-loop
 loop-again c = let q = c .before .before .before .before .before in
     let s = q .before .before .before .args .s .now in
     let i = q .loop .inv in
     let l = c .before .before .before .line-at in
-    let one = one-line s (i .2) (q .loop .c) (q .loop .n) (q .loop .at) (l .result) (c .before .before .judge-line .result) (i .3) (c .before .before .before .before .loop-test .taken) (l .ensures) (c .before .before .judge-line .ensures) in
+    let one = one-line s (i .2) (q .loop .c) (q .loop .n) (q .loop .at) (l .result) (c .before .before .judge-line .result) (i .3)
+    (c .before .before .before .before .loop-test .taken) (l .ensures) (c .before .before .judge-line .ensures) in
     let b = c .before .least-of .ensures in
     let f = l .ensures in
     (omega arith, omega arith, one .0, one .1, omega arith)
 
--- src/walk.rt:144:9
-end-text-requires : tie.Need-end-text-requires Inv-loop μ-loop
-end-text-requires c κs = search needs
-
--- src/walk.rt:145:16
-least-of-requires-2 : tie.Need-least-of-requires-2 Inv-loop μ-loop
-least-of-requires-2 c κs = search needs
-
--- src/walk.rt:145:5
-refusal-at-requires : tie.Need-refusal-at-requires Inv-loop μ-loop
-refusal-at-requires c κs = search needs
-
--- src/walk.rt:127:1
 returns : tie.Need-returns Inv-loop μ-loop
 returns c = let q = c .before .before .before .before in
     let s = q .before .before .before .args .s .now in
@@ -93,18 +50,5 @@ returns c = let q = c .before .before .before .before in
 pub stage-two-spec : {M : Type 1} → statement M
 stage-two-spec =
     tie.close
-    (tie.spec
-    Inv-loop
-    μ-loop
-    first-state-requires
-    loop-holds
-    line-at-requires
-    judge-line-requires
-    least-of-requires
-    add-n
-    loop-less
-    loop-again
-    end-text-requires
-    least-of-requires-2
-    refusal-at-requires
-    returns)
+    (tie.spec Inv-loop μ-loop (λ c κs. search needs) loop-holds (λ c κs. search needs) judge-line-requires (λ c κs. search needs)
+    (λ c. search needs) (λ c. search needs) loop-again (λ c κs. search needs) (λ c κs. search needs) (λ c κs. search needs) returns)

@@ -16,21 +16,22 @@ abbrev μ-loop : tie.MeasureT-loop
 μ-loop s i₀ i = length s - i
 
 -- A whole character is passed.
-fits : (c : tie.Else1 Inv-loop μ-loop) → c .before .before .before .loop .i + c .before .width-at .result ≤ length (c .before .before .before .before .before .args .s .now)
+fits : (c : tie.Else1 Inv-loop μ-loop) → c .before .before .before .loop .i + c .before .width-at .result ≤ length
+    (c .before .before .before .before .before .args .s .now)
 fits c =
     let q = c .before .before .before in
     rw (c .before .width-at .ensures) (width-at-fits (q .before .before .args .s .now) (q .loop .i) (c .before .before .loop-test .taken))
 
-loop-holds : tie.Need-loop-holds Inv-loop μ-loop
-loop-holds c = search needs
-
-width-at-requires : tie.Need-width-at-requires Inv-loop μ-loop
-width-at-requires c κs = search needs
-
 returns : tie.Need-returns Inv-loop μ-loop
 returns c =
-    let q = c .before .before .before in
-    (omega (arith, good-stop (q .before .before .args .s .now) (q .loop .i) (c .before .before .loop-test .taken) (sym (c .before .width-at .ensures) ∙ c .if1 .taken)), omega arith)
+    let q = c .before .before .before in (
+      omega (
+        arith,
+        good-stop (q .before .before .args .s .now) (q .loop .i) (c .before .before .loop-test .taken)
+            (sym (c .before .width-at .ensures) ∙ c .if1 .taken),
+      ),
+      omega arith,
+    )
 
 add-i : tie.Need-add-i Inv-loop μ-loop
 add-i c = omega (arith, fits c)
@@ -50,13 +51,4 @@ returns-2 c = (omega (arith, good-over (c .before .before .before .args .s .now)
 pub good-bytes-spec : {M : Type 1} → statement M
 good-bytes-spec =
     tie.close
-    (tie.spec
-    Inv-loop
-    μ-loop
-    loop-holds
-    width-at-requires
-    returns
-    add-i
-    loop-less
-    loop-again
-    returns-2)
+    (tie.spec Inv-loop μ-loop (λ c. search needs) (λ c κs. search needs) returns add-i loop-less loop-again returns-2)

@@ -23,27 +23,19 @@ returns c = tails-short _ _ (c .if1 .taken)
 loop-holds : tie.Need-loop-holds Inv-loop μ-loop
 loop-holds c = (omega arith, rw sub-zero refl)
 
-shared-slice-read-is-tail : tie.Need-shared-slice-read-is-tail Inv-loop μ-loop
-shared-slice-read-is-tail c = search needs
-
-is-tail-requires : tie.Need-is-tail-requires Inv-loop μ-loop
-is-tail-requires c κs = search needs
-
 returns-2 : tie.Need-returns-2 Inv-loop μ-loop
 returns-2 c =
     let q = c .before .before .before .before in
-    sym (tails-stop _ (q .loop .i) _ (c .before .before .before .loop-test .taken) (omega arith) (sym (c .before .is-tail .ensures) ∙ not-true _ (c .if2 .taken))) ∙ q .loop .inv .1
-
-add-i : tie.Need-add-i Inv-loop μ-loop
-add-i c = search needs
-
-loop-less : tie.Need-loop-less Inv-loop μ-loop
-loop-less c = search needs
+    sym (tails-stop _ (q .loop .i) _ (c .before .before .before .loop-test .taken) (omega arith)
+    (sym (c .before .is-tail .ensures) ∙ not-true _ (c .if2 .taken))) ∙ q .loop .inv .1
 
 loop-again : tie.Need-loop-again Inv-loop μ-loop
 loop-again c =
-    let q = c .before .before .before .before in
-    (omega arith, sym (tails-more _ (q .loop .i) _ (c .before .before .before .loop-test .taken) (omega arith) (sym (c .before .is-tail .ensures) ∙ not-false _ (c .if2 .left))) ∙ q .loop .inv .1)
+    let q = c .before .before .before .before in (
+      omega arith,
+      sym (tails-more _ (q .loop .i) _ (c .before .before .before .loop-test .taken) (omega arith)
+          (sym (c .before .is-tail .ensures) ∙ not-false _ (c .if2 .left))) ∙ q .loop .inv .1,
+    )
 
 returns-3 : tie.Need-returns-3 Inv-loop μ-loop
 returns-3 c = sym (tails-none _ (c .before .loop .i) _ (c .loop-test .left)) ∙ c .before .loop .inv .1
@@ -51,15 +43,5 @@ returns-3 c = sym (tails-none _ (c .before .loop .i) _ (c .loop-test .left)) ∙
 pub has-tails-spec : {M : Type 1} → statement M
 has-tails-spec =
     tie.close
-    (tie.spec
-    Inv-loop
-    μ-loop
-    returns
-    loop-holds
-    shared-slice-read-is-tail
-    is-tail-requires
-    returns-2
-    add-i
-    loop-less
-    loop-again
-    returns-3)
+    (tie.spec Inv-loop μ-loop returns loop-holds (λ c. search needs) (λ c κs. search needs) returns-2 (λ c. search needs)
+    (λ c. search needs) loop-again returns-3)

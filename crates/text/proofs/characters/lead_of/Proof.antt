@@ -7,42 +7,6 @@ use Rattle.text.proofs.TestLaws.{upFrom, same-over-range}
 use Rattle.text.proofs.characters.lead_of.Statement.{statement}
 use Rattle.text.proofs.characters.lead_of.Tie as tie
 
-announce-requires : tie.Need-announce-requires
-announce-requires c κs = search needs
-
-announce-requires-2 : tie.Need-announce-requires-2
-announce-requires-2 c κs = search needs
-
-announce-requires-3 : tie.Need-announce-requires-3
-announce-requires-3 c κs = search needs
-
-announce-requires-4 : tie.Need-announce-requires-4
-announce-requires-4 c κs = search needs
-
-announce-requires-5 : tie.Need-announce-requires-5
-announce-requires-5 c κs = search needs
-
-announce-requires-6 : tie.Need-announce-requires-6
-announce-requires-6 c κs = search needs
-
-announce-requires-7 : tie.Need-announce-requires-7
-announce-requires-7 c κs = search needs
-
-announce-requires-8 : tie.Need-announce-requires-8
-announce-requires-8 c κs = search needs
-
-announce-requires-9 : tie.Need-announce-requires-9
-announce-requires-9 c κs = search needs
-
-announce-requires-10 : tie.Need-announce-requires-10
-announce-requires-10 c κs = search needs
-
-announce-requires-11 : tie.Need-announce-requires-11
-announce-requires-11 c κs = search needs
-
-announce-requires-12 : tie.Need-announce-requires-12
-announce-requires-12 c κs = search needs
-
 returns : tie.Need-returns
 unfolding leadOf upFrom
 returns c = c .announce .ensures ∙ sym (same-over-range leadOf _ 0x00 1 refl (c .before .before .args .b) (omega arith) (omega arith))
@@ -57,65 +21,53 @@ returns-3 c = c .announce3 .ensures ∙ sym (same-over-range leadOf _ 0x80 66 re
 
 returns-4 : tie.Need-returns-4
 unfolding leadOf upFrom
-returns-4 c = c .announce4 .ensures ∙ sym (same-over-range leadOf _ 0xC2 30 refl (c .before .before .before .before .before .args .b) (omega arith) (omega arith))
+returns-4 c = c .announce4 .ensures ∙ sym (same-over-range leadOf _ 0xC2 30 refl (c .before .before .before .before .before .args .b) (omega arith)
+    (omega arith))
 
 returns-5 : tie.Need-returns-5
 unfolding leadOf upFrom
-returns-5 c = c .announce5 .ensures ∙ sym (same-over-range leadOf _ 0xE0 1 refl (c .before .before .before .before .before .before .args .b) (omega arith) (omega arith))
+returns-5 c = c .announce5 .ensures ∙ sym (same-over-range leadOf _ 0xE0 1 refl (c .before .before .before .before .before .before .args .b)
+    (omega arith) (omega arith))
 
 returns-6 : tie.Need-returns-6
 unfolding leadOf upFrom
-returns-6 c = c .announce6 .ensures ∙ sym (same-over-range leadOf _ 0xE1 12 refl (c .before .before .before .before .before .before .before .args .b) (omega arith) (omega arith))
+returns-6 c = c .announce6 .ensures ∙ sym (same-over-range leadOf _ 0xE1 12 refl (c .before .before .before .before .before .before .before .args .b)
+    (omega arith) (omega arith))
 
 returns-7 : tie.Need-returns-7
 unfolding leadOf upFrom
-returns-7 c = c .announce7 .ensures ∙ sym (same-over-range leadOf _ 0xED 1 refl (c .before .before .before .before .before .before .before .before .args .b) (omega arith) (omega arith))
+returns-7 c = c .announce7 .ensures ∙ sym (same-over-range leadOf _ 0xED 1 refl
+    (c .before .before .before .before .before .before .before .before .args .b) (omega arith) (omega arith))
 
 returns-8 : tie.Need-returns-8
 unfolding leadOf upFrom
-returns-8 c = c .announce8 .ensures ∙ sym (same-over-range leadOf _ 0xEE 2 refl (c .before .before .before .before .before .before .before .before .before .args .b) (omega arith) (omega arith))
+returns-8 c = c .announce8 .ensures ∙ sym (same-over-range leadOf _ 0xEE 2 refl
+    (c .before .before .before .before .before .before .before .before .before .args .b) (omega arith) (omega arith))
 
 returns-9 : tie.Need-returns-9
 unfolding leadOf upFrom
-returns-9 c = c .announce9 .ensures ∙ sym (same-over-range leadOf _ 0xF0 1 refl (c .before .before .before .before .before .before .before .before .before .before .args .b) (omega arith) (omega arith))
+returns-9 c = c .announce9 .ensures ∙ sym (same-over-range leadOf _ 0xF0 1 refl
+    (c .before .before .before .before .before .before .before .before .before .before .args .b) (omega arith) (omega arith))
 
 returns-10 : tie.Need-returns-10
 unfolding leadOf upFrom
-returns-10 c = c .announce10 .ensures ∙ sym (same-over-range leadOf _ 0xF1 3 refl (c .before .before .before .before .before .before .before .before .before .before .before .args .b) (omega arith) (omega arith))
+returns-10 c = c .announce10 .ensures ∙ sym (same-over-range leadOf _ 0xF1 3 refl
+    (c .before .before .before .before .before .before .before .before .before .before .before .args .b) (omega arith) (omega arith))
 
 returns-11 : tie.Need-returns-11
 unfolding leadOf upFrom
-returns-11 c = c .announce11 .ensures ∙ sym (same-over-range leadOf _ 0xF4 1 refl (c .before .before .before .before .before .before .before .before .before .before .before .before .args .b) (omega arith) (omega arith))
+returns-11 c = c .announce11 .ensures ∙ sym (same-over-range leadOf _ 0xF4 1 refl
+    (c .before .before .before .before .before .before .before .before .before .before .before .before .args .b) (omega arith) (omega arith))
 
 returns-12 : tie.Need-returns-12
 unfolding leadOf upFrom
-returns-12 c = c .announce12 .ensures ∙ sym (same-over-range leadOf _ 0xF5 11 refl (c .before .before .before .before .before .before .before .before .before .before .before .before .args .b) (omega arith) (omega arith))
+returns-12 c = c .announce12 .ensures ∙ sym (same-over-range leadOf _ 0xF5 11 refl
+    (c .before .before .before .before .before .before .before .before .before .before .before .before .args .b) (omega arith) (omega arith))
 
 pub lead-of-spec : {M : Type 1} → statement M
 lead-of-spec =
     tie.close
-    (tie.spec
-    announce-requires
-    announce-requires-2
-    announce-requires-3
-    announce-requires-4
-    announce-requires-5
-    announce-requires-6
-    announce-requires-7
-    announce-requires-8
-    announce-requires-9
-    announce-requires-10
-    announce-requires-11
-    announce-requires-12
-    returns
-    returns-2
-    returns-3
-    returns-4
-    returns-5
-    returns-6
-    returns-7
-    returns-8
-    returns-9
-    returns-10
-    returns-11
-    returns-12)
+    (tie.spec (λ c κs. search needs) (λ c κs. search needs) (λ c κs. search needs) (λ c κs. search needs) (λ c κs. search needs)
+    (λ c κs. search needs) (λ c κs. search needs) (λ c κs. search needs) (λ c κs. search needs) (λ c κs. search needs)
+    (λ c κs. search needs) (λ c κs. search needs) returns returns-2 returns-3 returns-4 returns-5 returns-6 returns-7 returns-8 returns-9
+    returns-10 returns-11 returns-12)

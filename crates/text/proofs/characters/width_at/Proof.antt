@@ -7,32 +7,11 @@ use Rattle.text.proofs.characters.width_at.Tie as tie
 returns : tie.Need-returns
 returns c = width-past (c .before .before .args .s .now) _ (c .if1 .taken)
 
-shared-slice-read-b : tie.Need-shared-slice-read-b
-shared-slice-read-b c = search needs
-
 returns-2 : tie.Need-returns-2
 returns-2 c = width-zero _ _ (c .if2 .taken)
 
 returns-3 : tie.Need-returns-3
 returns-3 c = width-ascii _ _ (c .before .if2 .left) (c .if3 .taken)
-
-lead-of-requires : tie.Need-lead-of-requires
-lead-of-requires c κs = search needs
-
-add-width-from : tie.Need-add-width-from
-add-width-from c = search needs
-
-sub-width-from : tie.Need-sub-width-from
-sub-width-from c = search needs
-
-part-width-from-start : tie.Need-part-width-from-start
-part-width-from-start c = search needs
-
-part-width-from-end : tie.Need-part-width-from-end
-part-width-from-end c = search needs
-
-width-from-requires : tie.Need-width-from-requires
-width-from-requires c κs = search needs
 
 returns-4 : tie.Need-returns-4
 returns-4 c =
@@ -42,15 +21,5 @@ returns-4 c =
 pub width-at-spec : {M : Type 1} → statement M
 width-at-spec =
     tie.close
-    (tie.spec
-    returns
-    shared-slice-read-b
-    returns-2
-    returns-3
-    lead-of-requires
-    add-width-from
-    sub-width-from
-    part-width-from-start
-    part-width-from-end
-    width-from-requires
-    returns-4)
+    (tie.spec returns (λ c. search needs) returns-2 returns-3 (λ c κs. search needs) (λ c. search needs) (λ c. search needs)
+    (λ c. search needs) (λ c. search needs) (λ c κs. search needs) returns-4)

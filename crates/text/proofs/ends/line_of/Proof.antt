@@ -7,20 +7,11 @@ use Rattle.text.proofs.EndLaws.{line-past, line-within}
 use Rattle.text.proofs.ends.line_of.Statement.{statement}
 use Rattle.text.proofs.ends.line_of.Tie as tie
 
-line-ends-requires : tie.Need-line-ends-requires
-line-ends-requires c κs = search needs
-
-add-result : tie.Need-add-result
-add-result c = search needs
-
 returns : tie.Need-returns
 returns c = line-past _ _ (c .before .if1 .taken) (c .line-ends .ensures .0)
 
 slice-aggregate-line-ends : tie.Need-slice-aggregate-line-ends
 slice-aggregate-line-ends c = sym (length-take-le _ _ (c .before .if1 .left))
-
-line-ends-requires-2 : tie.Need-line-ends-requires-2
-line-ends-requires-2 c κs = search needs
 
 add-result-2 : tie.Need-add-result-2
 add-result-2 c = omega (arith, length-take-le _ (c .before .before .before .before .args .s .now) (c .before .before .if1 .left))
@@ -31,11 +22,4 @@ returns-2 c = line-within _ _ (c .line-ends2 .ensures .0)
 pub line-of-spec : {M : Type 1} → statement M
 line-of-spec =
     tie.close
-    (tie.spec
-    line-ends-requires
-    add-result
-    returns
-    slice-aggregate-line-ends
-    line-ends-requires-2
-    add-result-2
-    returns-2)
+    (tie.spec (λ c κs. search needs) (λ c. search needs) returns slice-aggregate-line-ends (λ c κs. search needs) add-result-2 returns-2)

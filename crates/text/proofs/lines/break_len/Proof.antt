@@ -7,9 +7,6 @@ use Rattle.text.proofs.SpanLaws.{break-lf, break-none, break-crlf, brea
 use Rattle.text.proofs.lines.break_len.Statement.{statement}
 use Rattle.text.proofs.lines.break_len.Tie as tie
 
-byte-at-requires : tie.Need-byte-at-requires
-byte-at-requires c κs = search needs
-
 returns : tie.Need-returns
 returns c =
     let s = c .before .before .before .args .s .now in
@@ -32,9 +29,6 @@ add-byte-at c =
     let h = c .before .before .byte-at .ensures in
     omega (arith, in-text s e (omega arith))
 
-byte-at-requires-2 : tie.Need-byte-at-requires-2
-byte-at-requires-2 c κs = search needs
-
 returns-3 : tie.Need-returns-3
 returns-3 c =
     let s = c .before .before .before .before .before .before .args .s .now in
@@ -56,11 +50,4 @@ returns-4 c =
 pub break-len-spec : {M : Type 1} → statement M
 break-len-spec =
     tie.close
-    (tie.spec
-    byte-at-requires
-    returns
-    returns-2
-    add-byte-at
-    byte-at-requires-2
-    returns-3
-    returns-4)
+    (tie.spec (λ c κs. search needs) returns returns-2 add-byte-at (λ c κs. search needs) returns-3 returns-4)

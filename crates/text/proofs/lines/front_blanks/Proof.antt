@@ -16,30 +16,27 @@ Inv-loop t i₀ i = (i ≤ length t) × (i + frontBlanks (drop i t) ≡ frontBla
 abbrev μ-loop : tie.MeasureT-loop
 μ-loop t i₀ i = length t - i
 
-loop-holds : tie.Need-loop-holds Inv-loop μ-loop
-loop-holds c = search needs
-
-shared-slice-read-is-blank : tie.Need-shared-slice-read-is-blank Inv-loop μ-loop
-shared-slice-read-is-blank c = search needs
-
-is-blank-requires : tie.Need-is-blank-requires Inv-loop μ-loop
-is-blank-requires c κs = search needs
-
 returns : tie.Need-returns Inv-loop μ-loop
 returns c =
-    let q = c .before .before .before .before in
-    (omega (arith, front-stop (q .before .before .args .t .now) (q .loop .i) (omega arith) (sym (c .before .is-blank .ensures) ∙ not-true _ (c .if1 .taken))), omega arith)
-
-add-i : tie.Need-add-i Inv-loop μ-loop
-add-i c = search needs
-
-loop-less : tie.Need-loop-less Inv-loop μ-loop
-loop-less c = search needs
+    let q = c .before .before .before .before in (
+      omega (
+        arith,
+        front-stop (q .before .before .args .t .now) (q .loop .i) (omega arith)
+            (sym (c .before .is-blank .ensures) ∙ not-true _ (c .if1 .taken)),
+      ),
+      omega arith,
+    )
 
 loop-again : tie.Need-loop-again Inv-loop μ-loop
 loop-again c =
-    let q = c .before .before .before .before in
-    (omega arith, omega (arith, front-more (q .before .before .args .t .now) (q .loop .i) (omega arith) (sym (c .before .is-blank .ensures) ∙ not-false _ (c .if1 .left))))
+    let q = c .before .before .before .before in (
+      omega arith,
+      omega (
+        arith,
+        front-more (q .before .before .args .t .now) (q .loop .i) (omega arith)
+            (sym (c .before .is-blank .ensures) ∙ not-false _ (c .if1 .left)),
+      ),
+    )
 
 returns-2 : tie.Need-returns-2 Inv-loop μ-loop
 returns-2 c = (omega (arith, front-over (c .before .before .before .args .t .now) (c .before .loop .i) (c .loop-test .left)), omega arith)
@@ -47,14 +44,5 @@ returns-2 c = (omega (arith, front-over (c .before .before .before .args .t .now
 pub front-blanks-spec : {M : Type 1} → statement M
 front-blanks-spec =
     tie.close
-    (tie.spec
-    Inv-loop
-    μ-loop
-    loop-holds
-    shared-slice-read-is-blank
-    is-blank-requires
-    returns
-    add-i
-    loop-less
-    loop-again
-    returns-2)
+    (tie.spec Inv-loop μ-loop (λ c. search needs) (λ c. search needs) (λ c κs. search needs) returns (λ c. search needs) (λ c. search needs)
+    loop-again returns-2)

@@ -19,45 +19,6 @@ returns c =
       onward = omega arith;
     }
 
-line-end-requires : tie.Need-line-end-requires
-line-end-requires c κs = search needs
-
-sub-front-blanks : tie.Need-sub-front-blanks
-sub-front-blanks c = search needs
-
-part-front-blanks-start : tie.Need-part-front-blanks-start
-part-front-blanks-start c = search needs
-
-part-front-blanks-end : tie.Need-part-front-blanks-end
-part-front-blanks-end c = search needs
-
-front-blanks-requires : tie.Need-front-blanks-requires
-front-blanks-requires c κs = search needs
-
-add-a : tie.Need-add-a
-add-a c = search needs
-
-sub-solid-len : tie.Need-sub-solid-len
-sub-solid-len c = search needs
-
-part-solid-len-start : tie.Need-part-solid-len-start
-part-solid-len-start c = search needs
-
-part-solid-len-end : tie.Need-part-solid-len-end
-part-solid-len-end c = search needs
-
-solid-len-requires : tie.Need-solid-len-requires
-solid-len-requires c κs = search needs
-
-break-len-requires : tie.Need-break-len-requires
-break-len-requires c κs = search needs
-
-add-t11 : tie.Need-add-t11
-add-t11 c = search needs
-
-add-t8 : tie.Need-add-t8
-add-t8 c = search needs
-
 returns-2 : tie.Need-returns-2
 returns-2 c =
     let q = c .before .before .before .before .before in
@@ -83,19 +44,6 @@ returns-2 c =
 pub line-at-spec : {M : Type 1} → statement M
 line-at-spec =
     tie.close
-    (tie.spec
-    returns
-    line-end-requires
-    sub-front-blanks
-    part-front-blanks-start
-    part-front-blanks-end
-    front-blanks-requires
-    add-a
-    sub-solid-len
-    part-solid-len-start
-    part-solid-len-end
-    solid-len-requires
-    break-len-requires
-    add-t11
-    add-t8
-    returns-2)
+    (tie.spec returns (λ c κs. search needs) (λ c. search needs) (λ c. search needs) (λ c. search needs) (λ c κs. search needs)
+    (λ c. search needs) (λ c. search needs) (λ c. search needs) (λ c. search needs) (λ c κs. search needs) (λ c κs. search needs)
+    (λ c. search needs) (λ c. search needs) returns-2)

@@ -15,35 +15,30 @@ Inv-loop s at i₀ i = (at ≤ i) × (i ≤ max at (length s)) × (i + lineLengt
 abbrev μ-loop : tie.MeasureT-loop
 μ-loop s at i₀ i = length s - i
 
-loop-holds : tie.Need-loop-holds Inv-loop μ-loop
-loop-holds c = search needs
-
-shared-slice-read-if1 : tie.Need-shared-slice-read-if1 Inv-loop μ-loop
-shared-slice-read-if1 c = search needs
-
 returns : tie.Need-returns Inv-loop μ-loop
 returns c =
     let q = c .before .before .before in
     (omega (arith, line-lf (q .before .args .s .now) (q .loop .i) (c .before .before .loop-test .taken) (c .if1 .taken)), omega arith, omega arith)
 
-shared-slice-read-if2 : tie.Need-shared-slice-read-if2 Inv-loop μ-loop
-shared-slice-read-if2 c = search needs
-
 returns-2 : tie.Need-returns-2 Inv-loop μ-loop
 returns-2 c =
-    let q = c .before .before .before .before .before in
-    (omega (arith, line-cr (q .before .args .s .now) (q .loop .i) (c .before .before .before .before .loop-test .taken) (c .if2 .taken)), omega arith, omega arith)
-
-add-i : tie.Need-add-i Inv-loop μ-loop
-add-i c = search needs
-
-loop-less : tie.Need-loop-less Inv-loop μ-loop
-loop-less c = search needs
+    let q = c .before .before .before .before .before in (
+      omega (arith, line-cr (q .before .args .s .now) (q .loop .i) (c .before .before .before .before .loop-test .taken) (c .if2 .taken)),
+      omega arith,
+      omega arith,
+    )
 
 loop-again : tie.Need-loop-again Inv-loop μ-loop
 loop-again c =
-    let q = c .before .before .before .before .before in
-    (omega arith, omega arith, omega (arith, line-more (q .before .args .s .now) (q .loop .i) (c .before .before .before .before .loop-test .taken) (c .before .before .if1 .left) (c .if2 .left)))
+    let q = c .before .before .before .before .before in (
+      omega arith,
+      omega arith,
+      omega (
+        arith,
+        line-more (q .before .args .s .now) (q .loop .i) (c .before .before .before .before .loop-test .taken)
+            (c .before .before .if1 .left) (c .if2 .left),
+      ),
+    )
 
 returns-3 : tie.Need-returns-3 Inv-loop μ-loop
 returns-3 c = (omega (arith, line-over (c .before .before .args .s .now) (c .before .loop .i) (c .loop-test .left)), omega arith, omega arith)
@@ -51,15 +46,5 @@ returns-3 c = (omega (arith, line-over (c .before .before .args .s .now) (c .bef
 pub line-end-spec : {M : Type 1} → statement M
 line-end-spec =
     tie.close
-    (tie.spec
-    Inv-loop
-    μ-loop
-    loop-holds
-    shared-slice-read-if1
-    returns
-    shared-slice-read-if2
-    returns-2
-    add-i
-    loop-less
-    loop-again
-    returns-3)
+    (tie.spec Inv-loop μ-loop (λ c. search needs) (λ c. search needs) returns (λ c. search needs) returns-2 (λ c. search needs)
+    (λ c. search needs) loop-again returns-3)

@@ -20,27 +20,12 @@ abbrev μ-loop : tie.MeasureT-loop
 loop-holds : tie.Need-loop-holds Inv-loop μ-loop
 loop-holds c = (omega arith, ap solidLength (take-length _))
 
-sub-is-blank : tie.Need-sub-is-blank Inv-loop μ-loop
-sub-is-blank c = search needs
-
-shared-slice-read-is-blank : tie.Need-shared-slice-read-is-blank Inv-loop μ-loop
-shared-slice-read-is-blank c = search needs
-
-is-blank-requires : tie.Need-is-blank-requires Inv-loop μ-loop
-is-blank-requires c κs = search needs
-
 returns : tie.Need-returns Inv-loop μ-loop
 returns c =
     let q = c .before .before .before .before in
     let t = q .before .before .args .t .now in
     let h = c .before .before .before .loop-test .taken in
     (sym (solid-stop t (q .loop .z) h (omega arith) (sym (c .before .is-blank .ensures) ∙ not-true _ (c .if1 .taken))) ∙ q .loop .inv .1, omega arith)
-
-sub-z : tie.Need-sub-z Inv-loop μ-loop
-sub-z c = search needs
-
-loop-less : tie.Need-loop-less Inv-loop μ-loop
-loop-less c = search needs
 
 loop-again : tie.Need-loop-again Inv-loop μ-loop
 loop-again c =
@@ -57,15 +42,5 @@ returns-2 c =
 pub solid-len-spec : {M : Type 1} → statement M
 solid-len-spec =
     tie.close
-    (tie.spec
-    Inv-loop
-    μ-loop
-    loop-holds
-    sub-is-blank
-    shared-slice-read-is-blank
-    is-blank-requires
-    returns
-    sub-z
-    loop-less
-    loop-again
-    returns-2)
+    (tie.spec Inv-loop μ-loop loop-holds (λ c. search needs) (λ c. search needs) (λ c κs. search needs) returns (λ c. search needs)
+    (λ c. search needs) loop-again returns-2)
