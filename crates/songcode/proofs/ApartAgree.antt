@@ -70,11 +70,13 @@ unfolding Each
 each-at P [] h m = absurd (List·Memᴰ·not-nil m)
 each-at P (y ∷ xs) h m = ⊎-elim (λ e. subst (λ z. P z) (sym e) (h .0)) (λ i. each-at P xs (h .1) i) (List·Memᴰ·cases-cons m)
 
-known-all : (s : Song) {bs : List Block} (w : WrittenSong bs s) → DefinitionsRefer [] (s .definitions) → (d : Definition) (q : Items) → List·Memᴰ d (s .definitions) → d .items ≡ some q → Known (s .definitions) (references q)
+known-all : (s : Song) {bs : List Block} (w : WrittenSong bs s) → DefinitionsRefer [] (s .definitions) → (d : Definition) (q : Items)
+    → List·Memᴰ d (s .definitions) → d .items ≡ some q → Known (s .definitions) (references q)
 unfolding Known Referring definitionOf
 known-all s w refers d q m e =
     let all = each-referring (s .definitions) [] (s .definitions) (λ n b f. none-some refl f) (each-found (s .definitions) (w .definitionsOnce)) refers in
-    let mine : Referring (s .definitions) (some q) = subst (λ o. Referring (s .definitions) o) e (each-at (λ b. Referring (s .definitions) (b .items)) (s .definitions) all m) in
+    let mine : Referring (s .definitions) (some q) =
+    subst (λ o. Referring (s .definitions) o) e (each-at (λ b. Referring (s .definitions) (b .items)) (s .definitions) all m) in
     λ n i. let p = each-at (PutsPlain (itemsOf (s .definitions))) (references q) mine i in (p .items, p .said)
 
 pub apart : Apart

@@ -68,25 +68,20 @@ sections-parted {R = R} first (f ∷ front) x behind (g ∷ ps) p qs (and-each h
     rw (length-append (joined g) (gather joined ps)) (omega arith) in
     (rw e (ap (λ z. sectionWord (f .header) first (length (joined g)) (g .meter) (g .tempo) ∷ z) (r .0)), let s = r .1 in omega arith)
 
-measures-joined : (first : ℕ) (a b : List (List Beat)) → measureWords first (a ++ b) ≡ measureWords first a ++ measureWords (first + total a) b
+measures-joined : (first : ℕ) (a b : List (List Beat))
+    → (measureWords first (a ++ b) ≡ measureWords first a ++ measureWords (first + total a) b) × (length (measureWords first a) ≡ length a)
 unfolding measureWords total
-measures-joined first [] b = rw (add-zero first)
+measures-joined first [] b = (rw (add-zero first), refl)
 measures-joined first (m ∷ a) b =
-    rw (← add-assoc first (length m) (total a)) (ap (λ z. measureWord first (length m) ∷ z) (measures-joined (first + length m) a b))
+    let h = measures-joined (first + length m) a b in
+    let l = h .1 in
+    (rw (← add-assoc first (length m) (total a)) (ap (λ z. measureWord first (length m) ∷ z) (h .0)), omega arith)
 
-measures-length : (first : ℕ) (a : List (List Beat)) → length (measureWords first a) ≡ length a
-unfolding measureWords
-measures-length first [] = refl
-measures-length first (m ∷ a) = let h = measures-length (first + length m) a in omega arith
-
-map-length : {A B : Type 0} (f : A → B) (xs : List A) → length (map f xs) ≡ length xs
-map-length f [] = refl
-map-length f (x ∷ xs) = let h = map-length f xs in omega arith
-
-beats-length : (a : List (List Beat)) → length (gather (map beatWord) a) ≡ total a
+gathered-length : {A B : Type 0} (f : A → B) (rows : List (List A)) → length (gather (map f) rows) ≡ total rows
 unfolding gather total
-beats-length [] = refl
-beats-length (m ∷ a) = let h = beats-length a in let g = map-length beatWord m in rw (length-append (map beatWord m) (gather (map beatWord) a)) (omega arith)
+gathered-length f [] = refl
+gathered-length f ([] ∷ rows) = let h = gathered-length f rows in omega arith
+gathered-length f ((x ∷ xs) ∷ rows) = let h = gathered-length f (xs ∷ rows) in omega arith
 
 module _ (s : Song) (ps : List Parts) (t : Tables) (w : WrittenTables s ps t) (each : Each (PlaysSection s) (s .sections) ps) where
   stretch-of : (front behind : List Section) (x : Section) → s .sections ≡ front ++ (x ∷ behind)
@@ -100,8 +95,8 @@ module _ (s : Song) (ps : List Parts) (t : Tables) (w : WrittenTables s ps t) (e
       let all : gather joined ps ≡ rows ++ (joined p ++ rest) = ap (λ z. gather joined z) (r .written) ∙ gather-append joined (r .before) (p ∷ r .after) in
       let words = sections-parted {R = PlaysSection s} 0 front x behind (r .before) p (r .after) (r .ofFront) in
       let measures : t .measures ≡ measureWords 0 rows ++ (measureWords (total rows) (joined p) ++ measureWords (total rows + total (joined p)) rest) =
-      w .measures ∙ ap (λ z. measureWords 0 z) all ∙ measures-joined 0 rows (joined p ++ rest)
-      ∙ rw (zero-add (total rows)) (ap (λ z. measureWords 0 rows ++ z) (measures-joined (total rows) (joined p) rest)) in
+      w .measures ∙ ap (λ z. measureWords 0 z) all ∙ measures-joined 0 rows (joined p ++ rest) .0
+      ∙ rw (zero-add (total rows)) (ap (λ z. measureWords 0 rows ++ z) (measures-joined (total rows) (joined p) rest .0)) in
       let beats : t .beats ≡ gather (map beatWord) rows ++ (gather (map beatWord) (joined p) ++ gather (map beatWord) rest) =
       w .beats ∙ ap (λ z. gather (map beatWord) z) all ∙ gather-append (map beatWord) rows (joined p ++ rest)
       ∙ ap (λ z. gather (map beatWord) rows ++ z) (gather-append (map beatWord) (joined p) rest) in
@@ -110,8 +105,8 @@ module _ (s : Song) (ps : List Parts) (t : Tables) (w : WrittenTables s ps t) (e
       (sectionWord (x .header) (0 + length rows) (length (joined p)) (p .meter) (p .tempo) ∷ partsWords (0 + length rows + length (joined p)) behind
       (r .after)) =
       w .sections ∙ ap (λ z. partsWords 0 z ps) e ∙ ap (λ z. partsWords 0 (front ++ (x ∷ behind)) z) (r .written) ∙ words .0 in
-      let long : length (measureWords 0 rows) ≡ length rows = measures-length 0 rows in
-      let beaten : length (gather (map beatWord) rows) ≡ total rows = beats-length rows in (
+      let long : length (measureWords 0 rows) ≡ length rows = measures-joined 0 rows [] .1 in
+      let beaten : length (gather (map beatWord) rows) ≡ total rows = gathered-length beatWord rows in (
         p,
         r .holds,
         record {

@@ -77,7 +77,8 @@ module _ (ds : List Definition) where
   refer-put n q e =
       let a = andThen-some (definitionOf n ds) (λ d. d .items) e in
       let b = a-definition n ds (a .0) (a .1) in
-      let put : PutIn ds (reference (a .0 .id) ∷ []) (itemsTokens q) = and-put (its-items (a .0) q (b .0) (a .2)) all-put (sym (append-nil (writeItems q []) ∙ appended q)) in
+      let put : PutIn ds (reference (a .0 .id) ∷ []) (itemsTokens q) =
+      and-put (its-items (a .0) q (b .0) (a .2)) all-put (sym (append-nil (writeItems q []) ∙ appended q)) in
       subst (λ k. PutIn ds (reference k ∷ []) (itemsTokens q)) (b .1) put
 
   mutual
@@ -92,7 +93,8 @@ module _ (ds : List Definition) where
     items-put (one i) h = item-put i h
     items-put (next r s i) h =
         rw (glue-tokens (putIn (itemsOf ds) r) s (putInItem (itemsOf ds) i))
-        (joins (items-put r (λ n m. h n (Memᴰ·append-left (referencesI i) m))) (joins (separator-put s) (item-put i (λ n m. h n (Memᴰ·append-right (references r) m)))))
+        (joins (items-put r (λ n m. h n (Memᴰ·append-left (referencesI i) m)))
+        (joins (separator-put s) (item-put i (λ n m. h n (Memᴰ·append-right (references r) m)))))
 
   -- A text has one text with its references put in, and a text is of one row.
   place-once : (only-ones : One ds) {t : Token} {us vs : List Token} → InPlace ds t us → InPlace ds t vs → us ≡ vs
@@ -113,12 +115,15 @@ module _ (ds : List Definition) where
       e ∙ ap (λ z. z ++ b) (place-once o i j) ∙ ap (λ z. c ++ z) (put-once o p q) ∙ sym f
 
   written-once : (r q : Items) → writeItems r [] ≡ writeItems q [] → r ≡ q
-  written-once r q e = let a = items-complete r in let b = items-complete q in let c : itemsIn (writeItems r []) ≡ itemsIn (writeItems q []) = ap (λ z. itemsIn z) e in cc
+  written-once r q e =
+      let a = items-complete r in let b = items-complete q in let c : itemsIn (writeItems r []) ≡ itemsIn (writeItems q []) = ap (λ z. itemsIn z) e in cc
 
   -- What a pattern says.
   module _ (o : One ds) (known : (d : Definition) (q : Items) → List·Memᴰ d ds → d .items ≡ some q → Known (references q)) where
     put : (q : Items) → Known (references q) → PutIn ds (writeItems q []) (writeItems (putIn (itemsOf ds) q) [])
-    put q k = subst (λ z. PutIn ds z (writeItems (putIn (itemsOf ds) q) [])) (sym (appended q)) (subst (λ z. PutIn ds (itemsTokens q) z) (sym (appended (putIn (itemsOf ds) q))) (items-put q k))
+    put q k =
+        subst (λ z. PutIn ds z (writeItems (putIn (itemsOf ds) q) [])) (sym (appended q))
+        (subst (λ z. PutIn ds (itemsTokens q) z) (sym (appended (putIn (itemsOf ds) q))) (items-put q k))
 
     says : (p : Pattern) (x : Option Items) → PatternRefers ds p → patternItems ds p ≡ x → PatternSays ds p x
     unfolding patternItems PatternRefers itemsOf andThen
@@ -138,7 +143,8 @@ module _ (ds : List Definition) where
         go (some q) g =
             let y : x ≡ some (putIn (itemsOf ds) q) = sym e ∙ rw (h .1, g) in
             subst (λ z. PatternSays ds (named n) z) (sym y)
-            (subst (λ k. PatternSays ds (named k) (some (putIn (itemsOf ds) q))) (found .1) (names-items (h .0) q (found .0) g (put q (known (h .0) q (found .0) g))))
+            (subst (λ k. PatternSays ds (named k) (some (putIn (itemsOf ds) q))) (found .1)
+            (names-items (h .0) q (found .0) g (put q (known (h .0) q (found .0) g))))
 
     said : {p : Pattern} {x : Option Items} → PatternSays ds p x → patternItems ds p ≡ x
     unfolding patternItems itemsOf andThen

@@ -33,7 +33,9 @@ module _ {B : Type 0} (f : Modifier → Option B) (make : B → Modifier) (k : �
   said-of (x ∷ ms) y d m =
       ⊎-elim
       (λ e. let p : f x ≡ some y = ap f (sym e) ∙ is y in rw p)
-      (λ i. go (f x) refl (λ e. absent-member (modifierNumber x) k (map modifierNumber ms) (d .0) (subst (λ n. List·Memᴰ n (map modifierNumber ms)) (numbered y) (Memᴰ·map modifierNumber i)) e) (said-of ms y (d .1) i))
+      (λ i. go (f x) refl
+      (λ e. absent-member (modifierNumber x) k (map modifierNumber ms) (d .0)
+      (subst (λ n. List·Memᴰ n (map modifierNumber ms)) (numbered y) (Memᴰ·map modifierNumber i)) e) (said-of ms y (d .1) i))
       (List·Memᴰ·cases-cons m)
     where
       go : (o : Option B) → f x ≡ o → (modifierNumber x ≡ k → ⊥) → saidBy f ms ≡ some y → firstThere (f x) (saidBy f ms) ≡ some y

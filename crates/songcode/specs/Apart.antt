@@ -9,7 +9,8 @@ use mathlib.Core.Option.{Option, none, some}
 use Rattle.songcode.specs.Lists.{gather}
 use Rattle.songcode.specs.Bytes.{Byte}
 use Rattle.songcode.specs.Numbers.{isDecimal, valueFrom}
-use Rattle.songcode.specs.Song.{Item, measure, loop, refer, Items, one, next, Pattern, items, named, Cut, Modifier, repeated, cutStart, cutEnd, before, after}
+use Rattle.songcode.specs.Song.{Item, measure, loop, refer, Items, one, next, Pattern, items, named, Cut, Modifier, repeated, cutStart, cutEnd, before}
+use Rattle.songcode.specs.Song.{after}
 use Rattle.songcode.specs.Song.{Definition, Section, Song}
 use Rattle.songcode.specs.Tokens.{Token, sound, remover, reference, semicolon, colon, lineEnd, opens, closes, wrong}
 use Rattle.songcode.specs.PatternText.{depth, loopsDeep}
