@@ -1,6 +1,6 @@
 -- The tables of roots and of sharp names, held to the spellings: each one test, computed for all entries.
 use Prim.Native.Nat.{ℕ, _-_, _/_, _%_, _<_, _≤_}
-use mathlib.Core.Path.{_≡_, refl, ap, sym, _∙_}
+use mathlib.Core.Path.{_≡_, refl}
 use mathlib.Core.List.{List, [], _∷_}
 use mathlib.Core.Bool.{Bool, true, false, not, _&&_}
 use native.Mathlib.Omega.{arith}
@@ -12,7 +12,7 @@ use Rattle.songcode.specs.Lists.{if_then_else_, any}
 use Rattle.songcode.specs.Chords.{spellingOf, rootOf, isMinor}
 use Rattle.songcode.proofs.ListLaws.{by-cases, both-pass}
 use Rattle.songcode.proofs.EachBelow.{allBelow, each-below}
-use Rattle.concert.specs.Pitches.{upward, movedRoot, sharpBase, movedBase}
+use Rattle.concert.specs.Pitches.{movedRoot, sharpBase, movedBase}
 
 -- The code's tables.
 abbrev pub roots : List (List ℕ)
@@ -81,7 +81,8 @@ major-moved z b r h l e =
     let k = base-rooted b h in
     let same : rootOf (spellingOf b) ≡ rootAt b = let q = k .root in omega arith in
     let n = movedRoot z (rootAt b) in
-    rw (e, same, k .major l) (eqb-true (getD majors n 0) (sharpBase n false) (both-pass (eqb (getD majors n 0) (sharpBase n false)) (eqb (getD minors n 0) (sharpBase n true)) (each-named n (moved-below z (rootAt b))) .0))
+    let t = both-pass (eqb (getD majors n 0) (sharpBase n false)) (eqb (getD minors n 0) (sharpBase n true)) (each-named n (moved-below z (rootAt b))) in
+    rw (e, same, k .major l) (eqb-true (getD majors n 0) (sharpBase n false) (t .0))
 
 pub minor-moved : (z : ℤ) (b r : ℕ) → b < 34 → 12 ≤ rootAt b → r ≡ movedRoot z (rootAt b - 12) → getD minors r 0 ≡ movedBase z b
 unfolding movedBase named
@@ -89,7 +90,8 @@ minor-moved z b r h l e =
     let k = base-rooted b h in
     let same : rootOf (spellingOf b) ≡ rootAt b - 12 = let q = k .root in let s = k .small in omega arith in
     let n = movedRoot z (rootAt b - 12) in
-    rw (e, same, k .minor l) (eqb-true (getD minors n 0) (sharpBase n true) (both-pass (eqb (getD majors n 0) (sharpBase n false)) (eqb (getD minors n 0) (sharpBase n true)) (each-named n (moved-below z (rootAt b - 12))) .1))
+    let t = both-pass (eqb (getD majors n 0) (sharpBase n false)) (eqb (getD minors n 0) (sharpBase n true)) (each-named n (moved-below z (rootAt b - 12))) in
+    rw (e, same, k .minor l) (eqb-true (getD minors n 0) (sharpBase n true) (t .1))
 
 -- What a sharp name is: a base chord of that root and quality, spelled without a flat.
 unfoldable sounds : Bool → ℕ → Bool
@@ -121,7 +123,8 @@ name-sounds minor r h =
     let x = both-pass _ _ (each-sounds minor r h) in
     let y = both-pass _ _ (x .1) in
     let w = both-pass _ _ (y .1) in
-    record { listed = let q = leb-true (sharpBase r minor) 33 (x .0) in omega arith; no-flat = not-true _ (y .0); root = eqb-true _ _ (w .0); quality = as-minor minor _ (w .1) }
+    let q = leb-true (sharpBase r minor) 33 (x .0) in
+    record { listed = omega arith; no-flat = not-true _ (y .0); root = eqb-true _ _ (w .0); quality = as-minor minor _ (w .1) }
 
 -- And no other base chord is: one without a flat is the sharp name of its own root and quality.
 unfoldable sharp : ℕ → Bool

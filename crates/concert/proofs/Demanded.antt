@@ -1,9 +1,9 @@
 -- Every demand, proved.
-use Prim.Native.Nat.{ℕ, _*_, _+_, _^_, _<_}
+use Prim.Native.Nat.{ℕ, _*_, _+_, _^_}
 use mathlib.Core.Path.{_≡_, refl, ap, sym, _∙_, subst}
 use mathlib.Core.Logic.{_↔_}
 use mathlib.Core.List.{List, [], _∷_, map}
-use mathlib.Core.Bool.{Bool, true, false, _||_}
+use mathlib.Core.Bool.{false}
 use native.Mathlib.Omega.{arith}
 use lib.Dec.{eqb}
 use lib.IntN.{ℤ, pos}
@@ -12,11 +12,11 @@ use borrow.Author.Tests.{eqb-true, eqb-false}
 use Rattle.songcode.specs.Lists.{any}
 use Rattle.songcode.specs.Chords.{spellingOf, rootOf, isMinor}
 use Rattle.songcode.proofs.ListLaws.{by-cases, none-passes, pass-none}
-use Rattle.concert.specs.Pitches.{movedRoot, sharpBase, movedBase}
+use Rattle.concert.specs.Pitches.{movedRoot, movedBase}
 use Rattle.concert.specs.Moves.{baseIn, behindBase, movedWord, movedTable, isOdd}
 use Rattle.concert.specs.Promises.{Moves}
 use Rattle.concert.specs.Demands.{ComesTo, SumsTo, Demands}
-use Rattle.concert.proofs.BaseLaws.{moved-below, Sounds, name-sounds, own-name}
+use Rattle.concert.proofs.BaseLaws.{moved-below, name-sounds, own-name}
 use Rattle.concert.proofs.WordLaws.{moved-listed, packed-base, behind-stays, behind-below, silence-stays, chord-moves, even-stays}
 use Rattle.concert.proofs.Octaves.{moved-twice-root}
 
@@ -41,7 +41,12 @@ twice-base a b c base s =
     let y = comes-to b (movedBase a base) in
     sym
     (moved-exactly c base (movedBase b (movedBase a base)) .1
-    (record { listed = y .listed; no-flat = y .no-flat; quality = y .quality ∙ x .quality; root = y .root ∙ ap (movedRoot b) (x .root) ∙ moved-twice-root a b c (rootOf (spellingOf base)) s }))
+    (record {
+      listed = y .listed;
+      no-flat = y .no-flat;
+      quality = y .quality ∙ x .quality;
+      root = y .root ∙ ap (movedRoot b) (x .root) ∙ moved-twice-root a b c (rootOf (spellingOf base)) s;
+    }))
 
 twice-word : (a b c : ℤ) (w : ℕ) → SumsTo a b c → movedWord b (movedWord a w) ≡ movedWord c w
 twice-word a b c w s =

@@ -24,6 +24,7 @@ module _ (z : ℤ) (beats before : List ℕ) where
   unfolding refusalOf secondTable if_then_else_
   short-refused a o l = record { refused = rw (a, o, lt-ltb _ _ l) refl; second = rw (a, o, lt-ltb _ _ l) refl }
 
-  pub all-moved : (after : List ℕ) → isAllowed z ≡ true → any isOdd beats ≡ false → length beats ≤ length before → after ≡ movedTable z beats ++ drop (length beats) before → Moves z beats before 0 after
+  pub all-moved : (after : List ℕ) → isAllowed z ≡ true → any isOdd beats ≡ false → length beats ≤ length before
+      → after ≡ movedTable z beats ++ drop (length beats) before → Moves z beats before 0 after
   unfolding refusalOf secondTable if_then_else_
   all-moved after a o l e = record { refused = rw (a, o, le-ltb _ _ l) refl; second = rw (a, o, le-ltb _ _ l) e }

@@ -1,9 +1,9 @@
 -- A root and a signed shift in 32 bits: the sum, its remainder by twelve, and twelve more where that is below zero.
 use Prim.Native.Nat.{ℕ, zero, suc, _+_, _*_, _-_, _/_, _%_, _<_, _≤_}
-use mathlib.Core.Path.{_≡_, refl, ap, sym, _∙_}
-use mathlib.Core.Bool.{Bool, true, false, cond, _&&_}
+use mathlib.Core.Path.{_≡_, refl, ap, _∙_}
+use mathlib.Core.Bool.{true, false}
 use native.Mathlib.Omega.{arith}
-use borrow.Author.Tests.{lt-ltb, le-ltb, le-leb, lt-leb, ltb-true, ltb-false, leb-true}
+use borrow.Author.Tests.{lt-ltb, le-leb, lt-leb, ltb-true, ltb-false, leb-true}
 use lib.Dec.{leb, ltb}
 use lib.IntN.{ℤ, pos, negsuc, negℤ, subℕ, _+ℤ_}
 use lib.Signed.{mag, ltZ, leZ, quotZ, remZ, mag-rem}
@@ -109,7 +109,8 @@ lifted k h =
 negative : (k : ℕ) → k ≤ 10 → ltZ (negℤ (pos (suc k % 12))) (pos 0) ≡ true
 negative k h = let m : suc k % 12 ≡ suc k = omega arith in rw m refl
 
-pub lifted-root : (root : ℕ) (z : ℤ) → root < 12 → isAllowed z ≡ true → ltZ (remZ (pos root +ℤ z) (pos 12)) (pos 0) ≡ true → remZ (pos root +ℤ z) (pos 12) +ℤ pos 12 ≡ pos (movedRoot z root)
+pub lifted-root : (root : ℕ) (z : ℤ) → root < 12 → isAllowed z ≡ true → ltZ (remZ (pos root +ℤ z) (pos 12)) (pos 0) ≡ true
+    → remZ (pos root +ℤ z) (pos 12) +ℤ pos 12 ≡ pos (movedRoot z root)
 unfolding movedRoot upward isAllowed
 lifted-root root (pos n) h a = λ t. absurd (let k = ltb-true ((root + n) % 12) 0 t in omega arith)
 lifted-root root (negsuc n) h a =
@@ -118,7 +119,8 @@ lifted-root root (negsuc n) h a =
     (λ l t. lifted (suc n - suc root) (omega arith) ∙ ap (λ m. pos m) (omega arith))
     (λ l t. absurd (let q = ltb-true ((root - suc n) % 12) 0 t in omega arith))
 
-pub reduced-root : (root : ℕ) (z : ℤ) → root < 12 → isAllowed z ≡ true → ltZ (remZ (pos root +ℤ z) (pos 12)) (pos 0) ≡ false → remZ (pos root +ℤ z) (pos 12) ≡ pos (movedRoot z root)
+pub reduced-root : (root : ℕ) (z : ℤ) → root < 12 → isAllowed z ≡ true → ltZ (remZ (pos root +ℤ z) (pos 12)) (pos 0) ≡ false
+    → remZ (pos root +ℤ z) (pos 12) ≡ pos (movedRoot z root)
 unfolding movedRoot upward isAllowed
 reduced-root root (pos n) h a = λ f. refl
 reduced-root root (negsuc n) h a =

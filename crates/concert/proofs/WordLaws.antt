@@ -1,14 +1,14 @@
 -- A beat word: which are refused, and what is left of one when its base is moved.
 use Prim.Native.Nat.{ℕ, _+_, _*_, _/_, _%_, _^_, _<_, _≤_}
-use mathlib.Core.Path.{_≡_, refl, ap, sym, _∙_}
-use mathlib.Core.Bool.{Bool, true, false, not, _&&_, _||_}
+use mathlib.Core.Path.{_≡_, refl}
+use mathlib.Core.Bool.{true, false, not, _&&_}
 use native.Mathlib.Omega.{arith}
-use borrow.Author.Tests.{lt-ltb, le-leb, lt-leb, eq-eqb, ne-eqb, leb-true, leb-false, eqb-true, eqb-false, not-false}
+use borrow.Author.Tests.{le-leb, lt-leb, eq-eqb, ne-eqb, leb-true, leb-false, eqb-true, eqb-false, not-false}
 use lib.Dec.{eqb, leb}
 use lib.IntN.{ℤ}
 use Rattle.songcode.specs.Lists.{if_then_else_}
 use Rattle.songcode.specs.Chords.{spellingOf, rootOf, isMinor}
-use Rattle.songcode.proofs.ListLaws.{by-cases, both-pass, none-passes, pass-none, true-is-not-false}
+use Rattle.songcode.proofs.ListLaws.{by-cases, none-passes, true-is-not-false}
 use Rattle.concert.specs.Pitches.{movedRoot, movedBase}
 use Rattle.concert.specs.Moves.{baseIn, behindBase, movedWord, isOdd}
 use Rattle.concert.proofs.BaseLaws.{moved-below, name-sounds}
@@ -27,7 +27,9 @@ unfolding isOdd baseIn
 silence-even w l e h =
     by-cases (eqb (w / 67108864) 63)
     (λ t. let q = eqb-true (w / 67108864) 63 t in rw (t, lt-leb (w / 2 ^ 26) 62 (omega arith), le-leb 34 (w / 2 ^ 26) h, eq-eqb (w % 2 ^ 4) 0 e) refl)
-    (λ f. let q : w / 67108864 ≤ 62 = fewer (w / 67108864) (omega arith) (eqb-false (w / 67108864) 63 f) in rw (f, le-leb (w / 2 ^ 26) 62 q, le-leb 34 (w / 2 ^ 26) h) refl)
+    (λ f.
+    let q : w / 67108864 ≤ 62 = fewer (w / 67108864) (omega arith) (eqb-false (w / 67108864) 63 f) in
+    rw (f, le-leb (w / 2 ^ 26) 62 q, le-leb 34 (w / 2 ^ 26) h) refl)
   where
     fewer : (b : ℕ) → b < 64 → (b ≡ 63 → ⊥) → b ≤ 62
     fewer b h n = by-cases (leb b 62) (λ t. leb-true b 62 t) (λ f. absurd (n (let k = leb-false b 62 f in omega arith)))
@@ -57,7 +59,8 @@ unfolding behindBase
 packed-behind b r h = omega arith
 
 -- A word moved: silence, or a base and what was behind it.
-pub by-base : (P : ℕ → Type 0) (z : ℤ) (w : ℕ) → (baseIn w ≡ 63 → P w) → ((baseIn w ≡ 63 → ⊥) → P (movedBase z (baseIn w) * 2 ^ 26 + behindBase w)) → P (movedWord z w)
+pub by-base : (P : ℕ → Type 0) (z : ℤ) (w : ℕ) → (baseIn w ≡ 63 → P w)
+    → ((baseIn w ≡ 63 → ⊥) → P (movedBase z (baseIn w) * 2 ^ 26 + behindBase w)) → P (movedWord z w)
 unfolding movedWord if_then_else_
 by-base P z w f g = by-cases (eqb (baseIn w) 63) (λ t. rw t (f (eqb-true (baseIn w) 63 t))) (λ e. rw e (g (eqb-false (baseIn w) 63 e)))
 

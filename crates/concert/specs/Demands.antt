@@ -1,17 +1,17 @@
 -- What is demanded of these definitions, and proved in `proofs/Demanded.antt`.
-use Prim.Native.Nat.{ℕ, _<_, _≤_}
+use Prim.Native.Nat.{ℕ, _<_}
 use mathlib.Core.Path.{_≡_}
 use mathlib.Core.Logic.{_↔_}
 use mathlib.Core.List.{List, map}
-use mathlib.Core.Bool.{true, false, not}
+use mathlib.Core.Bool.{false}
 use lib.Dec.{eqb}
 use lib.IntN.{ℤ, pos, _+ℤ_, _*ℤ_}
 use lib.ListN.{length}
 use Prim.Native.Char.{code}
 use Rattle.songcode.specs.Lists.{any}
 use Rattle.songcode.specs.Chords.{spellingOf, rootOf, isMinor}
-use Rattle.concert.specs.Pitches.{isAllowed, movedRoot, movedBase}
-use Rattle.concert.specs.Moves.{baseIn, behindBase, movedWord, movedTable, isOdd, refusalOf}
+use Rattle.concert.specs.Pitches.{movedRoot, movedBase}
+use Rattle.concert.specs.Moves.{baseIn, behindBase, movedWord, movedTable, isOdd}
 use Rattle.concert.specs.Promises.{Moves}
 
 -- A base that another comes to, by what both are: spelled without a flat, as minor as the other, and its root so many semitones away.

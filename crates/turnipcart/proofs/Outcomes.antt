@@ -7,7 +7,6 @@ use Rattle.reader.specs.declared.answers.Answer.{Answer}
 use Rattle.reader.specs.Answers.{Lent, Promised, Counted}
 use Rattle.reader.proofs.AnswerLaws.{one-outcome, one-count}
 use Rattle.concert.specs.Promises.{Moves}
-use Rattle.concert.proofs.Demanded.{demanded}
 use Rattle.turnipcart.specs.Answers.{answerIn, ReadsChart, CountsChart}
 
 -- What the code lays down is promised.
@@ -36,6 +35,3 @@ pub one-counted : (text : List ℕ) (r q : ℕ) (x y : List ℕ) → CountsChart
 one-counted text r q x y f g =
     let same = one-count text (answerIn x) (answerIn y) (f .counted) (g .counted) in
     (f .given ∙ ap (λ (z : Answer). z .refusal) same ∙ sym (g .given), same)
-
-pub one-moved : (move : ℤ) (beats before : List ℕ) (r q : ℕ) (x y : List ℕ) → Moves move beats before r x → Moves move beats before q y → (r ≡ q) × (x ≡ y)
-one-moved = demanded .one-outcome

@@ -1,7 +1,6 @@
 use Rattle.concert.proofs.RootLaws.{below-range, in-range}
 use mathlib.Core.Path.{sym}
 use mir.Facts.{toZ-ofZ}
-use borrow.Author.Needs.{needs}
 use Rattle.concert.proofs.pitches.is_allowed.Statement.{statement}
 use Rattle.concert.proofs.pitches.is_allowed.Tie as tie
 

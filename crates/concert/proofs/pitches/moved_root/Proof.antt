@@ -1,4 +1,4 @@
-use Rattle.concert.proofs.RootLaws.{total, rest, sum-is, sum-fits, total-kept, quotient-fits, rest-kept, more-fits, more-kept, lifted-root, reduced-root}
+use Rattle.concert.proofs.RootLaws.{total, rest, sum-fits, quotient-fits, rest-kept, more-fits, more-kept, lifted-root, reduced-root}
 use Rattle.concert.proofs.BaseLaws.{moved-below}
 use lib.IntN.{pos, _+ℤ_}
 use mathlib.Core.Path.{_≡_, refl}
@@ -16,7 +16,9 @@ rem-rest c = (omega arith, quotient-fits (c .args .root) (c .args .shift) (c .pr
 
 -- The remainder below zero, and twelve more.
 module _ (c : tie.Then1) where
-  below : rest (c .before .args .root) (c .before .args .shift) (c .before .pre .0) (c .before .pre .1) +ℤ pos 12 ≡ pos (movedRoot (c .before .args .shift) (c .before .args .root))
+  below :
+      rest (c .before .args .root) (c .before .args .shift) (c .before .pre .0) (c .before .pre .1) +ℤ pos 12
+      ≡ pos (movedRoot (c .before .args .shift) (c .before .args .root))
   unfolding rest total
   below =
       lifted-root (c .before .args .root) (c .before .args .shift) (c .before .pre .0) (c .before .pre .1)
@@ -30,17 +32,27 @@ add-result c =
 cast-result : tie.Need-cast-result
 cast-result c =
     let m = moved-below (c .before .args .shift) (c .before .args .root) in
-    rw (rest-kept (c .before .args .root) (c .before .args .shift) (c .before .pre .0) (c .before .pre .1), more-kept (c .before .args .root) (c .before .args .shift) (c .before .pre .0) (c .before .pre .1), below c)
+    rw (
+      rest-kept (c .before .args .root) (c .before .args .shift) (c .before .pre .0) (c .before .pre .1),
+      more-kept (c .before .args .root) (c .before .args .shift) (c .before .pre .0) (c .before .pre .1),
+      below c,
+    )
     (tt, record { fits = omega arith })
 
 returns : tie.Need-returns
 returns c =
-    rw (rest-kept (c .before .args .root) (c .before .args .shift) (c .before .pre .0) (c .before .pre .1), more-kept (c .before .args .root) (c .before .args .shift) (c .before .pre .0) (c .before .pre .1), below c)
+    rw (
+      rest-kept (c .before .args .root) (c .before .args .shift) (c .before .pre .0) (c .before .pre .1),
+      more-kept (c .before .args .root) (c .before .args .shift) (c .before .pre .0) (c .before .pre .1),
+      below c,
+    )
     refl
 
 -- The remainder from zero on.
 module _ (c : tie.Else1) where
-  above : rest (c .before .args .root) (c .before .args .shift) (c .before .pre .0) (c .before .pre .1) ≡ pos (movedRoot (c .before .args .shift) (c .before .args .root))
+  above :
+      rest (c .before .args .root) (c .before .args .shift) (c .before .pre .0) (c .before .pre .1)
+      ≡ pos (movedRoot (c .before .args .shift) (c .before .args .root))
   unfolding rest total
   above =
       reduced-root (c .before .args .root) (c .before .args .shift) (c .before .pre .0) (c .before .pre .1)

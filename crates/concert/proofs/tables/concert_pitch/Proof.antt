@@ -5,6 +5,7 @@ use Rattle.concert.proofs.PromiseLaws.{far-refused, odd-refused, short-
 use lib.IntN.{ℤ}
 use lib.ListN.{length, drop}
 use borrow.Author.Tests.{not-true, not-false}
+use mathlib.Core.Bool.{Bool, true, false, not}
 use mathlib.Core.List.{_++_}
 use mathlib.Core.Path.{_≡_, sym, ap, _∙_}
 use mir.Facts.{toZ-ofZ}
@@ -12,43 +13,53 @@ use borrow.Author.Needs.{needs}
 use Rattle.concert.proofs.tables.concert_pitch.Statement.{statement}
 use Rattle.concert.proofs.tables.concert_pitch.Tie as tie
 
--- The answer of `is_allowed` is about the move that was handed over.
+-- The move that `is_allowed` was asked about is the move: what it answered, once the test has turned it round.
+far : (z y : ℤ) (r : Bool) → y ≡ z → r ≡ isAllowed y → not r ≡ true → isAllowed z ≡ false
+far z y r e a t = ap isAllowed (sym e) ∙ sym a ∙ not-true r t
+
+near : (z y : ℤ) (r : Bool) → y ≡ z → r ≡ isAllowed y → not r ≡ false → isAllowed z ≡ true
+near z y r e a f = ap isAllowed (sym e) ∙ sym a ∙ not-false r f
+
 returns : tie.Need-returns
 returns c =
     let entry = c .before .before .before .before in
     let a = entry .args in
-    let e = ap isAllowed (sym (toZ-ofZ (entry .fits .shift))) ∙ sym (c .before .is-allowed .ensures) in
-    far-refused (a .shift) (a .beats .now) (a .second .now) (e ∙ not-true (c .before .is-allowed .result) (c .if1 .taken))
+    let asked = c .before .is-allowed in
+    far-refused (a .shift) (a .beats .now) (a .second .now) (far _ _ _ (toZ-ofZ (entry .fits .shift)) (asked .ensures) (c .if1 .taken))
 
 returns-2 : tie.Need-returns-2
 returns-2 c =
     let entry = c .before .before .before .before .before .before in
     let a = entry .args in
-    let e = ap isAllowed (sym (toZ-ofZ (entry .fits .shift))) ∙ sym (c .before .before .before .is-allowed .ensures) in
-    odd-refused (a .shift) (a .beats .now) (a .second .now) (e ∙ not-false (c .before .before .before .is-allowed .result) (c .before .before .if1 .left)) (sym (c .before .has-odd .ensures) ∙ c .if2 .taken)
+    let asked = c .before .before .before .is-allowed in
+    let allowed = near _ _ _ (toZ-ofZ (entry .fits .shift)) (asked .ensures) (c .before .before .if1 .left) in
+    odd-refused (a .shift) (a .beats .now) (a .second .now) allowed (sym (c .before .has-odd .ensures) ∙ c .if2 .taken)
 
 returns-3 : tie.Need-returns-3
 returns-3 c =
     let entry = c .before .before .before .before .before .before .before in
     let a = entry .args in
-    let e = ap isAllowed (sym (toZ-ofZ (entry .fits .shift))) ∙ sym (c .before .before .before .before .is-allowed .ensures) in
-    short-refused (a .shift) (a .beats .now) (a .second .now) (e ∙ not-false (c .before .before .before .before .is-allowed .result) (c .before .before .before .if1 .left)) (sym (c .before .before .has-odd .ensures) ∙ c .before .if2 .left) (c .if3 .taken)
+    let asked = c .before .before .before .before .is-allowed in
+    let allowed = near _ _ _ (toZ-ofZ (entry .fits .shift)) (asked .ensures) (c .before .before .before .if1 .left) in
+    short-refused (a .shift) (a .beats .now) (a .second .now) allowed (sym (c .before .before .has-odd .ensures) ∙ c .before .if2 .left) (c .if3 .taken)
 
 write-moved-requires : tie.Need-write-moved-requires
-write-moved-requires c κs = (
-  sym (c .before .before .before .has-odd .ensures) ∙ c .before .before .if2 .left,
-  (sym (c .before .before .before .before .before .is-allowed .ensures) ∙ not-false (c .before .before .before .before .before .is-allowed .result) (c .before .before .before .before .if1 .left), c .before .if3 .left),
-)
+write-moved-requires c κs =
+    let asked = c .before .before .before .before .before .is-allowed in
+    let even = sym (c .before .before .before .has-odd .ensures) ∙ c .before .before .if2 .left in
+    (even, (sym (asked .ensures) ∙ not-false (asked .result) (c .before .before .before .before .if1 .left), c .before .if3 .left))
 
 returns-4 : tie.Need-returns-4
 returns-4 c =
-    let entry = c .before .before .before .before .before .before .before .before .before .before .before in
+    let to-if2 = c .before .before .before .before .before in
+    let entry = to-if2 .before .before .before .before .before .before in
     let a = entry .args in
-    let e = ap isAllowed (sym (toZ-ofZ (entry .fits .shift))) ∙ sym (c .before .before .before .before .before .before .before .before .is-allowed .ensures) in
-    all-moved (a .shift) (a .beats .now) (a .second .now) _ (e ∙ not-false (c .before .before .before .before .before .before .before .before .is-allowed .result) (c .before .before .before .before .before .before .before .if1 .left))
-    (sym (c .before .before .before .before .before .before .has-odd .ensures) ∙ c .before .before .before .before .before .if2 .left)
-    (c .before .before .before .before .if3 .left)
-    (c .before .before .write-moved .ensures ∙ ap (λ (z : ℤ). movedTable z (a .beats .now) ++ drop (length (a .beats .now)) (a .second .now)) (toZ-ofZ (entry .fits .shift)))
+    let asked = to-if2 .before .before .before .is-allowed in
+    let allowed = near _ _ _ (toZ-ofZ (entry .fits .shift)) (asked .ensures) (to-if2 .before .before .if1 .left) in
+    let even = sym (to-if2 .before .has-odd .ensures) ∙ to-if2 .if2 .left in
+    let behind = drop (length (a .beats .now)) (a .second .now) in
+    let wrote = c .before .before .write-moved .ensures ∙ ap (λ (z : ℤ). movedTable z (a .beats .now) ++ behind) (toZ-ofZ (entry .fits .shift)) in
+    all-moved (a .shift) (a .beats .now) (a .second .now) _ allowed even (c .before .before .before .before .if3 .left) wrote
 
 pub concert-pitch-spec : {M : Type 1} → statement M
 concert-pitch-spec =

@@ -27,7 +27,8 @@ loop-again : tie.Need-loop-again Inv-loop μ-loop
 loop-again c =
     let l = c .before .before .before .before .loop in
     let a = c .before .before .before .before .before .before .args in
-    (search needs, any-on isOdd (a .beats .now) (l .i) (l .inv .1) (c .before .before .before .loop-test .taken) (sym (c .before .is-odd .ensures) ∙ c .if1 .left))
+    let even = sym (c .before .is-odd .ensures) ∙ c .if1 .left in
+    (search needs, any-on isOdd (a .beats .now) (l .i) (l .inv .1) (c .before .before .before .loop-test .taken) even)
 
 returns-2 : tie.Need-returns-2 Inv-loop μ-loop
 returns-2 c =

@@ -1,5 +1,4 @@
 use Rattle.concert.proofs.WordLaws.{spare-odd, chord-even, silence-even}
-use borrow.Author.Needs.{needs}
 use Rattle.concert.proofs.tables.is_odd.Statement.{statement}
 use Rattle.concert.proofs.tables.is_odd.Tie as tie
 

@@ -1,8 +1,8 @@
-use Rattle.concert.specs.Moves.{baseIn, behindBase, movedWord}
+use Rattle.concert.specs.Moves.{baseIn, behindBase}
 use Rattle.concert.proofs.WordLaws.{base-listed, moved-listed, silence-stays, chord-moves}
 use Rattle.concert.specs.Pitches.{movedBase}
 use Prim.Native.Nat.{_/_, _%_, _*_, _+_, _<_}
-use mathlib.Core.Path.{_≡_, sym, ap, _∙_}
+use mathlib.Core.Path.{sym, ap, _∙_}
 use lib.IntN.{ℤ}
 use mir.Syntax.{w32}
 use mir.Val.{toZ, ofZ}
@@ -19,7 +19,8 @@ returns c = sym (silence-stays (c .before .args .shift) (c .before .args .word) 
 moved-base-requires : tie.Need-moved-base-requires
 unfolding baseIn
 moved-base-requires c κs =
-    (base-listed (c .before .args .word) (c .before .fits .word .fits) (c .before .pre .0) (c .if1 .left), rw (toZ-ofZ (c .before .fits .shift)) (c .before .pre .1))
+    let entry = c .before in
+    (base-listed (entry .args .word) (entry .fits .word .fits) (entry .pre .0) (c .if1 .left), rw (toZ-ofZ (entry .fits .shift)) (entry .pre .1))
 
 listed : (c : tie.After-moved-base) → c .moved-base .result < 34
 listed c = rw (c .moved-base .ensures) (moved-listed (toZ w32 (ofZ w32 (c .before .before .args .shift))) (c .before .before .args .word / 67108864))

@@ -26,16 +26,18 @@ loop-holds c = (omega arith, refl, refl)
 moved-word-requires : tie.Need-moved-word-requires Inv-loop μ-loop
 moved-word-requires c κs =
     let entry = c .before .before .before .before .before in
-    (none-there isOdd (entry .args .beats .now) (c .before .before .loop .i) (entry .pre .0) (c .before .loop-test .taken), rw (toZ-ofZ (entry .fits .shift)) (entry .pre .1 .0))
+    let even = none-there isOdd (entry .args .beats .now) (c .before .before .loop .i) (entry .pre .0) (c .before .loop-test .taken) in
+    (even, rw (toZ-ofZ (entry .fits .shift)) (entry .pre .1 .0))
 
 loop-again : tie.Need-loop-again Inv-loop μ-loop
 loop-again c =
     let entry = c .before .before .before .before .before .before in
-    let l = c .before .before .before .loop in (
-      search needs,
-      simp length-set (l .inv .1),
-      filled-more (movedWord (toZ w32 (ofZ w32 (entry .args .shift)))) (entry .args .beats .now) (entry .args .second .now) (l .second) (l .i) (c .moved-word .result) (c .before .before .loop-test .taken) (entry .pre .1 .1) (l .inv .2) (c .moved-word .ensures),
-    )
+    let a = entry .args in
+    let l = c .before .before .before .loop in
+    let f = movedWord (toZ w32 (ofZ w32 (a .shift))) in
+    let test = c .before .before .loop-test .taken in
+    let more = filled-more f (a .beats .now) (a .second .now) (l .second) (l .i) (c .moved-word .result) test (entry .pre .1 .1) (l .inv .2) in
+    (search needs, simp length-set (l .inv .1), more (c .moved-word .ensures))
 
 returns : tie.Need-returns Inv-loop μ-loop
 unfolding movedTable

@@ -2,8 +2,6 @@ use Rattle.reader.specs.Room.{isShort}
 use borrow.Author.Tests.{lt-ltb, le-ltb}
 use Rattle.reader.proofs.reading.is_short.Statement.{statement}
 use Rattle.reader.proofs.reading.is_short.Tie as tie
-use Rattle.reader.proofs.reading.is_short.Reads as reads
-use Rattle.reader.proofs.reading.is_short.Lts as lts
 
 -- src/lib.rt:50:9
 returns : tie.Need-returns

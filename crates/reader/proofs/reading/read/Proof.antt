@@ -5,12 +5,6 @@ use Rattle.reader.specs.Answers.{Lent, roomOf}
 use borrow.Author.Needs.{needs}
 use Rattle.reader.proofs.reading.read.Statement.{statement}
 use Rattle.reader.proofs.reading.read.Tie as tie
-use Rattle.reader.proofs.reading.read.Reads as reads
-use Rattle.reader.proofs.reading.read.Lts as lts
-use Rattle.judging.proofs.first_stages.Reads as first-stages-reads
-use Rattle.reader.proofs.reading.read_long.Reads as read-long-reads
-use Rattle.reader.proofs.reading.read_short.Reads as read-short-reads
-use Rattle.reader.proofs.answers.refused.Reads as refused-reads
 
 -- src/lib.rt:147:9
 first-stages-requires : tie.Need-first-stages-requires

@@ -8,12 +8,6 @@ use mathlib.Core.Path.{sym, _∙_}
 use borrow.Author.Needs.{needs}
 use Rattle.reader.proofs.reading.read_song.Statement.{statement}
 use Rattle.reader.proofs.reading.read_song.Tie as tie
-use Rattle.reader.proofs.reading.read_song.Reads as reads
-use Rattle.reader.proofs.reading.read_song.Lts as lts
-use Rattle.judging.proofs.judge.Reads as judge-reads
-use Rattle.reader.proofs.reading.is_short.Reads as is-short-reads
-use Rattle.reader.proofs.answers.refused.Reads as refused-reads
-use Rattle.writing.proofs.write_tables.Reads as write-tables-reads
 
 -- src/lib.rt:77:9
 judge-requires : tie.Need-judge-requires

@@ -1,5 +1,4 @@
 -- `turnipcart_read` meets its contract: the six numbers that it lays down are those of the answer that `reader::read` promises.
-use Rattle.reader.specs.Answers.{Lent}
 use Rattle.turnipcart.proofs.Outcomes.{read-laid}
 use borrow.Author.Needs.{needs}
 use Rattle.turnipcart.proofs.read.turnipcart_read.Statement.{statement}
