@@ -22,7 +22,7 @@ use Rattle.outlines.specs.declared.readings.Outline.{Outline}
 use Rattle.outlines.specs.declared.readings.Reading.{Reading}
 use Rattle.outlines.specs.Readings.{sounded, measured, closed, opened, shut, referred}
 use Rattle.outlines.specs.Told.{Told}
-use Rattle.outlines.proofs.TreeLaws.{heardIn, heardAll, removed, afterItem, after}
+use Rattle.outlines.proofs.TreeLaws.{heardIn, heardAll, removed, afterItem, after, chord-kind}
 
 pub or-false : (a : Bool) → (a || false) ≡ a
 or-false true = refl
@@ -83,12 +83,14 @@ unfolding strayAmong strays isSome
 sounds-stray last (only (chord c)) = refl
 sounds-stray last (only again) = refl
 sounds-stray last (only silence) = refl
-sounds-stray last (also xs (chord c)) = or-false (strayAmong last xs) ∙ sounds-stray last xs ∙ ap (λ b. b && not (isSome last)) (sym (or-false (strayAmong none xs)))
+sounds-stray last (also xs (chord c)) = or-false (strayAmong last xs) ∙ sounds-stray last xs
+    ∙ ap (λ b. b && not (isSome last)) (sym (or-false (strayAmong none xs)))
 sounds-stray last (also xs again) =
     ap (λ b. b || not (isSome (lastSounds last xs))) (sounds-stray last xs)
     ∙ ap (λ b. (strayAmong none xs && not (isSome last)) || not b) (sounds-last last xs)
     ∙ wants-sum false (isSome last) (strayAmong none xs) true (isSome (lastSounds none xs))
-sounds-stray last (also xs silence) = or-false (strayAmong last xs) ∙ sounds-stray last xs ∙ ap (λ b. b && not (isSome last)) (sym (or-false (strayAmong none xs)))
+sounds-stray last (also xs silence) = or-false (strayAmong last xs) ∙ sounds-stray last xs
+    ∙ ap (λ b. b && not (isSome last)) (sym (or-false (strayAmong none xs)))
 
 mutual
   unfolding strayItem stray lastItem lastItems
@@ -133,16 +135,15 @@ unfolding removed sounded
 removed-wants zero s = refl
 removed-wants (suc n) s = or-false (removed n s .wants) ∙ removed-wants n s
 
-chord-kind : (w : ℕ) → w < 2281701376 → kindOf w < 34
-chord-kind w h = omega arith
-
-heard-chord : (last : Option Chord) (x : Sound) (s : Reading) (b : Bool) → ChordFits x → s .chord ≡ (b || isSome last) → heardIn x s .chord ≡ (b || isSome (chordAfter last x))
+heard-chord : (last : Option Chord) (x : Sound) (s : Reading) (b : Bool) → ChordFits x → s .chord ≡ (b || isSome last)
+    → heardIn x s .chord ≡ (b || isSome (chordAfter last x))
 unfolding heardIn sounded tokenWord chordAfter isSome ChordFits
 heard-chord last (chord c) s b h e = rw (lt-ltb (kindOf (chordWord c)) 34 (chord-kind (chordWord c) h)) (or-true (s .chord) ∙ sym (or-true b))
 heard-chord last again s b h e = or-false (s .chord) ∙ e
 heard-chord last silence s b h e = or-false (s .chord) ∙ e
 
-heard-wants : (last : Option Chord) (x : Sound) (s : Reading) (w c a : Bool) → ChordFits x → s .chord ≡ (c || isSome last) → s .wants ≡ (w || (a && not c)) → heardIn x s .wants ≡ (w || ((a || strays last x) && not c))
+heard-wants : (last : Option Chord) (x : Sound) (s : Reading) (w c a : Bool) → ChordFits x → s .chord ≡ (c || isSome last)
+    → s .wants ≡ (w || (a && not c)) → heardIn x s .wants ≡ (w || ((a || strays last x) && not c))
 unfolding heardIn sounded tokenWord strays ChordFits
 heard-wants last (chord k) s w c a h e f =
     let l = chord-kind (chordWord k) h in
@@ -159,18 +160,21 @@ all-chord (also xs x) s h = heard-chord (lastSounds none xs) x (heardAll xs s) (
 all-wants : (xs : Sounds) (s : Reading) → ChordsFit xs → heardAll xs s .wants ≡ (s .wants || (strayAmong none xs && not (s .chord)))
 unfolding heardAll strayAmong ChordsFit isSome
 all-wants (only x) s h = heard-wants none x s (s .wants) (s .chord) false h (sym (or-false (s .chord))) (sym (or-false (s .wants)))
-all-wants (also xs x) s h = heard-wants (lastSounds none xs) x (heardAll xs s) (s .wants) (s .chord) (strayAmong none xs) (h .1) (all-chord xs s (h .0)) (all-wants xs s (h .0))
+all-wants (also xs x) s h = heard-wants (lastSounds none xs) x (heardAll xs s) (s .wants) (s .chord) (strayAmong none xs) (h .1)
+    (all-chord xs s (h .0)) (all-wants xs s (h .0))
 
 module _ (find : ℕ → Outline) (f : ℕ → Option Items) where
   mutual
     unfolding after afterItem putIn putInItem referencesI references Each ItemFits ItemsFit lastItem lastItems shut opened referred Told
 
-    item-chord : (i : Item) (s : Reading) → ItemFits i → Each (Told find f) (referencesI i) → afterItem find i s .chord ≡ (s .chord || isSome (lastItems none (putInItem f i)))
+    item-chord : (i : Item) (s : Reading) → ItemFits i → Each (Told find f) (referencesI i)
+        → afterItem find i s .chord ≡ (s .chord || isSome (lastItems none (putInItem f i)))
     item-chord (measure m) s h t = removed-chord (m .removers) (heardAll (m .sounds) s) ∙ all-chord (m .sounds) s h
     item-chord (loop r n) s h t = closed-chord (after find r (opened s)) ∙ items-chord r (opened s) (h .2) t
     item-chord (refer n) s h t = ap (λ b. s .chord || b) (t .0 .chord)
 
-    pub items-chord : (r : Items) (s : Reading) → ItemsFit r → Each (Told find f) (references r) → after find r s .chord ≡ (s .chord || isSome (lastItems none (putIn f r)))
+    pub items-chord : (r : Items) (s : Reading) → ItemsFit r → Each (Told find f) (references r)
+        → after find r s .chord ≡ (s .chord || isSome (lastItems none (putIn f r)))
     items-chord (one i) s h t = item-chord i s h t
     items-chord (next r u i) s h t =
         let g = append-each (Told find f) (references r) (referencesI i) t in
@@ -182,19 +186,22 @@ module _ (find : ℕ → Outline) (f : ℕ → Option Items) where
   mutual
     unfolding after afterItem putIn putInItem referencesI references Each ItemFits ItemsFit stray strayItem shut opened referred Told
 
-    item-wants : (i : Item) (s : Reading) → ItemFits i → Each (Told find f) (referencesI i) → afterItem find i s .wants ≡ (s .wants || (stray none (putInItem f i) && not (s .chord)))
+    item-wants : (i : Item) (s : Reading) → ItemFits i → Each (Told find f) (referencesI i)
+        → afterItem find i s .wants ≡ (s .wants || (stray none (putInItem f i) && not (s .chord)))
     item-wants (measure m) s h t = removed-wants (m .removers) (heardAll (m .sounds) s) ∙ all-wants (m .sounds) s h
     item-wants (loop r n) s h t = closed-wants (after find r (opened s)) ∙ items-wants r (opened s) (h .2) t
     item-wants (refer n) s h t = ap (λ b. s .wants || (b && not (s .chord))) (t .0 .wants)
 
-    pub items-wants : (r : Items) (s : Reading) → ItemsFit r → Each (Told find f) (references r) → after find r s .wants ≡ (s .wants || (stray none (putIn f r) && not (s .chord)))
+    pub items-wants : (r : Items) (s : Reading) → ItemsFit r → Each (Told find f) (references r)
+        → after find r s .wants ≡ (s .wants || (stray none (putIn f r) && not (s .chord)))
     items-wants (one i) s h t = item-wants i s h t
     items-wants (next r u i) s h t =
         let g = append-each (Told find f) (references r) (referencesI i) t in
         let q = putInItem f i in
         item-wants i (closed (after find r s)) (h .1) (g .1)
         ∙ ap (λ b. b || (stray none q && not (closed (after find r s) .chord))) (closed-wants (after find r s) ∙ items-wants r s (h .0) (g .0))
-        ∙ ap (λ b. (s .wants || (stray none (putIn f r) && not (s .chord))) || (stray none q && not b)) (closed-chord (after find r s) ∙ items-chord r s (h .0) (g .0))
+        ∙ ap (λ b. (s .wants || (stray none (putIn f r) && not (s .chord))) || (stray none q && not b))
+        (closed-chord (after find r s) ∙ items-chord r s (h .0) (g .0))
         ∙ wants-sum (s .wants) (s .chord) (stray none (putIn f r)) (stray none q) (isSome (lastItems none (putIn f r)))
         ∙ ap (λ b. s .wants || ((stray none (putIn f r) || b) && not (s .chord))) (sym (items-stray (lastItems none (putIn f r)) q))
         ∙ ap (λ b. s .wants || (b && not (s .chord))) (sym (stray-glue none (putIn f r) u q))

@@ -1,21 +1,21 @@
 -- How many measures items play, as the state tells it where a measure ends: in a row without loops, and in a text.
-use Prim.Native.Nat.{ℕ, zero, suc, _+_, _-_, _*_, _<_, _≤_, min, max}
-use mathlib.Core.Path.{_≡_, refl, sym, ap, _∙_}
-use mathlib.Core.Option.{Option, none, some}
+use Prim.Native.Nat.{ℕ, _+_, _*_, _≤_, min}
+use mathlib.Core.Path.{_≡_, refl, ap, _∙_}
+use mathlib.Core.Option.{Option}
 use native.Mathlib.Omega.{arith}
-use Rattle.songcode.specs.Song.{Measure, Separator, Item, measure, loop, refer, Items, one, next}
+use Rattle.songcode.specs.Song.{Measure, Item, measure, loop, refer, Items, one, next}
 use Rattle.songcode.specs.PatternText.{referencesI, references, depthI, depth}
-use Rattle.songcode.specs.References.{glue, putInItem, putIn}
+use Rattle.songcode.specs.References.{putInItem, putIn}
 use Rattle.songcode.specs.Playing.{positions}
 use Rattle.songcode.specs.Meter.{countItem, count}
 use Rattle.songcode.proofs.ListLaws.{Each, append-each}
 use Rattle.outlines.specs.declared.readings.Outline.{Outline}
 use Rattle.outlines.specs.declared.readings.Reading.{Reading}
 use Rattle.outlines.specs.Readings.{closed, opened, shut, referred}
-use Rattle.outlines.specs.Told.{Tells, Told}
+use Rattle.outlines.specs.Told.{Told}
 use Rattle.outlines.proofs.SizeLaws.{min-times}
 use Rattle.outlines.proofs.TreeLaws.{afterItem, after}
-use Rattle.outlines.proofs.MeterLaws.{closed-none, closed-same, count-glue, Measured, measure-closed}
+use Rattle.outlines.proofs.MeterLaws.{closed-none, closed-same, count-glue, measure-closed}
 
 -- So many measures are added to the row at hand.
 record Adds (s t : Reading) (k : ℕ) : Type 0 where
@@ -60,12 +60,14 @@ module _ (find : ℕ → Outline) (f : ℕ → Option Items) where
   mutual
     unfolding after afterItem putIn putInItem referencesI references Each count countItem depth depthI
 
-    item-adds : (i : Item) (s : Reading) → depthI i ≤ 0 → s .positions ≡ 0 → Each (Told find f) (referencesI i) → Adds s (closed (afterItem find i s)) (count (putInItem f i))
+    item-adds : (i : Item) (s : Reading) → depthI i ≤ 0 → s .positions ≡ 0 → Each (Told find f) (referencesI i)
+        → Adds s (closed (afterItem find i s)) (count (putInItem f i))
     item-adds (measure m) s d e t = measure-adds m s e
     item-adds (loop r k) s d e t = let z : ⊥ = omega arith in absurd z
     item-adds (refer k) s d e t = refer-adds k s e (t .0)
 
-    items-adds : (r : Items) (s : Reading) → depth r ≤ 0 → s .positions ≡ 0 → Each (Told find f) (references r) → Adds s (closed (after find r s)) (count (putIn f r))
+    items-adds : (r : Items) (s : Reading) → depth r ≤ 0 → s .positions ≡ 0 → Each (Told find f) (references r)
+        → Adds s (closed (after find r s)) (count (putIn f r))
     items-adds (one i) s d e t = item-adds i s d e t
     items-adds (next r u i) s d e t =
         let g = append-each (Told find f) (references r) (referencesI i) t in
@@ -77,7 +79,8 @@ module _ (find : ℕ → Outline) (f : ℕ → Option Items) where
   mutual
     unfolding after afterItem putIn putInItem referencesI references Each count countItem depth depthI shut opened
 
-    item-plays : (i : Item) (s : Reading) → depthI i ≤ 1 → s .positions ≡ 0 → Each (Told find f) (referencesI i) → Plays s (closed (afterItem find i s)) (count (putInItem f i))
+    item-plays : (i : Item) (s : Reading) → depthI i ≤ 1 → s .positions ≡ 0 → Each (Told find f) (referencesI i)
+        → Plays s (closed (afterItem find i s)) (count (putInItem f i))
     item-plays (measure m) s d e t = plays-added s (closed (afterItem find (measure m) s)) 1 (measure-adds m s e)
     item-plays (loop r k) s d e t =
         let o = opened s in
@@ -87,7 +90,8 @@ module _ (find : ℕ → Outline) (f : ℕ → Option Items) where
         (loop-sum (c .before) (c .row) (count (putIn f r)) k (k * count (putIn f r)) (s .before + s .row) (a .before) (a .row) refl)
     item-plays (refer k) s d e t = plays-added s (closed (afterItem find (refer k) s)) (count (putInItem f (refer k))) (refer-adds k s e (t .0))
 
-    pub items-plays : (r : Items) (s : Reading) → depth r ≤ 1 → s .positions ≡ 0 → Each (Told find f) (references r) → Plays s (closed (after find r s)) (count (putIn f r))
+    pub items-plays : (r : Items) (s : Reading) → depth r ≤ 1 → s .positions ≡ 0 → Each (Told find f) (references r)
+        → Plays s (closed (after find r s)) (count (putIn f r))
     items-plays (one i) s d e t = item-plays i s d e t
     items-plays (next r u i) s d e t =
         let g = append-each (Told find f) (references r) (referencesI i) t in

@@ -1,8 +1,8 @@
 -- References that are too deep: what the faults tell of them, and how deep the items are with references put in.
-use Prim.Native.Nat.{ℕ, zero, suc, _<_, _≤_, max}
+use Prim.Native.Nat.{ℕ, suc, _≤_, max}
 use mathlib.Core.Path.{_≡_, refl, sym, ap, _∙_}
-use mathlib.Core.List.{List, [], _∷_, _++_}
-use mathlib.Core.Bool.{Bool, true, false, _||_, _&&_}
+use mathlib.Core.List.{List, _++_}
+use mathlib.Core.Bool.{Bool, true, false, _||_}
 use mathlib.Core.Option.{Option}
 use native.Mathlib.Omega.{arith}
 use borrow.Author.Tests.{lt-leb, le-leb, leb-true, leb-false}
@@ -11,11 +11,11 @@ use Rattle.songcode.specs.Lists.{any}
 use Rattle.songcode.specs.Song.{Separator, Item, measure, loop, refer, Items, one, next}
 use Rattle.songcode.specs.PatternText.{depthI, depth, referencesI, references}
 use Rattle.songcode.specs.References.{glue, putInItem, putIn}
-use Rattle.songcode.proofs.ListLaws.{by-cases, any-append, Each, append-each}
+use Rattle.songcode.proofs.ListLaws.{by-cases, any-append}
 use Rattle.outlines.specs.declared.readings.Outline.{Outline}
 use Rattle.outlines.specs.declared.faults.Faults.{Faults}
 use Rattle.outlines.specs.Faults.{tooDeep, referenceRead}
-use Rattle.outlines.proofs.ChordLaws.{or-false, or-assoc}
+use Rattle.outlines.proofs.ChordLaws.{or-false}
 use Rattle.outlines.proofs.SketchLaws.{one-of-both}
 use Rattle.outlines.proofs.FaultTrees.{set-inside, faultItem, faultItems}
 
@@ -58,7 +58,8 @@ module _ (missing : ℕ → Bool) (find : ℕ → Outline) where
   deepItems (one i) = deepItem i
   deepItems (next r t i) = deepItems r || deepItem i
 
-  both-deep : (d : Bool) (p q : ℕ → Bool) (xs ys : List ℕ) → ((d || (any p xs || any q xs)) || (any p ys || any q ys)) ≡ (d || (any p (xs ++ ys) || any q (xs ++ ys)))
+  both-deep : (d : Bool) (p q : ℕ → Bool) (xs ys : List ℕ) → ((d || (any p xs || any q xs)) || (any p ys || any q ys))
+      ≡ (d || (any p (xs ++ ys) || any q (xs ++ ys)))
   both-deep d p q xs ys = four d (any p xs) (any q xs) (any p ys) (any q ys) ∙ rw (any-append p xs ys, any-append q xs ys)
 
   mutual
@@ -77,12 +78,14 @@ module _ (missing : ℕ → Bool) (find : ℕ → Outline) where
   mutual
     unfolding faultItem faultItems referenceRead tooDeep depth depthI references referencesI any
 
-    item-inside : (i : Item) (g : Faults) → depthI i ≤ 0 → g .inside ≡ true → faultItem missing find i g .deep ≡ (g .deep || (any flawed (referencesI i) || any looped (referencesI i)))
+    item-inside : (i : Item) (g : Faults) → depthI i ≤ 0 → g .inside ≡ true
+        → faultItem missing find i g .deep ≡ (g .deep || (any flawed (referencesI i) || any looped (referencesI i)))
     item-inside (measure m) g d e = sym (or-false (g .deep))
     item-inside (loop r n) g d e = let z : ⊥ = omega arith in absurd z
     item-inside (refer n) g d e = rw e (alone (g .deep) (flawed n) (looped n))
 
-    items-inside : (r : Items) (g : Faults) → depth r ≤ 0 → g .inside ≡ true → faultItems missing find r g .deep ≡ (g .deep || (any flawed (references r) || any looped (references r)))
+    items-inside : (r : Items) (g : Faults) → depth r ≤ 0 → g .inside ≡ true
+        → faultItems missing find r g .deep ≡ (g .deep || (any flawed (references r) || any looped (references r)))
     items-inside (one i) g d e = item-inside i g d e
     items-inside (next r t i) g d e =
         item-inside i (faultItems missing find r g) (omega arith) (items-flat r g (omega arith) ∙ e)
@@ -105,12 +108,14 @@ module _ (missing : ℕ → Bool) (find : ℕ → Outline) where
   mutual
     unfolding faultItem faultItems referenceRead tooDeep depth depthI references referencesI any deepItem deepItems
 
-    item-deep : (i : Item) (g : Faults) → depthI i ≤ 1 → g .inside ≡ false → faultItem missing find i g .deep ≡ (g .deep || (any flawed (referencesI i) || deepItem i))
+    item-deep : (i : Item) (g : Faults) → depthI i ≤ 1 → g .inside ≡ false
+        → faultItem missing find i g .deep ≡ (g .deep || (any flawed (referencesI i) || deepItem i))
     item-deep (measure m) g d e = sym (or-false (g .deep))
     item-deep (loop r n) g d e = items-inside r (set-inside true g) (omega arith) refl
     item-deep (refer n) g d e = rw e (alone (g .deep) (flawed n) false)
 
-    pub items-deep : (r : Items) (g : Faults) → depth r ≤ 1 → g .inside ≡ false → faultItems missing find r g .deep ≡ (g .deep || (any flawed (references r) || deepItems r))
+    pub items-deep : (r : Items) (g : Faults) → depth r ≤ 1 → g .inside ≡ false
+        → faultItems missing find r g .deep ≡ (g .deep || (any flawed (references r) || deepItems r))
     items-deep (one i) g d e = item-deep i g d e
     items-deep (next r t i) g d e =
         item-deep i (faultItems missing find r g) (omega arith) (items-outside r g e)

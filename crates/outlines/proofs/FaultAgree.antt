@@ -1,41 +1,43 @@
 -- The fault of a definition's references is the one that the stage gives.
-use Prim.Native.Nat.{ℕ, zero, suc, _≤_, _<_}
+use Prim.Native.Nat.{ℕ, _≤_}
 use mathlib.Core.Path.{_≡_, refl, sym, ap, _∙_}
-use mathlib.Core.Logic.{_⊎_, inl, inr}
-use mathlib.Core.List.{List, [], _∷_, _++_}
-use mathlib.Core.Bool.{Bool, true, false, _||_, _&&_, not}
+use mathlib.Core.List.{List, [], _∷_}
+use mathlib.Core.Bool.{Bool, true, false, _||_, not}
 use mathlib.Core.Option.{Option, none, some}
 use native.Mathlib.Omega.{arith}
-use borrow.Author.Tests.{eq-eqb, le-ltb, leb-true, leb-false, le-leb, lt-leb}
-use lib.Dec.{eqb, leb, ltb}
+use borrow.Author.Tests.{leb-true, leb-false, le-leb, lt-leb}
+use lib.Dec.{leb}
 use lib.ListN.{take, drop}
-use Rattle.songcode.specs.Lists.{if_then_else_, any, isEmpty, when, gather, andThen, orElse}
-use Rattle.songcode.specs.Complaints.{Complaint, complaint, complainIf, goesFirst, earlier, earliest}
+use Rattle.songcode.specs.Lists.{any, gather, andThen, orElse}
+use Rattle.songcode.specs.Complaints.{Complaint, earliest}
 use Rattle.songcode.specs.Song.{Items, one, refer, Definition}
-use Rattle.songcode.specs.PatternText.{depth, depthI, loopsDeep, references, noReference}
-use Rattle.songcode.specs.References.{definitionOf, itemsOf, putInItem, putIn, itemsFault, referenceFault, depthFault, definitionReferences}
+use Rattle.songcode.specs.PatternText.{depth, depthI, loopsDeep, references}
+use Rattle.songcode.specs.References.{definitionOf, itemsOf, putInItem, putIn, referenceFault, depthFault, definitionReferences}
 use Rattle.songcode.specs.WrittenPattern.{writeItems}
-use Rattle.songcode.proofs.ListLaws.{by-cases, true-is-not-false, any-append, none-passes, Each, each-append}
+use Rattle.songcode.proofs.ListLaws.{by-cases, none-passes, Each, each-append}
 use Rattle.tokens.specs.TokenWords.{tokenWords}
 use Rattle.player.specs.declared.leaves.Stretch.{Stretch}
 use Rattle.player.specs.Texts.{ItemsFit, Stands}
 use Rattle.outlines.specs.declared.readings.Outline.{Outline}
-use Rattle.outlines.specs.declared.faults.Faults.{Faults}
 use Rattle.outlines.specs.Tables.{vacant}
 use Rattle.outlines.specs.Faults.{allFaults, faultless, faultNumber, faultIn}
-use Rattle.outlines.specs.Told.{Sketches, KnowsItems, Knows, Known, refusal}
+use Rattle.outlines.specs.Told.{KnowsItems, Knows, Known, refusal}
 use Rattle.outlines.proofs.ChordLaws.{or-false}
-use Rattle.outlines.proofs.GivenLaws.{has, given, TenOrEleven, refusal-ten, refusal-other, given-first, when-ten, when-eleven, when-either, fault-either, fault-ten, fault-eleven, has-append}
+use Rattle.outlines.proofs.GivenLaws.{has, given, TenOrEleven, refusal-ten, refusal-other, given-first, when-ten, when-eleven, when-either}
+use Rattle.outlines.proofs.GivenLaws.{fault-either, fault-ten, fault-eleven, has-append}
 use Rattle.outlines.proofs.FaultTrees.{faultItems, items-fault, items-missing}
 use Rattle.outlines.proofs.DeepLaws.{flawed, looped, deepItems, items-deep, items-put-deep}
 
 -- A found definition, put in.
-found-items : (i : Option Items) (o : Outline) (n : ℕ) → KnowsItems i o → (leb 1 (depth (orElse i (one (refer n)))) ≡ o .loops) × (depth (orElse i (one (refer n))) ≤ 1)
+found-items : (i : Option Items) (o : Outline) (n : ℕ) → KnowsItems i o → (leb 1 (depth (orElse i (one (refer n)))) ≡ o .loops)
+    × (depth (orElse i (one (refer n))) ≤ 1)
 unfolding KnowsItems orElse depth depthI vacant
 found-items none o n k = (rw k, omega arith)
 found-items (some r) o n k = (sym (k .0 .loops), k .1)
 
-found : (d : Option Definition) (m : Bool) (o : Outline) (n : ℕ) → Knows d m o → (leb 1 (depth (orElse (andThen d (λ e. e .items)) (one (refer n)))) ≡ o .loops) × (depth (orElse (andThen d (λ e. e .items)) (one (refer n))) ≤ 1)
+found : (d : Option Definition) (m : Bool) (o : Outline) (n : ℕ) → Knows d m o
+    → (leb 1 (depth (orElse (andThen d (λ e. e .items)) (one (refer n)))) ≡ o .loops)
+    × (depth (orElse (andThen d (λ e. e .items)) (one (refer n))) ≤ 1)
 unfolding Knows andThen orElse depth depthI vacant
 found none m o n k = (rw (k .1), omega arith)
 found (some d) m o n k = found-items (d .items) o n (k .1)
@@ -45,7 +47,8 @@ beyond-one k = by-cases (leb k 1)
     (λ e. let h = leb-true k 1 e in rw (e, lt-leb 2 k (omega arith)))
     (λ e. let h = leb-false k 1 e in rw (e, le-leb 2 k (omega arith)))
 
-read-faults : (missing : ℕ → Bool) (find : ℕ → Outline) (r : Items) → ItemsFit r → allFaults missing find faultless (tokenWords (writeItems r [])) ≡ faultItems missing find r faultless
+read-faults : (missing : ℕ → Bool) (find : ℕ → Outline) (r : Items) → ItemsFit r
+    → allFaults missing find faultless (tokenWords (writeItems r [])) ≡ faultItems missing find r faultless
 unfolding tokenWords allFaults
 read-faults missing find r h = items-fault missing find r faultless [] h
 
@@ -82,7 +85,8 @@ module _ (ds : List Definition) (missing : ℕ → Bool) (find : ℕ → Outline
   -- The complaints of the definition.
   complaints-either : (r : Items) → Each (TenOrEleven head) (definitionReferences ds (some r) head)
   unfolding definitionReferences depthFault faultOf
-  complaints-either r = each-append (TenOrEleven head) (gather faultOf (references r)) (depthFault ds r head) (all-either (references r)) (when-either (not (leb (depth (putIn (itemsOf ds) r)) loopsDeep)) head)
+  complaints-either r = each-append (TenOrEleven head) (gather faultOf (references r)) (depthFault ds r head) (all-either (references r))
+      (when-either (not (leb (depth (putIn (itemsOf ds) r)) loopsDeep)) head)
 
   complaints-ten : (r : Items) → has 10 (definitionReferences ds (some r) head) ≡ any missing (references r)
   unfolding definitionReferences depthFault faultOf
@@ -90,12 +94,14 @@ module _ (ds : List Definition) (missing : ℕ → Bool) (find : ℕ → Outline
       has-append 10 (gather faultOf (references r)) (depthFault ds r head)
       ∙ rw (all-ten (references r), when-ten (not (leb (depth (putIn (itemsOf ds) r)) loopsDeep)) head) (or-false (any missing (references r)))
 
-  complaints-eleven : (r : Items) → depth r ≤ 1 → any missing (references r) ≡ false → has 11 (definitionReferences ds (some r) head) ≡ (any (flawed missing find) (references r) || deepItems missing find r)
+  complaints-eleven : (r : Items) → depth r ≤ 1 → any missing (references r) ≡ false
+      → has 11 (definitionReferences ds (some r) head) ≡ (any (flawed missing find) (references r) || deepItems missing find r)
   unfolding definitionReferences depthFault faultOf loopsDeep
   complaints-eleven r d e =
       has-append 11 (gather faultOf (references r)) (depthFault ds r head)
       ∙ rw (all-eleven (references r) e, when-eleven (not (leb (depth (putIn (itemsOf ds) r)) 1)) head)
-      (ap (λ b. any (flawed missing find) (references r) || b) (beyond-one (depth (putIn (itemsOf ds) r)) ∙ items-put-deep missing find (itemsOf ds) put-right r d))
+      (ap (λ b. any (flawed missing find) (references r) || b) (beyond-one (depth (putIn (itemsOf ds) r))
+      ∙ items-put-deep missing find (itemsOf ds) put-right r d))
 
   start-missing : (r : Items) → faultItems missing find r faultless .missing ≡ any missing (references r)
   unfolding faultless
@@ -115,7 +121,8 @@ module _ (ds : List Definition) (missing : ℕ → Bool) (find : ℕ → Outline
       let a : earliest cs ≡ given true (has 11 cs) head = rw (complaints-ten r, t) at e in
       refusal-ten g (has 11 cs) head (start-missing r ∙ t) ∙ sym a)
       (λ t.
-      let a : earliest cs ≡ given false (any (flawed missing find) (references r) || deepItems missing find r) head = rw (complaints-ten r, t, complaints-eleven r d t) at e in
+      let a : earliest cs ≡ given false (any (flawed missing find) (references r) || deepItems missing find r) head = rw
+      (complaints-ten r, t, complaints-eleven r d t) at e in
       refusal-other g (any (flawed missing find) (references r) || deepItems missing find r) head (start-missing r ∙ t) (start-deep r d) ∙ sym a)
 
   pub fault-given : (ws : List ℕ) (s : Stretch) (r : Items) → Stands ws s r → ItemsFit r → depth r ≤ 1

@@ -1,23 +1,23 @@
 -- The words of written items lead from faults to faults as the items' references do.
-use Prim.Native.Nat.{ℕ, zero, suc, _+_, _*_, _/_, _%_, _^_, _<_, _≤_, max}
+use Prim.Native.Nat.{ℕ, zero, suc, _+_, _*_, _/_, _%_, _^_, _<_}
 use mathlib.Core.Path.{_≡_, refl, sym, ap, _∙_}
-use mathlib.Core.List.{List, [], _∷_, _++_}
-use mathlib.Core.Bool.{Bool, true, false, _||_, _&&_}
+use mathlib.Core.List.{List, _∷_}
+use mathlib.Core.Bool.{Bool, true, false, _||_}
 use native.Mathlib.Omega.{arith}
-use borrow.Author.Tests.{eq-eqb, ne-eqb}
-use lib.Dec.{eqb}
+use borrow.Author.Tests.{ne-eqb}
 use Rattle.songcode.specs.Lists.{if_then_else_, any}
-use Rattle.songcode.specs.Song.{Sound, chord, again, silence, Sounds, only, also, Measure, nothing, aLineEnd, Separator, bySemicolon, byLineEnd, byColon, Item, measure, loop, refer, Items, one, next}
+use Rattle.songcode.specs.Song.{Sound, chord, again, silence, Sounds, only, also, nothing, aLineEnd, Separator, bySemicolon, byLineEnd}
+use Rattle.songcode.specs.Song.{byColon, Item, measure, loop, refer, Items, one, next}
 use Rattle.songcode.specs.Tokens.{Token, sound, remover, reference, opens, closes}
-use Rattle.songcode.specs.PatternText.{depthI, depth, referencesI, references}
+use Rattle.songcode.specs.PatternText.{referencesI, references}
 use Rattle.songcode.specs.WrittenPattern.{writeSounds, writeRemovers, writeMeasure, writeBeside, writeSeparator, writeItem, writeItems}
 use Rattle.songcode.proofs.ListLaws.{any-append}
 use Rattle.tokens.specs.TokenWords.{chordWord, tokenWord, tokenWords}
-use Rattle.player.specs.Signs.{kindOf, numberOf}
+use Rattle.player.specs.Signs.{kindOf}
 use Rattle.player.specs.Texts.{ChordFits, ChordsFit, ItemFits, ItemsFit}
 use Rattle.outlines.specs.declared.readings.Outline.{Outline}
 use Rattle.outlines.specs.declared.faults.Faults.{Faults}
-use Rattle.outlines.specs.Faults.{tooDeep, referenceRead, bracketRead, faultsRead, allFaults}
+use Rattle.outlines.specs.Faults.{referenceRead, bracketRead, faultsRead, allFaults}
 use Rattle.outlines.proofs.ChordLaws.{or-false, or-assoc}
 
 abbrev pub set-inside : Bool → Faults → Faults
@@ -40,7 +40,12 @@ module _ (missing : ℕ → Bool) (find : ℕ → Outline) where
   unfolding faultsRead bracketRead if_then_else_ tokenWord ChordFits
   sound-fault (chord c) g h =
       let k : kindOf (chordWord c) < 34 = omega arith in
-      rw (ne-eqb (kindOf (chordWord c)) 55 (λ z. omega arith), ne-eqb (kindOf (chordWord c)) 57 (λ z. omega arith), ne-eqb (kindOf (chordWord c)) 56 (λ z. omega arith))
+      rw (
+        ne-eqb (kindOf (chordWord c)) 55 (λ z. omega arith),
+        ne-eqb (kindOf (chordWord c)) 57 (λ z. omega arith),
+        ne-eqb (kindOf (chordWord c)) 56
+            (λ z. omega arith),
+      )
   sound-fault again g h = refl
   sound-fault silence g h = refl
 
@@ -55,17 +60,20 @@ module _ (missing : ℕ → Bool) (find : ℕ → Outline) where
       let b : (55 * 2 ^ 26 + n) % 67108864 ≡ n = omega arith in
       rw (a, b)
 
-  sounds-fault : (xs : Sounds) (g : Faults) (k : List Token) → ChordsFit xs → allFaults missing find g (tokenWords (writeSounds xs k)) ≡ allFaults missing find g (tokenWords k)
+  sounds-fault : (xs : Sounds) (g : Faults) (k : List Token) → ChordsFit xs
+      → allFaults missing find g (tokenWords (writeSounds xs k)) ≡ allFaults missing find g (tokenWords k)
   unfolding writeSounds tokenWords allFaults ChordsFit
   sounds-fault (only x) g k h = ap (λ (t : Faults). allFaults missing find t (tokenWords k)) (sound-fault x g h)
-  sounds-fault (also xs x) g k h = sounds-fault xs g (sound x ∷ k) (h .0) ∙ ap (λ (t : Faults). allFaults missing find t (tokenWords k)) (sound-fault x g (h .1))
+  sounds-fault (also xs x) g k h = sounds-fault xs g (sound x ∷ k) (h .0)
+      ∙ ap (λ (t : Faults). allFaults missing find t (tokenWords k)) (sound-fault x g (h .1))
 
   removers-fault : (n : ℕ) (g : Faults) (k : List Token) → allFaults missing find g (tokenWords (writeRemovers n k)) ≡ allFaults missing find g (tokenWords k)
   unfolding writeRemovers tokenWords tokenWord allFaults faultsRead bracketRead if_then_else_
   removers-fault zero g k = refl
   removers-fault (suc n) g k = removers-fault n g (remover ∷ k)
 
-  separator-fault : (t : Separator) (g : Faults) (k : List Token) → allFaults missing find g (tokenWords (writeSeparator t k)) ≡ allFaults missing find g (tokenWords k)
+  separator-fault : (t : Separator) (g : Faults) (k : List Token) → allFaults missing find g (tokenWords (writeSeparator t k)) ≡ allFaults missing
+      find g (tokenWords k)
   unfolding writeSeparator writeBeside tokenWords tokenWord allFaults faultsRead bracketRead if_then_else_
   separator-fault bySemicolon g k = refl
   separator-fault byLineEnd g k = refl
@@ -81,7 +89,8 @@ module _ (missing : ℕ → Bool) (find : ℕ → Outline) where
   mutual
     unfolding writeItem writeItems writeMeasure tokenWords allFaults faultItem faultItems ItemFits ItemsFit
 
-    item-fault : (i : Item) (g : Faults) (k : List Token) → ItemFits i → allFaults missing find g (tokenWords (writeItem i k)) ≡ allFaults missing find (faultItem i g) (tokenWords k)
+    item-fault : (i : Item) (g : Faults) (k : List Token) → ItemFits i
+        → allFaults missing find g (tokenWords (writeItem i k)) ≡ allFaults missing find (faultItem i g) (tokenWords k)
     item-fault (measure m) g k h = sounds-fault (m .sounds) g (writeRemovers (m .removers) k) h ∙ removers-fault (m .removers) g k
     item-fault (loop r n) g k h =
         opens-fault g (writeItems r (closes n ∷ k))
@@ -89,7 +98,8 @@ module _ (missing : ℕ → Bool) (find : ℕ → Outline) where
         ∙ ap (λ (t : Faults). allFaults missing find t (tokenWords k)) (closes-fault n (faultItems r (set-inside true g)) (h .1))
     item-fault (refer n) g k h = ap (λ (t : Faults). allFaults missing find t (tokenWords k)) (refer-fault n g h)
 
-    pub items-fault : (r : Items) (g : Faults) (k : List Token) → ItemsFit r → allFaults missing find g (tokenWords (writeItems r k)) ≡ allFaults missing find (faultItems r g) (tokenWords k)
+    pub items-fault : (r : Items) (g : Faults) (k : List Token) → ItemsFit r
+        → allFaults missing find g (tokenWords (writeItems r k)) ≡ allFaults missing find (faultItems r g) (tokenWords k)
     items-fault (one i) g k h = item-fault i g k h
     items-fault (next r t i) g k h =
         items-fault r g (writeSeparator t (writeItem i k)) (h .0)

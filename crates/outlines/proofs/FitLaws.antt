@@ -1,11 +1,10 @@
 -- A number up to 32 is divided by joined sizes exactly where it is by both.
-use Prim.Native.Nat.{ℕ, zero, suc, _+_, _-_, _*_, _%_, _<_, _≤_, min}
-use mathlib.Core.Path.{_≡_, refl, sym, ap, _∙_}
-use mathlib.Core.Logic.{_↔_, _⊎_, inl, inr}
-use mathlib.Core.Bool.{Bool, true, false, _||_, _&&_}
+use Prim.Native.Nat.{ℕ, zero, suc, _+_, _%_, _<_, _≤_, min}
+use mathlib.Core.Path.{_≡_, refl, sym, _∙_}
+use mathlib.Core.Bool.{Bool, true, false, _&&_}
 use native.Mathlib.Omega.{arith}
-use native.Mathlib.Nat.{mod-eq-of-lt, mod-zero, mod-lt, mod-le, dvd-mod-iff, dvd-trans, mod-eq-zero-of-dvd, dvd-of-mod-eq-zero}
-use borrow.Author.Tests.{eq-eqb, ne-eqb, eqb-true, eqb-false, leb-true, leb-false, ltb-true, ltb-false, lt-ltb, le-ltb}
+use native.Mathlib.Nat.{mod-eq-of-lt, mod-lt, dvd-mod-iff, dvd-trans, mod-eq-zero-of-dvd, dvd-of-mod-eq-zero}
+use borrow.Author.Tests.{eq-eqb, ne-eqb, eqb-true, eqb-false, leb-true, leb-false, ltb-true}
 use lib.Dec.{eqb, leb, ltb}
 use Rattle.songcode.specs.Lists.{if_then_else_}
 use Rattle.songcode.proofs.ListLaws.{by-cases, both-pass, pass-both, true-is-not-false}
@@ -91,7 +90,8 @@ unfolding joined if_then_else_
 joined-fits s p n h k = by-cases (ltb 32 s)
     (λ e. let l = ltb-true 32 s e in rw (e, large-not s n h (omega arith)))
     (λ e. by-cases (divides p s)
-    (λ f. rw (e, f) (same-test (divides s n) (divides s n && divides p n) (λ y. pass-both y (divides-trans p s n f y)) (λ y. both-pass (divides s n) (divides p n) y .0)))
+    (λ f. rw (e, f) (same-test (divides s n) (divides s n && divides p n) (λ y. pass-both y (divides-trans p s n f y))
+    (λ y. both-pass (divides s n) (divides p n) y .0)))
     (λ f. rw (e, f) (same-test (divides (commonBy 32 1 s p) n) (divides s n && divides p n) (divides-common s p n h k) (common-divides s p n h k))))
 
 -- A number of positions above 32 may be counted as 33.

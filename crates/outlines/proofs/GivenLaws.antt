@@ -1,13 +1,13 @@
 -- Complaints of 10 and 11 on one line: which is given, and what each reference is complained of for.
-use Prim.Native.Nat.{ℕ, zero, suc, _≤_}
-use mathlib.Core.Path.{_≡_, refl, sym, ap, _∙_}
+use Prim.Native.Nat.{ℕ}
+use mathlib.Core.Path.{_≡_, refl, sym, _∙_}
 use mathlib.Core.Logic.{_⊎_, inl, inr}
 use mathlib.Core.List.{List, [], _∷_, _++_}
-use mathlib.Core.Bool.{Bool, true, false, _||_, _&&_, not}
+use mathlib.Core.Bool.{Bool, true, false, _||_, not}
 use mathlib.Core.Option.{Option, none, some}
 use native.Mathlib.Omega.{arith}
 use borrow.Author.Tests.{eq-eqb, le-ltb}
-use lib.Dec.{eqb, leb, ltb}
+use lib.Dec.{eqb}
 use Rattle.songcode.specs.Lists.{if_then_else_, any, isEmpty, when}
 use Rattle.songcode.specs.Complaints.{Complaint, complaint, complainIf, goesFirst, earlier, earliest}
 use Rattle.songcode.specs.Song.{Items, Definition}
@@ -18,7 +18,7 @@ use Rattle.outlines.specs.declared.readings.Outline.{Outline}
 use Rattle.outlines.specs.declared.faults.Faults.{Faults}
 use Rattle.outlines.specs.Tables.{vacant}
 use Rattle.outlines.specs.Faults.{faultNumber}
-use Rattle.outlines.specs.Told.{Sketches, KnowsItems, Knows, refusal}
+use Rattle.outlines.specs.Told.{KnowsItems, Knows, refusal}
 
 -- The earliest is a 10 if there is one.
 unfoldable pub has : ℕ → List Complaint → Bool
@@ -50,7 +50,8 @@ unfolding earliest has any given Each
 given-first head [] h = refl
 given-first head (c ∷ cs) h = go (h .0) (given-first head cs (h .1))
   where
-    go : TenOrEleven head c → earliest cs ≡ given (has 10 cs) (has 11 cs) head → some (earlier c (earliest cs)) ≡ given (eqb (c .number) 10 || has 10 cs) (eqb (c .number) 11 || has 11 cs) head
+    go : TenOrEleven head c → earliest cs ≡ given (has 10 cs) (has 11 cs) head
+        → some (earlier c (earliest cs)) ≡ given (eqb (c .number) 10 || has 10 cs) (eqb (c .number) 11 || has 11 cs) head
     go (inl e) i = rw (e, i) (first-ten (has 10 cs) (has 11 cs) head)
     go (inr e) i = rw (e, i) (first-eleven (has 10 cs) (has 11 cs) head)
 
@@ -110,7 +111,8 @@ unfolding itemsFault has any KnowsItems vacant
 items-eleven none o head k = rw k
 items-eleven (some r) o head k = when-eleven (not (noReference r)) head ∙ no-reference r ∙ sym (rw (k .0 .filled) (k .0 .refers))
 
-pub fault-eleven : (d : Option Definition) (m : Bool) (o : Outline) (head : ℕ) → Knows d m o → m ≡ false → has 11 (referenceFault d head) ≡ (o .empty || o .refers)
+pub fault-eleven : (d : Option Definition) (m : Bool) (o : Outline) (head : ℕ) → Knows d m o → m ≡ false
+    → has 11 (referenceFault d head) ≡ (o .empty || o .refers)
 unfolding referenceFault Knows
 fault-eleven none m o head k e = true-is-not-false (k .0) e
 fault-eleven (some d) m o head k e = items-eleven (d .items) o head (k .1)

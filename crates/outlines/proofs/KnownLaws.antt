@@ -1,13 +1,13 @@
 -- The outlines of the definitions in order: none at first, then each by its own text. What they tell of a definition whose references are right.
-use Prim.Native.Nat.{ℕ, _+_, _-_, _<_, _≤_}
-use mathlib.Core.Path.{_≡_, refl, _∙_}
+use Prim.Native.Nat.{ℕ, _≤_}
+use mathlib.Core.Path.{_≡_, refl}
 use mathlib.Core.List.{List, [], _∷_}
-use mathlib.Core.Bool.{Bool, _&&_}
+use mathlib.Core.Bool.{Bool}
 use mathlib.Core.Option.{Option, none, some}
 use native.Mathlib.Omega.{arith}
 use lib.ListN.{take, drop}
 use Rattle.songcode.specs.Lists.{andThen, orElse}
-use Rattle.songcode.specs.Song.{Items, one, Definition}
+use Rattle.songcode.specs.Song.{Items, Definition}
 use Rattle.songcode.specs.PatternText.{depth, references}
 use Rattle.songcode.specs.References.{definitionOf, itemsOf, putInItem}
 use Rattle.songcode.specs.Fits.{Refers, ReferAll}
@@ -23,7 +23,8 @@ use Rattle.outlines.proofs.OutlineAgree.{outline-tells}
 use Rattle.outlines.proofs.SketchLaws.{outline-sketches}
 
 -- References that are right are told of.
-found-told : (d : Option Definition) (e : Definition) (q : Items) (m : Bool) (o : Outline) → Knows d m o → d ≡ some e → e .items ≡ some q → references q ≡ [] → Tells o q
+found-told : (d : Option Definition) (e : Definition) (q : Items) (m : Bool) (o : Outline) → Knows d m o → d ≡ some e → e .items ≡ some q
+    → references q ≡ [] → Tells o q
 unfolding Knows KnowsItems
 found-told d e q m o k f g p = tells (e .items) g (knows d f k)
   where
@@ -38,7 +39,8 @@ unfolding Told Known putInItem itemsOf andThen orElse
 refer-told ds missing find known n w =
     rw (w .found, w .filled) (found-told (definitionOf n ds) (w .definition) (w .items) (missing n) (find n) (known n) (w .found) (w .filled) (w .plain))
 
-refers-told : (ds : List Definition) (missing : ℕ → Bool) (find : ℕ → Outline) → Known ds missing find → (ns : List ℕ) → ReferAll ds ns → Each (Told find (itemsOf ds)) ns
+refers-told : (ds : List Definition) (missing : ℕ → Bool) (find : ℕ → Outline) → Known ds missing find → (ns : List ℕ) → ReferAll ds ns
+    → Each (Told find (itemsOf ds)) ns
 unfolding ReferAll Each
 refers-told ds missing find known [] w = tt
 refers-told ds missing find known (n ∷ ns) w = (refer-told ds missing find known n (w .0), refers-told ds missing find known ns (w .1))
@@ -49,7 +51,8 @@ unfolding Each
 none-told find f [] e = tt
 none-told find f (n ∷ ns) e = let z : _≡_ {A = ℕ} 0 1 = cc in absurd (omega arith)
 
-pub items-known : (find : ℕ → Outline) (ws : List ℕ) (s : Stretch) (r : Items) → Stands ws s r → ItemsFit r → depth r ≤ 1 → KnowsItems (some r) (outlined find (drop (s .from) (take (s .to) ws)))
+pub items-known : (find : ℕ → Outline) (ws : List ℕ) (s : Stretch) (r : Items) → Stands ws s r → ItemsFit r → depth r ≤ 1
+    → KnowsItems (some r) (outlined find (drop (s .from) (take (s .to) ws)))
 unfolding KnowsItems
 items-known find ws s r p h d =
     (outline-sketches find ws s r p h, d, λ e. plain e)
@@ -57,6 +60,7 @@ items-known find ws s r p h d =
     plain : references r ≡ [] → Tells (outlined find (drop (s .from) (take (s .to) ws))) r
     plain e = let t = outline-tells find (λ n. none) ws s r p h d (none-told find (λ n. none) (references r) e) in rw (putIn-same (λ n. none) r e) at t
 
-pub empty-known : (find : ℕ → Outline) (ws : List ℕ) (s : Stretch) → drop (s .from) (take (s .to) ws) ≡ [] → KnowsItems none (outlined find (drop (s .from) (take (s .to) ws)))
+pub empty-known : (find : ℕ → Outline) (ws : List ℕ) (s : Stretch) → drop (s .from) (take (s .to) ws) ≡ []
+    → KnowsItems none (outlined find (drop (s .from) (take (s .to) ws)))
 unfolding KnowsItems outlined vacant
 empty-known find ws s e = rw e refl

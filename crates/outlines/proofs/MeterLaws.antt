@@ -1,18 +1,18 @@
 -- The sizes of items' measures, as the state tells them where a measure ends.
-use Prim.Native.Nat.{ℕ, zero, suc, _+_, _-_, _*_, _%_, _<_, _≤_, min, max}
+use Prim.Native.Nat.{ℕ, zero, suc, _+_, _≤_, min}
 use mathlib.Core.Path.{_≡_, refl, sym, ap, _∙_}
-use mathlib.Core.Bool.{Bool, true, false, _||_, _&&_}
-use mathlib.Core.Option.{Option, none, some}
+use mathlib.Core.Bool.{Bool, true, false, _&&_}
+use mathlib.Core.Option.{Option}
 use native.Mathlib.Omega.{arith}
 use borrow.Author.Tests.{eq-eqb, ne-eqb, eqb-true}
 use lib.Dec.{eqb}
 use Rattle.songcode.specs.Lists.{if_then_else_}
-use Rattle.songcode.specs.Song.{Sound, Sounds, only, also, Measure, Separator, Item, measure, loop, refer, Items, one, next}
+use Rattle.songcode.specs.Song.{Sounds, only, also, Measure, Separator, Item, measure, loop, refer, Items, one, next}
 use Rattle.songcode.specs.Tokens.{sound}
-use Rattle.songcode.specs.PatternText.{referencesI, references, depthI, depth}
+use Rattle.songcode.specs.PatternText.{referencesI, references}
 use Rattle.songcode.specs.References.{glue, putInItem, putIn}
 use Rattle.songcode.specs.Playing.{soundCount, positions}
-use Rattle.songcode.specs.Meter.{fits, allFitItem, allFit, countItem, count}
+use Rattle.songcode.specs.Meter.{fits, allFitItem, allFit, count}
 use Rattle.songcode.proofs.ListLaws.{by-cases, Each, append-each}
 use Rattle.tokens.specs.TokenWords.{tokenWord}
 use Rattle.player.specs.Signs.{kindOf}
@@ -20,7 +20,7 @@ use Rattle.outlines.specs.declared.readings.Outline.{Outline}
 use Rattle.outlines.specs.declared.readings.Reading.{Reading}
 use Rattle.outlines.specs.Sizes.{divides, joined}
 use Rattle.outlines.specs.Readings.{sounded, measured, closed, opened, shut, referred}
-use Rattle.outlines.specs.Told.{Tells, Told}
+use Rattle.outlines.specs.Told.{Told}
 use Rattle.outlines.proofs.FitLaws.{joined-fits, capped-fits}
 use Rattle.outlines.proofs.TreeLaws.{heardIn, heardAll, removed, afterItem, after}
 
@@ -101,7 +101,8 @@ module _ (find : ℕ → Outline) (f : ℕ → Option Items) (n : ℕ) (low : 1 
   mutual
     unfolding after afterItem putIn putInItem referencesI references Each allFit allFitItem fits divides shut opened referred Told
 
-    item-sizes : (i : Item) (s : Reading) → s .positions ≡ 0 → Each (Told find f) (referencesI i) → divides (closed (afterItem find i s) .sizes) n ≡ (divides (s .sizes) n && allFit n (putInItem f i))
+    item-sizes : (i : Item) (s : Reading) → s .positions ≡ 0 → Each (Told find f) (referencesI i)
+        → divides (closed (afterItem find i s) .sizes) n ≡ (divides (s .sizes) n && allFit n (putInItem f i))
     item-sizes (measure m) s e t =
         ap (λ x. divides x n) (measure-closed find m s e .sizes)
         ∙ joined-fits (s .sizes) (min 33 (positions m)) n low high
@@ -114,7 +115,8 @@ module _ (find : ℕ → Outline) (f : ℕ → Option Items) (n : ℕ) (low : 1 
         ∙ joined-fits (s .sizes) (find k .sizes) n low high
         ∙ ap (λ b. divides (s .sizes) n && b) (t .0 .sizes n low high)
 
-    pub items-sizes : (r : Items) (s : Reading) → s .positions ≡ 0 → Each (Told find f) (references r) → divides (closed (after find r s) .sizes) n ≡ (divides (s .sizes) n && allFit n (putIn f r))
+    pub items-sizes : (r : Items) (s : Reading) → s .positions ≡ 0 → Each (Told find f) (references r)
+        → divides (closed (after find r s) .sizes) n ≡ (divides (s .sizes) n && allFit n (putIn f r))
     items-sizes (one i) s e t = item-sizes i s e t
     items-sizes (next r u i) s e t =
         let g = append-each (Told find f) (references r) (referencesI i) t in

@@ -1,32 +1,29 @@
 -- The outline of a stretch tells what its items say with references put in; for stages 3, 4 and 5.
-use Prim.Native.Nat.{ℕ, zero, suc, _+_, _<_, _≤_, min, max}
-use mathlib.Core.Path.{_≡_, refl, sym, ap, subst, _∙_}
-use mathlib.Core.List.{List, [], _∷_, _++_}
-use mathlib.Core.Bool.{Bool, true, false, _||_, _&&_, not}
-use mathlib.Core.Option.{Option, none, some}
+use Prim.Native.Nat.{ℕ, _≤_}
+use mathlib.Core.Path.{_≡_, refl, ap, _∙_}
+use mathlib.Core.List.{List, []}
+use mathlib.Core.Bool.{Bool, true, false, _&&_}
+use mathlib.Core.Option.{Option, none}
 use native.Mathlib.Omega.{arith}
 use native.Mathlib.Nat.{mod-one}
-use borrow.Author.Tests.{eq-eqb, leb-true, leb-false, le-leb, lt-leb}
-use lib.Dec.{eqb, leb}
+use borrow.Author.Tests.{eq-eqb}
 use lib.ListN.{take, drop}
-use Rattle.songcode.specs.Lists.{if_then_else_, isEmpty}
-use Rattle.songcode.specs.Song.{Sounds, only, also, Item, measure, loop, refer, Items, one, next}
-use Rattle.songcode.specs.Tokens.{Token}
-use Rattle.songcode.specs.PatternText.{depthI, depth, referencesI, references, noReference}
-use Rattle.songcode.specs.WrittenPattern.{writeSounds, writeMeasure, writeItem, writeItems}
+use Rattle.songcode.specs.Lists.{isEmpty}
+use Rattle.songcode.specs.Song.{Items}
+use Rattle.songcode.specs.PatternText.{depth, references}
+use Rattle.songcode.specs.WrittenPattern.{writeItems}
 use Rattle.songcode.specs.References.{putIn}
 use Rattle.songcode.specs.Meter.{allFit, stray}
-use Rattle.songcode.proofs.ListLaws.{by-cases, Each}
+use Rattle.songcode.proofs.ListLaws.{Each}
 use Rattle.tokens.specs.TokenWords.{tokenWords}
 use Rattle.player.specs.declared.leaves.Stretch.{Stretch}
 use Rattle.player.specs.Texts.{ItemsFit, Stands}
 use Rattle.outlines.specs.declared.readings.Outline.{Outline}
-use Rattle.outlines.specs.declared.readings.Reading.{Reading}
 use Rattle.outlines.specs.Sizes.{divides}
-use Rattle.outlines.specs.Readings.{started, measured, closed, opened, shut, referred, wordsRead, summed, outlined, sounded}
+use Rattle.outlines.specs.Readings.{started, closed, wordsRead, summed, outlined}
 use Rattle.outlines.specs.Told.{Tells, Told}
-use Rattle.outlines.proofs.TreeLaws.{heardIn, heardAll, removed, afterItem, after, items-read}
-use Rattle.outlines.proofs.ChordLaws.{or-assoc, closed-chord, closed-wants, items-chord, items-wants}
+use Rattle.outlines.proofs.TreeLaws.{after, items-read}
+use Rattle.outlines.proofs.ChordLaws.{closed-chord, closed-wants, items-chord, items-wants}
 use Rattle.outlines.proofs.MeterLaws.{items-sizes}
 use Rattle.outlines.proofs.CountLaws.{items-plays}
 
@@ -39,7 +36,8 @@ and-true true = refl
 and-true false = refl
 
 -- The end state of the items.
-sum-tells : (find : ℕ → Outline) (f : ℕ → Option Items) (e : Bool) (r : Items) → ItemsFit r → depth r ≤ 1 → Each (Told find f) (references r) → Tells (summed e (closed (after find r started))) (putIn f r)
+sum-tells : (find : ℕ → Outline) (f : ℕ → Option Items) (e : Bool) (r : Items) → ItemsFit r → depth r ≤ 1 → Each (Told find f) (references r)
+    → Tells (summed e (closed (after find r started))) (putIn f r)
 unfolding summed started
 sum-tells find f e r h d t =
     let p = items-plays find f r started d refl t in
@@ -54,7 +52,8 @@ pub read-whole : (find : ℕ → Outline) (r : Items) → ItemsFit r → wordsRe
 unfolding tokenWords wordsRead
 read-whole find r h = items-read find r started [] h
 
-pub outline-tells : (find : ℕ → Outline) (f : ℕ → Option Items) (ws : List ℕ) (s : Stretch) (r : Items) → Stands ws s r → ItemsFit r → depth r ≤ 1 → Each (Told find f) (references r)
+pub outline-tells : (find : ℕ → Outline) (f : ℕ → Option Items) (ws : List ℕ) (s : Stretch) (r : Items) → Stands ws s r → ItemsFit r → depth r ≤ 1
+    → Each (Told find f) (references r)
     → Tells (outlined find (drop (s .from) (take (s .to) ws))) (putIn f r)
 unfolding outlined Stands
 outline-tells find f ws s r p h d t =

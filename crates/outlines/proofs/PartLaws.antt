@@ -1,13 +1,13 @@
 -- A stretch of the buffer, taken word by word, and what is read of it.
-use Prim.Native.Nat.{ℕ, zero, suc, _+_, _-_, _<_, _≤_, min}
+use Prim.Native.Nat.{ℕ, _+_, _<_, _≤_, min}
 use mathlib.Core.Path.{_≡_, refl, sym, ap, _∙_}
 use mathlib.Core.List.{List, [], _∷_}
-use mathlib.Core.Bool.{Bool, true, false}
+use mathlib.Core.Bool.{Bool}
 use native.Mathlib.Omega.{arith}
 use native.Mathlib.Numerals.{add-one}
-use borrow.Author.Tests.{leb-true, leb-false, le-leb, lt-leb}
+use borrow.Author.Tests.{leb-true, leb-false}
 use lib.Dec.{leb}
-use lib.ListN.{length, take, drop, getD, length-take, drop-of-length-le}
+use lib.ListN.{length, take, drop, length-take, drop-of-length-le}
 use lib.Seq.{drop-cons}
 use Rattle.songcode.specs.Lists.{isEmpty}
 use Rattle.songcode.proofs.ListLaws.{by-cases}
@@ -15,7 +15,7 @@ use Rattle.player.specs.Signs.{wordOf}
 use Rattle.outlines.specs.declared.readings.Outline.{Outline}
 use Rattle.outlines.specs.declared.readings.Reading.{Reading}
 use Rattle.outlines.specs.declared.faults.Faults.{Faults}
-use Rattle.outlines.specs.Readings.{closed, wordRead, wordsRead, summed}
+use Rattle.outlines.specs.Readings.{wordRead, wordsRead}
 use Rattle.outlines.specs.Faults.{faultsRead, allFaults}
 
 part-next : (ws : List ℕ) (to i w : ℕ) → i < min to (length ws) → w ≡ wordOf ws to i → drop i (take to ws) ≡ w ∷ drop (i + 1) (take to ws)
@@ -34,23 +34,27 @@ part-empty ws to i = by-cases (leb (min to (length ws)) i)
     (λ e. rw (e, part-next ws to i (wordOf ws to i) (leb-false _ _ e) refl))
 
 -- The outline of a stretch.
-pub read-next : (find : ℕ → Outline) (ws : List ℕ) (to i w end : ℕ) (s t goal : Reading) → i < end → end ≡ min to (length ws) → w ≡ wordOf ws to i → t ≡ wordRead find s w
+pub read-next : (find : ℕ → Outline) (ws : List ℕ) (to i w end : ℕ) (s t goal : Reading) → i < end → end ≡ min to (length ws) → w ≡ wordOf ws to i
+    → t ≡ wordRead find s w
     → wordsRead find s (drop i (take to ws)) ≡ goal → wordsRead find t (drop (i + 1) (take to ws)) ≡ goal
 unfolding wordsRead
 read-next find ws to i w end s t goal h k e f g =
     ap (λ x. wordsRead find x (drop (i + 1) (take to ws))) f ∙ sym (ap (wordsRead find s) (part-next ws to i w (omega arith) e)) ∙ g
 
-pub read-over : (find : ℕ → Outline) (ws : List ℕ) (to i end : ℕ) (s goal : Reading) → end ≤ i → end ≡ min to (length ws) → wordsRead find s (drop i (take to ws)) ≡ goal → s ≡ goal
+pub read-over : (find : ℕ → Outline) (ws : List ℕ) (to i end : ℕ) (s goal : Reading) → end ≤ i → end ≡ min to (length ws)
+    → wordsRead find s (drop i (take to ws)) ≡ goal → s ≡ goal
 unfolding wordsRead
 read-over find ws to i end s goal h k g = sym (ap (wordsRead find s) (part-over ws to i (omega arith))) ∙ g
 
 -- Its references' faults.
-pub faults-next : (missing : ℕ → Bool) (find : ℕ → Outline) (ws : List ℕ) (to i w end : ℕ) (s t goal : Faults) → i < end → end ≡ min to (length ws) → w ≡ wordOf ws to i → t ≡ faultsRead missing find s w
+pub faults-next : (missing : ℕ → Bool) (find : ℕ → Outline) (ws : List ℕ) (to i w end : ℕ) (s t goal : Faults) → i < end → end ≡ min to (length ws)
+    → w ≡ wordOf ws to i → t ≡ faultsRead missing find s w
     → allFaults missing find s (drop i (take to ws)) ≡ goal → allFaults missing find t (drop (i + 1) (take to ws)) ≡ goal
 unfolding allFaults
 faults-next missing find ws to i w end s t goal h k e f g =
     ap (λ x. allFaults missing find x (drop (i + 1) (take to ws))) f ∙ sym (ap (allFaults missing find s) (part-next ws to i w (omega arith) e)) ∙ g
 
-pub faults-over : (missing : ℕ → Bool) (find : ℕ → Outline) (ws : List ℕ) (to i end : ℕ) (s goal : Faults) → end ≤ i → end ≡ min to (length ws) → allFaults missing find s (drop i (take to ws)) ≡ goal → s ≡ goal
+pub faults-over : (missing : ℕ → Bool) (find : ℕ → Outline) (ws : List ℕ) (to i end : ℕ) (s goal : Faults) → end ≤ i → end ≡ min to (length ws)
+    → allFaults missing find s (drop i (take to ws)) ≡ goal → s ≡ goal
 unfolding allFaults
 faults-over missing find ws to i end s goal h k g = sym (ap (allFaults missing find s) (part-over ws to i (omega arith))) ∙ g

@@ -1,14 +1,14 @@
 -- Sizes joined: the least number that two numbers divide, looked for one after another.
-use Prim.Native.Nat.{ℕ, zero, suc, _+_, _-_, _*_, _%_, _<_, _≤_, min}
-use mathlib.Core.Path.{_≡_, refl, sym, ap, _∙_}
-use mathlib.Core.Bool.{Bool, true, false, _||_, _&&_}
+use Prim.Native.Nat.{ℕ, zero, suc, _+_, _-_, _*_, _≤_, min}
+use mathlib.Core.Path.{_≡_}
+use mathlib.Core.Bool.{Bool, true, false, _&&_}
 use native.Mathlib.Omega.{arith}
 use native.Mathlib.Nat.{mul-le-mul}
 use borrow.Author.Tests.{leb-true, leb-false}
 use lib.Dec.{leb}
 use Rattle.songcode.specs.Lists.{if_then_else_}
 use Rattle.songcode.proofs.ListLaws.{by-cases}
-use Rattle.outlines.specs.Sizes.{divides, commonBy, joined}
+use Rattle.outlines.specs.Sizes.{divides, commonBy}
 
 pub both-of : (a b m : ℕ) (x y r t : Bool) → x ≡ divides a m → y ≡ divides b m → r ≡ (x && y) → r ≡ t → (divides a m && divides b m) ≡ t
 both-of a b m x y r t e f g h = rw (← e, ← f, ← g) h

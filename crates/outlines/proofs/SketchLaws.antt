@@ -1,8 +1,8 @@
 -- What an outline says of the items alone: that there are some, whether one is a loop, and whether one is a reference.
-use Prim.Native.Nat.{ℕ, zero, suc, _<_, _≤_, max}
+use Prim.Native.Nat.{ℕ, zero, suc, _<_, max}
 use mathlib.Core.Path.{_≡_, refl, sym, ap, _∙_}
 use mathlib.Core.List.{List, [], _∷_, _++_}
-use mathlib.Core.Bool.{Bool, true, false, _||_, not}
+use mathlib.Core.Bool.{Bool, false, _||_, not}
 use native.Mathlib.Omega.{arith}
 use borrow.Author.Tests.{leb-true, leb-false, le-leb, lt-leb}
 use lib.Dec.{eqb, leb}
@@ -130,6 +130,7 @@ sum-sketches find e r h =
       refers = closed-refers (after find r started) ∙ items-refers find r started;
     }
 
-pub outline-sketches : (find : ℕ → Outline) (ws : List ℕ) (s : Stretch) (r : Items) → Stands ws s r → ItemsFit r → Sketches (outlined find (drop (s .from) (take (s .to) ws))) r
+pub outline-sketches : (find : ℕ → Outline) (ws : List ℕ) (s : Stretch) (r : Items) → Stands ws s r → ItemsFit r
+    → Sketches (outlined find (drop (s .from) (take (s .to) ws))) r
 unfolding outlined Stands
 outline-sketches find ws s r p h = rw (p, read-whole find r h) (sum-sketches find (isEmpty (tokenWords (writeItems r []))) r (items-some r []))

@@ -1,13 +1,12 @@
 -- Steps: of the loop that finds a definition's place, and of a word that is read.
-use Prim.Native.Nat.{ℕ, zero, suc, _+_, _-_, _<_, _≤_}
-use mathlib.Core.Path.{_≡_, refl, sym, ap, _∙_}
+use Prim.Native.Nat.{ℕ, suc, _+_, _-_, _<_, _≤_}
+use mathlib.Core.Path.{_≡_, sym, ap, _∙_}
 use mathlib.Core.Bool.{Bool, true, false}
 use mathlib.Core.List.{List}
 use native.Mathlib.Omega.{arith}
 use borrow.Author.Tests.{eq-eqb, ne-eqb}
 use lib.ListN.{getD}
 use Rattle.songcode.specs.Lists.{if_then_else_}
-use lib.Dec.{eqb}
 use Rattle.player.specs.Signs.{kindOf, numberOf, isPosition}
 use Rattle.outlines.specs.declared.readings.Outline.{Outline}
 use Rattle.outlines.specs.declared.readings.Reading.{Reading}
@@ -43,7 +42,8 @@ step-open s r w k p e f h a g =
     let b = eq-eqb (kindOf w) 57 (sym e ∙ a) in
     rw (t, b) g
 
-pub step-shut : (s r q : Reading) (w k n : ℕ) (p : Bool) → k ≡ kindOf w → p ≡ isPosition k → p ≡ false → (k ≡ 57 → ⊥) → k ≡ 56 → n ≡ numberOf w → q ≡ closed s → r ≡ shut n q → r ≡ stepOf s w
+pub step-shut : (s r q : Reading) (w k n : ℕ) (p : Bool) → k ≡ kindOf w → p ≡ isPosition k → p ≡ false → (k ≡ 57 → ⊥) → k ≡ 56 → n ≡ numberOf w
+    → q ≡ closed s → r ≡ shut n q → r ≡ stepOf s w
 unfolding stepOf if_then_else_
 step-shut s r q w k n p e f h a b m l g =
     let t : isPosition (kindOf w) ≡ false = rw (← e, ← f) h in
@@ -51,7 +51,8 @@ step-shut s r q w k n p e f h a b m l g =
     let v = eq-eqb (kindOf w) 56 (sym e ∙ b) in
     rw (t, u, v) (g ∙ ap (λ y. shut y q) m ∙ ap (shut (numberOf w)) l)
 
-pub step-close : (s r : Reading) (w k : ℕ) (p : Bool) → k ≡ kindOf w → p ≡ isPosition k → p ≡ false → (k ≡ 57 → ⊥) → (k ≡ 56 → ⊥) → r ≡ closed s → r ≡ stepOf s w
+pub step-close : (s r : Reading) (w k : ℕ) (p : Bool) → k ≡ kindOf w → p ≡ isPosition k → p ≡ false → (k ≡ 57 → ⊥) → (k ≡ 56 → ⊥) → r ≡ closed s
+    → r ≡ stepOf s w
 unfolding stepOf if_then_else_
 step-close s r w k p e f h a b g =
     let t : isPosition (kindOf w) ≡ false = rw (← e, ← f) h in
@@ -59,7 +60,8 @@ step-close s r w k p e f h a b g =
     let v = ne-eqb (kindOf w) 56 (λ z. b (e ∙ z)) in
     rw (t, u, v) g
 
-pub read-reference : (find : ℕ → Outline) (s r : Reading) (o : Outline) (w k n : ℕ) → k ≡ kindOf w → k ≡ 55 → n ≡ numberOf w → o ≡ find n → r ≡ referred o s → r ≡ wordRead find s w
+pub read-reference : (find : ℕ → Outline) (s r : Reading) (o : Outline) (w k n : ℕ) → k ≡ kindOf w → k ≡ 55 → n ≡ numberOf w → o ≡ find n
+    → r ≡ referred o s → r ≡ wordRead find s w
 unfolding wordRead if_then_else_
 read-reference find s r o w k n e h m f g =
     let t = eq-eqb (kindOf w) 55 (sym e ∙ h) in
@@ -69,11 +71,13 @@ pub read-other : (find : ℕ → Outline) (s r : Reading) (w k : ℕ) → k ≡ 
 unfolding wordRead if_then_else_
 read-other find s r w k e h g = let t = ne-eqb (kindOf w) 55 (λ z. h (e ∙ z)) in rw t g
 
-pub fault-other : (missing : ℕ → Bool) (find : ℕ → Outline) (f r : Faults) (w k : ℕ) → k ≡ kindOf w → (k ≡ 55 → ⊥) → r ≡ bracketRead k f → r ≡ faultsRead missing find f w
+pub fault-other : (missing : ℕ → Bool) (find : ℕ → Outline) (f r : Faults) (w k : ℕ) → k ≡ kindOf w → (k ≡ 55 → ⊥) → r ≡ bracketRead k f
+    → r ≡ faultsRead missing find f w
 unfolding faultsRead if_then_else_
 fault-other missing find f r w k e h g = let t = ne-eqb (kindOf w) 55 (λ z. h (e ∙ z)) in rw t (g ∙ ap (λ y. bracketRead y f) e)
 
-pub fault-reference : (missing : ℕ → Bool) (find : ℕ → Outline) (f r : Faults) (b : Bool) (o : Outline) (w k n : ℕ) → k ≡ kindOf w → k ≡ 55 → n ≡ numberOf w → b ≡ missing n → o ≡ find n → r ≡ referenceRead b o f → r ≡ faultsRead missing find f w
+pub fault-reference : (missing : ℕ → Bool) (find : ℕ → Outline) (f r : Faults) (b : Bool) (o : Outline) (w k n : ℕ) → k ≡ kindOf w → k ≡ 55
+    → n ≡ numberOf w → b ≡ missing n → o ≡ find n → r ≡ referenceRead b o f → r ≡ faultsRead missing find f w
 unfolding faultsRead if_then_else_
 fault-reference missing find f r b o w k n e h m a c g =
     let t = eq-eqb (kindOf w) 55 (sym e ∙ h) in

@@ -1,5 +1,5 @@
 -- The outlines of the definitions in order: none at first, then one more with each definition.
-use Prim.Native.Nat.{ℕ, zero, suc, _+_, _-_, _<_, _≤_, min}
+use Prim.Native.Nat.{ℕ, zero, suc, _+_, _<_, _≤_, min}
 use mathlib.Core.Path.{_≡_, refl, sym, ap, _∙_}
 use mathlib.Core.List.{List, _∷_}
 use mathlib.Core.Bool.{Bool, true, false}
@@ -32,7 +32,8 @@ place-kept (suc k) ids i x h = by-cases (eqb (getD ids i 0) x)
     (λ e. rw e)
     (λ e. let g : placeBy k ids (i + 1) x < i + suc k = rw e at h in rw e (place-kept k ids (i + 1) x (omega arith)))
 
-pub place-added : (k : ℕ) (ids : List ℕ) (i x : ℕ) → placeBy k ids i x ≡ i + k → placeBy (suc k) ids i x ≡ (if eqb (getD ids (i + k) 0) x then i + k else i + k + 1)
+pub place-added : (k : ℕ) (ids : List ℕ) (i x : ℕ) → placeBy k ids i x ≡ i + k
+    → placeBy (suc k) ids i x ≡ (if eqb (getD ids (i + k) 0) x then i + k else i + k + 1)
 unfolding placeBy if_then_else_
 place-added zero ids i x h = let e : i + 0 ≡ i = omega arith in rw e
 place-added (suc k) ids i x h = by-cases (eqb (getD ids i 0) x)
@@ -89,7 +90,8 @@ roomy-added o x w = by-cases (leb 26 (o .count))
       measures = length-set (o .measures) (o .count) (x .measures) ∙ w .measures;
     }))
 
-module _ (ds : List Definition) (d : Definitions) (o : Outlines) (e : Definition) (x : Outline) (few : o .count < 26) (roomy : Roomy o) (numbered : getD (d .ids) (o .count) 0 ≡ e .id) (items : KnowsItems (e .items) x) where
+module _ (ds : List Definition) (d : Definitions) (o : Outlines) (e : Definition) (x : Outline) (few : o .count < 26) (roomy : Roomy o)
+    (numbered : getD (d .ids) (o .count) 0 ≡ e .id) (items : KnowsItems (e .items) x) where
   -- Looked up before, and with one more.
   record Looked (n : ℕ) (missing : Bool) (found : Outline) : Type 0 where
     missing-is : isMissing d (extended o x) n ≡ missing
@@ -127,10 +129,13 @@ module _ (ds : List Definition) (d : Definitions) (o : Outlines) (e : Definition
   none-known none b q k t = refl
   none-known (some c) b q k t = true-is-not-false t (k .0)
 
-  looked-known : (n : ℕ) (c : Option Definition) (b : Bool) (q : Outline) → Looked n b q → definitionOf n (e ∷ ds) ≡ c → Knows c b q → Knows (definitionOf n (e ∷ ds)) (isMissing d (extended o x) n) (lookUp d (extended o x) n)
+  looked-known : (n : ℕ) (c : Option Definition) (b : Bool) (q : Outline) → Looked n b q → definitionOf n (e ∷ ds) ≡ c → Knows c b q
+      → Knows (definitionOf n (e ∷ ds)) (isMissing d (extended o x) n) (lookUp d (extended o x) n)
   looked-known n c b q l h k = rw (h, l .missing-is, l .found-is) k
 
-  within : (n : ℕ) → leb (o .count) (placeBy (o .count) (d .ids) 0 n) ≡ false → Knows (definitionOf n ds) (leb (o .count) (placeBy (o .count) (d .ids) 0 n)) (atPlace o (placeBy (o .count) (d .ids) 0 n)) → definitionOf (e .id) ds ≡ none
+  within : (n : ℕ) → leb (o .count) (placeBy (o .count) (d .ids) 0 n) ≡ false
+      → Knows (definitionOf n ds) (leb (o .count) (placeBy (o .count) (d .ids) 0 n)) (atPlace o (placeBy (o .count) (d .ids) 0 n))
+      → definitionOf (e .id) ds ≡ none
       → Knows (definitionOf n (e ∷ ds)) (isMissing d (extended o x) n) (lookUp d (extended o x) n)
   unfolding definitionOf atPlace if_then_else_
   within n t k fresh =
@@ -144,7 +149,8 @@ module _ (ds : List Definition) (d : Definitions) (o : Outlines) (e : Definition
       (rw (ne-eqb (e .id) n other))
       k'
 
-  behind : (n : ℕ) → leb (o .count) (placeBy (o .count) (d .ids) 0 n) ≡ true → Knows (definitionOf n ds) (leb (o .count) (placeBy (o .count) (d .ids) 0 n)) (atPlace o (placeBy (o .count) (d .ids) 0 n))
+  behind : (n : ℕ) → leb (o .count) (placeBy (o .count) (d .ids) 0 n) ≡ true
+      → Knows (definitionOf n ds) (leb (o .count) (placeBy (o .count) (d .ids) 0 n)) (atPlace o (placeBy (o .count) (d .ids) 0 n))
       → Knows (definitionOf n (e ∷ ds)) (isMissing d (extended o x) n) (lookUp d (extended o x) n)
   unfolding definitionOf if_then_else_ Knows
   behind n t k =

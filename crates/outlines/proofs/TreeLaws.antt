@@ -1,18 +1,18 @@
 -- The words of written items lead from state to state as the items do.
-use Prim.Native.Nat.{ℕ, zero, suc, _+_, _*_, _/_, _%_, _^_, _<_, _≤_, min}
-use mathlib.Core.Path.{_≡_, refl, sym, ap, _∙_}
-use mathlib.Core.List.{List, [], _∷_}
-use mathlib.Core.Bool.{Bool, true, false, _||_, _&&_}
+use Prim.Native.Nat.{ℕ, zero, suc, _+_, _*_, _/_, _%_, _^_, _<_}
+use mathlib.Core.Path.{_≡_, refl, ap, _∙_}
+use mathlib.Core.List.{List, _∷_}
 use native.Mathlib.Omega.{arith}
-use borrow.Author.Tests.{eq-eqb, ne-eqb, lt-ltb}
-use lib.Dec.{eqb, ltb, leb}
+use borrow.Author.Tests.{ne-eqb, lt-ltb}
+use lib.Dec.{eqb}
 use Rattle.songcode.specs.Lists.{if_then_else_}
-use Rattle.songcode.specs.Song.{Sound, chord, again, silence, Sounds, only, also, Measure, Beside, nothing, aLineEnd, Separator, bySemicolon, byLineEnd, byColon, Item, measure, loop, refer, Items, one, next}
-use Rattle.songcode.specs.Tokens.{Token, sound, remover, reference, semicolon, colon, lineEnd, opens, closes, wrong}
+use Rattle.songcode.specs.Song.{Sound, chord, again, silence, Sounds, only, also, nothing, aLineEnd, Separator, bySemicolon}
+use Rattle.songcode.specs.Song.{byLineEnd, byColon, Item, measure, loop, refer, Items, one, next}
+use Rattle.songcode.specs.Tokens.{Token, sound, remover, reference, opens, closes}
 use Rattle.songcode.specs.WrittenPattern.{writeSounds, writeRemovers, writeMeasure, writeBeside, writeSeparator, writeItem, writeItems}
 use Rattle.songcode.proofs.ListLaws.{by-cases}
 use Rattle.tokens.specs.TokenWords.{chordWord, tokenWord, tokenWords}
-use Rattle.player.specs.Signs.{kindOf, numberOf, isPosition}
+use Rattle.player.specs.Signs.{kindOf, isPosition}
 use Rattle.player.specs.Texts.{ChordFits, ChordsFit, ItemFits, ItemsFit}
 use Rattle.outlines.specs.declared.readings.Outline.{Outline}
 use Rattle.outlines.specs.declared.readings.Reading.{Reading}
@@ -46,7 +46,7 @@ unfoldable mutual
   after find (next r t i) s = afterItem find i (closed (after find r s))
 
 -- A word of a chord is a position.
-chord-kind : (w : ℕ) → w < 2281701376 → kindOf w < 34
+pub chord-kind : (w : ℕ) → w < 2281701376 → kindOf w < 34
 chord-kind w h = omega arith
 
 read-sound : (find : ℕ → Outline) (x : Sound) (s : Reading) → ChordFits x → wordRead find s (tokenWord (sound x)) ≡ heardIn x s
@@ -78,18 +78,21 @@ pub closed-closed : (s : Reading) → closed (closed s) ≡ closed s
 unfolding closed measured if_then_else_
 closed-closed s = by-cases (eqb (s .positions) 0) (λ e. rw (e, e)) (λ e. rw e)
 
-sounds-read : (find : ℕ → Outline) (xs : Sounds) (s : Reading) (k : List Token) → ChordsFit xs → wordsRead find s (tokenWords (writeSounds xs k)) ≡ wordsRead find (heardAll xs s) (tokenWords k)
+sounds-read : (find : ℕ → Outline) (xs : Sounds) (s : Reading) (k : List Token) → ChordsFit xs
+    → wordsRead find s (tokenWords (writeSounds xs k)) ≡ wordsRead find (heardAll xs s) (tokenWords k)
 unfolding writeSounds tokenWords wordsRead heardAll ChordsFit
 sounds-read find (only x) s k h = ap (λ (t : Reading). wordsRead find t (tokenWords k)) (read-sound find x s h)
 sounds-read find (also xs x) s k h =
     sounds-read find xs s (sound x ∷ k) (h .0) ∙ ap (λ (t : Reading). wordsRead find t (tokenWords k)) (read-sound find x (heardAll xs s) (h .1))
 
-removers-read : (find : ℕ → Outline) (n : ℕ) (s : Reading) (k : List Token) → wordsRead find s (tokenWords (writeRemovers n k)) ≡ wordsRead find (removed n s) (tokenWords k)
+removers-read : (find : ℕ → Outline) (n : ℕ) (s : Reading) (k : List Token)
+    → wordsRead find s (tokenWords (writeRemovers n k)) ≡ wordsRead find (removed n s) (tokenWords k)
 unfolding writeRemovers tokenWords tokenWord wordsRead wordRead stepOf isPosition if_then_else_ removed
 removers-read find zero s k = refl
 removers-read find (suc n) s k = removers-read find n s (remover ∷ k)
 
-separator-read : (find : ℕ → Outline) (t : Separator) (s : Reading) (k : List Token) → wordsRead find s (tokenWords (writeSeparator t k)) ≡ wordsRead find (closed s) (tokenWords k)
+separator-read : (find : ℕ → Outline) (t : Separator) (s : Reading) (k : List Token)
+    → wordsRead find s (tokenWords (writeSeparator t k)) ≡ wordsRead find (closed s) (tokenWords k)
 unfolding writeSeparator writeBeside tokenWords tokenWord wordsRead wordRead stepOf isPosition if_then_else_
 separator-read find bySemicolon s k = refl
 separator-read find byLineEnd s k = refl
@@ -98,22 +101,26 @@ separator-read find (byColon nothing aLineEnd) s k = ap (λ (t : Reading). words
 separator-read find (byColon aLineEnd nothing) s k = ap (λ (t : Reading). wordsRead find t (tokenWords k)) (closed-closed s)
 separator-read find (byColon aLineEnd aLineEnd) s k = ap (λ (t : Reading). wordsRead find t (tokenWords k)) (ap closed (closed-closed s) ∙ closed-closed s)
 
-opens-read : (find : ℕ → Outline) (r : Items) (n : ℕ) (s : Reading) (k : List Token) → wordsRead find s (tokenWords (opens ∷ writeItems r (closes n ∷ k))) ≡ wordsRead find (opened s) (tokenWords (writeItems r (closes n ∷ k)))
+opens-read : (find : ℕ → Outline) (r : Items) (n : ℕ) (s : Reading) (k : List Token)
+    → wordsRead find s (tokenWords (opens ∷ writeItems r (closes n ∷ k))) ≡ wordsRead find (opened s) (tokenWords (writeItems r (closes n ∷ k)))
 unfolding tokenWords tokenWord wordsRead wordRead stepOf isPosition if_then_else_
 opens-read find r n s k = refl
 
 mutual
   unfolding writeItem writeItems writeMeasure tokenWords wordsRead after afterItem ItemFits ItemsFit
 
-  item-read : (find : ℕ → Outline) (i : Item) (s : Reading) (k : List Token) → ItemFits i → wordsRead find s (tokenWords (writeItem i k)) ≡ wordsRead find (afterItem find i s) (tokenWords k)
-  item-read find (measure m) s k h = sounds-read find (m .sounds) s (writeRemovers (m .removers) k) h ∙ removers-read find (m .removers) (heardAll (m .sounds) s) k
+  item-read : (find : ℕ → Outline) (i : Item) (s : Reading) (k : List Token) → ItemFits i
+      → wordsRead find s (tokenWords (writeItem i k)) ≡ wordsRead find (afterItem find i s) (tokenWords k)
+  item-read find (measure m) s k h = sounds-read find (m .sounds) s (writeRemovers (m .removers) k) h
+      ∙ removers-read find (m .removers) (heardAll (m .sounds) s) k
   item-read find (loop r n) s k h =
       opens-read find r n s k
       ∙ items-read find r (opened s) (closes n ∷ k) (h .2)
       ∙ ap (λ (t : Reading). wordsRead find t (tokenWords k)) (read-closes find n (after find r (opened s)) (h .1))
   item-read find (refer n) s k h = ap (λ (t : Reading). wordsRead find t (tokenWords k)) (read-refers find n s h)
 
-  pub items-read : (find : ℕ → Outline) (r : Items) (s : Reading) (k : List Token) → ItemsFit r → wordsRead find s (tokenWords (writeItems r k)) ≡ wordsRead find (after find r s) (tokenWords k)
+  pub items-read : (find : ℕ → Outline) (r : Items) (s : Reading) (k : List Token) → ItemsFit r
+      → wordsRead find s (tokenWords (writeItems r k)) ≡ wordsRead find (after find r s) (tokenWords k)
   items-read find (one i) s k h = item-read find i s k h
   items-read find (next r t i) s k h =
       items-read find r s (writeSeparator t (writeItem i k)) (h .0)

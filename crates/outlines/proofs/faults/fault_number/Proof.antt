@@ -1,22 +1,16 @@
 use Rattle.outlines.specs.Faults.{faultNumber}
 use Rattle.songcode.specs.Lists.{if_then_else_}
-use borrow.Author.Needs.{needs}
 use Rattle.outlines.proofs.faults.fault_number.Statement.{statement}
 use Rattle.outlines.proofs.faults.fault_number.Tie as tie
-use Rattle.outlines.proofs.faults.fault_number.Reads as reads
-use Rattle.outlines.proofs.faults.fault_number.Lts as lts
 
--- src/faults.rt:69:9
 returns : tie.Need-returns
 unfolding faultNumber if_then_else_
 returns c = rw (c .if1 .taken)
 
--- src/faults.rt:65:1
 returns-2 : tie.Need-returns-2
 unfolding faultNumber if_then_else_
 returns-2 c = rw (c .before .if1 .left, c .if2 .taken)
 
--- src/faults.rt:65:1
 returns-3 : tie.Need-returns-3
 unfolding faultNumber if_then_else_
 returns-3 c = rw (c .before .if1 .left, c .if2 .left)

@@ -1,23 +1,17 @@
 use Rattle.outlines.specs.Faults.{bracketRead}
 use Rattle.songcode.specs.Lists.{if_then_else_}
-use borrow.Author.Tests.{eq-eqb, ne-eqb, lt-ltb, le-ltb, le-leb, lt-leb}
-use borrow.Author.Needs.{needs}
+use borrow.Author.Tests.{eq-eqb, ne-eqb}
 use Rattle.outlines.proofs.faults.pass_bracket.Statement.{statement}
 use Rattle.outlines.proofs.faults.pass_bracket.Tie as tie
-use Rattle.outlines.proofs.faults.pass_bracket.Reads as reads
-use Rattle.outlines.proofs.faults.pass_bracket.Lts as lts
 
--- src/faults.rt:45:9
 returns : tie.Need-returns
 unfolding bracketRead if_then_else_
 returns c = let e = eq-eqb (c .before .args .k) 57 (c .if1 .taken) in rw e
 
--- src/faults.rt:48:9
 returns-2 : tie.Need-returns-2
 unfolding bracketRead if_then_else_
 returns-2 c = let k = c .before .before .args .k in let d = ne-eqb k 57 (c .before .if1 .left) in let e = eq-eqb k 56 (c .if2 .taken) in rw (d, e)
 
--- src/faults.rt:41:1
 returns-3 : tie.Need-returns-3
 unfolding bracketRead if_then_else_
 returns-3 c = let k = c .before .before .args .k in let d = ne-eqb k 57 (c .before .if1 .left) in let e = ne-eqb k 56 (c .if2 .left) in rw (d, e)

@@ -6,25 +6,14 @@ use Prim.Native.Nat.{_≤_, _*_, min}
 use borrow.Author.Needs.{needs}
 use Rattle.outlines.proofs.signs.capped_times.Statement.{statement}
 use Rattle.outlines.proofs.signs.capped_times.Tie as tie
-use Rattle.outlines.proofs.signs.capped_times.Reads as reads
-use Rattle.outlines.proofs.signs.capped_times.Lts as lts
-use Rattle.player.proofs.least.Reads as least-reads
 
--- src/signs.rt:36:33
-least-requires : tie.Need-least-requires
-least-requires c κs = search needs
-
--- src/signs.rt:36:18
 mul-least : tie.Need-mul-least
-mul-least c = let a = c .before .args in let h : c .least .result ≤ 65536 = omega (arith, c .least .ensures) in let k : a .n ≤ 4294967295 = omega arith in let p : a .n * c .least .result ≤ 4294967295 * 65536 = mul-le-mul k h in omega arith
+mul-least c = let a = c .before .args in let h : c .least .result ≤ 65536 = omega (arith, c .least .ensures) in let k : a .n ≤ 4294967295 = omega
+    arith in let p : a .n * c .least .result ≤ 4294967295 * 65536 = mul-le-mul k h in omega arith
 
--- src/signs.rt:36:5
-least-requires-2 : tie.Need-least-requires-2
-least-requires-2 c κs = search needs
-
--- src/signs.rt:33:1
 returns : tie.Need-returns
-returns c = c .least2 .ensures ∙ ap (λ y. min 65536 (c .before .before .args .n * y)) (c .before .least .ensures) ∙ min-times (c .before .before .args .n) (c .before .before .args .a)
+returns c = c .least2 .ensures ∙ ap (λ y. min 65536 (c .before .before .args .n * y)) (c .before .least .ensures)
+    ∙ min-times (c .before .before .args .n) (c .before .before .args .a)
 
 pub capped-times-spec : {M : Type 1} → statement M
-capped-times-spec = tie.close (tie.spec least-requires mul-least least-requires-2 returns)
+capped-times-spec = tie.close (tie.spec (λ c κs. search needs) mul-least (λ c κs. search needs) returns)

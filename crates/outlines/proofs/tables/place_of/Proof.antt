@@ -7,9 +7,6 @@ use Prim.Native.Nat.{_≤_, _-_}
 use borrow.Author.Needs.{needs}
 use Rattle.outlines.proofs.tables.place_of.Statement.{statement}
 use Rattle.outlines.proofs.tables.place_of.Tie as tie
-use Rattle.outlines.proofs.tables.place_of.Reads as reads
-use Rattle.outlines.proofs.tables.place_of.Lts as lts
-use Rattle.player.proofs.least.Reads as least-reads
 
 abbrev Inv-loop : tie.InvT-loop
 Inv-loop count x n ids i₀ i = (i ≤ n) × (placeBy (n - i) ids i x ≡ placeBy n ids 0 x)
@@ -17,56 +14,37 @@ Inv-loop count x n ids i₀ i = (i ≤ n) × (placeBy (n - i) ids i x ≡ placeB
 abbrev μ-loop : tie.MeasureT-loop
 μ-loop count x n ids i₀ i = n - i
 
--- src/tables.rt:25:9
-least-requires : tie.Need-least-requires Inv-loop μ-loop
-least-requires c κs = search needs
-
--- src/tables.rt:28:5
 loop-holds : tie.Need-loop-holds Inv-loop μ-loop
 loop-holds c = (omega arith, rw (sub-zero (c .before .least .result)))
 
--- src/tables.rt:29:12
-mul-if1 : tie.Need-mul-if1 Inv-loop μ-loop
-mul-if1 c = search needs
-
--- src/tables.rt:29:12
-array-read-if1 : tie.Need-array-read-if1 Inv-loop μ-loop
-array-read-if1 c = search needs
-
--- src/tables.rt:30:13
 returns : tie.Need-returns Inv-loop μ-loop
 unfolding placeOf
-returns c = let a = c .before .before .before .before .before .args in let d = a .d in let x = a .x in let l = c .before .before .loop in let m = c .before .before .before .before .least in (sym (place-found (d .ids) (m .result) (l .i) x (c .before .loop-test .taken) (c .if1 .taken)) ∙ l .inv .1 ∙ ap (λ k. placeBy k (d .ids) 0 x) (m .ensures), omega (arith, m .ensures, c .before .loop-test .taken))
+returns c = let a = c .before .before .before .before .before .args in let d = a .d in let x = a .x in let l = c .before .before .loop in let m
+    = c .before .before .before .before .least in (
+      sym (place-found (d .ids) (m .result) (l .i) x (c .before .loop-test .taken) (c .if1 .taken))
+          ∙ l .inv .1 ∙ ap (λ k. placeBy k (d .ids) 0 x) (m .ensures),
+      omega (arith, m .ensures, c .before .loop-test .taken),
+    )
 
--- src/tables.rt:32:9
-add-i : tie.Need-add-i Inv-loop μ-loop
-add-i c = search needs
-
--- src/tables.rt:28:5
-loop-less : tie.Need-loop-less Inv-loop μ-loop
-loop-less c = search needs
-
--- src/tables.rt:28:5
 loop-again : tie.Need-loop-again Inv-loop μ-loop
-loop-again c = let a = c .before .before .before .before .before .args in let d = a .d in let x = a .x in let l = c .before .before .loop in let m = c .before .before .before .before .least in (omega arith, sym (place-more (d .ids) (m .result) (l .i) x (c .before .loop-test .taken) (c .if1 .left)) ∙ l .inv .1)
+loop-again c = let a = c .before .before .before .before .before .args in let d = a .d in let x = a .x in let l = c .before .before .loop in let m
+    = c .before .before .before .before .least in (
+      omega arith,
+      sym (place-more (d .ids) (m .result) (l .i) x (c .before .loop-test .taken)
+          (c .if1 .left)) ∙ l .inv .1,
+    )
 
--- src/tables.rt:22:1
 returns-2 : tie.Need-returns-2 Inv-loop μ-loop
 unfolding placeOf
-returns-2 c = let a = c .before .before .before .before .args in let d = a .d in let x = a .x in let l = c .before .loop in let m = c .before .before .before .least in (sym (place-over (d .ids) (m .result) (l .i) x (c .loop-test .left)) ∙ l .inv .1 ∙ ap (λ k. placeBy k (d .ids) 0 x) (m .ensures), omega (arith, m .ensures, l .inv .0))
+returns-2 c = let a = c .before .before .before .before .args in let d = a .d in let x = a .x in let l = c .before .loop in let m
+    = c .before .before .before .least in (
+      sym (place-over (d .ids) (m .result) (l .i) x (c .loop-test .left)) ∙ l .inv .1
+          ∙ ap (λ k. placeBy k (d .ids) 0 x) (m .ensures),
+      omega (arith, m .ensures, l .inv .0),
+    )
 
 pub place-of-spec : {M : Type 1} → statement M
 place-of-spec =
     tie.close
-    (tie.spec
-    Inv-loop
-    μ-loop
-    least-requires
-    loop-holds
-    mul-if1
-    array-read-if1
-    returns
-    add-i
-    loop-less
-    loop-again
-    returns-2)
+    (tie.spec Inv-loop μ-loop (λ c κs. search needs) loop-holds (λ c. search needs) (λ c. search needs) returns (λ c. search needs)
+    (λ c. search needs) loop-again returns-2)
