@@ -1,15 +1,15 @@
-/* Reads the chart on standard input and prints its measures, and in which of them the last beat stands.
-   Build it with: gcc -Iinclude examples/measures.c build/libturnipcart.a -o measures */
+/* Reads the chart on standard input and prints its measures, and in which of them the last beat stands. Ends with 0, with 1 where the chart
+   is refused, and with 3 where it cannot be read or the output not written.
+   Build it with: gcc -Ibuild examples/measures.c build/libturnipcart.a -o measures */
+#include <stdbool.h>
 #include <stdio.h>
 #include <stdlib.h>
 #include "turnipcart.h"
 
+enum { REFUSED = 1, FAILED = 3 };
+
+/* One byte more than is read of a chart, so that a longer file is seen to be. */
 static unsigned char text[TURNIPCART_TEXT_LIMIT + 1];
-static uint32_t keys[TURNIPCART_KEYS];
-static uint64_t sections[TURNIPCART_SECTIONS_ENOUGH];
-static uint32_t measures[TURNIPCART_MEASURES_ENOUGH];
-static uint32_t beats[TURNIPCART_BEATS_ENOUGH];
-static uint64_t items[TURNIPCART_ITEMS_ENOUGH];
 
 static void show_beat(uint32_t beat)
 {
@@ -26,35 +26,75 @@ static void show_beat(uint32_t beat)
     fwrite(text + turnipcart_beat_extension_offset(beat), 1, turnipcart_beat_extension_length(beat), stdout);
 }
 
-static void show_section(uint64_t section)
+static void show_section(const struct turnipcart_tables *tables, uint64_t section)
 {
     size_t first = turnipcart_section_first_measure(section);
     size_t count = turnipcart_section_measures(section);
     printf("section on line %zu, in %u\n", turnipcart_section_line(section), turnipcart_section_time(section));
     for (size_t place = first; place < first + count; place++) {
         printf("measure %zu:", place);
-        size_t beat = turnipcart_measure_first_beat(measures[place]);
-        size_t end = beat + turnipcart_measure_beats(measures[place]);
+        size_t beat = turnipcart_measure_first_beat(tables->measures[place]);
+        size_t end = beat + turnipcart_measure_beats(tables->measures[place]);
         for (; beat < end; beat++)
-            show_beat(beats[beat]);
+            show_beat(tables->beats[beat]);
         putchar('\n');
     }
+}
+
+static void show_song(const struct turnipcart_tables *tables, const struct turnipcart_answer *answer)
+{
+    struct turnipcart_found found;
+    for (size_t place = 0; place < answer->sections; place++)
+        show_section(tables, tables->sections[place]);
+    if (answer->beats > 0 && turnipcart_find(tables->measures, answer->measures, (uint32_t)(answer->beats - 1), &found) == TURNIPCART_ACCEPTED)
+        printf("beat %zu is in measure %zu\n", answer->beats - 1, found.place);
+}
+
+/* Tables as long as the song needs; those of no words may be null. */
+static bool take_tables(struct turnipcart_tables *tables, const struct turnipcart_answer *counts)
+{
+    tables->keys = calloc(tables->keys_length = TURNIPCART_KEYS, sizeof *tables->keys);
+    tables->sections = calloc(tables->sections_length = counts->sections, sizeof *tables->sections);
+    tables->measures = calloc(tables->measures_length = counts->measures, sizeof *tables->measures);
+    tables->beats = calloc(tables->beats_length = counts->beats, sizeof *tables->beats);
+    tables->items = calloc(tables->items_length = counts->items, sizeof *tables->items);
+    return tables->keys != NULL && (tables->sections != NULL || counts->sections == 0) && (tables->measures != NULL || counts->measures == 0)
+        && (tables->beats != NULL || counts->beats == 0) && (tables->items != NULL || counts->items == 0);
+}
+
+/* Reads the song whose counts are known, and shows it. */
+static int read_and_show(size_t length, struct turnipcart_answer *answer)
+{
+    struct turnipcart_tables tables;
+    int status = EXIT_SUCCESS;
+    if (!take_tables(&tables, answer))
+        status = FAILED;
+    else if (turnipcart_read_tables(text, length, &tables, answer) == TURNIPCART_ACCEPTED)
+        show_song(&tables, answer);
+    free(tables.keys);
+    free(tables.sections);
+    free(tables.measures);
+    free(tables.beats);
+    free(tables.items);
+    return status;
 }
 
 int main(void)
 {
     struct turnipcart_answer answer;
     size_t length = fread(text, 1, sizeof text, stdin);
-    if (turnipcart_read(text, length, keys, TURNIPCART_KEYS, sections, TURNIPCART_SECTIONS_ENOUGH, measures,
-                        TURNIPCART_MEASURES_ENOUGH, beats, TURNIPCART_BEATS_ENOUGH, items, TURNIPCART_ITEMS_ENOUGH,
-                        &answer) != TURNIPCART_ACCEPTED) {
-        printf("refused %zu line %zu\n", answer.refusal, answer.line);
-        return EXIT_FAILURE;
+    int status = REFUSED;
+    if (ferror(stdin)) {
+        perror("measures: standard input");
+        return FAILED;
     }
-    for (size_t place = 0; place < answer.sections; place++)
-        show_section(sections[place]);
-    struct turnipcart_found found;
-    if (answer.beats > 0 && turnipcart_find(measures, answer.measures, (uint32_t)(answer.beats - 1), &found) == TURNIPCART_ACCEPTED)
-        printf("beat %zu is in measure %zu\n", answer.beats - 1, found.place);
-    return EXIT_SUCCESS;
+    if (turnipcart_count(text, length, &answer) == TURNIPCART_ACCEPTED)
+        status = read_and_show(length, &answer);
+    else
+        printf("refused %zu line %zu\n", answer.refusal, answer.line);
+    if (fflush(stdout) != 0 || ferror(stdout)) {
+        perror("measures: standard output");
+        return FAILED;
+    }
+    return status;
 }

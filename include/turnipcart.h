@@ -357,7 +357,7 @@ static inline enum turnipcart_table turnipcart_short_table(const struct turnipca
     return tables->items_length < counts->items ? TURNIPCART_TABLE_ITEMS : TURNIPCART_TABLES;
 }
 
-/* A refusal in a few words; "" for a number that is none. */
+/* A refusal in a few words, as the headings of docs/REFUSALS.md have them; "" for a number that is none. */
 static inline const char *turnipcart_refusal_text(size_t refusal)
 {
     static const char *const texts[] = {
@@ -368,19 +368,22 @@ static inline const char *turnipcart_refusal_text(size_t refusal)
         "a key that is unknown, doubled or not allowed here",
         "a setting that is malformed or out of range",
         "a definition's head",
-        "pattern text against the rules",
-        "a line out of place",
+        "chords against the rules",
+        "another line out of place",
         "no section",
-        "a reference that is not defined earlier",
-        "a reference that cannot stand here",
-        "positions that do not divide the beats",
+        "a reference without a definition above it",
+        "a reference that goes too deep",
+        "positions that do not divide the measure",
         "`%` with no chord before it",
-        "a song of too many measures",
-        "nothing left to play",
-        "a lyric line without a count",
-        "counts that do not sum to the measures",
-        "a table too short",
-        "a beat that no measure holds",
+        "too many measures",
+        "nothing is left, or a modifier on an empty pattern",
+        "a lyric line without its count",
+        "counts that do not sum",
+        "a table is too short",
+        "no measure holds the beat",
+        "",
+        "a move out of range",
+        "a word that is no beat",
     };
     return refusal < sizeof texts / sizeof texts[0] ? texts[refusal] : "";
 }

@@ -1,4 +1,4 @@
-// The public calls for programs in C and Rust, each in a file of its own: `include/turnipcart.h` documents them, `examples/turnipcart.rs`
+// The public calls for programs in C and Rust, each in a file of its own: `include/turnipcart.h` documents them, `rust/src/calls.rs`
 // declares them.
 mod count;
 mod find;

@@ -1,0 +1,147 @@
+//! The archive's calls, each in a safe function; nothing outside this file is unsafe.
+#![allow(unsafe_code)]
+use crate::{Refusal, KEYS};
+
+/// Six numbers in this order, as the archive lays them down.
+#[repr(C)]
+#[derive(Default)]
+struct Answer {
+    refusal: usize,
+    line: usize,
+    sections: usize,
+    measures: usize,
+    beats: usize,
+    items: usize,
+}
+
+/// Three numbers in this order.
+#[repr(C)]
+#[derive(Default)]
+struct Search {
+    refusal: usize,
+    place: usize,
+    probes: usize,
+}
+
+extern "C" {
+    fn turnipcart_read(
+        text: *const u8,
+        text_length: usize,
+        keys: *mut u32,
+        keys_length: usize,
+        sections: *mut u64,
+        sections_length: usize,
+        measures: *mut u32,
+        measures_length: usize,
+        beats: *mut u32,
+        beats_length: usize,
+        items: *mut u64,
+        items_length: usize,
+        answer: *mut Answer,
+    ) -> usize;
+
+    fn turnipcart_count(text: *const u8, text_length: usize, answer: *mut Answer) -> usize;
+
+    fn turnipcart_find(measures: *const u32, measures_length: usize, beat: u32, found: *mut Search) -> usize;
+
+    fn turnipcart_concert(beats: *const u32, beats_length: usize, shift: i32, second: *mut u32, second_length: usize) -> usize;
+}
+
+/// The five tables that a program lends, each of any length. Words behind a song's own keep what they held, and all do where it is
+/// refused.
+pub struct Tables<'a> {
+    /// 8 words.
+    pub keys: &'a mut [u32],
+    /// One word for each section.
+    pub sections: &'a mut [u64],
+    /// One word for each measure.
+    pub measures: &'a mut [u32],
+    /// One word for each beat.
+    pub beats: &'a mut [u32],
+    /// One word for each of the prompter's lines.
+    pub items: &'a mut [u64],
+}
+
+/// How many words the tables of a song take, besides the 8 of keys.
+#[derive(Clone, Copy, Debug, PartialEq, Eq)]
+pub struct Counts {
+    /// Sections of the song.
+    pub sections: usize,
+    /// Measures of the song.
+    pub measures: usize,
+    /// Beats of the song.
+    pub beats: usize,
+    /// Lines of the prompter.
+    pub items: usize,
+}
+
+impl Answer {
+    fn counts(&self) -> Result<Counts, Refusal> {
+        match self.refusal {
+            0 => Ok(Counts { sections: self.sections, measures: self.measures, beats: self.beats, items: self.items }),
+            number => Err(Refusal { number, line: self.line }),
+        }
+    }
+}
+
+/// Refusal 1 to 17 or the counts, without tables.
+pub fn count(text: &[u8]) -> Result<Counts, Refusal> {
+    let mut answer = Answer::default();
+    // SAFETY: the pointer comes from a slice with its length, and `answer` is this function's own.
+    unsafe { turnipcart_count(text.as_ptr(), text.len(), &mut answer) };
+    answer.counts()
+}
+
+/// Reads the chart into lent tables. Slices are never null and mutable ones never overlap, which is all that the archive asks.
+pub fn read_into(text: &[u8], tables: &mut Tables) -> Result<Counts, Refusal> {
+    let Tables { keys, sections, measures, beats, items } = tables;
+    let mut answer = Answer::default();
+    // SAFETY: each pointer comes from a reference with its own length, and the mutable ones are apart from all others.
+    unsafe {
+        turnipcart_read(
+            text.as_ptr(),
+            text.len(),
+            keys.as_mut_ptr(),
+            keys.len(),
+            sections.as_mut_ptr(),
+            sections.len(),
+            measures.as_mut_ptr(),
+            measures.len(),
+            beats.as_mut_ptr(),
+            beats.len(),
+            items.as_mut_ptr(),
+            items.len(),
+            &mut answer,
+        )
+    };
+    answer.counts()
+}
+
+/// Where a beat was found, and how many records were read.
+#[derive(Clone, Copy, Debug, PartialEq, Eq)]
+pub struct Found {
+    /// The record's place in the measures table, from 0; none where no record that holds the beat was found.
+    pub place: Option<usize>,
+    /// At most 16.
+    pub probes: usize,
+}
+
+/// Finds the record of a measures table that holds the beat, by halving. Lend a song's own measures and no words behind them.
+pub fn find(measures: &[u32], beat: u32) -> Found {
+    let mut found = Search::default();
+    // SAFETY: the pointer comes from a slice with its length, and `found` is this function's own.
+    unsafe { turnipcart_find(measures.as_ptr(), measures.len(), beat, &mut found) };
+    Found { place: (found.refusal == 0).then_some(found.place), probes: found.probes }
+}
+
+/// Writes a beats table, moved by so many semitones, into the beginning of a second one.
+pub fn concert(beats: &[u32], semitones: i32, second: &mut [u32]) -> Result<(), Refusal> {
+    // SAFETY: each pointer comes from a slice with its own length, and the mutable one is apart from the other.
+    match unsafe { turnipcart_concert(beats.as_ptr(), beats.len(), semitones, second.as_mut_ptr(), second.len()) } {
+        0 => Ok(()),
+        number => Err(Refusal { number, line: 0 }),
+    }
+}
+
+/// The keys table of a song that has not been read.
+pub(crate) const NO_KEYS: [u32; KEYS] = [0; KEYS];

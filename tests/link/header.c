@@ -1,0 +1,72 @@
+/* What the header adds for callers: null beside length 0, the table that is too short and how long it must be, texts, and a thread with no more
+   stack than the header asks for. Prints nothing and ends with 0 where all is as promised. */
+#include <limits.h>
+#include <pthread.h>
+#include <stdio.h>
+#include <string.h>
+#include "turnipcart.h"
+
+static const unsigned char chart[] = "@time 3/4\n\nV\nC;G\n--\nla _2\n";
+static int faults;
+
+static void expect(const char *what, size_t found, size_t wanted)
+{
+    if (found != wanted) {
+        fprintf(stderr, "%s: found %zu, wanted %zu\n", what, found, wanted);
+        faults++;
+    }
+}
+
+static void try_null(void)
+{
+    struct turnipcart_tables none = {0};
+    struct turnipcart_answer answer;
+    expect("no text", turnipcart_read_tables(NULL, 0, &none, &answer), TURNIPCART_NO_SECTION);
+    expect("no tables", turnipcart_read_tables(chart, sizeof chart - 1, &none, &answer), TURNIPCART_TABLE_TOO_SHORT);
+}
+
+static void try_short(void)
+{
+    uint32_t keys[TURNIPCART_KEYS], measures[2], beats[6];
+    uint64_t sections[1], items[1];
+    struct turnipcart_tables tables = {keys, TURNIPCART_KEYS, sections, 1, measures, 2, beats, 5, items, 1};
+    struct turnipcart_answer answer, counts;
+    expect("counts", turnipcart_count(chart, sizeof chart - 1, &counts), TURNIPCART_ACCEPTED);
+    expect("a short table", turnipcart_read_tables(chart, sizeof chart - 1, &tables, &answer), TURNIPCART_TABLE_TOO_SHORT);
+    expect("which", turnipcart_short_table(&tables, &counts), TURNIPCART_TABLE_BEATS);
+    expect("how long", turnipcart_words_needed(&counts, TURNIPCART_TABLE_BEATS), 6);
+    tables.beats_length = 6;
+    expect("none", turnipcart_short_table(&tables, &counts), TURNIPCART_TABLES);
+    expect("long enough", turnipcart_read_tables(chart, sizeof chart - 1, &tables, &answer), TURNIPCART_ACCEPTED);
+    expect("the second measure", turnipcart_measure_first_beat(measures[1]), 3);
+}
+
+static void *read_in_thread(void *nothing)
+{
+    try_short();
+    return nothing;
+}
+
+/* Beside what the calls take, a thread needs some stack for itself. */
+static void try_thread(void)
+{
+    enum { OWN = 4 * PTHREAD_STACK_MIN };
+    pthread_attr_t attributes;
+    pthread_t thread;
+    expect("attributes", (size_t)pthread_attr_init(&attributes), 0);
+    expect("its stack", (size_t)pthread_attr_setstacksize(&attributes, TURNIPCART_STACK + OWN), 0);
+    expect("a thread", (size_t)pthread_create(&thread, &attributes, read_in_thread, NULL), 0);
+    expect("its end", (size_t)pthread_join(thread, NULL), 0);
+    pthread_attr_destroy(&attributes);
+}
+
+int main(void)
+{
+    try_null();
+    try_short();
+    try_thread();
+    expect("the version", (size_t)strcmp(TURNIPCART_VERSION, "1.0.0"), 0);
+    expect("a text", (size_t)strcmp(turnipcart_refusal_text(TURNIPCART_COUNT_SUM), "counts that do not sum"), 0);
+    expect("no text for no refusal", strlen(turnipcart_refusal_text(1000)), 0);
+    return faults > 0;
+}
