@@ -18,12 +18,6 @@ bit-told zero h = refl
 bit-told (suc zero) h = refl
 bit-told (suc (suc bit)) h = let z : ⊥ = omega arith in absurd z
 
--- A head takes one bit.
-pub bit-small : (head : Bool) → headBit head < 2
-unfolding headBit
-bit-small true = omega arith
-bit-small false = omega arith
-
 -- Heads with one bit are one head.
 pub bit-one : (a b : Bool) → headBit a ≡ headBit b → a ≡ b
 unfolding headBit

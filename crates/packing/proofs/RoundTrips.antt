@@ -13,7 +13,8 @@ use Rattle.packing.specs.declared.fields.SectionFields.{SectionFields}
 use Rattle.packing.specs.declared.fields.MeasureFields.{MeasureFields}
 use Rattle.packing.specs.declared.fields.BeatFields.{BeatFields}
 use Rattle.packing.specs.declared.fields.ItemFields.{ItemFields}
-use Rattle.packing.proofs.Bits.{bit-small, bit-one}
+use Rattle.songcode.proofs.CopyWords.{bit-small}
+use Rattle.packing.proofs.Bits.{bit-one}
 use Rattle.packing.specs.Fields.{HoldsSection, HoldsMeasure, packedBeat, HoldsBeat, HoldsItem}
 
 -- A word holds one section.

@@ -58,7 +58,7 @@ heard-length last (only s) heard later (h, p, e) = rw e
 heard-length last (also ss s) heard later (before, mid, h, p, q, e) =
     let k = heard-length last ss before mid p in rw (e, length-append) (omega arith)
 
-lasting-all : (k : ℕ) (heard : List (Option Chord)) → length (gather (lasting k) heard) ≡ length heard * k
+pub lasting-all : (k : ℕ) (heard : List (Option Chord)) → length (gather (lasting k) heard) ≡ length heard * k
 unfolding gather
 lasting-all k [] = omega arith
 lasting-all k (c ∷ cs) = let h = lasting-all k cs in rw (length-append, lasting-length k c) (omega arith)

@@ -13,6 +13,7 @@ pub mod FormLaws
 pub mod WidthsAgree
 pub mod CharactersAgree
 pub mod CharacterCounts
+pub mod CharacterBytes
 pub mod CutsAgree
 pub mod LinesAgree
 pub mod PlacesAgree
@@ -87,6 +88,35 @@ pub mod RefusalNumbers
 pub mod ApartAgree
 pub mod LayoutLaws
 pub mod SongAlone
+-- The flat copy.
+pub mod CharacterPieces
+pub mod CopyLines
+pub mod FineLines
+pub mod CopyMeasure
+pub mod Stretches
+pub mod CopyPattern
+pub mod CopyHeads
+pub mod ChordsPlayed
+pub mod SpeltChords
+pub mod Alike
+pub mod CopySection
+pub mod CopySong
+pub mod CopyReady
+pub mod CopyRows
+pub mod CopyWords
+pub mod CopyBeats
+pub mod CopyLength
+pub mod CopyFits
+pub mod CopyKeys
+pub mod CopyHeaders
+pub mod CopyItems
+pub mod CopySung
+pub mod CopyTables
+pub mod CopyChain
+pub mod CopiedExactly
+pub mod FlatChartsProved
+pub mod CopyAnswer
+-- What is promised.
 pub mod StarredProved
 pub mod EdgesProved
 pub mod EitherOrderProved

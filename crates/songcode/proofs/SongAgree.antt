@@ -13,7 +13,7 @@ use Rattle.songcode.specs.Song.{Key, Definition, Section, Song}
 use Rattle.songcode.specs.Sections.{sectionFaults, sectionIn}
 use Rattle.songcode.specs.SongText.{metadata, section, blockKind, blockOrder, metadataLines, metadataFaults, definitionBlocks, sectionBlocks, definitionsFaults, definitionIn, orNoSection, textFaults, songIn}
 use Rattle.songcode.specs.WrittenSection.{Each, KeyLine}
-use Rattle.songcode.specs.WrittenSong.{SectionBlock, WrittenSong}
+use Rattle.songcode.specs.WrittenSong.{linesOf, SectionBlock, WrittenSong}
 use Rattle.songcode.proofs.ListLaws.{true-is-not-false, nil-is-not-cons, append-is-nil, gather-nil, nil-gather, complainIf-nil}
 use Rattle.songcode.proofs.EachLaws.{each-of, each-holds, each-mapped, each-length, holds-both}
 use Rattle.songcode.proofs.BlockKinds.{Blocks, section-begins, begins-section, metadata-exact}
@@ -124,7 +124,11 @@ module _ {bs : List Block} {s : Song} (w : WrittenSong bs s) where
   unfolding ordered
   definitions-are = definition-blocks ordered
 
-  sections-are : sectionBlocks bs ≡ w .sectionBlocks
+  pub metadata-are : metadataLines bs ≡ linesOf (w .metadata)
+  unfolding ordered
+  metadata-are = metadata-lines ordered
+
+  pub sections-are : sectionBlocks bs ≡ w .sectionBlocks
   unfolding ordered
   sections-are = section-blocks ordered
 

@@ -41,6 +41,11 @@ pub mod Finding
 pub mod Jumps
 -- The words of the tables by their layout.
 pub mod Layout
+-- The flat copy: by the answer's order, by the description, and what is asked of it.
+pub mod Flat
+pub mod WrittenFlat
+pub mod FlatCharts
+pub mod FlatDemands
 -- Last what is promised of all this.
 pub mod Starred
 pub mod Edges

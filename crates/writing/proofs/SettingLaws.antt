@@ -1,5 +1,5 @@
 -- A setting of metadata that stage 2 accepts is short.
-use Prim.Native.Nat.{ℕ, suc, _+_, _-_, _*_, _<_, _≤_}
+use Prim.Native.Nat.{ℕ, _+_, _<_, _≤_}
 use Prim.Native.Char.{code}
 use mathlib.Core.Path.{_≡_, refl, sym, ap, _∙_}
 use mathlib.Core.List.{List, [], _∷_, _++_}
@@ -9,11 +9,11 @@ use mathlib.Core.Option.{Option, none, some}
 use native.Mathlib.Omega.{arith}
 use lib.Dec.{eqb, leb}
 use lib.ListN.{length, length-append}
-use borrow.Author.Tests.{leb-true, eqb-true, eqb-false, not-false, not-true}
+use borrow.Author.Tests.{leb-true, eqb-true, eqb-false, not-false}
 use Rattle.songcode.specs.Lists.{if_then_else_, any, every, gather, taken, left, isSome}
 use Rattle.songcode.specs.Bytes.{Byte, values, ascii, same, is, isByte}
 use Rattle.songcode.specs.Characters.{characters}
-use Rattle.songcode.specs.Numbers.{isDigit, digits, isDecimal, valueFrom, numberIn}
+use Rattle.songcode.specs.Numbers.{isDecimal, valueFrom, numberIn}
 use Rattle.songcode.specs.Chords.{rows, spellings, bases, isBase}
 use Rattle.songcode.specs.Lines.{Line, Block}
 use Rattle.songcode.specs.Complaints.{Complaint, complaint, complainIf}
@@ -22,6 +22,8 @@ use Rattle.songcode.specs.Keys.{isPhrase, bpmIn, timeIn, isSetting, ofMetadata}
 use Rattle.songcode.specs.Sections.{kindOfLine, keyNameOf, settingOf, keyFaultsBy, keyFaults, twice, keySaid}
 use Rattle.songcode.specs.SongText.{blockOrder, metadataLines, metadataFault, metadataFaults, definitionsFaults, definitionBlocks, sectionBlocks, orNoSection, textFaults}
 use Rattle.songcode.specs.Sections.{sectionFaults}
+use Rattle.songcode.proofs.ByteLaws.{length-values}
+use Rattle.songcode.proofs.NumbersAgree.{decimal-short}
 use Rattle.songcode.proofs.ListLaws.{by-cases, true-is-not-false, nil-is-not-cons, both-pass, append-is-nil, complainIf-nil, taken-left}
 use Rattle.settings.proofs.PartLaws.{same-lengths}
 use Rattle.sections.specs.Slots.{slotOf, settingAmong}
@@ -33,36 +35,11 @@ use Rattle.writing.proofs.GoodLaws.{characters-le}
 abbrev Short : List Byte → Type 0
 Short bs = (0 < length bs) × ((length bs < 512) ⊎ (characters bs ≤ 100))
 
-values-length : (bs : List Byte) → length (values bs) ≡ length bs
-unfolding values
-values-length [] = refl
-values-length (b ∷ bs) = ap suc (values-length bs)
-
 same-length : (v w : List ℕ) → same v w ≡ true → length w ≡ length v
 same-length v w e =
     by-cases (eqb (length w) (length v))
     (λ t. eqb-true (length w) (length v) t)
     (λ t. true-is-not-false e (same-lengths v w (eqb-false (length w) (length v) t)))
-
--- Decimals have at most as many digits as they say, or one.
-digits-grow : (v : ℕ) (bs : List Byte) → 1 ≤ v → v + length bs ≤ valueFrom v bs
-unfolding valueFrom
-digits-grow v [] h = omega arith
-digits-grow v (b ∷ bs) h = let i = digits-grow (v * 10 + (b .value - code "0")) bs (omega arith) in omega arith
-
-decimal-short : (bs : List Byte) → isDecimal bs ≡ true → (0 < length bs) × (length bs ≤ 1 + valueFrom 0 bs)
-unfolding isDecimal digits isDigit valueFrom
-decimal-short [] e = true-is-not-false e refl
-decimal-short (b ∷ []) e = (omega arith, omega arith)
-decimal-short (b ∷ c ∷ bs) e =
-    let h = both-pass (not (eqb (b .value) (code "0"))) (digits (b ∷ c ∷ bs)) e in
-    let zero-not : eqb (b .value) (code "0") ≡ false = not-true _ (h .0) in
-    let differ = eqb-false (b .value) (code "0") zero-not in
-    let digit = both-pass (isDigit b) (digits (c ∷ bs)) (h .1) .0 in
-    let low = leb-true (code "0") (b .value) (both-pass (leb (code "0") (b .value)) (leb (b .value) (code "9")) digit .0) in
-    let more : 1 ≤ b .value - code "0" = omega arith in
-    let grow = digits-grow (0 * 10 + (b .value - code "0")) (c ∷ bs) (omega arith) in
-    (omega arith, omega arith)
 
 some-if : {A : Type 0} (t : Bool) (x : A) → isSome (if t then some x else none) ≡ true → t ≡ true
 unfolding isSome if_then_else_
@@ -87,7 +64,7 @@ time-short bs e =
     (λ t.
     let n = number-short 1 32 (taken q bs) (rw t at e) in
     let l = same-length (ascii "/4") (values (left q bs)) t ∙ refl in
-    let m = values-length (left q bs) in
+    let m = length-values (left q bs) in
     let w = ap (λ (x : List Byte). length x) (taken-left q bs) in
     let a = length-append (taken q bs) (left q bs) in
     let f = n .1 in
@@ -112,7 +89,7 @@ among-short (s ∷ ss) w e f =
 base-short : (bs : List Byte) → isBase bs ≡ true → (1 ≤ length bs) × (length bs ≤ 3)
 unfolding isBase
 base-short bs e =
-    let l = values-length bs in
+    let l = length-values bs in
     let h = among-short bases (values bs) bases-short e in
     let a = h .0 in
     let b = h .1 in
