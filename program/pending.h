@@ -1,9 +1,10 @@
-/* The call that the archive does not have yet: the cause of a refusal. */
+/* The cause of a refusal, where the archive does not tell it yet. */
 #ifndef PENDING_H
 #define PENDING_H
 
 #include "turnipcart.h"
 
+#ifndef HAS_EXPLAIN
 struct turnipcart_cause {
     size_t refusal;    /* the verdict, as turnipcart_count gives it */
     size_t line;
@@ -116,5 +117,6 @@ enum turnipcart_cause_kind {
 /* Why the chart of text_length bytes at text is refused, and where. Returns the refusal. Lent for reading: text; for writing: cause, all ten
    numbers of it, whatever they held. */
 size_t turnipcart_explain(const unsigned char *text, size_t text_length, struct turnipcart_cause *cause);
+#endif
 
 #endif

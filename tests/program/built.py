@@ -30,10 +30,10 @@ def texts(tests, _folder):
 
 def sanitized(tests, folder):
     """With the sanitizers the program says the same of every slip; on another processor than x86-64 only undefined behaviour is looked for."""
-    sources = [path for part in ("program", "program/advice", "program/causes") for path in sorted((ROOT / part).glob("*.c"))]
+    words = subprocess.run(["make", "-s", "-C", ROOT, "--no-print-directory", "words"], stdout=subprocess.PIPE, text=True).stdout.split()
     wanted = ["-fsanitize=address,undefined", "-fno-sanitize-recover=all"] if NATIVE else ["-static", "-fsanitize=undefined", "-fsanitize-undefined-trap-on-error"]
-    built = [*COMPILER, *STRICT, "-D_POSIX_C_SOURCE=200809L", *wanted, *sources, f"{ROOT}/build/libturnipcart.a", "-o", f"{folder}/turnipcart"]
-    tests.expect("the sanitized program is built", subprocess.run(built).returncode, 0)
+    built = [*COMPILER, *words, *wanted, "-o", f"{folder}/turnipcart"]
+    tests.expect("the sanitized program is built", subprocess.run(built, cwd=ROOT).returncode, 0)
     emulator = [] if NATIVE else subprocess.run(["bash", "-c", '. "$0"; echo "${emulator[0]}"', ROOT / "tools/machine"], stdout=subprocess.PIPE,
                                                 text=True).stdout.split()
     charts = sorted(ROOT.glob("tests/slips/*/*.sc")) + sorted(ROOT.glob("tests/charts/*.sc"))

@@ -1,5 +1,6 @@
 @name Two meters
 @bpm 90
+@capo 5
 
 Intro!softly
 A7 _;%
