@@ -1,0 +1,2 @@
+-- Laws that the proofs of the finders cite.
+pub mod TokenLaws
