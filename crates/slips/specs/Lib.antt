@@ -1,1 +1,2 @@
 -- What the finders promise.
+pub mod Places

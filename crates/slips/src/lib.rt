@@ -5,6 +5,7 @@ mod faults;
 mod keys;
 mod meters;
 mod patterns;
+mod places;
 mod references;
 mod rows;
 mod scans;
@@ -14,5 +15,8 @@ mod spots;
 mod survey;
 mod texts;
 
+pub use places::Place;
+pub use places::place_at;
 pub use slip::Slip;
+pub use slip::no_slip;
 pub use texts::find_slip;

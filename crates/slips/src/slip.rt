@@ -50,3 +50,8 @@ pub fn counted(x: Slip, first: usize, second: usize, third: usize) -> Slip {
         third,
     }
 }
+
+// No clause and no place.
+pub fn no_slip() -> Slip {
+    at_place(0, 0, 0)
+}
