@@ -1,0 +1,2 @@
+-- The laws that the proof of the call cites.
+pub mod ExplainLaws

@@ -1,0 +1,3 @@
+-- Laws that the proofs of the finders cite.
+pub mod PlaceLaws
+pub mod TokenLaws

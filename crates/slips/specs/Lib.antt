@@ -1,0 +1,2 @@
+-- What the finders promise.
+pub mod Places

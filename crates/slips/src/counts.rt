@@ -1,0 +1,301 @@
+// Slips in counts and lengths: refusals 14 to 17.
+use super::blocks::name_stop;
+use super::meters::parts_at;
+use super::meters::time_of;
+use super::rows::left_of;
+use super::scans::LAYING;
+use super::scans::named_number;
+use super::scans::scan_for;
+use super::scans::scan_pattern;
+use super::scans::scan_plain_line;
+use super::signs::capped;
+use super::signs::minus;
+use super::slip::Slip;
+use super::slip::at_place;
+use super::slip::beside;
+use super::slip::counted;
+use super::spots::Spot;
+use super::survey::Survey;
+use super::survey::block_behind;
+use super::survey::index_of;
+use super::survey::lines_of;
+use super::survey::survey_of;
+use sections::Modifiers;
+use sections::Parts;
+use sections::Place;
+use sections::Run;
+use sections::Said;
+use sections::kind_at;
+use sections::modifiers_of;
+use settings::BlockKind;
+use settings::lyric_words;
+use text::Line;
+use text::is_blank;
+use text::line_at;
+use tokens::Number;
+use tokens::number_in;
+ghost use Prim.Native.Nat.{_+_, _≤_, _<_};
+ghost use lib.ListN.{length};
+
+// The clauses of refusal 15.
+const CUTS_TAKE_ALL: usize = 1;
+
+const MODIFIER_ON_EMPTY: usize = 2;
+
+// The clauses of refusal 16.
+const COUNT_MISSING: usize = 1;
+
+const COUNT_WRONG: usize = 2;
+
+const COUNT_TIGHT: usize = 3;
+
+const COUNT_ALONE: usize = 4;
+
+// The name in a header.
+pub fn header_name(clause: usize, s: &[u8], l: Line) -> Slip
+    requires { ⌜ (l .start ≤ l .stop) × (l .stop ≤ length (now s)) ⌝ }
+{
+    at_place(clause, l.start, name_stop(s, l.start, l.stop))
+}
+
+// Whether a section's pattern is empty: it names a definition without lines.
+fn is_empty(s: &[u8], v: Survey, pattern: Run) -> bool
+    requires { ⌜ (pattern .at ≤ length (now s)) × (length (now s) ≤ 65536) ⌝ }
+{
+    let named = named_number(s, pattern);
+    if named == 0 {
+        return false;
+    }
+    let run = lines_of(s, v, index_of(v, named));
+    run.lines == 0
+}
+
+// Refusal 15.
+pub fn cut_slip(s: &[u8], p: Spot) -> Slip
+    requires { ⌜ (p .line .start ≤ p .line .stop) × (p .line .stop ≤ length (now s)) × (1 ≤ p .block .number) × (p .block .number ≤ p .block .at + 1) × (length (now s) ≤ 65536) ⌝ }
+{
+    let l = p.line;
+    let block = p.block;
+    if s.len() <= block.at {
+        return at_place(0, 0, 0);
+    }
+    let v = survey_of(s);
+    let parts = parts_at(s, block);
+    if is_empty(s, v, parts.pattern) {
+        let late = parts.late;
+        let first = line_at(s, late.number, late.at);
+        return beside(
+            at_place(MODIFIER_ON_EMPTY, first.start, first.stop),
+            block.number,
+        );
+    }
+    header_name(CUTS_TAKE_ALL, s, l)
+}
+
+fn is_count(w: &[u8]) -> bool {
+    match number_in(1, 9999, w) {
+        Number::Is(_) => true,
+        Number::Not => false,
+    }
+}
+
+// Where the last word begins: behind the last blank.
+fn last_word(s: &[u8], a: usize, e: usize) -> usize
+    requires { ⌜ (a ≤ e) × (e ≤ length (now s)) ⌝ }
+    ensures { λ r. ⌜ (a ≤ r) × (r ≤ e) ⌝ }
+{
+    let mut z = e;
+    while a < z {
+        if is_blank(s[z - 1]) {
+            return z;
+        }
+        z -= 1;
+    }
+    z
+}
+
+// Where the last `_` stands, or the end.
+fn last_underscore(s: &[u8], a: usize, e: usize) -> usize
+    requires { ⌜ (a ≤ e) × (e ≤ length (now s)) ⌝ }
+    ensures { λ r. ⌜ (a ≤ r) × (r ≤ e) ⌝ }
+{
+    let mut z = e;
+    while a < z {
+        z -= 1;
+        if s[z] == b'_' {
+            return z;
+        }
+    }
+    e
+}
+
+// Why a lyric line has no count.
+fn bare_line(s: &[u8], a: usize, e: usize) -> Slip
+    requires { ⌜ (a ≤ e) × (e ≤ length (now s)) ⌝ }
+{
+    let k = last_word(s, a, e);
+    let u = last_underscore(s, k, e);
+    if u == e {
+        return at_place(COUNT_MISSING, e, e);
+    }
+    if !is_count(&s[u + 1..e]) {
+        return if s[k] == b'_' {
+            at_place(COUNT_WRONG, k, e)
+        } else {
+            at_place(COUNT_MISSING, e, e)
+        };
+    }
+    if u == a {
+        at_place(COUNT_ALONE, a, e)
+    } else {
+        at_place(COUNT_TIGHT, u, e)
+    }
+}
+
+// The number of the first line with a count, 0 where there is none.
+fn counted_line(s: &[u8], run: Run) -> usize
+    requires { ⌜ (run .number ≤ run .at + 1) × (run .at ≤ length (now s)) ⌝ }
+{
+    let mut n = run.number;
+    let mut at = run.at;
+    let mut left = run.lines;
+    while at < s.len() {
+        if left == 0 {
+            return 0;
+        }
+        let l = line_at(s, n, at);
+        let words = lyric_words(s, l.start, l.stop);
+        if words.count != 0 {
+            return n;
+        }
+        n += 1;
+        at = l.next;
+        left -= 1;
+    }
+    0
+}
+
+// The same among the lines that are taken of the block at a place.
+fn counted_in_block(s: &[u8], v: Survey, p: Place) -> usize
+    requires { ⌜ (1 ≤ p .number) × (p .number ≤ p .at + 1) × (p .at < length (now s)) × (length (now s) ≤ 65536) ⌝ }
+{
+    let parts = parts_at(s, p);
+    match kind_at(s, p.number, p.at) {
+        BlockKind::Metadata => 0,
+        BlockKind::Definition => 0,
+        BlockKind::Section => {
+            if is_empty(s, v, parts.pattern) {
+                0
+            } else {
+                counted_line(s, parts.lyrics)
+            }
+        }
+    }
+}
+
+// The same in the whole song.
+fn counted_in_song(s: &[u8], v: Survey) -> usize
+    requires { ⌜ length (now s) ≤ 65536 ⌝ }
+{
+    let mut p = Place { number: 1, at: 0 };
+    while p.at < s.len() {
+        let n = counted_in_block(s, v, p);
+        if n != 0 {
+            return n;
+        }
+        p = block_behind(s, p);
+    }
+    0
+}
+
+// Refusal 16.
+pub fn count_slip(s: &[u8], l: Line) -> Slip
+    requires { ⌜ (l .start ≤ l .stop) × (l .stop ≤ length (now s)) × (length (now s) ≤ 65536) ⌝ }
+{
+    beside(
+        bare_line(s, l.start, l.stop),
+        counted_in_song(s, survey_of(s)),
+    )
+}
+
+// The sum of the counts of some lyric lines.
+fn sum_of(s: &[u8], run: Run) -> usize {
+    let mut sum = 0;
+    let mut at = run.at;
+    let mut left = run.lines;
+    while at < s.len() {
+        if left == 0 {
+            return sum;
+        }
+        let l = line_at(s, 0, at);
+        let words = lyric_words(s, l.start, l.stop);
+        sum = capped(sum, words.count);
+        at = l.next;
+        left -= 1;
+    }
+    sum
+}
+
+// How many measures a lead-in or tail has.
+fn side_measures(s: &[u8], time: usize, side: Said, row: &mut [u8]) -> usize
+    requires { ⌜ length (now s) ≤ 65536 ⌝ }
+{
+    if side.line == 0 {
+        return 0;
+    }
+    if side.stop < side.start {
+        return 0;
+    }
+    if s.len() < side.stop {
+        return 0;
+    }
+    let x = scan_plain_line(s, scan_for(LAYING, time), side.start, side.stop, row);
+    x.fill
+}
+
+// How many measures a section plays.
+fn measures_played(s: &[u8], v: Survey, parts: Parts, time: usize, m: Modifiers) -> usize
+    requires { ⌜ (parts .pattern .at ≤ length (now s)) × (length (now s) ≤ 65536) ⌝ }
+{
+    let mut row = [0u8; 65536];
+    let lead = side_measures(s, time, m.before, &mut row);
+    let tail = side_measures(s, time, m.after, &mut row);
+    let x = scan_pattern(s, v, scan_for(LAYING, time), parts.pattern, &mut row);
+    let front = m.front;
+    let back = m.back;
+    let own = left_of(&row, x.fill, m.repeat, front, back);
+    capped(lead, capped(own, tail))
+}
+
+// The same from the section's parts.
+fn played_in(s: &[u8], v: Survey, parts: Parts) -> usize
+    requires { ⌜ (1 ≤ parts .early .number) × (parts .early .number ≤ parts .early .at + 1) × (parts .early .at ≤ length (now s)) ⌝ }
+    requires { ⌜ (1 ≤ parts .late .number) × (parts .late .number ≤ parts .late .at + 1) × (parts .late .at ≤ length (now s)) ⌝ }
+    requires { ⌜ (parts .pattern .at ≤ length (now s)) × (length (now s) ≤ 65536) ⌝ }
+{
+    let late = parts.late;
+    let time = time_of(s, v, parts.early);
+    measures_played(s, v, parts, time, modifiers_of(s, late))
+}
+
+// Refusal 17.
+pub fn sum_slip(s: &[u8], p: Spot) -> Slip
+    requires { ⌜ (p .line .start ≤ p .line .stop) × (p .line .stop ≤ length (now s)) × (1 ≤ p .block .number) × (p .block .number ≤ p .block .at + 1) × (length (now s) ≤ 65536) ⌝ }
+{
+    let l = p.line;
+    let block = p.block;
+    if s.len() <= block.at {
+        return at_place(0, 0, 0);
+    }
+    let name = header_name(1, s, l);
+    let v = survey_of(s);
+    let parts = parts_at(s, block);
+    let lyrics = parts.lyrics;
+    let last = minus(capped(lyrics.number, lyrics.lines), 1);
+    counted(
+        beside(name, last),
+        sum_of(s, lyrics),
+        played_in(s, v, parts),
+        0,
+    )
+}

@@ -1,0 +1,189 @@
+// Which clause of refusal 7 holds where a pattern text stops being right.
+use super::signs::CLOSES;
+use super::signs::COLON;
+use super::signs::OPENS;
+use super::signs::REFERENCE;
+use super::signs::REMOVER;
+use super::signs::SEMICOLON;
+use super::signs::WRONG;
+use super::signs::is_sound;
+use grammar::Check;
+use grammar::Place;
+use tokens::longest_base;
+ghost use Prim.Native.Nat.{_+_, _≤_, _<_};
+ghost use lib.ListN.{length};
+
+pub const NO_CHORD: usize = 1;
+
+pub const EXTENSION_LONG: usize = 2;
+
+pub const REFERENCE_MALFORMED: usize = 3;
+
+pub const SEPARATOR_FIRST: usize = 4;
+
+pub const SEPARATOR_DOUBLED: usize = 5;
+
+pub const SEPARATOR_LAST: usize = 6;
+
+pub const SEPARATOR_LINE_END: usize = 7;
+
+pub const SEPARATOR_LINE_START: usize = 8;
+
+pub const REMOVER_FIRST: usize = 9;
+
+pub const REMOVER_INSIDE: usize = 10;
+
+pub const LOOP_EMPTY: usize = 11;
+
+pub const LOOP_COUNT_MISSING: usize = 12;
+
+pub const LOOP_COUNT_WRONG: usize = 13;
+
+pub const LOOP_IN_LOOP: usize = 14;
+
+pub const LOOP_OPEN: usize = 15;
+
+pub const LOOP_NOT_OPEN: usize = 16;
+
+pub const LOOP_LINE_END: usize = 17;
+
+pub const NOT_PARTED: usize = 18;
+
+pub const REFERENCE_NOT_HERE: usize = 19;
+
+pub const COLON_NOT_HERE: usize = 20;
+
+pub const SIDE_EMPTY: usize = 21;
+
+// The places of the grammar as numbers: an item is to come at the first four.
+const FRESH: usize = 0;
+
+const ENDED: usize = 3;
+
+const REMOVED: usize = 5;
+
+const ALONE: usize = 6;
+
+fn place_number(p: Place) -> usize {
+    match p {
+        Place::Fresh => FRESH,
+        Place::Wants => 1,
+        Place::Joins => 2,
+        Place::Ended => ENDED,
+        Place::Sounds => 4,
+        Place::Removed => REMOVED,
+        Place::Alone => ALONE,
+        Place::Full => 7,
+        Place::Bad => 8,
+    }
+}
+
+// Whether an item is to come.
+fn wants(place: usize) -> bool {
+    place <= ENDED
+}
+
+// Whether a `$n` is all that was read.
+pub fn stands_alone(c: Check) -> bool {
+    let place = c.place;
+    place_number(place) == ALONE
+}
+
+// A word that is no token.
+fn wrong_clause(w: &[u8]) -> usize {
+    if w.len() == 0 {
+        return NO_CHORD;
+    }
+    if w[0] == b'$' {
+        return REFERENCE_MALFORMED;
+    }
+    if w[0] != b']' {
+        let base = longest_base(w);
+        return if base.length == 0 {
+            NO_CHORD
+        } else {
+            EXTENSION_LONG
+        };
+    }
+    if w.len() == 1 {
+        LOOP_COUNT_MISSING
+    } else {
+        LOOP_COUNT_WRONG
+    }
+}
+
+// A `;` or `:`; the sign of the token before it.
+fn separator_clause(place: usize, last: u32) -> usize {
+    if place == FRESH || last == OPENS {
+        return SEPARATOR_FIRST;
+    }
+    if place == ENDED {
+        SEPARATOR_LINE_START
+    } else {
+        SEPARATOR_DOUBLED
+    }
+}
+
+// A `]` with its count.
+fn closing_clause(place: usize, last: u32, loops: usize) -> usize {
+    if loops == 0 {
+        return LOOP_NOT_OPEN;
+    }
+    if last == OPENS {
+        return LOOP_EMPTY;
+    }
+    if place == ENDED {
+        LOOP_LINE_END
+    } else {
+        SEPARATOR_LAST
+    }
+}
+
+// A token behind a text that was right so far.
+pub fn token_clause(c: Check, last: u32, sign: u32, w: &[u8]) -> usize {
+    let at = c.place;
+    let place = place_number(at);
+    if sign == WRONG {
+        return wrong_clause(w);
+    }
+    if sign == SEMICOLON || sign == COLON {
+        return separator_clause(place, last);
+    }
+    if sign == CLOSES {
+        return closing_clause(place, last, c.loops);
+    }
+    if sign == OPENS && wants(place) {
+        return LOOP_IN_LOOP;
+    }
+    if sign == REMOVER && wants(place) {
+        return REMOVER_FIRST;
+    }
+    if is_sound(sign) && place == REMOVED {
+        REMOVER_INSIDE
+    } else {
+        NOT_PARTED
+    }
+}
+
+// A line end behind it.
+pub fn line_end_clause(last: u32) -> usize {
+    if last == OPENS {
+        LOOP_LINE_END
+    } else {
+        SEPARATOR_LINE_END
+    }
+}
+
+// The end of the text behind it.
+pub fn end_clause(c: Check) -> usize {
+    let at = c.place;
+    let place = place_number(at);
+    if place == FRESH {
+        return SIDE_EMPTY;
+    }
+    if wants(place) {
+        SEPARATOR_LAST
+    } else {
+        LOOP_OPEN
+    }
+}

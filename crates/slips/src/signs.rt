@@ -1,0 +1,91 @@
+// What a token's word begins with, and where the tokens of a line begin.
+use text::front_blanks;
+use tokens::Lexed;
+use tokens::next_token;
+ghost use mathlib.Core.Path.{_≡_};
+ghost use Prim.Native.Nat.{_≤_};
+ghost use lib.ListN.{length};
+
+// Smaller ones are chords.
+pub const CHORDS: u32 = 34;
+
+pub const WRONG: u32 = 54;
+
+pub const REFERENCE: u32 = 55;
+
+pub const CLOSES: u32 = 56;
+
+pub const OPENS: u32 = 57;
+
+pub const COLON: u32 = 59;
+
+pub const SEMICOLON: u32 = 60;
+
+pub const REMOVER: u32 = 61;
+
+pub const AGAIN: u32 = 62;
+
+// What a sign weighs in a word.
+const SIGN: u32 = 67108864;
+
+pub fn sign_of(word: u32) -> u32 {
+    word / SIGN
+}
+
+// The number of a reference, the count of a loop.
+pub fn number_of(word: u32) -> usize {
+    (word % SIGN) as usize
+}
+
+// A chord, `%` or `_`.
+pub fn is_sound(sign: u32) -> bool {
+    sign < CHORDS || REMOVER < sign
+}
+
+// A token: its word, the place of its first byte, and the place behind its last.
+pub struct Token {
+    pub word: u32,
+    pub from: usize,
+    pub next: usize,
+}
+
+// The first token from a place on; where there is none, it ends where the search began.
+pub fn token_from(s: &[u8], at: usize, to: usize) -> Token
+    requires { ⌜ (at ≤ to) × (to ≤ length (now s)) × (to ≤ 65536) ⌝ }
+    ensures { λ r. ⌜ (at ≤ r .next) × (r .next ≤ to) × (r .from ≤ r .next) ⌝ }
+{
+    match next_token(s, at, to) {
+        Lexed::Token(word, next) => Token {
+            word,
+            from: at + front_blanks(&s[at..next]),
+            next,
+        },
+        Lexed::End => Token {
+            word: 0,
+            from: at,
+            next: at,
+        },
+    }
+}
+
+// A sum that stays below 2^32.
+pub fn capped(a: usize, b: usize) -> usize {
+    if 2147483647 < a {
+        return 4294967295;
+    }
+    if 2147483647 < b {
+        return 4294967295;
+    }
+    a + b
+}
+
+// A difference, 0 where it would be less.
+pub fn minus(a: usize, b: usize) -> usize {
+    if b <= a { a - b } else { 0 }
+}
+
+pub fn wide(b: u8) -> usize
+    ensures { λ r. ⌜ r ≡ b ⌝ }
+{
+    b as usize
+}

@@ -1,0 +1,57 @@
+// What is to change, and what a sentence about it needs.
+
+// The number of the refusal's clause; the places of the first byte that is to change and behind the last; one more line worth showing, or 0;
+// three numbers, 0 where the clause has none.
+pub struct Slip {
+    pub clause: usize,
+    pub from: usize,
+    pub to: usize,
+    pub other: usize,
+    pub first: usize,
+    pub second: usize,
+    pub third: usize,
+}
+
+// A clause and its place.
+pub fn at_place(clause: usize, from: usize, to: usize) -> Slip {
+    Slip {
+        clause,
+        from,
+        to,
+        other: 0,
+        first: 0,
+        second: 0,
+        third: 0,
+    }
+}
+
+// The same with one more line.
+pub fn beside(x: Slip, other: usize) -> Slip {
+    Slip {
+        clause: x.clause,
+        from: x.from,
+        to: x.to,
+        other,
+        first: x.first,
+        second: x.second,
+        third: x.third,
+    }
+}
+
+// The same with its numbers.
+pub fn counted(x: Slip, first: usize, second: usize, third: usize) -> Slip {
+    Slip {
+        clause: x.clause,
+        from: x.from,
+        to: x.to,
+        other: x.other,
+        first,
+        second,
+        third,
+    }
+}
+
+// No clause and no place.
+pub fn no_slip() -> Slip {
+    at_place(0, 0, 0)
+}

@@ -1,0 +1,62 @@
+// The slip behind a refusal.
+use super::blocks::head_slip;
+use super::blocks::line_slip;
+use super::blocks::order_slip;
+use super::counts::count_slip;
+use super::counts::cut_slip;
+use super::counts::header_name;
+use super::counts::sum_slip;
+use super::keys::key_slip;
+use super::keys::setting_slip;
+use super::meters::meter_slip;
+use super::patterns::pattern_slip;
+use super::references::reference_slip;
+use super::signs::wide;
+use super::slip::Slip;
+use super::slip::at_place;
+use super::slip::counted;
+use super::spots::spot_of;
+use text::good_bytes;
+ghost use Prim.Native.Nat.{_≤_};
+ghost use lib.ListN.{length};
+
+// The clauses of refusal 2.
+const ZERO_BYTE: usize = 1;
+
+const NO_CHARACTER: usize = 2;
+
+// Refusal 2.
+fn byte_slip(s: &[u8]) -> Slip {
+    let at = good_bytes(s);
+    if s.len() <= at {
+        return at_place(0, 0, 0);
+    }
+    let clause = if s[at] == 0 { ZERO_BYTE } else { NO_CHARACTER };
+    counted(at_place(clause, at, at + 1), wide(s[at]), 0, 0)
+}
+
+// The slip of a text that is refused with this number and line.
+pub fn find_slip(s: &[u8], refusal: usize, line: usize) -> Slip
+    requires { ⌜ length (now s) ≤ 65536 ⌝ }
+{
+    let p = spot_of(s, line);
+    let l = p.line;
+    match refusal {
+        2 => byte_slip(s),
+        3 => order_slip(s, l),
+        4 => key_slip(s, p),
+        5 => setting_slip(s, l),
+        6 => head_slip(s, l),
+        7 => pattern_slip(s, p),
+        8 => line_slip(s, p),
+        10 => reference_slip(s, p, refusal),
+        11 => reference_slip(s, p, refusal),
+        12 => meter_slip(s, p, refusal),
+        13 => meter_slip(s, p, refusal),
+        14 => header_name(1, s, l),
+        15 => cut_slip(s, p),
+        16 => count_slip(s, l),
+        17 => sum_slip(s, p),
+        _ => at_place(1, 0, 0),
+    }
+}
