@@ -1,2 +1,3 @@
 -- That no second outcome meets what an exported call promises.
 pub mod Outcomes
+pub mod CauseLaws

@@ -5,6 +5,8 @@ use mathlib.Core.List.{List}
 use lib.ListN.{getD}
 use Rattle.reader.specs.declared.answers.Answer.{Answer}
 use Rattle.reader.specs.Answers.{Lent, Promised, Counted}
+use Rattle.explain.specs.declared.Explained.{Explained}
+use Rattle.explain.specs.Explained.{Explains}
 use Rattle.seek.specs.declared.Found.{Found}
 
 -- Refusal, line, and the counts of sections, measures, beats and items.
@@ -25,3 +27,22 @@ pub record ReadsChart (text : List ℕ) (before : Lent) (refusal : ℕ) (answer 
 pub record CountsChart (text : List ℕ) (refusal : ℕ) (answer : List ℕ) : Type 0 where
   pub given : refusal ≡ answerIn answer .refusal
   pub counted : Counted text (answerIn answer)
+
+-- Refusal, line and cause; the line, the first byte and the length of the place; one more line; three numbers.
+unfoldable pub explainedIn : List ℕ → Explained
+explainedIn xs =
+    record {
+      refusal = getD xs 0 0;
+      line = getD xs 1 0;
+      cause = getD xs 2 0;
+      place = record { line = getD xs 3 0; offset = getD xs 4 0; length = getD xs 5 0 };
+      other = getD xs 6 0;
+      first = getD xs 7 0;
+      second = getD xs 8 0;
+      third = getD xs 9 0;
+    }
+
+-- A chart explained.
+pub record ExplainsChart (text : List ℕ) (refusal : ℕ) (cause : List ℕ) : Type 0 where
+  pub told : refusal ≡ explainedIn cause .refusal
+  pub explained : Explains text (explainedIn cause)
