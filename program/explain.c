@@ -32,6 +32,17 @@ static bool is_entry(const char *line, const char *number)
     return before > 0 && strncmp(line + before, number, length) == 0 && line[before + length] == ':';
 }
 
+/* Without the stars that show it in bold letters. */
+static void put_heading(const char *line)
+{
+    const char *stars = strstr(line, "**");
+    if (stars != NULL) {
+        put_bytes(line, (size_t)(stars - line));
+        line = stars + 2;
+    }
+    put(line);
+}
+
 /* Prints the lines of an entry from its first on, but not the blank ones at its end. */
 static void put_entry(size_t place)
 {
@@ -41,7 +52,7 @@ static void put_entry(size_t place)
     while (lines[end - 1][0] == '\0')
         end--;
     put("Refusal ");
-    put(lines[place] + begins_entry(lines[place]));
+    put_heading(lines[place] + begins_entry(lines[place]));
     put("\n");
     for (place++; place < end; place++) {
         put(lines[place]);
