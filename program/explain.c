@@ -11,11 +11,53 @@ static const char *const lines[] = {
 
 enum { COUNT = sizeof lines / sizeof lines[0], LARGEST = 999 };
 
-/* The line is the heading of this refusal: `## 7: ...`. */
-static bool is_heading(const char *line, const char *number)
+/* Where an entry begins: `## 7: ...`, or `**21: ...` for calls that read no chart. Bytes before its number, 0 where the line begins none. */
+static size_t begins_entry(const char *line)
 {
+    if (strncmp(line, "## ", 3) == 0)
+        return 3;
+    return strncmp(line, "**", 2) == 0 && line[2] >= '0' && line[2] <= '9' ? 2 : 0;
+}
+
+/* Where an entry ends: another one, or a new part of the document. */
+static bool ends_entry(const char *line)
+{
+    return begins_entry(line) > 0 || strncmp(line, "# ", 2) == 0;
+}
+
+static bool is_entry(const char *line, const char *number)
+{
+    size_t before = begins_entry(line);
     size_t length = strlen(number);
-    return strncmp(line, "## ", 3) == 0 && strncmp(line + 3, number, length) == 0 && line[3 + length] == ':';
+    return before > 0 && strncmp(line + before, number, length) == 0 && line[before + length] == ':';
+}
+
+/* Without the stars that show it in bold letters. */
+static void put_heading(const char *line)
+{
+    const char *stars = strstr(line, "**");
+    if (stars != NULL) {
+        put_bytes(line, (size_t)(stars - line));
+        line = stars + 2;
+    }
+    put(line);
+}
+
+/* Prints the lines of an entry from its first on, but not the blank ones at its end. */
+static void put_entry(size_t place)
+{
+    size_t end = place + 1;
+    while (end < COUNT && !ends_entry(lines[end]))
+        end++;
+    while (lines[end - 1][0] == '\0')
+        end--;
+    put("Refusal ");
+    put_heading(lines[place] + begins_entry(lines[place]));
+    put("\n");
+    for (place++; place < end; place++) {
+        put(lines[place]);
+        put("\n");
+    }
 }
 
 static enum status run(const struct words *words)
@@ -25,21 +67,13 @@ static enum status run(const struct words *words)
     size_t place = 0;
     if (!read_decimal(number, LARGEST, &value))
         return misuse("this is no refusal's number", number);
-    while (place < COUNT && !is_heading(lines[place], number))
+    while (place < COUNT && !is_entry(lines[place], number))
         place++;
     if (place == COUNT) {
         complain("there is no refusal with the number", number);
         return STATUS_REFUSED;
     }
-    put("Refusal ");
-    put(lines[place] + 3);
-    put("\n");
-    for (place++; place < COUNT && strncmp(lines[place], "## ", 3) != 0; place++) {
-        if (lines[place][0] == '\0' && (place + 1 == COUNT || strncmp(lines[place + 1], "## ", 3) == 0))
-            break;
-        put(lines[place]);
-        put("\n");
-    }
+    put_entry(place);
     return STATUS_FINE;
 }
 

@@ -32,6 +32,9 @@ static void advise_mark(struct page *page)
     point_at(page, (struct stretch){0, 3});
 }
 
+/* A cause is so many times its refusal, and the clause's number; 0 where none was found. */
+enum { CLAUSES = 100 };
+
 /* Where no more than the refusal is known. */
 static void advise_plainly(struct page *page)
 {
@@ -69,7 +72,7 @@ void advise(struct text text, const struct turnipcart_cause *cause, char *room, 
         advise_mark(&page);
     else if (begins_with_dashes(&page))
         advise_dashes_as_name(&page);
-    else if (cause->cause == TURNIPCART_CAUSE_NONE)
+    else if (cause->cause % CLAUSES == 0)
         advise_plainly(&page);
     else
         advise_by_refusal(&page);

@@ -37,10 +37,12 @@ def grids(tests, _folder):
 
 def entries(tests, _folder):
     """`explain` prints each entry of the document, and only those."""
-    parts = re.split(r"^## ", (ROOT / "docs/REFUSALS.md").read_text(), flags=re.M)[1:]
-    for number, part in enumerate(parts, 1):
-        tests.expect(f"explain {number}", run("explain", str(number)), (FINE, ("Refusal " + part.rstrip() + "\n").encode(), b""))
-    tests.expect("entries are there", len(parts) >= LAST_REFUSAL, True)
+    parts = re.split(r"^(?:## |\*\*(?=\d)|# (.*))", (ROOT / "docs/REFUSALS.md").read_text(), flags=re.M)
+    found = [part for part in parts if part and re.match(r"\d+: ", part)]
+    for part in found:
+        number = part.split(":")[0]
+        tests.expect(f"explain {number}", run("explain", number), (FINE, ("Refusal " + part.rstrip().replace("**", "", 1) + "\n").encode(), b""))
+    tests.expect("entries are there", [int(part.split(":")[0]) for part in found][:LAST_REFUSAL], list(range(1, LAST_REFUSAL + 1)))
     tests.expect("explain 999", status("explain", "999"), REFUSAL)
 
 
