@@ -1,10 +1,10 @@
 -- The numbers and the spellings of base chords are each other's.
 use Prim.Native.Nat.{ℕ, zero, suc, _+_, _<_}
 use native.Mathlib.Omega.{arith}
-use mathlib.Core.Path.{_≡_, refl, ap, sym, _∙_}
+use mathlib.Core.Path.{_≡_, refl, ap, _∙_}
 use mathlib.Core.List.{List, [], _∷_}
 use mathlib.Core.Bool.{Bool, true, false, not}
-use mathlib.Core.Option.{Option, none, some}
+use mathlib.Core.Option.{some}
 use borrow.Author.Tests.{not-true}
 use lib.ListN.{length, getD}
 use Rattle.songcode.specs.Lists.{if_then_else_, any}

@@ -1,6 +1,6 @@
 -- The song alone and then the room for its tables: how the answer without tables stands to the answer with them.
 use Prim.Native.Nat.{ℕ}
-use mathlib.Core.Path.{_≡_, refl, ap, sym, subst, _∙_}
+use mathlib.Core.Path.{_≡_, refl, ap, sym, _∙_}
 use mathlib.Core.Logic.{_↔_}
 use mathlib.Core.List.{List, [], _∷_}
 use mathlib.Core.Bool.{Bool, true, false, _||_}
@@ -11,7 +11,7 @@ use lib.ListN.{length}
 use Rattle.songcode.specs.Lists.{when}
 use Rattle.songcode.specs.Complaints.{Complaint, complaint, complainIf, earlier, earliest, stageOr, verdict}
 use Rattle.songcode.specs.Tables.{Tables, tables}
-use Rattle.songcode.specs.Answer.{Room, songOf, roomFaults, songStages, stages, Answer, refused, accepted, answerBy, answer, songAnswer}
+use Rattle.songcode.specs.Answer.{Room, songOf, roomFaults, songStages, stages, refused, accepted, answerBy, answer, songAnswer}
 use Rattle.songcode.specs.Given.{Given}
 use Rattle.songcode.specs.Described.{HasRoom}
 use Rattle.songcode.proofs.VerdictAgree.{verdict-given, given-verdict, verdict-append, last-stage}

@@ -52,16 +52,18 @@ fn longest_in(row: usize, w: &[u8]) -> Base
     requires { ⌜ row < 7 ⌝ }
     ensures { λ r. ⌜ r ≡ baseOf (longestFrom (firstOf row) (rowOf row) (now (w .entry)) none) ⌝ }
 {
+    let names = ROWS[row];
+    let first = FIRSTS[row];
     let mut best = Base {
         number: 0,
         length: 0,
     };
     let mut j = 0;
     while j < 6 {
-        let l = fit(ROWS[row][j], w);
+        let l = fit(names[j], w);
         if best.length < l {
             best = Base {
-                number: FIRSTS[row] + j,
+                number: first + j,
                 length: l,
             };
         }

@@ -22,70 +22,32 @@ use Rattle.tokens.proofs.bases.longest_in.Lts as lts
 use Rattle.tokens.proofs.bases.fit.Reads as fit-reads
 
 abbrev Inv-loop : tie.InvT-loop
-Inv-loop row w best₀ j₀ best j = (j ≤ 6) × ((o : Option songcode.Base) × (best ≡ baseOf o) × (found row j w o ≡ longestFrom (firstOf row) (rowOf row) w none))
+Inv-loop row w names first best₀ j₀ best j = (j ≤ 6) × ((o : Option songcode.Base) × (best ≡ baseOf o) × (found row j w o ≡ longestFrom (firstOf row) (rowOf row) w none))
 
 abbrev μ-loop : tie.MeasureT-loop
-μ-loop row w best₀ j₀ best j = 6 - j
+μ-loop row w names first best₀ j₀ best j = 6 - j
 
--- src/bases.rt:54:5
 loop-holds : tie.Need-loop-holds Inv-loop μ-loop
 unfolding baseOf
 loop-holds c = (omega arith, (none, refl, rw add-zero))
 
--- src/bases.rt:55:21
-mul-fit : tie.Need-mul-fit Inv-loop μ-loop
-mul-fit c = search needs
-
--- src/bases.rt:55:21
-mul-fit-2 : tie.Need-mul-fit-2 Inv-loop μ-loop
-mul-fit-2 c = search needs
-
--- src/bases.rt:55:21
-index-1-fit : tie.Need-index-1-fit Inv-loop μ-loop
-index-1-fit c = search needs
-
--- src/bases.rt:55:21
-index-2-fit : tie.Need-index-2-fit Inv-loop μ-loop
-index-2-fit c = search needs
-
--- src/bases.rt:55:13
-fit-requires : tie.Need-fit-requires Inv-loop μ-loop
-fit-requires c κs = search needs
-
--- src/bases.rt:57:35
-mul-t65 : tie.Need-mul-t65 Inv-loop μ-loop
-mul-t65 c = search needs
-
--- src/bases.rt:57:35
-array-read-t68 : tie.Need-array-read-t68 Inv-loop μ-loop
-array-read-t68 c = search needs
-
--- src/bases.rt:57:35
-add-t69 : tie.Need-add-t69 Inv-loop μ-loop
+add-t71 : tie.Need-add-t71 Inv-loop μ-loop
 unfolding firstOf
-add-t69 c =
-    omega (arith, first-fits (c .before .before .before .before .before .before .before .args .row) (omega arith))
-
--- src/bases.rt:59:9
-add-j : tie.Need-add-j Inv-loop μ-loop
-add-j c = search needs
-
--- src/bases.rt:54:5
-loop-less : tie.Need-loop-less Inv-loop μ-loop
-loop-less c = search needs
+add-t71 c =
+    omega (arith, first-fits (c .before .before .before .before .before .before .before .before .args .row) (omega arith))
 
 -- The best after a turn.
 best-next : (c : tie.Joined1 Inv-loop μ-loop)
     → c .if1 .best
     ≡ better
-    (firstOf (c .before .before .before .before .before .before .before .args .row) + c .before .before .before .before .before .loop .j)
-    (fitted 0 (getD (rowOf (c .before .before .before .before .before .before .before .args .row)) (c .before .before .before .before .before .loop .j) []) (c .before .before .before .before .before .before .before .args .w .now))
+    (firstOf (c .before .before .before .before .before .before .before .before .args .row) + c .before .before .before .before .before .loop .j)
+    (fitted 0 (getD (rowOf (c .before .before .before .before .before .before .before .before .args .row)) (c .before .before .before .before .before .loop .j) []) (c .before .before .before .before .before .before .before .before .args .w .now))
     (baseOf (c .before .before .before .before .before .loop .inv .1 .0))
 unfolding better if_then_else_ firstOf rows spellings ascii
 best-next c =
     let q = c .before .before .before .before .before in
-    let r = q .before .before .args .row in
-    let w = q .before .before .args .w .now in
+    let r = q .before .before .before .args .row in
+    let w = q .before .before .before .args .w .now in
     let l = c .before .before .fit .ensures ∙ ap (λ s. fitted 0 s w) (table-at r (q .loop .j) (omega arith) (omega arith)) in
     let b : c .if1 .best ≡ better (firstOf r + q .loop .j) (c .before .before .fit .result) (q .loop .best) = ⊎-elim (λ v. simp (lt-ltb _ _ (v .0 .taken)) (v .1)) (λ v. simp (le-ltb _ _ (v .0 .left)) (v .1)) (c .if1 .came) in
     b ∙ ap (λ l. better (firstOf r + q .loop .j) l (q .loop .best)) l ∙ ap (better (firstOf r + q .loop .j) _) (q .loop .inv .1 .1)
@@ -93,36 +55,21 @@ best-next c =
 loop-again : tie.Need-loop-again Inv-loop μ-loop
 loop-again c =
     let q = c .before .before .before .before .before in
-    let r = q .before .before .args .row in
-    let w = q .before .before .args .w .now in
+    let r = q .before .before .before .args .row in
+    let w = q .before .before .before .args .w .now in
     let m = found-more r (q .loop .j) w (q .loop .inv .1 .0) (omega arith) (c .before .before .before .before .loop-test .taken) in
     (omega arith, (m .0, best-next c ∙ m .1, m .2 ∙ q .loop .inv .1 .2))
 
--- src/bases.rt:48:1
 returns : tie.Need-returns Inv-loop μ-loop
 returns c =
     let q = c .before in
-    let r = q .before .before .args .row in
-    let w = q .before .before .args .w .now in
+    let r = q .before .before .before .args .row in
+    let w = q .before .before .before .args .w .now in
     let e = found-all r (q .loop .j) w (q .loop .inv .1 .0) (omega arith) (omega arith) in
     q .loop .inv .1 .1 ∙ ap baseOf (sym e ∙ q .loop .inv .1 .2)
 
 pub longest-in-spec : {M : Type 1} → statement M
 longest-in-spec =
     tie.close
-    (tie.spec
-    Inv-loop
-    μ-loop
-    loop-holds
-    mul-fit
-    mul-fit-2
-    index-1-fit
-    index-2-fit
-    fit-requires
-    mul-t65
-    array-read-t68
-    add-t69
-    add-j
-    loop-less
-    loop-again
-    returns)
+    (tie.spec Inv-loop μ-loop (λ c. search needs) (λ c. search needs) (λ c. search needs) (λ c. search needs) loop-holds (λ c. search needs)
+    (λ c. search needs) (λ c κs. search needs) add-t71 (λ c. search needs) (λ c. search needs) loop-again returns)
