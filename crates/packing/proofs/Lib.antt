@@ -1,3 +1,4 @@
 -- Laws on words and their fields.
 pub mod Bits
 pub mod RoundTrips
+pub mod WrittenLaws
