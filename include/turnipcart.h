@@ -63,7 +63,9 @@ enum turnipcart_refusal {
     TURNIPCART_TABLE_TOO_SHORT = 18,     /* stage 8: the keys table under 8 words, or another table too short; line 0 */
     TURNIPCART_BEAT_NOT_FOUND = 19,      /* second call: no record that holds the beat was found, or over 65,535 records were lent */
     TURNIPCART_MOVE = 21,                /* turnipcart_concert: a move below -11 or above 20 */
-    TURNIPCART_BEAT_WORD = 22            /* turnipcart_concert: a word with base 34 to 62 or a set spare bit */
+    TURNIPCART_BEAT_WORD = 22,           /* turnipcart_concert: a word with base 34 to 62 or a set spare bit */
+    TURNIPCART_NOT_JOINED = 25,          /* turnipcart_cues: tables that don't join up */
+    TURNIPCART_NOT_TIMED = 26            /* turnipcart_cues: a section with measures whose bpm is 0 or above 400 */
 };
 
 /* Lengths, in words, of tables that no song is too long for. A section takes at least five bytes of the text (the last one three),
@@ -123,6 +125,20 @@ struct turnipcart_found {
    In a table whose records have a beat or more and each start where the last ended, as those of a song do, the one record that holds
    the beat is found if there is one. In other tables the halving decides which of several is found, and may miss them all. */
 size_t turnipcart_find(const uint32_t *measures, size_t measures_length, uint32_t beat, struct turnipcart_found *found);
+
+/* The start of each measure in microseconds, for lights: the sum of all beats before it, each 60,000,000 / bpm of its section, rounded
+   down. Returns the refusal.
+   Lent for reading: sections and measures, any tables of any lengths; lend a song's tables cut to its counts. Lent for writing: cues
+   and end.
+   - Accepted (0): the first measures_length words of cues are the starts, every word behind keeps what it held, and *end is the
+     song's end.
+   - 25: the tables don't join up: sections that don't cover the measures in order without gap, a measure of 0 or more than 32 beats,
+     or one that doesn't start where the last ended, the first at 0.
+   - 26: a section with measures has a bpm of 0 or above 400 (TURNIPCART_NO_BPM too).
+   - 18: cues is shorter than measures.
+   Where refused, no word of cues changes and *end is 0. */
+size_t turnipcart_cues(const uint64_t *sections, size_t sections_length, const uint32_t *measures, size_t measures_length,
+                       uint64_t *cues, size_t cues_length, uint64_t *end);
 
 /* Writes a beats table at concert pitch into a second one: every base is moved by so many semitones, -11 to 20 with the song's capo
    added by the caller, and always becomes the sharp name (C# and not Db), by a move of 0 too; major stays major and minor minor.

@@ -2,3 +2,4 @@
 pub mod Bits
 pub mod RoundTrips
 pub mod ReadBackProved
+pub mod WrittenLaws

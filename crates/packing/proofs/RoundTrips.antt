@@ -7,7 +7,7 @@ use native.Mathlib.Omega.{arith}
 use lib.ListN.{length}
 use Rattle.songcode.specs.Chords.{Chord}
 use Rattle.songcode.specs.Lyrics.{Prompt}
-use Rattle.songcode.specs.Joined.{firstBeat, beatCount}
+use Rattle.songcode.specs.Joined.{firstBeat, beatCount, firstMeasure, measureCount, sectionBpm}
 use Rattle.songcode.specs.Tables.{offset, sectionWord, measureWord, beatBy, itemWord}
 use Rattle.packing.specs.declared.fields.SectionFields.{SectionFields}
 use Rattle.packing.specs.declared.fields.MeasureFields.{MeasureFields}
@@ -78,6 +78,11 @@ measure-read first beats h =
     one-measure
     h
     (record { packed = omega arith; spare = omega arith; first-fits = first; beats-fits = beats })
+
+-- The fields that a section's word holds are those that the definitions take out of it.
+pub section-fields : {word : ℕ} {s : SectionFields} → HoldsSection word s → (s .first ≡ firstMeasure word) × (s .measures ≡ measureCount word) × (s .tempo ≡ sectionBpm word)
+unfolding sectionWord firstMeasure measureCount sectionBpm
+section-fields h = (omega arith, omega arith, omega arith)
 
 -- The fields that a measure's word holds are those that the definitions take out of it.
 pub measure-fields : {word : ℕ} {m : MeasureFields} → HoldsMeasure word m → (m .first ≡ firstBeat word) × (m .beats ≡ beatCount word)

@@ -25,7 +25,7 @@ use Rattle.judging.specs.Sums.{Holds}
 use Rattle.judging.specs.Charts.{Clear, Roomy}
 use Rattle.judging.specs.declared.sums.Totals.{Totals}
 use Rattle.reader.specs.declared.answers.Answer.{Answer}
-use Rattle.writing.specs.Written.{written}
+use Rattle.packing.specs.Written.{written}
 use Rattle.reader.specs.Answers.{answerOf, Lent, roomOf, stored, Promised, Counted}
 use Rattle.reader.specs.Room.{isShort}
 use Rattle.judging.specs.Stages.{lyricFaults, playingFaults, laterFaults}

@@ -5,7 +5,7 @@ use mathlib.Core.List.{List}
 use lib.ListN.{length}
 use Rattle.songcode.specs.Answer as songcode
 use Rattle.songcode.specs.Answer.{refused, accepted}
-use Rattle.writing.specs.Written.{written}
+use Rattle.packing.specs.Written.{written}
 use Rattle.reader.specs.declared.answers.Answer.{Answer}
 
 -- "The result gives refusal 0, line 0 and the counts of sections, measures, beats and items"; "A refusal returns its number and line, counts 0".

@@ -3,5 +3,6 @@
 mod cause;
 mod count;
 mod find;
+mod lights;
 mod pitch;
 mod read;

@@ -1,5 +1,4 @@
 -- Laws that the proofs of the writers cite.
-pub mod WrittenLaws
 pub mod SongLaws
 pub mod ItemLaws
 pub mod PromptLaws

@@ -28,9 +28,9 @@ use Rattle.scores.specs.declared.definitions.Score.{Score}
 use Rattle.scores.specs.declared.texts.Opened.{Opened}
 use Rattle.scores.specs.Scores.{Ready, Opens}
 use Rattle.judging.specs.Sums.{rowOfTexts}
-use Rattle.writing.specs.Written.{written}
+use Rattle.packing.specs.Written.{written}
 use Rattle.writing.specs.Words.{tempoOf}
-use Rattle.writing.proofs.WrittenLaws.{Wrote, wrote-start, wrote-put, wrote-left, wrote-lent, wrote-end}
+use Rattle.packing.proofs.WrittenLaws.{Wrote, wrote-start, wrote-put, wrote-left, wrote-lent, wrote-end}
 use Rattle.judging.proofs.AlongLaws.{Along, along-row}
 use Rattle.judging.proofs.SumLaws.{section-words-length, measure-words-length, beat-words-length}
 

@@ -20,7 +20,7 @@ ghost use Rattle.text.specs.Spans.{part};
 ghost use Rattle.sections.specs.Runs.{linesOf};
 ghost use Rattle.sections.specs.BlockParts.{Placed};
 ghost use Rattle.scores.specs.Scores.{Begins};
-ghost use Rattle.writing.specs.Written.{written};
+ghost use Rattle.packing.specs.Written.{written};
 
 // A lyric line's word: its text without the count, the count, and its first measure. An empty text has offset 0.
 fn item_at(s: &[u8], start: usize, stop: usize, count: usize, first: usize) -> u64

@@ -14,7 +14,7 @@ ghost use Rattle.songcode.specs.Tables.{tables};
 ghost use Rattle.sections.specs.Runs.{linesOf};
 ghost use Rattle.sections.specs.Slots.{settingAmong};
 ghost use Rattle.scores.specs.Metadata.{MetadataEnds};
-ghost use Rattle.writing.specs.Written.{written};
+ghost use Rattle.packing.specs.Written.{written};
 ghost use Rattle.writing.specs.Words.{wordOfSetting, ShortSetting};
 
 // The word of the key at a place of the table.

@@ -15,7 +15,7 @@ ghost use Rattle.songcode.specs.Answer.{inputFaults, blocksOf, songOf};
 ghost use Rattle.songcode.specs.SongText.{textFaults};
 ghost use Rattle.songcode.specs.Tables.{tables};
 ghost use Rattle.judging.specs.Charts.{Writable, Roomy};
-ghost use Rattle.writing.specs.Written.{written};
+ghost use Rattle.packing.specs.Written.{written};
 
 pub fn write_tables(
     s: &[u8],

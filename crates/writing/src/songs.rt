@@ -16,7 +16,7 @@ ghost use Rattle.songcode.specs.Meter.{meterFaults, lengthFaults};
 ghost use Rattle.songcode.specs.Tables.{tables};
 ghost use Rattle.songcode.specs.Answer.{songOf};
 ghost use Rattle.scores.specs.Scores.{Ready, Begins};
-ghost use Rattle.writing.specs.Written.{written};
+ghost use Rattle.packing.specs.Written.{written};
 ghost use Rattle.writing.specs.Words.{tempoOf};
 
 // "bpm (section's, else song's, else 511)"

@@ -15,7 +15,7 @@ use Rattle.judging.proofs.LyricLaws.{prompts-length}
 use Rattle.judging.proofs.NumberLaws.{lyrics-behind}
 use Rattle.sections.proofs.MeetLaws.{sections-over}
 use Rattle.writing.proofs.PromptLaws.{itemsFrom, RoomLeft, room-start, room-here, items-all, items-split}
-use Rattle.writing.proofs.WrittenLaws.{Wrote, wrote-start, wrote-left, wrote-length, wrote-end, wrote-lent, written-none}
+use Rattle.packing.proofs.WrittenLaws.{Wrote, wrote-start, wrote-left, wrote-length, wrote-end, wrote-lent, written-none}
 use borrow.Author.Needs.{needs}
 use Rattle.writing.proofs.items.write_items.Statement.{statement}
 use Rattle.writing.proofs.items.write_items.Tie as tie

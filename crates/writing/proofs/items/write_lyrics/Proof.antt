@@ -9,7 +9,7 @@ use Rattle.songcode.specs.Lyrics.{counted, promptsFrom}
 use Rattle.songcode.specs.Tables.{itemWord}
 use Rattle.sections.specs.Runs.{linesOf}
 use Rattle.judging.proofs.LyricLaws.{lyricsAt, lyrics-none, lyrics-over, lyrics-more, counted-more, prompts-more}
-use Rattle.writing.proofs.WrittenLaws.{Wrote, wrote-start, wrote-put, wrote-length, wrote-end}
+use Rattle.packing.proofs.WrittenLaws.{Wrote, wrote-start, wrote-put, wrote-length, wrote-end}
 use borrow.Author.Needs.{needs}
 use Rattle.writing.proofs.items.write_lyrics.Statement.{statement}
 use Rattle.writing.proofs.items.write_lyrics.Tie as tie

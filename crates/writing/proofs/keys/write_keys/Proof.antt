@@ -13,7 +13,7 @@ use Rattle.scores.specs.Metadata.{linesBefore}
 use Rattle.writing.specs.Words.{wordOfSetting, ShortSetting}
 use Rattle.writing.proofs.KeyLaws.{wordsFrom, words-more, words-over}
 use Rattle.writing.proofs.SettingLaws.{metadata-short}
-use Rattle.writing.proofs.WrittenLaws.{Wrote, wrote-start, wrote-put, wrote-length, wrote-end}
+use Rattle.packing.proofs.WrittenLaws.{Wrote, wrote-start, wrote-put, wrote-length, wrote-end}
 use borrow.Author.Needs.{needs}
 use Rattle.writing.proofs.keys.write_keys.Statement.{statement}
 use Rattle.writing.proofs.keys.write_keys.Tie as tie

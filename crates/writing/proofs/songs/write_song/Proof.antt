@@ -9,7 +9,7 @@ use Rattle.songcode.specs.Playing.{timeOf, played}
 use Rattle.songcode.specs.Tables.{sectionWords, measureWords, beatWord, tables}
 use Rattle.songcode.specs.Answer.{songOf}
 use Rattle.sections.specs.Onward.{sectionsFrom, sectionAt}
-use Rattle.writing.proofs.WrittenLaws.{Wrote, wrote-left, wrote-length}
+use Rattle.packing.proofs.WrittenLaws.{Wrote, wrote-left, wrote-length}
 use Rattle.judging.proofs.MeterLaws.{meter-is, meter-range}
 use Rattle.judging.proofs.AlongLaws.{Along, along-start, along-same, along-within, along-measures, along-beats, along-next}
 use Rattle.sections.proofs.MeetLaws.{sections-over}

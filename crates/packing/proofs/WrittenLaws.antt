@@ -8,7 +8,7 @@ use native.Mathlib.Omega.{arith}
 use borrow.Rule.Slice.PartMut.{putMid}
 use lib.ListN.{length, take, drop, set, length-append, length-drop, drop-of-length-le}
 use lib.Seq.{drop-cons, set-at, take-at, drop-at, drop-drop, take-all}
-use Rattle.writing.specs.Written.{written}
+use Rattle.packing.specs.Written.{written}
 
 abbrev pub Wrote : List ℕ → ℕ → List ℕ → List ℕ → List ℕ → Type 0
 Wrote o i o' rest all = (p : List ℕ) × (length p ≡ i) × (o' ≡ p ++ drop i o) × (p ++ rest ≡ all)

@@ -1,0 +1,26 @@
+-- What is promised of light cues, proved.
+use Prim.Native.Nat.{ℕ, zero, suc, _+_, _<_}
+use mathlib.Core.Path.{_≡_, refl, _∙_}
+use mathlib.Core.List.{List, [], _∷_}
+use native.Mathlib.Omega.{arith}
+use lib.ListN.{length, take, getD}
+use Rattle.songcode.specs.Lists.{sum}
+use Rattle.cues.specs.Cues.{beatLength, lengths, starts, refusalOf}
+use Rattle.cues.specs.Demands.{trials, Demands}
+
+start-at : (time : ℕ) (xs : List ℕ) (k : ℕ) → k < length xs → getD (starts time xs) k 0 ≡ time + sum (take k xs)
+unfolding starts sum
+start-at time [] k l = absurd (omega arith)
+start-at time (x ∷ xs) zero l = omega arith
+start-at time (x ∷ xs) (suc k) l = let h = start-at (time + x) xs k (omega arith) in h ∙ omega arith
+
+pub demanded : Demands
+unfolding trials refusalOf lengths starts sum beatLength
+demanded =
+    record {
+      start-is-sum = λ sections measures k l. let h = start-at 0 (lengths sections measures) k l in omega (arith, h);
+      tried = refl;
+      tried-starts = refl;
+      tried-ends = refl;
+      entries = refl;
+    }

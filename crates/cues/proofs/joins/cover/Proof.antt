@@ -1,0 +1,86 @@
+use Prim.Native.Nat.{_+_, _-_, _^_, _≤_}
+use mathlib.Core.Path.{_≡_, refl, sym, _∙_, ap}
+use native.Mathlib.Omega.{arith}
+use lib.ListN.{length, drop}
+use Rattle.songcode.specs.Joined.{covers}
+use Rattle.packing.proofs.RoundTrips.{section-fields}
+use Rattle.cues.proofs.JoinLaws.{cover-next, cover-elsewhere, cover-over}
+use borrow.Author.Needs.{needs}
+use Rattle.cues.proofs.joins.cover.Statement.{statement}
+use Rattle.cues.proofs.joins.cover.Tie as tie
+use Rattle.cues.proofs.joins.cover.Reads as reads
+use Rattle.cues.proofs.joins.cover.Lts as lts
+use Rattle.packing.proofs.section_of.Reads as section-of-reads
+
+abbrev Inv-loop : tie.InvT-loop
+Inv-loop sections measures first₀ i₀ first i = (i ≤ length sections) × (first ≤ 2 ^ 17) × (covers first measures (drop i sections) ≡ covers 0 measures sections)
+
+abbrev μ-loop : tie.MeasureT-loop
+μ-loop sections measures first₀ i₀ first i = length sections - i
+
+-- src/joins.rt:28:5
+loop-holds : tie.Need-loop-holds Inv-loop μ-loop
+loop-holds c = (search needs, search needs, refl)
+
+-- src/joins.rt:29:43
+mul-section-of : tie.Need-mul-section-of Inv-loop μ-loop
+mul-section-of c = search needs
+
+-- src/joins.rt:29:43
+shared-slice-read-section-of : tie.Need-shared-slice-read-section-of Inv-loop μ-loop
+shared-slice-read-section-of c = search needs
+
+-- src/joins.rt:29:13
+section-of-requires : tie.Need-section-of-requires Inv-loop μ-loop
+section-of-requires c κs = search needs
+
+-- src/joins.rt:31:13
+returns : tie.Need-returns Inv-loop μ-loop
+returns c =
+    let l = c .before .before .before .before .before .loop in
+    let f = section-fields (c .before .before .section-of .ensures) in
+    sym (cover-elsewhere (l .first) _ (l .i) _ (c .before .before .before .before .loop-test .taken) (λ e. c .if1 .taken (f .0 ∙ e))) ∙ l .inv .2
+
+-- src/joins.rt:33:9
+add-first : tie.Need-add-first Inv-loop μ-loop
+add-first c = search needs
+
+-- src/joins.rt:34:9
+add-i : tie.Need-add-i Inv-loop μ-loop
+add-i c = search needs
+
+-- src/joins.rt:28:5
+loop-less : tie.Need-loop-less Inv-loop μ-loop
+loop-less c = search needs
+
+-- src/joins.rt:28:5
+loop-again : tie.Need-loop-again Inv-loop μ-loop
+loop-again c =
+    let l = c .before .before .before .before .before .before .loop in
+    let h = c .before .before .before .section-of .ensures in
+    let f = section-fields h in
+    let e = c .before .if1 .left in
+    (search needs, omega (arith, h .first-fits, h .measures-fits, e), rw (f .1) (sym (cover-next (l .first) _ (l .i) _ (c .before .before .before .before .before .loop-test .taken) (sym (f .0) ∙ e)) ∙ l .inv .2))
+
+-- src/joins.rt:23:1
+returns-2 : tie.Need-returns-2 Inv-loop μ-loop
+returns-2 c =
+    let l = c .before .loop in
+    sym (cover-over (l .first) _ (l .i) _ (c .loop-test .left)) ∙ l .inv .2
+
+pub cover-spec : {M : Type 1} → statement M
+cover-spec =
+    tie.close
+    (tie.spec
+    Inv-loop
+    μ-loop
+    loop-holds
+    mul-section-of
+    shared-slice-read-section-of
+    section-of-requires
+    returns
+    add-first
+    add-i
+    loop-less
+    loop-again
+    returns-2)
