@@ -29,7 +29,7 @@ void search_references(struct search *search)
     for (size_t at = pattern.start; at < end_of(pattern); at++) {
         if (text.bytes[at] != '$')
             continue;
-        struct stretch word = next_word(text, (struct stretch){at, line_end(text, at) - at}, at);
+        struct stretch word = next_word(text, pattern, at);
         size_t number = reference_in(text, word);
         size_t head = head_of(text, number);
         size_t kind = head == 0 || head >= search->first ? TURNIPCART_CAUSE_REFERENCE_UNDEFINED : 0;

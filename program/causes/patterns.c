@@ -48,12 +48,10 @@ static bool fault_at(struct reading *reading, size_t kind, size_t at)
     return fault(reading, kind, (struct stretch){at, 1});
 }
 
-/* The word at a place, on its line. */
+/* The word at a place, or the next one behind it. */
 static struct stretch word_at(const struct reading *reading, size_t at)
 {
-    size_t end = line_end(reading->text, at);
-    end = end < end_of(reading->pattern) ? end : end_of(reading->pattern);
-    return next_word(reading->text, (struct stretch){at, end - at}, at);
+    return next_word(reading->text, reading->pattern, at);
 }
 
 static bool read_separator(struct reading *reading)
