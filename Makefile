@@ -4,13 +4,10 @@ DESTDIR =
 CFLAGS = -O2
 WARNINGS = -Wall -Wextra -Wpedantic -Wshadow -Wconversion -Wstrict-prototypes -Werror
 
-# Where the archive tells the cause of a refusal, it is not looked for here.
-told = $(shell grep -c '^size_t turnipcart_explain' include/turnipcart.h)
-causes = $(if $(filter 0,$(told)),program/causes)
-sources = $(wildcard $(addsuffix /*.c,program program/advice $(causes)))
-headers = $(wildcard $(addsuffix /*.h,program program/advice $(causes)))
+sources = $(wildcard program/*.c program/advice/*.c)
+headers = $(wildcard program/*.h program/advice/*.h)
 version = $(shell sed -n 's/^\#define TURNIPCART_VERSION "\(.*\)"/\1/p' include/turnipcart.h)
-flags = -std=c11 -D_POSIX_C_SOURCE=200809L $(if $(causes),,-DHAS_EXPLAIN) $(WARNINGS) $(CFLAGS) -Ibuild -Ibuild/program
+flags = -std=c11 -D_POSIX_C_SOURCE=200809L $(WARNINGS) $(CFLAGS) -Ibuild -Ibuild/program
 
 .PHONY: all program words install uninstall clean
 # What the library is made from is known to tools/library, which keeps it where nothing is younger.

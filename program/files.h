@@ -4,7 +4,7 @@
 
 #include <stdbool.h>
 #include <stddef.h>
-#include "pending.h"
+#include "turnipcart.h"
 
 /* A chart's bytes. One more than the limit is read, so that a text that is too long is seen to be. */
 struct chart {

@@ -3,7 +3,6 @@
 #ifndef ADVICE_H
 #define ADVICE_H
 
-#include "../pending.h"
 #include "text.h"
 #include "turnipcart.h"
 

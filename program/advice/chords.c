@@ -116,12 +116,16 @@ static bool is_plain_word(struct text text, struct stretch word)
     return letters > 1;
 }
 
-/* Of a line's words, how many are chords or signs, and how many are words of a language. */
+/* So many words tell what a line is. */
+enum { MOST_WEIGHED = 100 };
+
+/* Of a line's first words, how many are chords or signs, and how many are words of a language. */
 static void weigh(struct text text, struct stretch line, size_t *chords, size_t *others)
 {
     *chords = 0;
     *others = 0;
-    for (struct stretch word = next_word(text, line, line.start); word.length > 0; word = next_word(text, line, end_of(word))) {
+    struct stretch word = next_word(text, line, line.start);
+    for (size_t count = 0; word.length > 0 && count < MOST_WEIGHED; count++, word = next_word(text, line, end_of(word))) {
         if (is_usual_word(text, word) || is_usual_chord(text, word, true))
             (*chords)++;
         else if (is_plain_word(text, word))

@@ -173,7 +173,7 @@ struct stretch name_in_header(struct text text, struct stretch header)
 
 static bool parts_words(unsigned char byte)
 {
-    return is_blank(byte) || byte == ';' || byte == ':' || byte == '[' || byte == ']';
+    return is_blank(byte) || is_line_end(byte) || byte == ';' || byte == ':' || byte == '[' || byte == ']';
 }
 
 struct stretch next_word(struct text text, struct stretch among, size_t at)

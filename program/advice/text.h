@@ -75,7 +75,7 @@ size_t written_before(struct text text, size_t line);
 /* The name in a section's header: up to the first `!`. */
 struct stretch name_in_header(struct text text, struct stretch header);
 
-/* The next word of a stretch of pattern text from a place on, words being parted by blanks and `;:[]`; empty at the end. */
+/* The next word of a stretch of pattern text from a place on, words being parted by blanks, line ends and `;:[]`; empty at the end. */
 struct stretch next_word(struct text text, struct stretch among, size_t at);
 
 /* The first number in a stretch from a place on: its digits, empty where there is none; and its value, held at 99,999. */

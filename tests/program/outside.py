@@ -142,4 +142,17 @@ def many_files(tests, folder):
     tests.expect(f"{MANY} files within {SECONDS} s of processor time (took {took:.2f} s)", took < SECONDS, True)
 
 
-ALL = [usage, files, short_reads, outputs, safe_bytes, stacks, many_files]
+def long_charts(tests, folder):
+    """What is said takes time in proportion to the chart, however it is laid out."""
+    charts = {"one line": b"V\n" + b"C;" * 32000 + b"am\n", "many lines": b"V\n" + b"C\n" * 32000 + b"am\n", "many loops": b"V\n" + b"[C]2;" * 13000 + b"[C\n",
+              "many warnings": b"V\n" + b";".join([b"C,"] * 21000) + b"\n", "many counts": b"V\nC\n--\n" + b"a _1\n" * 13000,
+              "many sections": b"V\nC\n\n" * 13000 + b"V\nam\n"}
+    for what, chart in charts.items():
+        before = resource.getrusage(resource.RUSAGE_CHILDREN)
+        run("check", write(folder, "long.sc", chart))
+        after = resource.getrusage(resource.RUSAGE_CHILDREN)
+        took = after.ru_utime - before.ru_utime
+        tests.expect(f"{what} within {SECONDS / 3} s (took {took:.2f} s)", took < SECONDS / 3, True)
+
+
+ALL = [usage, files, short_reads, outputs, safe_bytes, stacks, many_files, long_charts]
