@@ -6,6 +6,7 @@ const struct subcommand *const subcommands[] = {
     &list_subcommand,
     &find_subcommand,
     &concert_subcommand,
+    &cues_subcommand,
     &explain_subcommand,
     NULL,
 };

@@ -14,7 +14,7 @@ LIMIT = 65536
 SMALL_STACK = 512 * 1024
 MANY = 3000
 SECONDS = 1.0 if platform.machine() == "x86_64" else 15.0  # of processor time; an emulator takes more
-SUBCOMMANDS = ["check", "grid", "list", "find", "concert", "explain"]
+SUBCOMMANDS = ["check", "grid", "list", "find", "concert", "cues", "explain"]
 
 
 def usage(tests, folder):
@@ -86,8 +86,7 @@ def outputs(tests, folder):
     """Every write is checked."""
     chart = write(folder, "output.sc", CHART)
     for words in (["check", chart], ["check", "--json", chart], ["grid", chart], ["list", chart], ["find", chart, "0"], ["explain", "7"],
-                  ["concert", "2", chart],
-                  ["--help"], ["--version"], ["check", "--help"]):
+                  ["concert", "2", chart], ["cues", chart], ["--help"], ["--version"], ["check", "--help"]):
         with open("/dev/full", "wb") as full:
             done = subprocess.run([PROGRAM, *words], stdout=full, stderr=subprocess.PIPE)
         tests.expect(f"a full disk, {words[0]}", (done.returncode, b"not written" in done.stderr), (NOT_READ, True))
