@@ -1,12 +1,7 @@
-use Prim.Native.Nat.{_+_, _-_, _≤_, _<_}
-use mathlib.Core.Path.{_≡_}
-use native.Mathlib.Omega.{arith}
-use lib.ListN.{length}
+use Prim.Native.Nat.{_-_, _≤_}
 use borrow.Author.Needs.{needs}
 use Rattle.slips.proofs.blocks.name_stop.Statement.{statement}
 use Rattle.slips.proofs.blocks.name_stop.Tie as tie
-use Rattle.slips.proofs.blocks.name_stop.Reads as reads
-use Rattle.slips.proofs.blocks.name_stop.Lts as lts
 
 abbrev Inv-loop : tie.InvT-loop
 Inv-loop s from to i₀ i = (from ≤ i) × (i ≤ to)
@@ -14,44 +9,8 @@ Inv-loop s from to i₀ i = (from ≤ i) × (i ≤ to)
 abbrev μ-loop : tie.MeasureT-loop
 μ-loop s from to i₀ i = to - i
 
--- src/blocks.rt:90:5
-loop-holds : tie.Need-loop-holds Inv-loop μ-loop
-loop-holds c = search needs
-
--- src/blocks.rt:91:12
-shared-slice-read-if1 : tie.Need-shared-slice-read-if1 Inv-loop μ-loop
-shared-slice-read-if1 c = search needs
-
--- src/blocks.rt:92:13
-returns : tie.Need-returns Inv-loop μ-loop
-returns c = search needs
-
--- src/blocks.rt:94:9
-add-i : tie.Need-add-i Inv-loop μ-loop
-add-i c = search needs
-
--- src/blocks.rt:90:5
-loop-less : tie.Need-loop-less Inv-loop μ-loop
-loop-less c = search needs
-
--- src/blocks.rt:90:5
-loop-again : tie.Need-loop-again Inv-loop μ-loop
-loop-again c = search needs
-
--- src/blocks.rt:85:1
-returns-2 : tie.Need-returns-2 Inv-loop μ-loop
-returns-2 c = search needs
-
 pub name-stop-spec : {M : Type 1} → statement M
 name-stop-spec =
     tie.close
-    (tie.spec
-    Inv-loop
-    μ-loop
-    loop-holds
-    shared-slice-read-if1
-    returns
-    add-i
-    loop-less
-    loop-again
-    returns-2)
+    (tie.spec Inv-loop μ-loop (λ c. search needs) (λ c. search needs) (λ c. search needs) (λ c. search needs) (λ c. search needs)
+    (λ c. search needs) (λ c. search needs))

@@ -1,14 +1,9 @@
-use Prim.Native.Nat.{_+_, _-_, _≤_, _<_}
+use Prim.Native.Nat.{_-_}
 use mathlib.Core.Path.{_≡_}
-use native.Mathlib.Omega.{arith}
 use lib.ListN.{length}
 use borrow.Author.Needs.{needs}
 use Rattle.slips.proofs.scans.scan_plain.Statement.{statement}
 use Rattle.slips.proofs.scans.scan_plain.Tie as tie
-use Rattle.slips.proofs.scans.scan_plain.Reads as reads
-use Rattle.slips.proofs.scans.scan_plain.Lts as lts
-use Rattle.slips.proofs.scans.scan_plain_line.Reads as scan-plain-line-reads
-use Rattle.text.proofs.line_at.Reads as line-at-reads
 
 abbrev Inv-loop : tie.InvT-loop
 Inv-loop s row₀ scan₀ at₀ left₀ row scan at left = (length row ≡ length row₀)
@@ -16,59 +11,8 @@ Inv-loop s row₀ scan₀ at₀ left₀ row scan at left = (length row ≡ lengt
 abbrev μ-loop : tie.MeasureT-loop
 μ-loop s row₀ scan₀ at₀ left₀ row scan at left = length s - at
 
--- src/scans.rt:187:5
-loop-holds : tie.Need-loop-holds Inv-loop μ-loop
-loop-holds c = search needs
-
--- src/scans.rt:189:13
-same-length : tie.Need-same-length Inv-loop μ-loop
-same-length c = search needs
-
--- src/scans.rt:189:13
-returns : tie.Need-returns Inv-loop μ-loop
-returns c = search needs
-
--- src/scans.rt:191:13
-line-at-requires : tie.Need-line-at-requires Inv-loop μ-loop
-line-at-requires c κs = search needs
-
--- src/scans.rt:192:9
-scan-plain-line-requires : tie.Need-scan-plain-line-requires Inv-loop μ-loop
-scan-plain-line-requires c κs = search needs
-
--- src/scans.rt:194:9
-sub-left : tie.Need-sub-left Inv-loop μ-loop
-sub-left c = search needs
-
--- src/scans.rt:187:5
-loop-less : tie.Need-loop-less Inv-loop μ-loop
-loop-less c = search needs
-
--- src/scans.rt:187:5
-loop-again : tie.Need-loop-again Inv-loop μ-loop
-loop-again c = search needs
-
--- src/scans.rt:181:1
-same-length-2 : tie.Need-same-length-2 Inv-loop μ-loop
-same-length-2 c = search needs
-
--- src/scans.rt:181:1
-returns-2 : tie.Need-returns-2 Inv-loop μ-loop
-returns-2 c = search needs
-
 pub scan-plain-spec : {M : Type 1} → statement M
 scan-plain-spec =
     tie.close
-    (tie.spec
-    Inv-loop
-    μ-loop
-    loop-holds
-    same-length
-    returns
-    line-at-requires
-    scan-plain-line-requires
-    sub-left
-    loop-less
-    loop-again
-    same-length-2
-    returns-2)
+    (tie.spec Inv-loop μ-loop (λ c. search needs) (λ c. search needs) (λ c. search needs) (λ c κs. search needs) (λ c κs. search needs)
+    (λ c. search needs) (λ c. search needs) (λ c. search needs) (λ c. search needs) (λ c. search needs))
