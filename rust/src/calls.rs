@@ -43,6 +43,15 @@ extern "C" {
     fn turnipcart_count(text: *const u8, text_length: usize, answer: *mut Answer) -> usize;
 
     fn turnipcart_find(measures: *const u32, measures_length: usize, beat: u32, found: *mut Search) -> usize;
+    fn turnipcart_cues(
+        sections: *const u64,
+        sections_length: usize,
+        measures: *const u32,
+        measures_length: usize,
+        cues: *mut u64,
+        cues_length: usize,
+        end: *mut u64,
+    ) -> usize;
 
     fn turnipcart_concert(beats: *const u32, beats_length: usize, shift: i32, second: *mut u32, second_length: usize) -> usize;
 }
@@ -132,6 +141,20 @@ pub fn find(measures: &[u32], beat: u32) -> Found {
     // SAFETY: the pointer comes from a slice with its length, and `found` is this function's own.
     unsafe { turnipcart_find(measures.as_ptr(), measures.len(), beat, &mut found) };
     Found { place: (found.refusal == 0).then_some(found.place), probes: found.probes }
+}
+
+/// Writes the start of each measure, in microseconds, into the beginning of the cue table and gives the song's end. Lend a song's own
+/// sections and measures and no words behind them.
+pub fn cues(sections: &[u64], measures: &[u32], cues: &mut [u64]) -> Result<u64, Refusal> {
+    let mut end = 0;
+    // SAFETY: each pointer comes from a slice with its own length, and the mutable ones are apart from the others.
+    let number = unsafe {
+        turnipcart_cues(sections.as_ptr(), sections.len(), measures.as_ptr(), measures.len(), cues.as_mut_ptr(), cues.len(), &mut end)
+    };
+    match number {
+        0 => Ok(end),
+        number => Err(Refusal { number, line: 0 }),
+    }
 }
 
 /// Writes a beats table, moved by so many semitones, into the beginning of a second one.

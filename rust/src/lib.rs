@@ -11,7 +11,7 @@ mod refusal;
 mod song;
 mod words;
 
-pub use calls::{concert, count, find, read_into, Counts, Found, Tables};
+pub use calls::{concert, count, cues, find, read_into, Counts, Found, Tables};
 pub use refusal::Refusal;
 pub use song::{Beat, Item, Measure, Section, Song, Style};
 pub use words::{base_name, Key};

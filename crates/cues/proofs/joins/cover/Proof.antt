@@ -1,5 +1,5 @@
-use Prim.Native.Nat.{_+_, _-_, _^_, _≤_}
-use mathlib.Core.Path.{_≡_, refl, sym, _∙_, ap}
+use Prim.Native.Nat.{_-_, _^_, _≤_}
+use mathlib.Core.Path.{_≡_, refl, sym, _∙_}
 use native.Mathlib.Omega.{arith}
 use lib.ListN.{length, drop}
 use Rattle.songcode.specs.Joined.{covers}
@@ -8,9 +8,6 @@ use Rattle.cues.proofs.JoinLaws.{cover-next, cover-elsewhere, cover-ove
 use borrow.Author.Needs.{needs}
 use Rattle.cues.proofs.joins.cover.Statement.{statement}
 use Rattle.cues.proofs.joins.cover.Tie as tie
-use Rattle.cues.proofs.joins.cover.Reads as reads
-use Rattle.cues.proofs.joins.cover.Lts as lts
-use Rattle.packing.proofs.section_of.Reads as section-of-reads
 
 abbrev Inv-loop : tie.InvT-loop
 Inv-loop sections measures first₀ i₀ first i = (i ≤ length sections) × (first ≤ 2 ^ 17) × (covers first measures (drop i sections) ≡ covers 0 measures sections)
@@ -18,42 +15,15 @@ Inv-loop sections measures first₀ i₀ first i = (i ≤ length sections) × (f
 abbrev μ-loop : tie.MeasureT-loop
 μ-loop sections measures first₀ i₀ first i = length sections - i
 
--- src/joins.rt:28:5
 loop-holds : tie.Need-loop-holds Inv-loop μ-loop
 loop-holds c = (search needs, search needs, refl)
 
--- src/joins.rt:29:43
-mul-section-of : tie.Need-mul-section-of Inv-loop μ-loop
-mul-section-of c = search needs
-
--- src/joins.rt:29:43
-shared-slice-read-section-of : tie.Need-shared-slice-read-section-of Inv-loop μ-loop
-shared-slice-read-section-of c = search needs
-
--- src/joins.rt:29:13
-section-of-requires : tie.Need-section-of-requires Inv-loop μ-loop
-section-of-requires c κs = search needs
-
--- src/joins.rt:31:13
 returns : tie.Need-returns Inv-loop μ-loop
 returns c =
     let l = c .before .before .before .before .before .loop in
     let f = section-fields (c .before .before .section-of .ensures) in
     sym (cover-elsewhere (l .first) _ (l .i) _ (c .before .before .before .before .loop-test .taken) (λ e. c .if1 .taken (f .0 ∙ e))) ∙ l .inv .2
 
--- src/joins.rt:33:9
-add-first : tie.Need-add-first Inv-loop μ-loop
-add-first c = search needs
-
--- src/joins.rt:34:9
-add-i : tie.Need-add-i Inv-loop μ-loop
-add-i c = search needs
-
--- src/joins.rt:28:5
-loop-less : tie.Need-loop-less Inv-loop μ-loop
-loop-less c = search needs
-
--- src/joins.rt:28:5
 loop-again : tie.Need-loop-again Inv-loop μ-loop
 loop-again c =
     let l = c .before .before .before .before .before .before .loop in
@@ -62,7 +32,6 @@ loop-again c =
     let e = c .before .if1 .left in
     (search needs, omega (arith, h .first-fits, h .measures-fits, e), rw (f .1) (sym (cover-next (l .first) _ (l .i) _ (c .before .before .before .before .before .loop-test .taken) (sym (f .0) ∙ e)) ∙ l .inv .2))
 
--- src/joins.rt:23:1
 returns-2 : tie.Need-returns-2 Inv-loop μ-loop
 returns-2 c =
     let l = c .before .loop in
@@ -71,16 +40,5 @@ returns-2 c =
 pub cover-spec : {M : Type 1} → statement M
 cover-spec =
     tie.close
-    (tie.spec
-    Inv-loop
-    μ-loop
-    loop-holds
-    mul-section-of
-    shared-slice-read-section-of
-    section-of-requires
-    returns
-    add-first
-    add-i
-    loop-less
-    loop-again
-    returns-2)
+    (tie.spec Inv-loop μ-loop loop-holds (λ c. search needs) (λ c. search needs) (λ c κs. search needs) returns (λ c. search needs)
+    (λ c. search needs) (λ c. search needs) loop-again returns-2)

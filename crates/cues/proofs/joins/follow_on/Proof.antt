@@ -1,5 +1,5 @@
-use Prim.Native.Nat.{_+_, _-_, _^_, _≤_}
-use mathlib.Core.Path.{_≡_, refl, sym, _∙_, ap}
+use Prim.Native.Nat.{_-_, _^_, _≤_}
+use mathlib.Core.Path.{_≡_, refl, sym, _∙_}
 use native.Mathlib.Omega.{arith}
 use lib.ListN.{length, drop}
 use Rattle.songcode.specs.Joined.{measuresJoin}
@@ -8,9 +8,6 @@ use Rattle.cues.proofs.JoinLaws.{join-next, join-elsewhere, join-empty,
 use borrow.Author.Needs.{needs}
 use Rattle.cues.proofs.joins.follow_on.Statement.{statement}
 use Rattle.cues.proofs.joins.follow_on.Tie as tie
-use Rattle.cues.proofs.joins.follow_on.Reads as reads
-use Rattle.cues.proofs.joins.follow_on.Lts as lts
-use Rattle.packing.proofs.measure_of.Reads as measure-of-reads
 
 abbrev Inv-loop : tie.InvT-loop
 Inv-loop measures beat₀ i₀ beat i = (i ≤ length measures) × (beat ≤ 2 ^ 22) × (measuresJoin beat (drop i measures) ≡ measuresJoin 0 measures)
@@ -18,56 +15,27 @@ Inv-loop measures beat₀ i₀ beat i = (i ≤ length measures) × (beat ≤ 2 ^
 abbrev μ-loop : tie.MeasureT-loop
 μ-loop measures beat₀ i₀ beat i = length measures - i
 
--- src/joins.rt:45:5
 loop-holds : tie.Need-loop-holds Inv-loop μ-loop
 loop-holds c = (search needs, search needs, refl)
 
--- src/joins.rt:46:43
-mul-measure-of : tie.Need-mul-measure-of Inv-loop μ-loop
-mul-measure-of c = search needs
-
--- src/joins.rt:46:43
-shared-slice-read-measure-of : tie.Need-shared-slice-read-measure-of Inv-loop μ-loop
-shared-slice-read-measure-of c = search needs
-
--- src/joins.rt:46:13
-measure-of-requires : tie.Need-measure-of-requires Inv-loop μ-loop
-measure-of-requires c κs = search needs
-
--- src/joins.rt:48:13
 returns : tie.Need-returns Inv-loop μ-loop
 returns c =
     let l = c .before .before .before .before .before .loop in
     let f = measure-fields (c .before .before .measure-of .ensures) in
     sym (join-elsewhere (l .beat) (l .i) _ (c .before .before .before .before .loop-test .taken) (λ e. c .if1 .taken (f .0 ∙ e))) ∙ l .inv .2
 
--- src/joins.rt:51:13
 returns-2 : tie.Need-returns-2 Inv-loop μ-loop
 returns-2 c =
     let l = c .before .before .before .before .before .before .before .loop in
     let f = measure-fields (c .before .before .before .before .measure-of .ensures) in
     sym (join-empty (l .beat) (l .i) _ (c .before .before .before .before .before .before .loop-test .taken) (sym (f .0) ∙ c .before .before .if1 .left) (sym (f .1) ∙ c .if2 .taken)) ∙ l .inv .2
 
--- src/joins.rt:54:13
 returns-3 : tie.Need-returns-3 Inv-loop μ-loop
 returns-3 c =
     let l = c .before .before .before .before .before .before .before .before .before .loop in
     let f = measure-fields (c .before .before .before .before .before .before .measure-of .ensures) in
     sym (join-long (l .beat) (l .i) _ (c .before .before .before .before .before .before .before .before .loop-test .taken) (omega (arith, f .1, c .if3 .taken))) ∙ l .inv .2
 
--- src/joins.rt:56:9
-add-beat : tie.Need-add-beat Inv-loop μ-loop
-add-beat c = search needs
-
--- src/joins.rt:57:9
-add-i : tie.Need-add-i Inv-loop μ-loop
-add-i c = search needs
-
--- src/joins.rt:45:5
-loop-less : tie.Need-loop-less Inv-loop μ-loop
-loop-less c = search needs
-
--- src/joins.rt:45:5
 loop-again : tie.Need-loop-again Inv-loop μ-loop
 loop-again c =
     let l = c .before .before .before .before .before .before .before .before .before .before .loop in
@@ -76,7 +44,6 @@ loop-again c =
     let e = c .before .before .before .before .before .if1 .left in
     (search needs, omega (arith, h .first-fits, h .beats-fits, e), rw (f .1) (sym (join-next (l .beat) (l .i) _ (c .before .before .before .before .before .before .before .before .before .loop-test .taken) (sym (f .0) ∙ e) (omega (arith, f .1, c .before .before .before .if2 .left)) (omega (arith, f .1, c .before .if3 .left))) ∙ l .inv .2))
 
--- src/joins.rt:40:1
 returns-4 : tie.Need-returns-4 Inv-loop μ-loop
 returns-4 c =
     let l = c .before .loop in
@@ -85,18 +52,5 @@ returns-4 c =
 pub follow-on-spec : {M : Type 1} → statement M
 follow-on-spec =
     tie.close
-    (tie.spec
-    Inv-loop
-    μ-loop
-    loop-holds
-    mul-measure-of
-    shared-slice-read-measure-of
-    measure-of-requires
-    returns
-    returns-2
-    returns-3
-    add-beat
-    add-i
-    loop-less
-    loop-again
-    returns-4)
+    (tie.spec Inv-loop μ-loop loop-holds (λ c. search needs) (λ c. search needs) (λ c κs. search needs) returns returns-2 returns-3
+    (λ c. search needs) (λ c. search needs) (λ c. search needs) loop-again returns-4)

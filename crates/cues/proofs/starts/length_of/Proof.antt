@@ -1,5 +1,5 @@
 use Prim.Native.Nat.{ℕ, _*_, _<_, _≤_}
-use mathlib.Core.Path.{_≡_, refl, sym, _∙_, ap}
+use mathlib.Core.Path.{_≡_, refl}
 use native.Mathlib.Omega.{arith}
 use mathlib.Core.List.{List}
 use lib.ListN.{getD}
@@ -12,9 +12,6 @@ use Rattle.cues.proofs.StartLaws.{beat-length-le}
 use borrow.Author.Needs.{needs}
 use Rattle.cues.proofs.starts.length_of.Statement.{statement}
 use Rattle.cues.proofs.starts.length_of.Tie as tie
-use Rattle.cues.proofs.starts.length_of.Reads as reads
-use Rattle.cues.proofs.starts.length_of.Lts as lts
-use Rattle.packing.proofs.measure_of.Reads as measure-of-reads
 
 -- The entry of the table is the length of a beat.
 entry : (table : List ℕ) (bpm : ℕ) → (bpm ≤ 400) × IsTable table → getD table bpm 0 ≡ beatLength bpm
@@ -23,23 +20,9 @@ entry table bpm p = p .1 .entry bpm (omega (arith, p .0))
 product : (a b : ℕ) → a < 64 → b ≤ 60000000 → a * b ≤ 3780000000
 product a b l m = let few : a ≤ 63 = omega arith in mul-le-mul few m
 
--- src/starts.rt:67:9
-measure-of-requires : tie.Need-measure-of-requires
-measure-of-requires c κs = search needs
-
--- src/starts.rt:68:31
-mul-result : tie.Need-mul-result
-mul-result c = search needs
-
--- src/starts.rt:68:31
-element-copy-out-result : tie.Need-element-copy-out-result
-element-copy-out-result c = search needs
-
--- src/starts.rt:68:31
 cast-result : tie.Need-cast-result
 cast-result c = record { fits = omega (arith, entry (c .before .before .args .table .now) (c .before .before .args .bpm) (c .before .before .pre), beat-length-le (c .before .before .args .bpm)) }
 
--- src/starts.rt:68:5
 mul-result-2 : tie.Need-mul-result-2
 mul-result-2 c =
     let b = c .before .measure-of .ensures .beats-fits in
@@ -48,7 +31,6 @@ mul-result-2 c =
     let p = product (c .before .measure-of .result .beats) (getD (c .before .before .args .table .now) (c .before .before .args .bpm) 0) b (rw e t) in
     record { fits = omega (arith, p) }
 
--- src/starts.rt:63:1
 returns : tie.Need-returns
 returns c =
     let f = measure-fields (c .before .measure-of .ensures) in
@@ -60,10 +42,4 @@ returns c =
 pub length-of-spec : {M : Type 1} → statement M
 length-of-spec =
     tie.close
-    (tie.spec
-    measure-of-requires
-    mul-result
-    element-copy-out-result
-    cast-result
-    mul-result-2
-    returns)
+    (tie.spec (λ c κs. search needs) (λ c. search needs) (λ c. search needs) cast-result mul-result-2 returns)

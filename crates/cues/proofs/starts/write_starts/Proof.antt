@@ -15,10 +15,6 @@ use Rattle.cues.proofs.SectionLaws.{measures-few, cover-at, timed-at, t
 use borrow.Author.Needs.{needs}
 use Rattle.cues.proofs.starts.write_starts.Statement.{statement}
 use Rattle.cues.proofs.starts.write_starts.Tie as tie
-use Rattle.cues.proofs.starts.write_starts.Reads as reads
-use Rattle.cues.proofs.starts.write_starts.Lts as lts
-use Rattle.cues.proofs.starts.write_stretch.Reads as write-stretch-reads
-use Rattle.packing.proofs.section_of.Reads as section-of-reads
 
 abbrev Inv-loop : tie.InvT-loop
 Inv-loop sections measures cues₀ table time₀ first₀ i₀ cues time first i =
@@ -46,7 +42,6 @@ starts-end : (time i : ℕ) (o o' xs all : List ℕ) → xs ≡ [] → Wrote o i
 unfolding starts
 starts-end time i o o' xs all e w = subst (λ ys. Wrote o i o' (starts time ys) all) e w
 
--- src/starts.rt:23:5
 loop-holds : tie.Need-loop-holds Inv-loop μ-loop
 unfolding allRight
 loop-holds c =
@@ -65,35 +60,6 @@ loop-holds c =
       wrote-start _ _,
     )
 
--- src/starts.rt:24:43
-mul-section-of : tie.Need-mul-section-of Inv-loop μ-loop
-mul-section-of c = search needs
-
--- src/starts.rt:24:43
-shared-slice-read-section-of : tie.Need-shared-slice-read-section-of Inv-loop μ-loop
-shared-slice-read-section-of c = search needs
-
--- src/starts.rt:24:13
-section-of-requires : tie.Need-section-of-requires Inv-loop μ-loop
-section-of-requires c κs = search needs
-
--- src/starts.rt:25:20
-add-next : tie.Need-add-next Inv-loop μ-loop
-add-next c = search needs
-
--- src/starts.rt:27:13
-mul-write-stretch : tie.Need-mul-write-stretch Inv-loop μ-loop
-mul-write-stretch c = search needs
-
--- src/starts.rt:27:13
-sub-write-stretch : tie.Need-sub-write-stretch Inv-loop μ-loop
-sub-write-stretch c = search needs
-
--- src/starts.rt:27:13
-part-write-stretch-start : tie.Need-part-write-stretch-start Inv-loop μ-loop
-part-write-stretch-start c = search needs
-
--- src/starts.rt:27:13
 part-write-stretch-end : tie.Need-part-write-stretch-end Inv-loop μ-loop
 part-write-stretch-end c =
     let l = c .before .before .before .before .loop in
@@ -101,23 +67,6 @@ part-write-stretch-end c =
     let f = section-fields (c .before .section-of .ensures) in
     omega (arith, f .1, cover-at (l .i) (a .sections .now) (c .before .before .before .loop-test .taken) (l .first) (length (a .measures .now)) (l .inv .4) .0)
 
--- src/starts.rt:31:13
-mul-write-stretch-2 : tie.Need-mul-write-stretch-2 Inv-loop μ-loop
-mul-write-stretch-2 c = search needs
-
--- src/starts.rt:31:13
-sub-write-stretch-2 : tie.Need-sub-write-stretch-2 Inv-loop μ-loop
-sub-write-stretch-2 c = search needs
-
--- src/starts.rt:31:13
-part-write-stretch-start-2 : tie.Need-part-write-stretch-start-2 Inv-loop μ-loop
-part-write-stretch-start-2 c = search needs
-
--- src/starts.rt:31:13
-part-write-stretch-end-2 : tie.Need-part-write-stretch-end-2 Inv-loop μ-loop
-part-write-stretch-end-2 c = search needs
-
--- src/starts.rt:26:9
 write-stretch-requires : tie.Need-write-stretch-requires Inv-loop μ-loop
 write-stretch-requires c κs =
     let l = c .before .before .before .before .before .before .loop in
@@ -132,15 +81,6 @@ write-stretch-requires c κs =
       λ h. omega (arith, f .2, timed-bpm (getD (a .sections .now) (l .i) 0) (timed-at (l .i) (a .sections .now) t (l .inv .5) .0) (omega (arith, h, p, f .1))),
     )
 
--- src/starts.rt:34:9
-add-i : tie.Need-add-i Inv-loop μ-loop
-add-i c = search needs
-
--- src/starts.rt:23:5
-loop-less : tie.Need-loop-less Inv-loop μ-loop
-loop-less c = search needs
-
--- src/starts.rt:23:5
 loop-again : tie.Need-loop-again Inv-loop μ-loop
 loop-again c =
     let l = c .before .before .before .before .before .before .before .before .before .loop in
@@ -167,11 +107,6 @@ loop-again c =
           (omega (arith, f .1, r .0)) (omega (arith, f .1, r .0, l .inv .8)) (omega (arith, l .inv .1, l .inv .2, l .inv .8)) (l .inv .10) (e .1)),
     )
 
--- src/starts.rt:14:1
-same-length : tie.Need-same-length Inv-loop μ-loop
-same-length c = search needs
-
--- src/starts.rt:14:1
 returns : tie.Need-returns Inv-loop μ-loop
 returns c =
     let l = c .before .loop in
@@ -182,25 +117,7 @@ returns c =
 pub write-starts-spec : {M : Type 1} → statement M
 write-starts-spec =
     tie.close
-    (tie.spec
-    Inv-loop
-    μ-loop
-    loop-holds
-    mul-section-of
-    shared-slice-read-section-of
-    section-of-requires
-    add-next
-    mul-write-stretch
-    sub-write-stretch
-    part-write-stretch-start
-    part-write-stretch-end
-    mul-write-stretch-2
-    sub-write-stretch-2
-    part-write-stretch-start-2
-    part-write-stretch-end-2
-    write-stretch-requires
-    add-i
-    loop-less
-    loop-again
-    same-length
+    (tie.spec Inv-loop μ-loop loop-holds (λ c. search needs) (λ c. search needs) (λ c κs. search needs) (λ c. search needs)
+    (λ c. search needs) (λ c. search needs) (λ c. search needs) part-write-stretch-end (λ c. search needs) (λ c. search needs)
+    (λ c. search needs) (λ c. search needs) write-stretch-requires (λ c. search needs) (λ c. search needs) loop-again (λ c. search needs)
     returns)

@@ -1,17 +1,14 @@
 use Prim.Native.Nat.{_+_, _-_, _*_, _≤_}
-use mathlib.Core.Path.{_≡_, refl, sym, _∙_, ap}
+use mathlib.Core.Path.{_≡_, refl, sym, _∙_}
 use native.Mathlib.Omega.{arith}
 use lib.ListN.{length, drop}
 use Rattle.songcode.specs.Lists.{sum}
-use Rattle.packing.proofs.WrittenLaws.{Wrote, wrote-start, wrote-length, wrote-end}
+use Rattle.packing.proofs.WrittenLaws.{Wrote, wrote-start, wrote-end}
 use Rattle.cues.specs.Cues.{lengthsAt, starts}
 use Rattle.cues.proofs.StartLaws.{sum-next, starts-next, sum-over, starts-over}
 use borrow.Author.Needs.{needs}
 use Rattle.cues.proofs.starts.write_stretch.Statement.{statement}
 use Rattle.cues.proofs.starts.write_stretch.Tie as tie
-use Rattle.cues.proofs.starts.write_stretch.Reads as reads
-use Rattle.cues.proofs.starts.write_stretch.Lts as lts
-use Rattle.cues.proofs.starts.length_of.Reads as length-of-reads
 
 abbrev Inv-loop : tie.InvT-loop
 Inv-loop measures bpm table time cues₀ at₀ i₀ cues at i =
@@ -24,45 +21,17 @@ Inv-loop measures bpm table time cues₀ at₀ i₀ cues at i =
 abbrev μ-loop : tie.MeasureT-loop
 μ-loop measures bpm table time cues₀ at₀ i₀ cues at i = length measures - i
 
--- src/starts.rt:54:5
 loop-holds : tie.Need-loop-holds Inv-loop μ-loop
 loop-holds c = (search needs, search needs, search needs, refl, wrote-start _ _)
 
--- src/starts.rt:55:9
-mul-cues : tie.Need-mul-cues Inv-loop μ-loop
-mul-cues c = search needs
-
--- src/starts.rt:55:9
-slice-write-cues : tie.Need-slice-write-cues Inv-loop μ-loop
-slice-write-cues c = search needs
-
--- src/starts.rt:56:25
-mul-length-of : tie.Need-mul-length-of Inv-loop μ-loop
-mul-length-of c = search needs
-
--- src/starts.rt:56:25
-shared-slice-read-length-of : tie.Need-shared-slice-read-length-of Inv-loop μ-loop
-shared-slice-read-length-of c = search needs
-
--- src/starts.rt:56:15
 length-of-requires : tie.Need-length-of-requires Inv-loop μ-loop
 length-of-requires c κs =
     let q = c .before .before .before .before .before in
     (q .pre .1 (omega (arith, c .before .loop-test .taken)), q .pre .0 .3)
 
--- src/starts.rt:56:9
 add-at : tie.Need-add-at Inv-loop μ-loop
 add-at c = record { fits = omega (arith, c .before .before .before .before .before .before .pre .0 .1, c .before .before .before .before .before .before .pre .0 .2, c .length-of .ensures .1) }
 
--- src/starts.rt:57:9
-add-i : tie.Need-add-i Inv-loop μ-loop
-add-i c = search needs
-
--- src/starts.rt:54:5
-loop-less : tie.Need-loop-less Inv-loop μ-loop
-loop-less c = search needs
-
--- src/starts.rt:54:5
 loop-again : tie.Need-loop-again Inv-loop μ-loop
 loop-again c =
     let l = c .before .before .before .loop in
@@ -77,11 +46,6 @@ loop-again c =
       rw e (starts-next (a .bpm) (l .i) (l .at) (a .measures .now) t _ (l .cues) _ (omega (arith, t, c .before .before .before .before .before .before .pre .0 .0)) (l .inv .4)),
     )
 
--- src/starts.rt:40:1
-same-length : tie.Need-same-length Inv-loop μ-loop
-same-length c = search needs
-
--- src/starts.rt:40:1
 returns : tie.Need-returns Inv-loop μ-loop
 returns c =
     let l = c .before .loop in
@@ -94,18 +58,5 @@ returns c =
 pub write-stretch-spec : {M : Type 1} → statement M
 write-stretch-spec =
     tie.close
-    (tie.spec
-    Inv-loop
-    μ-loop
-    loop-holds
-    mul-cues
-    slice-write-cues
-    mul-length-of
-    shared-slice-read-length-of
-    length-of-requires
-    add-at
-    add-i
-    loop-less
-    loop-again
-    same-length
-    returns)
+    (tie.spec Inv-loop μ-loop loop-holds (λ c. search needs) (λ c. search needs) (λ c. search needs) (λ c. search needs) length-of-requires
+    add-at (λ c. search needs) (λ c. search needs) loop-again (λ c. search needs) returns)
