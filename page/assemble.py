@@ -1,5 +1,6 @@
-"""Puts the page together: assemble.py FOLDER MODULE RESULT. Style, scripts and the module's bytes go into the one file."""
+"""Puts the page together: assemble.py FOLDER MODULE RESULT. Style, scripts and the module's bytes, compressed, go into the one file."""
 import base64
+import gzip
 import pathlib
 import sys
 
@@ -10,7 +11,7 @@ def assembled(folder: pathlib.Path, module: bytes) -> str:
     page = (folder / "page.html").read_text()
     parts = {
         "@STYLE@": (folder / "style.css").read_text(),
-        "@MODULE@": base64.b64encode(module).decode(),
+        "@MODULE@": base64.b64encode(gzip.compress(module, 9, mtime=0)).decode(),
         "@SCRIPT@": "\n".join((folder / name).read_text() for name in SCRIPTS),
     }
     for mark, part in parts.items():

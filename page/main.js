@@ -27,8 +27,11 @@ function kept(name) {
     }
 }
 
-function moduleBytes() {
-    return Uint8Array.from(atob(byId("module").textContent.trim()), (letter) => letter.charCodeAt(0));
+// The module as it stands in the page: compressed, and in letters.
+async function moduleBytes() {
+    const compressed = Uint8Array.from(atob(byId("module").textContent.trim()), (letter) => letter.charCodeAt(0));
+    const stream = new Blob([compressed]).stream().pipeThrough(new DecompressionStream("gzip"));
+    return new Response(stream).arrayBuffer();
 }
 
 // Bytes into places of the text field, whose places count units of 16 bits.
@@ -135,7 +138,12 @@ function listen() {
 const FIRST_CHART = "@name A first chart\n@bpm 96\n@time 4/4\n\nVerse\nC;Am;F;G\n_repeat 2\n--\nWords of four measures _4\nand of four more _4\n";
 
 async function start() {
-    reader = await openReader(moduleBytes());
+    try {
+        reader = await openReader(await moduleBytes());
+    } catch {
+        byId("verdict").replaceChildren(element("p", "bad", "This browser is too old for the reader in this page: use one of 2023 or later."));
+        return;
+    }
     setLight(kept(LIGHT) === "1");
     chart.value = kept(KEPT) ?? FIRST_CHART;
     listen();

@@ -1,6 +1,7 @@
 // The page's own scripts outside a browser: the module out of the page, and the functions that read with it.
 import fs from "node:fs";
 import vm from "node:vm";
+import zlib from "node:zlib";
 
 // openPage FILE: the reader of a page, with the functions of its scripts that touch no screen.
 export async function openPage(file) {
@@ -11,6 +12,6 @@ export async function openPage(file) {
     // What stands before the first line about the screen needs no document.
     const quiet = script.slice(0, script.indexOf("// The screen: what is shown"));
     vm.runInContext(`${quiet}\nthis.page = { openReader, adviceOn, warningsOn, songOf };`, context);
-    const reader = await context.page.openReader(Buffer.from(module.trim(), "base64"));
+    const reader = await context.page.openReader(zlib.gunzipSync(Buffer.from(module.trim(), "base64")));
     return { reader, ...context.page };
 }
