@@ -1,0 +1,64 @@
+/* The page's side of the proved reader, compiled for WebAssembly: memory that is lent to every call, and entry points with parameters that a
+   script can give (inside the module numbers have 64 bits). A page reads one chart at a time, so one set of tables does. */
+#include "advice.h"
+
+enum {
+    TEXT_ROOM = TURNIPCART_TEXT_LIMIT + 1, /* one byte more than the limit, so that a longer text is seen to be longer */
+    ANSWER_NUMBERS = 6,
+    CAUSE_NUMBERS = 10
+};
+
+/* The calls as the module has them. */
+uint64_t proved_read(const unsigned char *text, uint64_t text_length, uint32_t *keys, uint64_t keys_length, uint64_t *sections,
+                     uint64_t sections_length, uint32_t *measures, uint64_t measures_length, uint32_t *beats, uint64_t beats_length,
+                     uint64_t *items, uint64_t items_length, uint64_t answer[ANSWER_NUMBERS]) __asm__("turnipcart_read");
+uint64_t proved_explain(const unsigned char *text, uint64_t text_length, uint64_t cause[CAUSE_NUMBERS]) __asm__("turnipcart_explain");
+
+static unsigned char chart[TEXT_ROOM];
+static uint32_t keys[TURNIPCART_KEYS];
+static uint64_t sections[TURNIPCART_SECTIONS_ENOUGH];
+static uint32_t measures[TURNIPCART_MEASURES_ENOUGH];
+static uint32_t beats[TURNIPCART_BEATS_ENOUGH];
+static uint64_t items[TURNIPCART_ITEMS_ENOUGH];
+static uint64_t answer[ANSWER_NUMBERS];
+static struct advice advice;
+static char words[ADVICE_ROOM];
+static struct warning_search search;
+
+/* Where a script finds each piece of memory, by number, in this order. */
+void *page_memory(unsigned which)
+{
+    void *places[] = {chart, keys, sections, measures, beats, items, answer, &advice};
+    return which < sizeof places / sizeof *places ? places[which] : 0;
+}
+
+/* Reads the chart of so many bytes that was put into its memory; the answer and the tables stand in theirs. */
+void page_read(unsigned length)
+{
+    proved_read(chart, length, keys, TURNIPCART_KEYS, sections, TURNIPCART_SECTIONS_ENOUGH, measures, TURNIPCART_MEASURES_ENOUGH, beats,
+                TURNIPCART_BEATS_ENOUGH, items, TURNIPCART_ITEMS_ENOUGH, answer);
+}
+
+/* What is to be said of a chart that was refused: the advice stands in its memory. */
+void page_advise(unsigned length)
+{
+    uint64_t numbers[CAUSE_NUMBERS];
+    proved_explain(chart, length, numbers);
+    struct turnipcart_cause cause = {
+        .refusal = (size_t)numbers[0], .line = (size_t)numbers[1],       .cause = (size_t)numbers[2], .place_line = (size_t)numbers[3],
+        .offset = (size_t)numbers[4],  .length = (size_t)numbers[5],     .other_line = (size_t)numbers[6],
+        .first = (size_t)numbers[7],   .second = (size_t)numbers[8],     .third = (size_t)numbers[9],
+    };
+    advise((struct text){chart, length}, &cause, words, &advice);
+}
+
+/* The warnings for a chart that was accepted: begun, then one after another until there is none. */
+void page_begin_warnings(unsigned length, unsigned item_count)
+{
+    begin_warnings((struct text){chart, length}, item_count, &search);
+}
+
+bool page_next_warning(void)
+{
+    return next_warning(&search, words, &advice);
+}

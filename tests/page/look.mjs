@@ -1,0 +1,92 @@
+// look.mjs PAGE FOLDER: the page in a real browser, as an arranger uses it. Screenshots, a print and the saved chart are left in FOLDER.
+import assert from "node:assert/strict";
+import fs from "node:fs";
+import path from "node:path";
+import { openBrowser, valueOf, until, typeChart } from "./browser.mjs";
+
+const [page, folder] = process.argv.slice(2).map((word) => path.resolve(word));
+const RIGHT = "@name Blue Moon\n@bpm 92\n\nVerse\nC;Am;F;G\n--\nBlue moon _2\nyou saw me _2\n";
+const SLIP = RIGHT.replace("C;Am", "C;am");
+const text = (id) => `document.getElementById(${JSON.stringify(id)}).textContent`;
+
+async function screen(browser, width, height, name) {
+    await browser.inPage("Emulation.setDeviceMetricsOverride", { width, height, deviceScaleFactor: 1, mobile: width < 600 });
+    const { data } = await browser.inPage("Page.captureScreenshot", { format: "png" });
+    fs.writeFileSync(path.join(folder, name), Buffer.from(data, "base64"));
+    assert(await valueOf(browser, "document.documentElement.scrollWidth <= window.innerWidth"), `${name}: the page is wider than the screen`);
+}
+
+async function open(browser) {
+    await browser.inPage("Page.navigate", { url: `file://${page}` });
+    await until(browser, `document.documentElement?.dataset.ready === "yes"`);
+}
+
+// A slip is marked at its place, with a sentence; mended, the grid stands there.
+async function slipAndMend(browser) {
+    await typeChart(browser, SLIP);
+    await until(browser, `${text("verdict")}.includes("refused 7")`);
+    assert.equal(await valueOf(browser, text("place")), "am");
+    assert((await valueOf(browser, text("verdict"))).includes("Line 5, place 3"));
+    assert((await valueOf(browser, text("verdict"))).includes("write `Am`"));
+    await screen(browser, 360, 800, "slip-360.png");
+    await screen(browser, 1200, 800, "slip-1200.png");
+    await valueOf(browser, `document.getElementById("go").click()`);
+    assert.equal(await valueOf(browser, `chart.value.slice(chart.selectionStart, chart.selectionEnd)`), "am");
+    await browser.inPage("Input.insertText", { text: "Am" });
+    await until(browser, `${text("verdict")}.startsWith("Fine: 1 section, 4 measures")`);
+    assert.equal(await valueOf(browser, `document.querySelectorAll("li.measure").length`), 4);
+    assert.equal(await valueOf(browser, `document.querySelectorAll("li.words").length`), 2);
+    await screen(browser, 360, 800, "grid-360.png");
+    await screen(browser, 1200, 800, "grid-1200.png");
+}
+
+// Markup in a chart is text.
+async function markup(browser) {
+    await typeChart(browser, RIGHT.replace("Blue moon", "<img src=x onerror=alert(1)><b>Blue</b>"));
+    await until(browser, `document.querySelector("li.words").textContent.startsWith("<img")`);
+    assert.equal(await valueOf(browser, `document.querySelectorAll("#grid img, #grid b").length`), 0);
+}
+
+async function printed(browser) {
+    const { data } = await browser.inPage("Page.printToPDF", { paperWidth: 8.27, paperHeight: 11.69 });
+    const pdf = Buffer.from(data, "base64");
+    fs.writeFileSync(path.join(folder, "print.pdf"), pdf);
+    return (pdf.toString("latin1").match(/\/Type\s*\/Page[^s]/g) ?? []).length;
+}
+
+// The saved file is what was typed.
+async function saved(browser) {
+    await typeChart(browser, RIGHT);
+    await until(browser, `${text("verdict")}.startsWith("Fine")`);
+    await browser.call("Browser.setDownloadBehavior", { behavior: "allow", downloadPath: folder });
+    await valueOf(browser, `document.getElementById("save").click()`);
+    const file = path.join(folder, "Blue Moon.sc");
+    for (let tries = 0; tries < 100 && !fs.existsSync(file); tries++) await new Promise((resolve) => setTimeout(resolve, 50));
+    assert.equal(fs.readFileSync(file, "utf8"), RIGHT);
+}
+
+// The longest chart: a letter typed into it is on the screen, and judged, at once.
+async function longest(browser) {
+    const head = "Verse\n";
+    const chart = head + "A".padEnd(65536 - head.length, ";A").replace(/;$/, " ");
+    await typeChart(browser, chart);
+    await until(browser, `${text("verdict")}.includes("measures")`, 20);
+    const took = await valueOf(browser, `(() => { const start = performance.now(); judge(); return performance.now() - start; })()`);
+    assert(!(await valueOf(browser, `document.getElementById("more").hidden`)), "the long song is shown in parts");
+    return took;
+}
+
+const browser = await openBrowser(process.env.BROWSER_PROGRAM ?? "chromium", path.join(folder, "profile"));
+try {
+    await open(browser);
+    await slipAndMend(browser);
+    await markup(browser);
+    assert((await printed(browser)) >= 1, "printing gives pages");
+    await saved(browser);
+    await open(browser);
+    assert.equal(await valueOf(browser, "chart.value"), RIGHT, "what was typed last is there again");
+    const took = await longest(browser);
+    console.log(`page: in the browser all as it should be; the longest chart judged and drawn in ${took.toFixed(0)} ms`);
+} finally {
+    browser.close();
+}
