@@ -520,6 +520,10 @@ static inline const char *turnipcart_refusal_text(size_t refusal)
         "",
         "a move out of range",
         "a word that is no beat",
+        "",
+        "",
+        "tables that do not join up",
+        "a section without a bpm from 1 to 400",
     };
     return refusal < sizeof texts / sizeof texts[0] ? texts[refusal] : "";
 }
