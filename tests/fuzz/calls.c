@@ -37,6 +37,25 @@ static void try_count(struct numbers *numbers, const struct source *source, stru
 }
 #endif
 
+#ifdef HAS_EXPLAIN
+/* The second reader knows the refusal and its line; the cause, its place and its numbers are taken as they are told. */
+static void try_explain(struct numbers *numbers, const struct source *source, struct exchange *exchange)
+{
+    (void)numbers;
+    struct turnipcart_cause *told;
+    give(&exchange->given[0], source->chart->bytes, source->chart->length);
+    keep(exchange);
+    lend_answer(exchange, sizeof *told / WIDE);
+    told = words_of(&exchange->answer);
+    exchange->refusal = turnipcart_explain(LENT(exchange->given[0]), told);
+    struct reader_answer counted = reader_count(LENT(exchange->kept[0]));
+    struct turnipcart_cause cause = *told;
+    cause.refusal = counted.refusal;
+    cause.line = counted.line;
+    expect(exchange, counted.refusal, (const size_t *)(const void *)&cause);
+}
+#endif
+
 #ifdef HAS_FLAT
 static void try_flat(struct numbers *numbers, const struct source *source, struct exchange *exchange)
 {
@@ -114,6 +133,9 @@ static struct {
     {try_find, EXCHANGE("find", SMALL, SMALL, BYTE)},
 #ifdef HAS_COUNT
     {try_count, EXCHANGE("count", BYTE, BYTE, BYTE)},
+#endif
+#ifdef HAS_EXPLAIN
+    {try_explain, EXCHANGE("explain", BYTE, BYTE, BYTE)},
 #endif
 #ifdef HAS_FLAT
     {try_flat, EXCHANGE("flat", BYTE, BYTE, BYTE)},
