@@ -7,6 +7,7 @@ use lib.ListN.{length, take, getD}
 use Rattle.songcode.specs.Lists.{sum}
 use Rattle.cues.specs.Cues.{beatLength, lengths, starts, refusalOf}
 use Rattle.cues.specs.Demands.{trials, Demands}
+use Rattle.cues.proofs.SongJoins.{song-joins}
 
 start-at : (time : ℕ) (xs : List ℕ) (k : ℕ) → k < length xs → getD (starts time xs) k 0 ≡ time + sum (take k xs)
 unfolding starts sum
@@ -19,6 +20,7 @@ unfolding trials refusalOf lengths starts sum beatLength
 demanded =
     record {
       start-is-sum = λ sections measures k l. let h = start-at 0 (lengths sections measures) k l in omega (arith, h);
+      song-joins = song-joins;
       tried = refl;
       tried-starts = refl;
       tried-ends = refl;

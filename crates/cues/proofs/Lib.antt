@@ -4,4 +4,5 @@ pub mod StartLaws
 pub mod TableLaws
 pub mod SectionLaws
 pub mod AnswerLaws
+pub mod SongJoins
 pub mod Demanded
