@@ -5,4 +5,5 @@ pub mod TableLaws
 pub mod SectionLaws
 pub mod AnswerLaws
 pub mod SongJoins
+pub mod BeatLaws
 pub mod Demanded

@@ -36,7 +36,7 @@ measures-few (w ∷ ws) f small =
     let s = small (length ws) in
     omega (arith, h, s)
 
-covers-le : (first n : ℕ) (sections : List ℕ) → covers first n sections ≡ true → first ≤ n
+pub covers-le : (first n : ℕ) (sections : List ℕ) → covers first n sections ≡ true → first ≤ n
 unfolding covers
 covers-le first n [] c = let e = eqb-true first n c in omega arith
 covers-le first n (w ∷ ws) c =

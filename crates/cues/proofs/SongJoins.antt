@@ -83,7 +83,8 @@ all-within s none-each r = (tt, refl)
 all-within s (and-each {x} {y = p} {ys = ps} h hs) r =
     let g = all-within s hs (r .1) in
     let k = g .1 in
-    (within-behind (p .meter) (joined p) (gather joined ps) (meter-most s x p h) (r .0 .0) (g .0), rw (length-append (joined p) (gather joined ps)) (omega arith))
+    let l = length-append (joined p) (gather joined ps) in
+    (within-behind (p .meter) (joined p) (gather joined ps) (meter-most s x p h) (r .0 .0) (g .0), omega arith)
 
 words-join : (s : Song) (ps : List Parts) → Fits s ps → Ready ps → joinUp (partsWords 0 (s .sections) ps) (measureWords 0 (gather joined ps)) ≡ true
 unfolding joinUp measuresJoin
