@@ -9,7 +9,7 @@ use lib.Dec.{eqb, ltb}
 use lib.ListN.{length, take, drop, getD, length-drop, length-map, length-append, List·getD-append}
 use lib.Seq.{take-all, take-suc, getD-append-add, getD-take, getD-drop, length-take-le}
 use borrow.Author.Tests.{eqb-true, le-leb, ltb-true, ltb-false, lt-ltb, le-ltb}
-use Rattle.songcode.specs.Lists.{if_then_else_, sum}
+use Rattle.songcode.specs.Lists.{sum}
 use Rattle.songcode.specs.Joined.{firstBeat, beatCount, endBeat, follows, firstMeasure, measureCount, sectionBpm, covers, joinUp}
 use Rattle.songcode.proofs.ListLaws.{by-cases, both-pass, sum-append}
 use Rattle.songcode.proofs.FollowLaws.{follow-parts, end-is, apart}
@@ -28,7 +28,7 @@ not-among first many n m = let l : first ≤ n = omega arith in rw (le-leb first
 -- A beat of a measure is found in it.
 measure-found : (at : ℕ) (table : List ℕ) → follows at table ≡ true → (k beat : ℕ) → k < length table → firstBeat (getD table k 0) ≤ beat
     → beat < firstBeat (getD table k 0) + beatCount (getD table k 0) → measureOf table beat ≡ k
-unfolding measureOf if_then_else_
+unfolding measureOf
 measure-found at [] f k beat l a b = absurd (omega arith)
 measure-found at (w ∷ ws) f zero beat l a b = rw (among (firstBeat w) (beatCount w) beat a b)
 measure-found at (w ∷ ws) f (suc k) beat l a b =
@@ -70,7 +70,7 @@ lengths-many first (w ∷ ws) table c =
 -- A measure lasts its beats at the bpm of the section in which it is found.
 measure-lasts : (first : ℕ) (sections table : List ℕ) → covers first (first + length table) sections ≡ true → (k : ℕ) → k < length table
     → getD (lengths sections table) k 0 ≡ beatCount (getD table k 0) * beatLength (bpmOf sections (first + k))
-unfolding covers lengths bpmOf if_then_else_
+unfolding covers lengths bpmOf
 measure-lasts first [] table c k l = let z = eqb-true first (first + length table) c in absurd (omega arith)
 measure-lasts first (w ∷ ws) table c k l =
     let p = both-pass (eqb (firstMeasure w) first) (covers (first + many) (first + length table) ws) c in
