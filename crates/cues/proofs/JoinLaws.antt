@@ -1,8 +1,8 @@
 -- Tables that join up, record by record: what one record adds, and what stops it.
 use Prim.Native.Nat.{ℕ, suc, _+_, _<_, _≤_}
-use mathlib.Core.Path.{_≡_, refl, sym, _∙_, ap}
-use mathlib.Core.List.{List, [], _∷_}
-use mathlib.Core.Bool.{Bool, true, false, _&&_, _||_}
+use mathlib.Core.Path.{_≡_, refl}
+use mathlib.Core.List.{List, _∷_}
+use mathlib.Core.Bool.{Bool, true, false, _&&_}
 use native.Mathlib.Numerals.{add-one}
 use native.Mathlib.Omega.{arith}
 use lib.Dec.{eqb, leb}
@@ -24,7 +24,14 @@ module _ (beat i : ℕ) (table : List ℕ) (l : i < length table) where
       → measuresJoin beat (drop i table) ≡ measuresJoin (beat + beatCount (getD table i 0)) (drop (i + 1) table)
   unfolding measuresJoin follows every isShort endBeat
   join-next f a b =
-      rw (add-one i, drop-cons table i 0 l, eq-eqb (firstBeat (getD table i 0)) beat f, le-leb 1 (beatCount (getD table i 0)) a, le-leb (beatCount (getD table i 0)) 32 b, f)
+      rw (
+        add-one i,
+        drop-cons table i 0 l,
+        eq-eqb (firstBeat (getD table i 0)) beat f,
+        le-leb 1 (beatCount (getD table i 0)) a,
+        le-leb (beatCount (getD table i 0)) 32 b,
+        f,
+      )
 
   pub join-elsewhere : (firstBeat (getD table i 0) ≡ beat → ⊥) → measuresJoin beat (drop i table) ≡ false
   unfolding measuresJoin follows
@@ -43,7 +50,8 @@ unfolding measuresJoin follows every
 join-over beat i table l = rw (drop-of-length-le table {i = i} l)
 
 module _ (first measures i : ℕ) (table : List ℕ) where
-  pub cover-next : i < length table → firstMeasure (getD table i 0) ≡ first → covers first measures (drop i table) ≡ covers (first + measureCount (getD table i 0)) measures (drop (i + 1) table)
+  pub cover-next : i < length table → firstMeasure (getD table i 0) ≡ first
+      → covers first measures (drop i table) ≡ covers (first + measureCount (getD table i 0)) measures (drop (i + 1) table)
   unfolding covers
   cover-next l f = rw (add-one i, drop-cons table i 0 l, eq-eqb (firstMeasure (getD table i 0)) first f)
 

@@ -4,4 +4,6 @@ pub mod StartLaws
 pub mod TableLaws
 pub mod SectionLaws
 pub mod AnswerLaws
+pub mod SongJoins
+pub mod BeatLaws
 pub mod Demanded

@@ -2,7 +2,7 @@
 use Prim.Native.Nat.{ℕ, zero, suc, _+_, _-_, _^_, _<_, _≤_}
 use mathlib.Core.Path.{_≡_, refl, sym, ap, _∙_, subst}
 use mathlib.Core.List.{List, [], _∷_, _++_}
-use mathlib.Core.Bool.{Bool, true, false, _&&_, _||_}
+use mathlib.Core.Bool.{true, false, _&&_}
 use native.Mathlib.Numerals.{add-one}
 use native.Mathlib.Omega.{arith}
 use lib.Dec.{eqb, leb}
@@ -11,7 +11,7 @@ use lib.Seq.{drop-cons, drop-drop, length-take-le}
 use borrow.Rule.Slice.PartMut.{putMid}
 use borrow.Author.Tests.{eqb-true, leb-true, ne-eqb}
 use Rattle.songcode.specs.Lists.{sum, every}
-use Rattle.songcode.specs.Joined.{firstBeat, beatCount, endBeat, follows, firstMeasure, measureCount, sectionBpm, covers, isShort, measuresJoin, joinUp}
+use Rattle.songcode.specs.Joined.{firstBeat, endBeat, follows, firstMeasure, measureCount, sectionBpm, covers, isShort, measuresJoin, joinUp}
 use Rattle.songcode.proofs.ListLaws.{both-pass, sum-append}
 use Rattle.songcode.proofs.FollowLaws.{follow-parts, end-is}
 use Rattle.packing.specs.Written.{written}
@@ -36,7 +36,7 @@ measures-few (w ∷ ws) f small =
     let s = small (length ws) in
     omega (arith, h, s)
 
-covers-le : (first n : ℕ) (sections : List ℕ) → covers first n sections ≡ true → first ≤ n
+pub covers-le : (first n : ℕ) (sections : List ℕ) → covers first n sections ≡ true → first ≤ n
 unfolding covers
 covers-le first n [] c = let e = eqb-true first n c in omega arith
 covers-le first n (w ∷ ws) c =
@@ -92,17 +92,27 @@ length-lengthsAt bpm [] = refl
 length-lengthsAt bpm (x ∷ xs) = ap (λ n. suc n) (length-lengthsAt bpm xs)
 
 -- The stretch of a section is written: n and m are its measures, as the code counts them.
-module _ (i first time bpm n m : ℕ) (sections measures : List ℕ) (l : i < length sections) (b : bpm ≡ sectionBpm (getD sections i 0)) (k : n ≡ measureCount (getD sections i 0)) (j : m ≡ measureCount (getD sections i 0)) where
+module _ (i first time bpm n m : ℕ) (sections measures : List ℕ) (l : i < length sections)
+    (b : bpm ≡ sectionBpm (getD sections i 0)) (k : n ≡ measureCount (getD sections i 0)) (j : m ≡ measureCount (getD sections i 0)) where
   pub sum-section : time + sum (lengths (drop i sections) (drop first measures))
       ≡ time + sum (lengthsAt bpm (take n (drop first measures))) + sum (lengths (drop (i + 1) sections) (drop (first + m) measures))
   sum-section =
-      rw (lengths-section i sections l first measures, b, k, j, sum-append (lengthsAt (sectionBpm (getD sections i 0)) (take (measureCount (getD sections i 0)) (drop first measures))) (lengths (drop (i + 1) sections) (drop (first + measureCount (getD sections i 0)) measures)))
+      rw (
+        lengths-section i sections l first measures,
+        b,
+        k,
+        j,
+        sum-append
+            (lengthsAt (sectionBpm (getD sections i 0)) (take (measureCount (getD sections i 0)) (drop first measures)))
+            (lengths (drop (i + 1) sections) (drop (first + measureCount (getD sections i 0)) measures)),
+      )
       (omega arith)
 
   pub starts-section : (o o' all ys : List ℕ) → first + m ≤ length measures → first + m ≤ length o → first ≤ length o'
       → Wrote o first o' (starts time (lengths (drop i sections) (drop first measures))) all
       → ys ≡ written (starts time (lengthsAt bpm (take n (drop first measures)))) (take (length o' - first) (drop first o'))
-      → Wrote o (first + m) (putMid first (length o' - first) o' ys) (starts (time + sum (lengthsAt bpm (take n (drop first measures)))) (lengths (drop (i + 1) sections) (drop (first + m) measures))) all
+      → Wrote o (first + m) (putMid first (length o' - first) o' ys)
+      (starts (time + sum (lengthsAt bpm (take n (drop first measures)))) (lengths (drop (i + 1) sections) (drop (first + m) measures))) all
   starts-section o o' all ys f g h w y =
       let xs = lengthsAt bpm (take n (drop first measures)) in
       let rest = lengths (drop (i + 1) sections) (drop (first + m) measures) in

@@ -1,11 +1,11 @@
 -- Starts and lengths of measures, one measure or one section at a time.
-use Prim.Native.Nat.{ℕ, zero, suc, _+_, _*_, _/_, _<_, _≤_}
-use mathlib.Core.Path.{_≡_, refl, ap, sym, _∙_, subst}
-use mathlib.Core.List.{List, [], _∷_, _++_}
+use Prim.Native.Nat.{ℕ, zero, suc, _+_, _*_, _<_, _≤_}
+use mathlib.Core.Path.{_≡_, subst}
+use mathlib.Core.List.{List, [], _∷_}
 use native.Mathlib.Numerals.{add-one}
 use native.Mathlib.Omega.{arith}
 use native.Mathlib.Nat.{div-le-self}
-use lib.ListN.{length, take, drop, getD, set, drop-of-length-le}
+use lib.ListN.{length, drop, getD, set, drop-of-length-le}
 use lib.Seq.{drop-cons}
 use Rattle.songcode.specs.Lists.{sum}
 use Rattle.songcode.specs.Joined.{beatCount}

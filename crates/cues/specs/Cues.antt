@@ -1,6 +1,6 @@
 -- "The lighting desk wants the start of each measure in microseconds", from the tables alone.
 use Prim.Native.Nat.{ℕ, zero, suc, _+_, _*_, _/_}
-use mathlib.Core.List.{List, [], _∷_, _++_, map}
+use mathlib.Core.List.{List, [], _∷_, _++_}
 use mathlib.Core.Bool.{Bool, _||_, _&&_}
 use lib.Dec.{eqb, leb}
 use lib.ListN.{length, take, drop}
