@@ -20,7 +20,7 @@ function adviceIn(reader) {
 // For a chart that is refused; the text is the one that was lent last.
 function adviceOn(reader, bytes, tables) {
     if (tables.refusal === 0) return { line: 0 };
-    reader.module.page_advise(reader.lend(bytes));
+    reader.module.page_advise(reader.lend(bytes), bytes.length);
     return adviceIn(reader);
 }
 

@@ -39,8 +39,9 @@ void page_read(unsigned length)
                 TURNIPCART_BEATS_ENOUGH, items, TURNIPCART_ITEMS_ENOUGH, answer);
 }
 
-/* What is to be said of a chart that was refused: the advice stands in its memory. */
-void page_advise(unsigned length)
+/* What is to be said of a chart that was refused, of which so many bytes are lent and which has so many in all: the advice stands in its
+   memory. */
+void page_advise(unsigned length, unsigned size)
 {
     uint64_t numbers[CAUSE_NUMBERS];
     proved_explain(chart, length, numbers);
@@ -49,6 +50,8 @@ void page_advise(unsigned length)
         .offset = (size_t)numbers[4],  .length = (size_t)numbers[5],     .other_line = (size_t)numbers[6],
         .first = (size_t)numbers[7],   .second = (size_t)numbers[8],     .third = (size_t)numbers[9],
     };
+    if (cause.refusal == TURNIPCART_TEXT_TOO_LONG)
+        cause.first = size;
     advise((struct text){chart, length}, &cause, words, &advice);
 }
 
