@@ -2,7 +2,8 @@
 
    The calls come to an end on every input, take every text and tables of every length, use no heap, keep nothing between calls, call
    nothing but memcpy and memset, and may be called from several threads at once with memory of their own. They write nothing but
-   the memory lent to them, and only what is said below. turnipcart_read and turnipcart_count take about 280 KB of stack.
+   the memory lent to them, and only what is said below. turnipcart_read and turnipcart_count take about 280 KB of stack,
+   turnipcart_explain about 340 KB.
 
    Read one byte more than TURNIPCART_TEXT_LIMIT of a file (if it has them), and give all of them to the call: a file that is too long is
    then refused as such, and never taken for a shorter chart. Read to the file's end, and take a failed read for no chart at all.
@@ -29,7 +30,7 @@
 #define TURNIPCART_VERSION "1.0.0"
 
 /* Bytes of stack that every call is content with: what a thread that calls must have, beside its own. */
-#define TURNIPCART_STACK 327680
+#define TURNIPCART_STACK 393216
 
 #ifdef __cplusplus
 extern "C" {

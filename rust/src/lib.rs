@@ -29,4 +29,4 @@ pub const BEATS_ENOUGH: usize = 65535 * 32;
 /// See [`SECTIONS_ENOUGH`].
 pub const ITEMS_ENOUGH: usize = 13107;
 /// Bytes of stack that every call is content with.
-pub const STACK: usize = 327680;
+pub const STACK: usize = 393216;

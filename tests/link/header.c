@@ -41,9 +41,19 @@ static void try_short(void)
     expect("the second measure", turnipcart_measure_first_beat(measures[1]), 3);
 }
 
+/* A chart that is refused late: what looks for the cause takes more stack than what reads. */
+static void try_cause(void)
+{
+    static const unsigned char uneven[] = "Verse\nA;G\n--\nx _3\n";
+    struct turnipcart_cause cause;
+    expect("a late refusal", turnipcart_explain(uneven, sizeof uneven - 1, &cause), TURNIPCART_COUNT_SUM);
+    expect("its cause", cause.cause, TURNIPCART_CAUSE_COUNT_SUM);
+}
+
 static void *read_in_thread(void *nothing)
 {
     try_short();
+    try_cause();
     return nothing;
 }
 

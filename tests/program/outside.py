@@ -126,6 +126,9 @@ def stacks(tests, folder):
     for words in (["check", large], ["list", large], ["grid", large], ["find", large, "1919807"]):
         found = status(*words, env=environment, preexec_fn=lambda: resource.setrlimit(resource.RLIMIT_STACK, (SMALL_STACK, SMALL_STACK)))
         tests.expect(f"a small stack, {words[0]}", found, FINE)
+    uneven = write(folder, "uneven.sc", b"Verse\n" + b"A;" * 20000 + b"A\n--\nx _3\n")
+    found = status("check", uneven, env=environment, preexec_fn=lambda: resource.setrlimit(resource.RLIMIT_STACK, (SMALL_STACK, SMALL_STACK)))
+    tests.expect("a small stack, refused late", found, REFUSAL)
 
 
 def many_files(tests, folder):
