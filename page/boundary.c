@@ -12,6 +12,8 @@ enum {
 uint64_t proved_read(const unsigned char *text, uint64_t text_length, uint32_t *keys, uint64_t keys_length, uint64_t *sections,
                      uint64_t sections_length, uint32_t *measures, uint64_t measures_length, uint32_t *beats, uint64_t beats_length,
                      uint64_t *items, uint64_t items_length, uint64_t answer[ANSWER_NUMBERS]) __asm__("turnipcart_read");
+uint64_t proved_concert(const uint32_t *beats, uint64_t beats_length, int32_t move, uint32_t *second, uint64_t second_length)
+    __asm__("turnipcart_concert");
 uint64_t proved_explain(const unsigned char *text, uint64_t text_length, uint64_t cause[CAUSE_NUMBERS]) __asm__("turnipcart_explain");
 
 static unsigned char chart[TEXT_ROOM];
@@ -19,6 +21,7 @@ static uint32_t keys[TURNIPCART_KEYS];
 static uint64_t sections[TURNIPCART_SECTIONS_ENOUGH];
 static uint32_t measures[TURNIPCART_MEASURES_ENOUGH];
 static uint32_t beats[TURNIPCART_BEATS_ENOUGH];
+static uint32_t moved[TURNIPCART_BEATS_ENOUGH];
 static uint64_t items[TURNIPCART_ITEMS_ENOUGH];
 static uint64_t answer[ANSWER_NUMBERS];
 static struct advice advice;
@@ -28,7 +31,7 @@ static struct warning_search search;
 /* Where a script finds each piece of memory, by number, in this order. */
 void *page_memory(unsigned which)
 {
-    void *places[] = {chart, keys, sections, measures, beats, items, answer, &advice};
+    void *places[] = {chart, keys, sections, measures, beats, items, answer, &advice, moved};
     return which < sizeof places / sizeof *places ? places[which] : 0;
 }
 
@@ -37,6 +40,12 @@ void page_read(unsigned length)
 {
     proved_read(chart, length, keys, TURNIPCART_KEYS, sections, TURNIPCART_SECTIONS_ENOUGH, measures, TURNIPCART_MEASURES_ENOUGH, beats,
                 TURNIPCART_BEATS_ENOUGH, items, TURNIPCART_ITEMS_ENOUGH, answer);
+}
+
+/* The first beats of the song that was read last, at concert pitch, in a memory of their own; the refusal is returned. */
+unsigned page_concert(unsigned count, int move)
+{
+    return (unsigned)proved_concert(beats, count, move, moved, TURNIPCART_BEATS_ENOUGH);
 }
 
 /* What is to be said of a chart that was refused, of which so many bytes are lent and which has so many in all: the advice stands in its

@@ -4,6 +4,8 @@
 const FIRST_MEASURES = 400; // written out at once; the rest when it is asked for, or printed
 const LONG_TEXT = 8192; // bytes from which on the verdict waits until the typing rests
 const REST = 150; // milliseconds
+const LEAST_MOVE = -11; // semitones, to concert pitch
+const MOST_MOVE = 20;
 const KEPT = "turnipcart.chart"; // what was typed last, in the browser's own store
 const LIGHT = "turnipcart.light";
 
@@ -37,10 +39,28 @@ async function moduleBytes() {
 // Bytes into places of the text field, whose places count units of 16 bits.
 const placeIn = (bytes, offset) => decoder.decode(bytes.subarray(0, offset)).length;
 
+// What the chords are moved by: nothing, the song's capo, or so many semitones, as horns want them.
+function chosenMove(bytes, tables) {
+    const chosen = byId("move").value;
+    if (chosen === "capo") return capoOf(bytes, tables) || null;
+    return chosen === "" ? null : Number(chosen);
+}
+
 function showGrid(most) {
     const { bytes, tables } = latest;
     const all = tables.measures.length;
-    showSong(songOf(bytes, tables, most), Math.min(most, all), all);
+    const move = chosenMove(bytes, tables);
+    const shown = move === null ? tables : reader.atConcertPitch(tables, move);
+    showSong(songOf(bytes, shown, most), Math.min(most, all), all);
+}
+
+// Every move that concert pitch allows, beside "as written" and the capo.
+function offerMoves() {
+    for (let move = LEAST_MOVE; move <= MOST_MOVE; move++) {
+        const option = element("option", "", `moved by ${move > 0 ? "+" : ""}${move}`);
+        option.value = String(move);
+        byId("move").append(option);
+    }
 }
 
 function judge() {
@@ -119,6 +139,7 @@ function listen() {
     byId("save").addEventListener("click", save);
     byId("print").addEventListener("click", () => window.print());
     byId("more").addEventListener("click", () => showGrid(Infinity));
+    byId("move").addEventListener("change", () => showGrid(FIRST_MEASURES));
     byId("light").addEventListener("click", () => setLight(byId("light").getAttribute("aria-pressed") === "false"));
     window.addEventListener("beforeprint", () => showGrid(Infinity));
     const desk = byId("desk");
@@ -146,6 +167,7 @@ async function start() {
     }
     setLight(kept(LIGHT) === "1");
     chart.value = kept(KEPT) ?? FIRST_CHART;
+    offerMoves();
     listen();
     judge();
     document.documentElement.dataset.ready = "yes";

@@ -62,5 +62,12 @@ async function openReader(moduleBytes) {
         };
     }
 
-    return { read, lend, module, view };
+    // The tables of the song that was read last, its beats moved to concert pitch; as they are where the move is out of range.
+    function atConcertPitch(tables, move) {
+        const count = tables.beats.length;
+        if (module.page_concert(count, move) !== 0) return tables;
+        return { ...tables, beats: view(Uint32Array, 8, count).slice() };
+    }
+
+    return { read, atConcertPitch, lend, module, view };
 }

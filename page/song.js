@@ -38,6 +38,14 @@ function measureOf(bytes, tables, place) {
     return Array.from(tables.beats.subarray(first, first + beats), (word) => beatText(bytes, word));
 }
 
+// The song's capo, 0 where it has none.
+const CAPO = 3;
+
+function capoOf(bytes, tables) {
+    const { offset, length } = Words.key(tables.keys[CAPO] ?? 0);
+    return Number(letters(bytes, offset, length));
+}
+
 // The prompter's lines by the measure over which each begins.
 function promptsOf(bytes, tables) {
     const prompts = new Map();

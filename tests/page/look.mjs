@@ -40,6 +40,19 @@ async function slipAndMend(browser) {
     await screen(browser, 1200, 800, "grid-1200.png");
 }
 
+// Horns see the chords as they sound: with capo 3 an Am is a Cm, and moved by 2 a Bm.
+async function concertPitch(browser) {
+    const chords = `[...document.querySelectorAll("li.measure")].map((cell) => cell.firstChild.textContent).join(" ")`;
+    const choose = (move) => valueOf(browser, `(() => { const move = document.getElementById("move"); move.value = ${JSON.stringify(move)};
+        move.dispatchEvent(new Event("change")); })()`);
+    await typeChart(browser, RIGHT.replace("@bpm 92", "@bpm 92\n@capo 3"));
+    await until(browser, `${text("verdict")}.startsWith("Fine")`);
+    for (const [move, expected] of [["capo", "D# Cm G# A#"], ["2", "D Bm G A"], ["", "C Am F G"]]) {
+        await choose(move);
+        assert.equal(await valueOf(browser, chords), expected);
+    }
+}
+
 // Markup in a chart is text.
 async function markup(browser) {
     await typeChart(browser, RIGHT.replace("Blue moon", "<img src=x onerror=alert(1)><b>Blue</b>"));
@@ -80,6 +93,7 @@ const browser = await openBrowser(process.env.BROWSER_PROGRAM ?? "chromium", pat
 try {
     await open(browser);
     await slipAndMend(browser);
+    await concertPitch(browser);
     await markup(browser);
     assert((await printed(browser)) >= 1, "printing gives pages");
     await saved(browser);
