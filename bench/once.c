@@ -18,8 +18,10 @@ int main(int argc, char **argv)
     size_t length = fread(text, 1, sizeof text, stdin);
     (void)argv;
     if (argc > 1)
-        return (int)peer_read(text, length, keys, TURNIPCART_KEYS, sections, TURNIPCART_SECTIONS_ENOUGH, measures, TURNIPCART_MEASURES_ENOUGH,
-                              beats, TURNIPCART_BEATS_ENOUGH, items, TURNIPCART_ITEMS_ENOUGH, &other);
-    return (int)turnipcart_read(text, length, keys, TURNIPCART_KEYS, sections, TURNIPCART_SECTIONS_ENOUGH, measures,
-                                TURNIPCART_MEASURES_ENOUGH, beats, TURNIPCART_BEATS_ENOUGH, items, TURNIPCART_ITEMS_ENOUGH, &answer);
+        peer_read(text, length, keys, TURNIPCART_KEYS, sections, TURNIPCART_SECTIONS_ENOUGH, measures, TURNIPCART_MEASURES_ENOUGH, beats,
+                  TURNIPCART_BEATS_ENOUGH, items, TURNIPCART_ITEMS_ENOUGH, &other);
+    else
+        turnipcart_read(text, length, keys, TURNIPCART_KEYS, sections, TURNIPCART_SECTIONS_ENOUGH, measures, TURNIPCART_MEASURES_ENOUGH,
+                        beats, TURNIPCART_BEATS_ENOUGH, items, TURNIPCART_ITEMS_ENOUGH, &answer);
+    return 0;
 }
