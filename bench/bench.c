@@ -1,26 +1,38 @@
-/* Times the proved reader and the second reader on the same charts, side by side in one run. */
+/* Times readers on the same charts, side by side in one run, and compares their answers: the proved reader, the peer and the second reader.
+   With NATIVE defined the proved reader is left out, whose archive is for x86-64 alone. */
 #include <stdio.h>
 #include <stdlib.h>
 #include <string.h>
 #include <time.h>
 
 #include "../tests/reference/reader.h"
+#include "peer/peer.h"
+#ifdef NATIVE
+enum { KEYS = 8, SECTIONS = 13107, MEASURES = 65535, BEATS = MEASURES * 32, ITEMS = 13107 }; /* enough for every song, as below */
+#else
 #include "turnipcart.h"
+enum {
+    KEYS = TURNIPCART_KEYS,
+    SECTIONS = TURNIPCART_SECTIONS_ENOUGH,
+    MEASURES = TURNIPCART_MEASURES_ENOUGH,
+    BEATS = TURNIPCART_BEATS_ENOUGH,
+    ITEMS = TURNIPCART_ITEMS_ENOUGH
+};
+#endif
 
 enum { ROUNDS = 7 };
 
 static const double ROUND_SECONDS = 0.03;
 static const double MOST_SECONDS = 5; /* no further round of a chart begins after these */
 
-static unsigned char text[TURNIPCART_TEXT_LIMIT + 1];
+static unsigned char text[READER_TEXT_LIMIT + 1];
 static size_t length;
-static uint32_t keys[TURNIPCART_KEYS];
-static uint64_t sections[TURNIPCART_SECTIONS_ENOUGH];
-static uint32_t measures[TURNIPCART_MEASURES_ENOUGH];
-static uint32_t beats[TURNIPCART_BEATS_ENOUGH];
-static uint64_t items[TURNIPCART_ITEMS_ENOUGH];
-static struct turnipcart_answer answer;
-static struct reader_answer other;
+static uint32_t keys[KEYS];
+static uint64_t sections[SECTIONS];
+static uint32_t measures[MEASURES];
+static uint32_t beats[BEATS];
+static uint64_t items[ITEMS];
+static struct peer_answer answer;
 
 static double now(void)
 {
@@ -29,49 +41,68 @@ static double now(void)
     return (double)t.tv_sec + (double)t.tv_nsec * 1e-9;
 }
 
+#ifndef NATIVE
 static void proved(void)
 {
-    turnipcart_read(text, length, keys, TURNIPCART_KEYS, sections, TURNIPCART_SECTIONS_ENOUGH, measures, TURNIPCART_MEASURES_ENOUGH,
-                    beats, TURNIPCART_BEATS_ENOUGH, items, TURNIPCART_ITEMS_ENOUGH, &answer);
+    struct turnipcart_answer a;
+    turnipcart_read(text, length, keys, KEYS, sections, SECTIONS, measures, MEASURES, beats, BEATS, items, ITEMS, &a);
+    answer = (struct peer_answer){a.refusal, a.line, a.sections, a.measures, a.beats, a.items};
 }
+#endif
 
-static void written_by_hand(void)
+static void peer(void)
 {
-    struct reader_tables tables = {
-        keys,     TURNIPCART_KEYS,         sections, TURNIPCART_SECTIONS_ENOUGH, measures, TURNIPCART_MEASURES_ENOUGH,
-        beats,    TURNIPCART_BEATS_ENOUGH, items,    TURNIPCART_ITEMS_ENOUGH,
-    };
-    other = reader_read(text, length, &tables);
+    peer_read(text, length, keys, KEYS, sections, SECTIONS, measures, MEASURES, beats, BEATS, items, ITEMS, &answer);
 }
 
-/* Seconds of one call, in one round of several. */
-static double round_of(void (*call)(void), unsigned calls)
+static void second(void)
+{
+    struct reader_tables tables = {keys, KEYS, sections, SECTIONS, measures, MEASURES, beats, BEATS, items, ITEMS};
+    struct reader_answer a = reader_read(text, length, &tables);
+    answer = (struct peer_answer){a.refusal, a.line, a.sections, a.measures, a.beats, a.items};
+}
+
+static struct {
+    const char *name;
+    void (*call)(void);
+    unsigned calls;             /* in one round */
+    double best;                /* seconds of one call in the best round */
+    struct peer_answer answer;
+} readers[] = {
+#ifndef NATIVE
+    {.name = "proved", .call = proved},
+#endif
+    {.name = "peer", .call = peer},
+    {.name = "second", .call = second},
+};
+
+enum { READERS = sizeof readers / sizeof *readers };
+
+/* A round of several calls. */
+static void run_round(int reader)
 {
     double start = now();
-    for (unsigned i = 0; i < calls; i++)
-        call();
-    return (now() - start) / calls;
+    for (unsigned i = 0; i < readers[reader].calls; i++)
+        readers[reader].call();
+    double each = (now() - start) / readers[reader].calls;
+    if (each < readers[reader].best)
+        readers[reader].best = each;
+    readers[reader].answer = answer;
 }
 
-static unsigned calls_for(void (*call)(void))
-{
-    double once = round_of(call, 1);
-    return once >= ROUND_SECONDS ? 1 : (unsigned)(ROUND_SECONDS / (once + 1e-9)) + 1;
-}
-
-/* The best round of each, the rounds of both by turns. */
-static void time_both(double *a, double *b)
+/* One call of each, which says how many make a round; then rounds by turns. */
+static void time_all(void)
 {
     double start = now();
-    unsigned calls_a = calls_for(proved), calls_b = calls_for(written_by_hand);
-    *a = *b = 1e9;
-    for (int i = 0; i == 0 || (i < ROUNDS && now() - start < MOST_SECONDS); i++) {
-        double x = round_of(proved, calls_a), y = round_of(written_by_hand, calls_b);
-        if (x < *a)
-            *a = x;
-        if (y < *b)
-            *b = y;
+    for (int i = 0; i < READERS; i++) {
+        readers[i].best = 1e9;
+        readers[i].calls = 1;
+        run_round(i);
+        readers[i].calls = (unsigned)(ROUND_SECONDS / (readers[i].best + 1e-9)) + 1;
     }
+    for (int round = 0; round < ROUNDS && now() - start < MOST_SECONDS; round++)
+        for (int i = 0; i < READERS; i++)
+            run_round(i);
 }
 
 static void load(const char *name)
@@ -85,22 +116,36 @@ static void load(const char *name)
     fclose(f);
 }
 
+static void print_head(void)
+{
+    printf("%-16s %7s %9s %8s", "chart", "bytes", "words", "refusal");
+    for (int i = 0; i < READERS; i++)
+        printf(" | %7s us %9s", readers[i].name, "ns/byte");
+    printf(" | %s/%s\n", readers[0].name, readers[1].name);
+}
+
+static void print_times(const char *name)
+{
+    const char *slash = strrchr(name, '/'), *base = slash ? slash + 1 : name;
+    printf("%-16.*s %7zu %9zu %8zu", (int)(strlen(base) - 3), base, length, answer.sections + answer.measures + answer.beats + answer.items,
+           answer.refusal);
+    for (int i = 0; i < READERS; i++)
+        printf(" | %10.1f %9.2f", readers[i].best * 1e6, readers[i].best * 1e9 / (double)length);
+    printf(" | %8.2f\n", readers[0].best / readers[1].best);
+}
+
 int main(int argc, char **argv)
 {
-    printf("%-16s %7s %9s %8s | %9s %9s | %9s %9s | %6s\n", "chart", "bytes", "words", "refusal", "proved us", "ns/byte", "by hand us",
-           "ns/byte", "ratio");
+    print_head();
     for (int i = 1; i < argc; i++) {
-        double a, b;
-        const char *name = strrchr(argv[i], '/') ? strrchr(argv[i], '/') + 1 : argv[i];
         load(argv[i]);
-        time_both(&a, &b);
-        if (answer.refusal != other.refusal || answer.line != other.line || answer.beats != other.beats) {
-            printf("%s: the answers differ\n", name);
-            return 1;
-        }
-        printf("%-16.*s %7zu %9zu %8zu | %9.1f %9.2f | %9.1f %9.2f | %6.2f\n", (int)(strlen(name) - 3), name, length,
-               answer.sections + answer.measures + answer.beats + answer.items, answer.refusal, a * 1e6, a * 1e9 / (double)length,
-               b * 1e6, b * 1e9 / (double)length, a / b);
+        time_all();
+        for (int reader = 1; reader < READERS; reader++)
+            if (memcmp(&readers[reader].answer, &readers[0].answer, sizeof answer) != 0) {
+                printf("%s: the answers of %s and %s differ\n", argv[i], readers[0].name, readers[reader].name);
+                return 1;
+            }
+        print_times(argv[i]);
     }
     return 0;
 }
