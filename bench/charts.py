@@ -1,5 +1,5 @@
 #!/usr/bin/env python3
-"""Writes the charts that the two readers are timed on into a folder.
+"""Writes the charts that the readers are timed on into a folder.
 
 usage: charts.py FOLDER
 Each file is NAME.sc; the kinds that grow are there at 8, 16, 32 and 64 KB, as NAME-8K.sc to NAME-64K.sc.
