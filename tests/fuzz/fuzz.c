@@ -256,9 +256,12 @@ int main(int argc, char **argv)
     const char *part = argv[3];
     read_corpus(&corpus, (size_t)argc - 5, argv + 5);
     struct trial *trial = prepare();
-    for (size_t number = 0; number < count; number++) {
+    for (size_t number = 0; number < corpus.count + count; number++) {
         struct numbers numbers = numbers_of(seed, number);
-        make_chart(&numbers, &corpus, &trial->chart);
+        if (number < corpus.count)
+            trial->chart = corpus.charts[number];
+        else
+            make_chart(&numbers, &corpus, &trial->chart);
         memcpy(&trial->kept, &trial->chart, sizeof trial->kept);
         ask_lengths(trial);
         choose_lengths(&numbers, trial);
@@ -266,7 +269,7 @@ int main(int argc, char **argv)
         if (difference != NULL)
             return report(trial, seed, number, difference, argv[4]);
     }
-    printf("fuzz: seed %" PRIu64 ", %zu charts, no difference; refusals", seed, count);
+    printf("fuzz: seed %" PRIu64 ", %zu charts and %zu of files, no difference; refusals", seed, count, corpus.count);
     for (int refusal = 0; refusal < REFUSALS - 1; refusal++)
         printf(" %d:%zu", refusal, counts[refusal]);
     print_calls();
