@@ -102,10 +102,8 @@ static void try_explain(struct numbers *numbers, const struct source *source, st
 
 static void try_slip(struct numbers *numbers, const struct source *source, struct exchange *exchange)
 {
-    static struct chart slip;
-    (void)source;
-    write_slip(numbers, &slip);
-    explain(&slip, exchange);
+    write_slip(numbers, source->slip);
+    explain(source->slip, exchange);
 }
 #endif
 
