@@ -1,6 +1,6 @@
 //! The archive's calls, each in a safe function; nothing outside this file is unsafe.
 #![allow(unsafe_code)]
-use crate::{Refusal, KEYS};
+use crate::{Cause, Refusal, KEYS};
 
 /// Six numbers in this order, as the archive lays them down.
 #[repr(C)]
@@ -54,6 +54,8 @@ extern "C" {
     ) -> usize;
 
     fn turnipcart_concert(beats: *const u32, beats_length: usize, shift: i32, second: *mut u32, second_length: usize) -> usize;
+
+    fn turnipcart_explain(text: *const u8, text_length: usize, cause: *mut Cause) -> usize;
 }
 
 /// The five tables that a program lends, each of any length. Words behind a song's own keep what they held, and all do where it is
@@ -99,6 +101,14 @@ pub fn count(text: &[u8]) -> Result<Counts, Refusal> {
     // SAFETY: the pointer comes from a slice with its length, and `answer` is this function's own.
     unsafe { turnipcart_count(text.as_ptr(), text.len(), &mut answer) };
     answer.counts()
+}
+
+/// Why the chart is refused, and where; none where it is accepted.
+pub fn explain(text: &[u8]) -> Option<Cause> {
+    let mut cause = Cause::default();
+    // SAFETY: the pointer comes from a slice with its length, and `cause` is this function's own.
+    let number = unsafe { turnipcart_explain(text.as_ptr(), text.len(), &mut cause) };
+    (number != 0).then_some(cause)
 }
 
 /// Reads the chart into lent tables. Slices are never null and mutable ones never overlap, which is all that the archive asks.

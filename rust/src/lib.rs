@@ -1,17 +1,20 @@
 //! A proved reader of SongCode chord charts, for Rust.
 //!
 //! [`Song::read`] reads a chart into tables of its own, each as long as the song needs; its sections, measures, beats and items are
-//! iterators over them. [`count`] gives refusal or counts without tables, and [`read_into`] fills tables that a program lends, with no
-//! heap. `include/turnipcart.h` documents the calls, the words and every refusal. All that is unsafe stands in one file, `calls.rs`.
+//! iterators over them. [`count`] gives refusal or counts without tables, [`explain`] says why a chart is refused and where, and
+//! [`read_into`] fills tables that a program lends, with no heap. `include/turnipcart.h` documents the calls, the words, every refusal
+//! and every cause. All that is unsafe stands in one file, `calls.rs`.
 //!
 //! Read one byte more than [`TEXT_LIMIT`] of a file, so that one that is too long is refused as such.
 
 mod calls;
+mod cause;
 mod refusal;
 mod song;
 mod words;
 
-pub use calls::{concert, count, cues, find, read_into, Counts, Found, Tables};
+pub use calls::{concert, count, cues, explain, find, read_into, Counts, Found, Tables};
+pub use cause::Cause;
 pub use refusal::Refusal;
 pub use song::{Beat, Item, Measure, Section, Song, Style};
 pub use words::{base_name, Key};

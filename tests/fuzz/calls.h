@@ -8,6 +8,7 @@
 /* What input is made from: a chart, and the tables that it has been read into, cut to the answer's counts. */
 struct source {
     const struct chart *chart;
+    struct chart *slip; /* room for a short chart with a slip */
     struct reader_tables tables;
 };
 

@@ -34,6 +34,9 @@ void append_number(struct chart *chart, size_t number);
 /* songs.c: a song from a small grammar, most of them good. */
 void write_song(struct numbers *numbers, struct chart *chart);
 
+/* slips.c: a short chart, most of them with a slip. */
+void write_slip(struct numbers *numbers, struct chart *chart);
+
 /* charts.c: a song of the grammar, a chart of the corpus, or bytes, mutated or as it is. */
 void make_chart(struct numbers *numbers, const struct corpus *corpus, struct chart *chart);
 

@@ -51,6 +51,18 @@ static bool are_equal(const struct lent *one, const struct lent *other)
     return memcmp(one->memory, other->memory, (one->length + 2 * GUARD) * one->size) == 0;
 }
 
+/* The place of the first number of the answer that has this name, or that differs where none is asked for; or the answer's length. */
+static size_t find_number(const struct exchange *exchange, const char *name)
+{
+    const uint64_t *answer = words_of(&exchange->answer);
+    const uint64_t *expected = words_of(&exchange->expected);
+    size_t place = 0;
+    while (place < exchange->answer.length
+           && (name != NULL ? strcmp(exchange->names[place], name) != 0 : answer[place] == expected[place]))
+        place++;
+    return place;
+}
+
 /* Alters what the name of the call and of a part says, after the call. */
 static void spoil(struct exchange *exchange, const char *spoiled)
 {
@@ -60,6 +72,8 @@ static void spoil(struct exchange *exchange, const char *spoiled)
         exchange->refusal++;
     if (strcmp(part, "answer") == 0 && exchange->answer.length > 0)
         spoil_word(&exchange->answer, exchange->answer.length - 1);
+    if (exchange->names != NULL && find_number(exchange, part) < exchange->answer.length)
+        spoil_word(&exchange->answer, find_number(exchange, part));
     if (strcmp(part, "word") == 0 && exchange->used > 0)
         spoil_word(&exchange->ours, exchange->used - 1);
     if (strcmp(part, "guard") == 0)
@@ -77,8 +91,9 @@ static const char *find_difference(const struct exchange *exchange)
 {
     if (exchange->refusal != exchange->expected_refusal)
         return "refusal";
-    if (memcmp(words_of(&exchange->answer), words_of(&exchange->expected), exchange->answer.length * WIDE) != 0)
-        return "answer";
+    size_t differs = find_number(exchange, NULL);
+    if (differs < exchange->answer.length)
+        return exchange->names != NULL ? exchange->names[differs] : "answer";
     if (memcmp(words_of(&exchange->ours), words_of(&exchange->theirs), exchange->used * exchange->ours.size) != 0)
         return "word";
     if (!is_kept(&exchange->ours, exchange->ours.length))

@@ -12,6 +12,7 @@ struct exchange {
     struct lent given[MOST_GIVEN], kept[MOST_GIVEN]; /* the memory that is read */
     struct lent ours, theirs;                        /* the memory that is written */
     struct lent answer, expected;                    /* the numbers of the answer that are written */
+    const char *const *names;                        /* of the answer's numbers, where each is named by itself */
     size_t refusal, expected_refusal;
     size_t used;                                     /* words of the memory that should be written */
     size_t made, refused;

@@ -23,7 +23,7 @@ struct table {
 };
 
 struct trial {
-    struct chart chart, kept;
+    struct chart chart, kept, slip;
     size_t wanted[TABLES];
     struct table ours[TABLES], theirs[TABLES];
     struct {
@@ -159,7 +159,7 @@ static void spoil(struct trial *trial, const char *part)
 /* The other calls, on the chart and its tables cut to the answer's counts. */
 static const char *judge_calls(struct numbers *numbers, struct trial *trial, const char *part)
 {
-    struct source source = {&trial->kept, tables_of(trial->theirs)};
+    struct source source = {&trial->kept, &trial->slip, tables_of(trial->theirs)};
     source.tables.sections_length = trial->expected.sections;
     source.tables.measures_length = trial->expected.measures;
     source.tables.beats_length = trial->expected.beats;
@@ -233,9 +233,10 @@ static struct trial *prepare(void)
 
 static int report(const struct trial *trial, uint64_t seed, size_t number, const char *difference, const char *name)
 {
+    const struct chart *chart = strncmp(difference, "slip-", strlen("slip-")) == 0 ? &trial->slip : &trial->kept;
     FILE *file = fopen(name, "wb");
     if (file != NULL) {
-        fwrite(trial->kept.bytes, 1, trial->kept.length, file);
+        fwrite(chart->bytes, 1, chart->length, file);
         fclose(file);
     }
     printf("fuzz: seed %" PRIu64 ", chart %zu: %s differs; the chart is in %s\n", seed, number, difference, name);
@@ -256,9 +257,12 @@ int main(int argc, char **argv)
     const char *part = argv[3];
     read_corpus(&corpus, (size_t)argc - 5, argv + 5);
     struct trial *trial = prepare();
-    for (size_t number = 0; number < count; number++) {
+    for (size_t number = 0; number < corpus.count + count; number++) {
         struct numbers numbers = numbers_of(seed, number);
-        make_chart(&numbers, &corpus, &trial->chart);
+        if (number < corpus.count)
+            trial->chart = corpus.charts[number];
+        else
+            make_chart(&numbers, &corpus, &trial->chart);
         memcpy(&trial->kept, &trial->chart, sizeof trial->kept);
         ask_lengths(trial);
         choose_lengths(&numbers, trial);
@@ -266,7 +270,7 @@ int main(int argc, char **argv)
         if (difference != NULL)
             return report(trial, seed, number, difference, argv[4]);
     }
-    printf("fuzz: seed %" PRIu64 ", %zu charts, no difference; refusals", seed, count);
+    printf("fuzz: seed %" PRIu64 ", %zu charts and %zu of files, no difference; refusals", seed, count, corpus.count);
     for (int refusal = 0; refusal < REFUSALS - 1; refusal++)
         printf(" %d:%zu", refusal, counts[refusal]);
     print_calls();

@@ -3,14 +3,11 @@
 
 enum { SETTING_LIMIT = 100, CAPO_LIMIT = 20, BPM_LIMIT = 400 };
 
-/* In the order of the keys table. */
-enum key { NAME_KEY, ARTIST_KEY, ORIGINAL_KEY, CAPO_KEY, BPM_KEY, TIME_KEY, WARNING_KEY, END_KEY, UNKNOWN_KEY };
-
 static const char *const key_names[READER_KEYS] = {
     "name", "artist", "original", "capo", "bpm", "time", "warning", "end",
 };
 
-static enum key find_key(const unsigned char *text, struct span name)
+enum key find_key(const unsigned char *text, struct span name)
 {
     for (int key = 0; key < READER_KEYS; key++)
         if (span_is(text, name, key_names[key]))

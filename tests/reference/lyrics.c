@@ -51,7 +51,7 @@ struct lyric read_lyric(const struct song *song, size_t line)
 }
 
 /* The sections whose lyric lines are taken. */
-static bool is_taken(const struct section *section)
+bool is_taken(const struct section *section)
 {
     return section->has_lyrics && !section->is_empty;
 }

@@ -9,6 +9,7 @@ static const struct lengths listing_lengths = {{READER_KEYS, 512, 2048, 8192, 10
 
 struct options {
     bool whole;
+    bool explains;
     bool lengths_given;
     struct lengths lengths;
 };
@@ -130,7 +131,10 @@ static int run_packed(const struct options *options)
             free(chart);
             return complain("the list ends within chart ", name);
         }
-        answer_in_words(name, chart, length, lengths, options->whole);
+        if (options->explains)
+            show_cause(name, reader_explain(chart, length));
+        else
+            answer_in_words(name, chart, length, lengths, options->whole);
         free(chart);
     }
     return EXIT_SUCCESS;
@@ -182,12 +186,13 @@ int main(int count, char **words)
         return run_listing(&options);
     if (strcmp(command, "tables") == 0)
         return run_tables(&options, rest, rest_count);
-    if (strcmp(command, "packed") == 0 && rest_count == 0)
+    options.explains = strcmp(command, "explain") == 0;
+    if ((options.explains || strcmp(command, "packed") == 0) && rest_count == 0)
         return run_packed(&options);
     if (strcmp(command, "calls") == 0 && rest_count == 0)
         return show_calls(), EXIT_SUCCESS;
     if (strcmp(command, "find") == 0 && rest_count > 0)
         return run_find(rest, rest_count);
     return complain("usage: reference [--whole] [--lengths KEYS SECTIONS MEASURES BEATS ITEMS] ",
-                    "listing | tables FILE... | packed | calls | find BEAT WORD...");
+                    "listing | tables FILE... | packed | explain | calls | find BEAT WORD...");
 }

@@ -4,7 +4,7 @@
 
 static const char *const modifier_names[MODIFIERS] = {"repeat", "cutStart", "cutEnd", "before", "after"};
 
-static enum modifier find_modifier(const unsigned char *text, struct span name)
+enum modifier find_modifier(const unsigned char *text, struct span name)
 {
     for (int modifier = 0; modifier < MODIFIERS; modifier++)
         if (span_is(text, name, modifier_names[modifier]))

@@ -8,12 +8,12 @@ bool is_position(enum token_kind kind)
     return kind == TOKEN_CHORD || kind == TOKEN_REPEAT || kind == TOKEN_SILENCE || kind == TOKEN_REMOVER;
 }
 
-static bool ends_word(unsigned char byte)
+bool ends_word(unsigned char byte)
 {
     return is_blank(byte) || is_line_end(byte) || byte == ';' || byte == ':' || byte == '[' || byte == ']';
 }
 
-static struct span word_at(const unsigned char *text, struct span whole, size_t position)
+struct span word_from(const unsigned char *text, struct span whole, size_t position)
 {
     struct span word = {position, position};
     while (word.end < whole.end && !ends_word(text[word.end]))
@@ -23,7 +23,7 @@ static struct span word_at(const unsigned char *text, struct span whole, size_t 
 
 /* Steps over blanks and line ends; true if there was a line end. Within a block two line ends never follow each other
    with blanks alone between, so what is stepped over holds at most one. */
-static bool skip_blanks(const unsigned char *text, struct span whole, size_t *position)
+bool skip_blanks(const unsigned char *text, struct span whole, size_t *position)
 {
     bool line_end = false;
     while (*position < whole.end && (is_blank(text[*position]) || is_line_end(text[*position]))) {
@@ -41,7 +41,7 @@ bool read_reference(const unsigned char *text, struct span word, unsigned *numbe
 }
 
 /* The token that is one word: a reference, a chord or one of the three signs. */
-static struct token word_token(const unsigned char *text, struct span word)
+struct token word_token(const unsigned char *text, struct span word)
 {
     struct token token = {.kind = TOKEN_BAD};
     if (read_reference(text, word, &token.number))
@@ -76,12 +76,12 @@ struct token next_token(const unsigned char *text, struct span whole, size_t *po
         token.kind = TOKEN_OPEN;
         ++*position;
     } else if (byte == ']') {
-        struct span count = word_at(text, whole, *position + 1);
+        struct span count = word_from(text, whole, *position + 1);
         bool good = read_number(text, count, SMALLEST_REPEAT, COUNT_LIMIT, &token.number);
         token.kind = good ? TOKEN_CLOSE : TOKEN_BAD;
         *position = count.end;
     } else {
-        struct span word = word_at(text, whole, *position);
+        struct span word = word_from(text, whole, *position);
         token = word_token(text, word);
         *position = word.end;
     }
@@ -144,7 +144,7 @@ static bool token_fits(struct grammar *grammar, enum token_kind kind)
     }
 }
 
-static bool has_byte(const unsigned char *text, struct span span, unsigned char byte)
+bool has_byte(const unsigned char *text, struct span span, unsigned char byte)
 {
     return memchr(text + span.start, byte, span.end - span.start) != NULL;
 }

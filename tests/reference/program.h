@@ -28,6 +28,7 @@ void show_calls(void);
 
 /* show.c */
 void show_listing(const unsigned char *text, struct reader_answer answer, const struct reader_tables *tables);
+void show_cause(const char *name, struct reader_cause cause);
 void show_words(const char *name, struct reader_answer answer, const struct reader_tables *tables,
                 struct lengths lengths, bool whole);
 

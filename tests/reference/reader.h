@@ -83,6 +83,22 @@ struct reader_place reader_find(const uint32_t *measures, size_t length, uint32_
 /* The answer that the reader gives where every table is long enough. */
 struct reader_answer reader_count(const unsigned char *text, size_t length);
 
+/* Why a chart is refused, and where: the ten numbers of include/turnipcart.h. */
+struct reader_cause {
+    size_t refusal;
+    size_t line;
+    size_t cause;
+    size_t place_line;
+    size_t offset;
+    size_t length;
+    size_t other_line;
+    size_t first;
+    size_t second;
+    size_t third;
+};
+
+struct reader_cause reader_explain(const unsigned char *text, size_t length);
+
 /* The answer of a copy: refusal 0, line 0 and the bytes written, or a refusal with its line and length 0. */
 struct reader_copied {
     unsigned refusal;

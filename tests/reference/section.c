@@ -2,8 +2,6 @@
 #include <string.h>
 #include "song.h"
 
-enum { NAME_LIMIT = 50 }; /* characters of a section's name */
-
 /* What has been met between the header and the `--`. */
 struct body {
     bool pattern_seen;
@@ -16,6 +14,13 @@ struct body {
 static bool is_ascii_letter(unsigned char byte)
 {
     return ('A' <= byte && byte <= 'Z') || ('a' <= byte && byte <= 'z');
+}
+
+bool is_modifier_line(const struct song *song, size_t line)
+{
+    struct span span = song->lines[line];
+    const unsigned char *bytes = song->text + span.start;
+    return span.end - span.start > 1 && bytes[0] == '_' && is_ascii_letter(bytes[1]);
 }
 
 /* The name runs to the first `!`. */
@@ -47,12 +52,10 @@ static void read_pattern_line(struct song *song, struct section *section, struct
 
 static void read_body_line(struct song *song, struct section *section, struct body *body, size_t line)
 {
-    struct span span = song->lines[line];
-    const unsigned char *bytes = song->text + span.start;
-    if (bytes[0] == '@') {
+    if (song->text[song->lines[line].start] == '@') {
         read_section_key(song, section, line, body->pattern_seen || body->modifier_seen);
         body->in_run = false;
-    } else if (bytes[0] == '_' && span.end - span.start > 1 && is_ascii_letter(bytes[1])) {
+    } else if (is_modifier_line(song, line)) {
         read_modifier(song, section, line, body->seen, !body->pattern_seen);
         body->modifier_seen = true;
         body->in_run = false;

@@ -96,3 +96,10 @@ void show_words(const char *name, struct reader_answer answer, const struct read
     show_wide_words(tables->items, shown[ITEMS_TABLE]);
     putchar('\n');
 }
+
+/* The ten numbers of a cause. */
+void show_cause(const char *name, struct reader_cause cause)
+{
+    printf("%s %zu %zu %zu %zu %zu %zu %zu %zu %zu %zu\n", name, cause.refusal, cause.line, cause.cause, cause.place_line, cause.offset,
+           cause.length, cause.other_line, cause.first, cause.second, cause.third);
+}

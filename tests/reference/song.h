@@ -9,6 +9,7 @@ enum {
     COUNT_LIMIT = 9999,      /* largest count, and n in $n */
     SMALLEST_REPEAT = 2,     /* loops and repeats start here */
     DEFINITION_LIMIT = 26,
+    NAME_LIMIT = 50,         /* characters of a section's name */
     DEFAULT_TIME = 4,
     BASE_CHORDS = 34,
     NO_BPM = 511,            /* written where neither section nor song has one */
@@ -155,6 +156,7 @@ void *more_memory(void *old, size_t needed, size_t *room, size_t size);
 void note_refusal(struct song *song, unsigned refusal, size_t line);
 bool is_blank(unsigned char byte);
 bool is_line_end(unsigned char byte);
+size_t character_length(const unsigned char *text, size_t left);
 void check_text(struct song *song);
 void find_lines(struct song *song);
 size_t count_characters(const unsigned char *text, struct span span);
@@ -167,9 +169,14 @@ const char *base_name(unsigned base);
 bool read_chord(const unsigned char *text, struct span word, struct chord *chord);
 
 /* pattern.c */
+bool ends_word(unsigned char byte);
+struct span word_from(const unsigned char *text, struct span whole, size_t position);
+bool skip_blanks(const unsigned char *text, struct span whole, size_t *position);
+struct token word_token(const unsigned char *text, struct span word);
 bool is_position(enum token_kind kind);
 struct token next_token(const unsigned char *text, struct span text_span, size_t *position);
 bool read_reference(const unsigned char *text, struct span word, unsigned *number);
+bool has_byte(const unsigned char *text, struct span span, unsigned char byte);
 bool pattern_is_good(const unsigned char *text, struct span span, enum text_kind kind);
 
 /* references.c */
@@ -177,7 +184,9 @@ struct definition *find_definition(struct song *song, size_t among, unsigned num
 void check_references(struct song *song);
 void gather_all_facts(struct song *song);
 
-/* keys.c */
+/* keys.c: the keys in the order of their table. */
+enum key { NAME_KEY, ARTIST_KEY, ORIGINAL_KEY, CAPO_KEY, BPM_KEY, TIME_KEY, WARNING_KEY, END_KEY, UNKNOWN_KEY };
+enum key find_key(const unsigned char *text, struct span name);
 bool read_bpm(const unsigned char *text, struct span setting, unsigned *bpm);
 bool read_time(const unsigned char *text, struct span setting, unsigned *time);
 void read_metadata_block(struct song *song, struct block block);
@@ -185,9 +194,11 @@ void read_section_key(struct song *song, struct section *section, size_t line, b
 
 /* modifiers.c */
 enum modifier { REPEAT_MODIFIER, CUT_START_MODIFIER, CUT_END_MODIFIER, BEFORE_MODIFIER, AFTER_MODIFIER, MODIFIERS };
+enum modifier find_modifier(const unsigned char *text, struct span name);
 void read_modifier(struct song *song, struct section *section, size_t line, bool seen[MODIFIERS], bool out_of_place);
 
 /* section.c */
+bool is_modifier_line(const struct song *song, size_t line);
 void read_section_block(struct song *song, struct block block);
 
 /* layout.c */
@@ -198,6 +209,7 @@ void check_time_and_repeats(struct song *song);
 void play_song(struct song *song);
 
 /* lyrics.c */
+bool is_taken(const struct section *section);
 struct lyric read_lyric(const struct song *song, size_t line);
 void check_counts_present(struct song *song);
 void check_count_sums(struct song *song);

@@ -56,7 +56,7 @@ static bool between(unsigned char byte, unsigned char least, unsigned char most)
 }
 
 /* The length of the whole character at a place, by the table of RFC 3629, section 4; 0 if there is none, or a zero byte. */
-static size_t character_length(const unsigned char *text, size_t left)
+size_t character_length(const unsigned char *text, size_t left)
 {
     unsigned char first = text[0];
     unsigned char second_least = 0x80, second_most = 0xBF;
