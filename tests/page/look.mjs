@@ -53,6 +53,34 @@ async function concertPitch(browser) {
     }
 }
 
+// A chart that is accepted and still not what was meant gets a warning, which goes when it is mended.
+async function warned(browser) {
+    await typeChart(browser, RIGHT.replace("C;Am", "C,Am;C"));
+    await until(browser, `${text("warnings")}.includes("C,Am")`);
+    await typeChart(browser, RIGHT);
+    await until(browser, `document.getElementById("warnings").children.length === 0`);
+}
+
+// A chart is opened from a file, or dropped on the desk.
+async function opened(browser) {
+    const file = path.join(folder, "opened.sc");
+    fs.writeFileSync(file, RIGHT.replace("Verse", "Opened"));
+    const { root } = await browser.inPage("DOM.getDocument");
+    const { nodeId } = await browser.inPage("DOM.querySelector", { nodeId: root.nodeId, selector: "#file" });
+    await browser.inPage("DOM.setFileInputFiles", { nodeId, files: [file] });
+    await until(browser, `chart.value === ${JSON.stringify(fs.readFileSync(file, "utf8"))}`);
+    await valueOf(browser, `(() => { const carried = new DataTransfer(); carried.items.add(new File([${JSON.stringify(SLIP)}], "dropped.sc"));
+        document.getElementById("desk").dispatchEvent(new DragEvent("drop", { dataTransfer: carried, bubbles: true, cancelable: true })); })()`);
+    await until(browser, `chart.value === ${JSON.stringify(SLIP)} && ${text("verdict")}.includes("refused 7")`);
+}
+
+// Every control is reached by the keyboard, and has a name that a screen reader speaks.
+async function reached(browser) {
+    const controls = `[...document.querySelectorAll("button, select, textarea")].filter((one) => one.offsetParent !== null)`;
+    assert(await valueOf(browser, `${controls}.every((one) => one.tabIndex === 0)`), "each control is reached by the keyboard");
+    assert(await valueOf(browser, `${controls}.every((one) => (one.labels?.[0] ?? one).textContent.trim() !== "")`), "each control has a name");
+}
+
 // Markup in a chart is text.
 async function markup(browser) {
     await typeChart(browser, RIGHT.replace("Blue moon", "<img src=x onerror=alert(1)><b>Blue</b>"));
@@ -93,6 +121,9 @@ const browser = await openBrowser(process.env.BROWSER_PROGRAM ?? "chromium", pat
 try {
     await open(browser);
     await slipAndMend(browser);
+    await warned(browser);
+    await opened(browser);
+    await reached(browser);
     await concertPitch(browser);
     await markup(browser);
     assert((await printed(browser)) >= 1, "printing gives pages");
