@@ -244,9 +244,9 @@ module _ {A : Type 0} where
 pub record PartOf {A : Type 0} (row : List (List A)) (k n : ℕ) (part : List (List A)) : Type 0 where
   -- one that is not full reaches the end
   pub last : total part < n → part ≡ drop k row
-  -- all its measures but the last are those of the row, and the next part begins behind them
-  pub front : take (length part - 1) part ≡ take (length part - 1) (drop k row)
-  pub next : total (take k row) + total (take (length part - 1) part) ≡ total (take (k + (length part - 1)) row)
+  -- all its measures but the last are those of the row; another part may begin behind any of them
+  pub front : (j : ℕ) → j < length part → take j part ≡ take j (drop k row)
+  pub next : (j : ℕ) → j < length part → total (take k row) + total (take j part) ≡ total (take (k + j) row)
   -- a table of n measures holds its measures
   pub few : length part ≤ n
   pub inside : length part ≤ length row - k
@@ -265,7 +265,9 @@ module _ {A : Type 0} where
       let g = filled-drop k row f in
       let part = window 0 n rest in
       let t = total-window 0 n rest in
-      let front = window-front n rest g in
+      let front : (j : ℕ) → j < length part → take j part ≡ take j rest =
+      λ j h.
+      sym (take-take j (length part - 1) part (omega arith)) ∙ ap (take j) (window-front n rest g) ∙ take-take j (length part - 1) rest (omega arith) in
       let m = few-measures part (filled-window 0 n rest) in
       let l = length-window 0 n rest in
       let d = length-drop k row in
@@ -273,7 +275,7 @@ module _ {A : Type 0} where
       (record {
         last = λ h. window-filled n rest g (omega arith);
         front = front;
-        next = rw (front, take-add k (length part - 1) row) (sym (total-append (take k row) (take (length part - 1) rest)));
+        next = λ j h. rw (front j h, take-add k j row) (sym (total-append (take k row) (take j rest)));
         few = omega arith;
         inside = omega arith;
       })

@@ -32,7 +32,8 @@ tallied row k q ms ms' bs bs' f h e =
     let g : Page = record { pen = record { base = 0; todo = k; skip = 4294967295; left = 0; m = 0; b = 0 }; ms = ms; bs = bs } in
     let d = subst (λ (h : Page). Done g h row) (sym e) (played row g) in
     let t = total-few k row f in
-    (d .todo, d .skip, omega arith)
+    let e = d .skip in
+    (d .todo (omega arith), e, omega arith)
 
 -- The plan.
 take-capped : (m : ℕ) (row : List (List ℕ)) → length row ≤ 65535 → take (min m 65536) row ≡ take m row
