@@ -24,10 +24,12 @@ pub not-true : {X : Type 0} → false ≡ true → X
 not-true h = let z : _≡_ {A = ℕ} 0 1 = cc in absurd (omega arith)
 
 -- What the two tests find.
-pub skips-found : (p q : Pen) (k m b : ℕ) → m ≡ p .todo - q .todo → b ≡ p .skip - q .skip → (q .todo ≡ 0 → ⊥) → (q .skip ≡ 0 → ⊥) → k * m ≤ q .todo → k * b < q .skip → Skips p q k
+pub skips-found : (p q : Pen) (k m b : ℕ) → m ≡ p .todo - q .todo → b ≡ p .skip - q .skip → (q .todo ≡ 0 → ⊥) → (q .skip ≡ 0 → ⊥) → k * m ≤ q .todo
+    → k * b < q .skip → Skips p q k
 skips-found p q k m b e f t s h l = record { some-todo = not-none t; some-skip = not-none s; measures = rw (← e) h; beats = rw (← f) l }
 
-pub copies-found : (p q : Pen) (m b : ℕ) → m ≡ p .todo - q .todo → b ≡ q .b - p .b → p .skip ≤ 0 → (q .todo ≡ 0 → ⊥) → (q .left ≡ 0 → ⊥) → m ≤ q .todo → b < q .left → Copies p q
+pub copies-found : (p q : Pen) (m b : ℕ) → m ≡ p .todo - q .todo → b ≡ q .b - p .b → p .skip ≤ 0 → (q .todo ≡ 0 → ⊥) → (q .left ≡ 0 → ⊥) → m ≤ q .todo
+    → b < q .left → Copies p q
 copies-found p q m b e f s t l h i = record { no-skip = omega arith; some-todo = not-none t; some-left = not-none l; measures = omega arith; beats = omega arith }
 
 -- Rows of which every beat is passed over.
@@ -56,7 +58,8 @@ pub took-onward : (row : List (List ℕ)) (p q : Pen) (ms bs : List ℕ) → Too
 took-onward row p q ms bs t = let d = took-done row p q ms bs t in (omega (arith, d .m), omega (arith, d .b))
 
 -- It ended before the last measure, so it looked at the whole row.
-whole-row : (row : List (List ℕ)) (p q : Pen) (ms bs : List ℕ) → Took row p q ms bs → 1 ≤ q .todo → 1 ≤ q .skip + q .left → (take (p .todo) row ≡ row) × (p .todo - q .todo ≡ length row)
+whole-row : (row : List (List ℕ)) (p q : Pen) (ms bs : List ℕ) → Took row p q ms bs → 1 ≤ q .todo → 1 ≤ q .skip + q .left
+    → (take (p .todo) row ≡ row) × (p .todo - q .todo ≡ length row)
 whole-row row p q ms bs t h some = let e = took-done row p q ms bs t .todo some in (take-all (p .todo) row (omega arith), omega arith)
 
 passed-beats : (row : List (List ℕ)) (p q : Pen) (ms bs : List ℕ) → Took row p q ms bs → 1 ≤ q .todo → 1 ≤ q .skip → p .skip - q .skip ≡ total row
@@ -66,7 +69,8 @@ passed-beats row p q ms bs t h k =
     omega arith
 
 -- A row with no more measures and beats than are to be passed over moves the pen alone.
-row-passed : (row : List (List ℕ)) (q r : Pen) (ms bs : List ℕ) → length row ≤ q .todo → total row < q .skip → r .base ≡ q .base → r .todo ≡ q .todo - length row → r .skip ≡ q .skip - total row → r .left ≡ q .left → r .m ≡ q .m → r .b ≡ q .b
+row-passed : (row : List (List ℕ)) (q r : Pen) (ms bs : List ℕ) → length row ≤ q .todo → total row < q .skip → r .base ≡ q .base
+    → r .todo ≡ q .todo - length row → r .skip ≡ q .skip - total row → r .left ≡ q .left → r .m ≡ q .m → r .b ≡ q .b
     → page r ms bs ≡ play row (page q ms bs)
 unfolding total heads flat
 row-passed row q r ms bs h k a b c d e f =
@@ -79,7 +83,8 @@ row-passed row q r ms bs h k a b c d e f =
     let o : play row (page q ms bs) .pen .b ≡ q .b + 0 = rw w at (n .b) in
     let x : play row (page q ms bs) .ms ≡ ms = rw w at (n .ms) in
     let y : play row (page q ms bs) .bs ≡ bs = rw w at (n .bs) in
-    page-equal (page r ms bs) (play row (page q ms bs)) (a ∙ sym (n .base)) (b ∙ sym (n .todo (omega arith))) (c ∙ sym s) (omega arith) (omega arith) (omega arith) (sym x) (sym y)
+    page-equal (page r ms bs) (play row (page q ms bs)) (a ∙ sym (n .base)) (b ∙ sym (n .todo (omega arith))) (c ∙ sym s) (omega arith) (omega arith)
+    (omega arith) (sym x) (sym y)
 
 pub skipped-again : (row : List (List ℕ)) (p q r : Pen) (k : ℕ) (ms bs : List ℕ) → Took row p q ms bs → Skips p q k → r ≡ skippedOf p q k → page r ms bs ≡ play (times k row) (page q ms bs)
 unfolding skippedOf

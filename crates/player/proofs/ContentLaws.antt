@@ -1,5 +1,5 @@
 -- What a played row leaves: the words of the window in both tables, and the pen's numbers.
-use Prim.Native.Nat.{ℕ, zero, suc, _+_, _-_, _*_, _<_, _≤_}
+use Prim.Native.Nat.{ℕ, zero, suc, _+_, _-_, _≤_}
 use mathlib.Core.Path.{_≡_, refl, sym, _∙_, subst}
 use mathlib.Core.List.{List, [], _∷_, _++_}
 use mathlib.Core.Bool.{Bool, true, false}
@@ -16,7 +16,7 @@ use Rattle.player.specs.Windows.{window, flat, heads}
 use Rattle.player.specs.declared.pens.Pen.{Pen}
 use Rattle.player.proofs.PageLaws.{measure-none, play-none, goes-on, rests}
 use Rattle.player.proofs.WindowLaws.{window-none}
-use Rattle.player.specs.Page.{Page, Ink, beatBy, beatOf, inked, closeBy, closed, onPage, restOf, rested, lookedAt, measureBy, measureOf, play}
+use Rattle.player.specs.Page.{Page, Ink, beatBy, beatOf, inked, closeBy, closed, onPage, rested, lookedAt, measureBy, measureOf, play}
 
 abbrev pen-of : ℕ → ℕ → ℕ → ℕ → ℕ → ℕ → Pen
 pen-of base todo s l m b = record { base = base; todo = todo; skip = s; left = l; m = m; b = b }
@@ -83,7 +83,8 @@ record Stepped (x : List ℕ) (g h : Page) : Type 0 where
   left : h .pen .left ≡ g .pen .left - (length x - g .pen .skip)
   piece-of : Piece (g .pen .base) (g .pen .m) (g .pen .b) (g .ms) (g .bs) (take (g .pen .left) (drop (g .pen .skip) x)) h
 
-stepped : (x : List ℕ) (base t s l m b : ℕ) (ms bs : List ℕ) → Stepped x (page-of (pen-of base (suc t) s l m b) ms bs) (lookedAt t x (page-of (pen-of base (suc t) s l m b) ms bs))
+stepped : (x : List ℕ) (base t s l m b : ℕ) (ms bs : List ℕ)
+    → Stepped x (page-of (pen-of base (suc t) s l m b) ms bs) (lookedAt t x (page-of (pen-of base (suc t) s l m b) ms bs))
 unfolding lookedAt onPage closed
 stepped x base t s l m b ms bs =
     let y = take l (drop s x) in
@@ -95,8 +96,11 @@ stepped x base t s l m b ms bs =
 measure-step : (x : List ℕ) (g : Page) (t : ℕ) → g .pen .todo ≡ suc t → Stepped x g (lookedAt t x g) × (measureOf x g ≡ rested (lookedAt t x g))
 unfolding measureOf measureBy lookedAt
 measure-step x g t e =
-    let s = stepped x (g .pen .base) t (g .pen .skip) (g .pen .left) (g .pen .m) (g .pen .b) (g .ms) (g .bs) in
-    (subst (λ n. Stepped x (page-of (pen-of (g .pen .base) n (g .pen .skip) (g .pen .left) (g .pen .m) (g .pen .b)) (g .ms) (g .bs)) (lookedAt t x g)) (sym e) s, rw e)
+    let s = stepped x (g .pen .base) t (g .pen .skip) (g .pen .left) (g .pen .m) (g .pen .b) (g .ms) (g .bs) in (
+      subst (λ n. Stepped x (page-of (pen-of (g .pen .base) n (g .pen .skip) (g .pen .left) (g .pen .m) (g .pen .b)) (g .ms) (g .bs)) (lookedAt t x g))
+          (sym e) s,
+      rw e,
+    )
 
 -- the whole row
 pub record Done (g h : Page) (row : List (List ℕ)) : Type 0 where
@@ -111,7 +115,17 @@ pub record Done (g h : Page) (row : List (List ℕ)) : Type 0 where
 
 done-none : (g : Page) (row : List (List ℕ)) (n : ℕ) → take (g .pen .todo) row ≡ [] → g .pen .todo ≡ g .pen .todo - length row → Done g g row
 unfolding window heads flat total
-done-none g row n e k = record { base = refl; todo = λ _. k; skip = rw e (omega arith); left = rw e (omega arith); m = rw e (omega arith); b = rw e (omega arith); ms = rw e; bs = rw e }
+done-none g row n e k = record {
+  base = refl;
+  todo = λ _. k;
+  skip = rw e (omega arith);
+  left = rw e (omega arith);
+  m = rw e (omega arith);
+  b = rw e
+      (omega arith);
+  ms = rw e;
+  bs = rw e;
+}
 
 -- What is to be passed over and to be written behind n beats, and then behind t more.
 skip-after : (s s' n t : ℕ) → s ≡ s' - n → s - t ≡ s' - (n + t)
@@ -153,7 +167,8 @@ done-cons x xs t g k h e p d =
 
 -- A pen that rests does what it would have done.
 module _ (g h : Page) (row : List (List ℕ)) where
-  done-resting : g .pen .skip ≤ 0 → g .pen .left ≤ 0 → Done (page-of (pen-of (g .pen .base) 0 (g .pen .skip) (g .pen .left) (g .pen .m) (g .pen .b)) (g .ms) (g .bs)) h row → Done g h row
+  done-resting : g .pen .skip ≤ 0 → g .pen .left ≤ 0
+      → Done (page-of (pen-of (g .pen .base) 0 (g .pen .skip) (g .pen .left) (g .pen .m) (g .pen .b)) (g .ms) (g .bs)) h row → Done g h row
   unfolding heads flat total
   done-resting s l d =
       let s0 : g .pen .skip ≡ 0 = omega arith in

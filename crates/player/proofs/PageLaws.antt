@@ -1,13 +1,12 @@
 -- Laws of the page, one for each way through the code: beats, sounds, measures, rows.
-use Prim.Native.Nat.{ℕ, zero, suc, _+_, _-_, _*_, _<_, _≤_}
+use Prim.Native.Nat.{ℕ, zero, suc, _+_, _-_, _<_, _≤_}
 use mathlib.Core.Path.{_≡_, refl, sym, ap, _∙_, subst}
 use mathlib.Core.List.{List, [], _∷_, _++_}
 use mathlib.Core.Bool.{Bool, true, false}
 use native.Mathlib.Omega.{arith}
-use native.Mathlib.Nat.{sub-zero, sub-self}
 use borrow.Author.Tests.{eq-eqb, ne-eqb}
 use lib.Dec.{eqb}
-use lib.ListN.{length, set, replicate, length-replicate}
+use lib.ListN.{length, set, replicate}
 use Rattle.songcode.specs.Tables.{measureWord}
 use Rattle.player.specs.Signs.{lastingOf}
 use Rattle.player.specs.declared.pens.Pen.{Pen}
@@ -156,7 +155,13 @@ measure-some x p q r ms ms' bs bs' n e k = some-by (p .todo) x p q r ms ms' bs b
 
 -- A measure that is passed over as a whole.
 pub measure-pass : (x : List ℕ) (p : Pen) (k : ℕ) (ms bs : List ℕ) → (p .todo ≡ 0 → ⊥) → k ≡ length x → k ≤ p .skip
-    → _≡_ {A = Page} (record { pen = restOf (record { base = p .base; todo = p .todo - 1; skip = p .skip - k; left = p .left; m = p .m; b = p .b }); ms = ms; bs = bs }) (measureOf x (record { pen = p; ms = ms; bs = bs }))
+    → _≡_ {A = Page} (record {
+      pen = restOf
+          (record { base = p .base; todo = p .todo - 1; skip = p .skip - k; left = p .left; m = p .m; b = p .b });
+      ms = ms;
+      bs = bs;
+    })
+    (measureOf x (record { pen = p; ms = ms; bs = bs }))
 measure-pass x p k ms bs n e h =
     let q : Pen = record { base = p .base; todo = p .todo - 1; skip = p .skip - k; left = p .left; m = p .m; b = p .b } in
     measure-some x p q q ms ms bs bs n

@@ -29,7 +29,8 @@ left-behind : (n s l t : ℕ) → n - (l - s) - (t - (s - l)) ≡ n - (l + t - s
 left-behind n s l t =
     by-cases (leb l s)
     (λ q. let h = leb-true l s q in let a : l - s ≡ 0 = omega arith in let b : t - (s - l) ≡ l + t - s = omega arith in rw (a, b) (zero-less n (l + t - s)))
-    (λ q. let h = leb-false l s q in let a : s - l ≡ 0 = omega arith in let b : l + t - s ≡ l - s + (t - 0) = omega arith in rw (a, b) (minus-minus n (l - s) (t - 0)))
+    (λ q. let h = leb-false l s q in let a : s - l ≡ 0 = omega arith in let b : l + t - s ≡ l - s + (t - 0) = omega arith in rw (a, b)
+    (minus-minus n (l - s) (t - 0)))
   where
     zero-less : (n t : ℕ) → n - 0 - t ≡ n - t
     zero-less n t = omega arith
@@ -88,7 +89,8 @@ module _ {A : Type 0} where
       let h = window-append (s - length x) (n - (length x - s)) a b in
       let e = window-eq (s - length x - total a) (s - (length x + total a)) (n - (length x - s) - (total a - (s - length x))) (n - (length x + total a - s)) b
       (minus-minus s (length x) (total a)) (left-behind n s (length x) (total a)) in
-      rw (h, e) (keep-append (take n (drop s x)) (window (s - length x) (n - (length x - s)) a) (window (s - (length x + total a)) (n - (length x + total a - s)) b))
+      rw (h, e) (keep-append (take n (drop s x)) (window (s - length x) (n - (length x - s)) a)
+      (window (s - (length x + total a)) (n - (length x + total a - s)) b))
 
   take-min : (m n : ℕ) (l : List A) → take m (take n l) ≡ take (min m n) l
   take-min m n l =
@@ -170,8 +172,30 @@ module _ {A : Type 0} where
       rw (a, window-whole s n lead, whole-total lead, ← i, ← j, c, kt, window-whole (t - l) (m - (l - t)) tail, kw)
       (sym (append-assoc (window s n lead) (window (p + t) (min m (l - t)) (times r row)) (window (t - l) (m - (l - t)) tail)))
     where
-      kept-part : (t m : ℕ) (all : List (List A)) → p ≡ firstBeat f all → l ≡ lastBeat b all - firstBeat f all → window t m (keptOf f b all) ≡ window (p + t) (min m (l - t)) all
+      kept-part : (t m : ℕ) (all : List (List A)) → p ≡ firstBeat f all → l ≡ lastBeat b all - firstBeat f all
+          → window t m (keptOf f b all) ≡ window (p + t) (min m (l - t)) all
       kept-part t m all e k = rw (e, k) (window-window t m (firstBeat f all) (lastBeat b all - firstBeat f all) all)
+
+  -- Where both cuts take nothing a section is its three texts behind one another.
+  whole-append : (s n : ℕ) (a b c : List (List A)) → ((s n : ℕ) → window s n b ≡ window s n c) → window s n (wholeOf a ++ b) ≡ window s n (a ++ c)
+  whole-append s n a b c same =
+      rw (window-append s n (wholeOf a) b, window-whole s n a, whole-total a, same (s - total a) (n - (total a - s))) (sym (window-append s n a c))
+
+  kept-whole : (f b : Cut) (row : List (List A)) → f .measures .0 ≡ 0 → f .beats .0 ≡ 0 → b .measures .0 ≡ 0 → b .beats .0 ≡ 0 → keptOf f b row ≡ wholeOf row
+  unfolding keptOf firstBeat lastBeat wholeOf total
+  kept-whole f b row e k i j =
+      let t : total (take (length row - 0) row) ≡ total row = let z : length row - 0 ≡ length row = omega arith in rw z
+      (ap total (take-all (length row) row (omega arith))) in
+      let n : total row - 0 - (0 + 0) ≡ total row = omega arith in
+      rw (e, k, i, j, t, n)
+
+  pub uncut-window : (s n : ℕ) (f b : Cut) (r : ℕ) (lead row tail : List (List A)) → f .measures .0 ≡ 0 → f .beats .0 ≡ 0 → b .measures .0 ≡ 0 → b .beats .0 ≡ 0
+      → window s n (sectionRow f b r lead row tail) ≡ window s n (lead ++ (times r row ++ tail))
+  unfolding sectionRow
+  uncut-window s n f b r lead row tail e k i j =
+      rw (kept-whole f b (times r row) e k i j)
+      (whole-append s n lead (wholeOf (times r row) ++ wholeOf tail) (times r row ++ tail)
+      (λ s n. whole-append s n (times r row) (wholeOf tail) tail (λ s n. window-whole s n tail)))
 
   -- A table with more room than the row has beats.
   pub window-room : (s n m : ℕ) (row : List (List A)) → total row ≤ m → window s (min n m) row ≡ window s n row
@@ -224,7 +248,8 @@ module _ {A : Type 0} where
       let l = length-take (suc n) x in
       let some : keep (take (suc n) x) part ≡ take (suc n) x ∷ part = keep-some (take (suc n) x) part (omega (arith, f .0)) in
       let z : suc (length part) - 1 ≡ length part = omega arith in
-      rw (e, d, some, z) (front-of (suc n) x xs part (λ h. let k : suc n - length x ≡ 0 = omega arith in rw k (window-none 0 xs)) (window-front (suc n - length x) xs (f .1)))
+      rw (e, d, some, z) (front-of (suc n) x xs part (λ h. let k : suc n - length x ≡ 0 = omega arith in rw k (window-none 0 xs))
+      (window-front (suc n - length x) xs (f .1)))
 
   pub few-measures : (row : List (List A)) → Filled row → length row ≤ total row
   unfolding total Filled
@@ -234,7 +259,9 @@ module _ {A : Type 0} where
   length-window : (s n : ℕ) (row : List (List A)) → length (window s n row) ≤ length row
   unfolding window
   length-window s n [] = omega arith
-  length-window s n (x ∷ xs) = let h = length-window (s - length x) (n - (length x - s)) xs in length-kept (take n (drop s x)) (window (s - length x) (n - (length x - s)) xs) (length xs) h
+  length-window s n (x ∷ xs) =
+      let h = length-window (s - length x) (n - (length x - s)) xs in
+      length-kept (take n (drop s x)) (window (s - length x) (n - (length x - s)) xs) (length xs) h
     where
       length-kept : (y : List A) (r : List (List A)) (k : ℕ) → length r ≤ k → length (keep y r) ≤ suc k
       length-kept [] r k h = omega arith
@@ -305,7 +332,8 @@ part-goes-on s n row f h k = let t = total-short (window s n row) (short-window 
 
 -- Where a measure and its beats stand in the two tables of a row.
 module _ {A : Type 0} where
-  pub heads-at : (first i : ℕ) (row : List (List A)) → i < length row → getD (heads first row) i 0 ≡ measureWord (first + total (take i row)) (length (getD row i []))
+  pub heads-at : (first i : ℕ) (row : List (List A)) → i < length row
+      → getD (heads first row) i 0 ≡ measureWord (first + total (take i row)) (length (getD row i []))
   unfolding heads total
   heads-at first i [] h = absurd (omega arith)
   heads-at first zero (x ∷ xs) h = let e : first + 0 ≡ first = omega arith in rw e

@@ -18,11 +18,11 @@ use Rattle.player.specs.declared.playing.Counts.{Counts}
 use Rattle.settings.specs.declared.cuts.Cut.{Cut}
 use Rattle.player.specs.Page.{Page, Fine, play}
 use Rattle.player.specs.Windows.{window, firstBeat, lastBeat, keptOf, wholeOf, sectionRow, flat, heads}
-use Rattle.player.proofs.PageLaws.{page, fine-play}
+use Rattle.player.proofs.PageLaws.{page, fine-play, play-append}
 use Rattle.player.proofs.ContentLaws.{Done, played, sets-append}
 use Rattle.player.proofs.ShortLaws.{Short, short-times, total-short, total-few}
 use Rattle.player.proofs.WindowLaws.{total-window, window-none, window-filled, length-flat, length-heads, flat-append, heads-append}
-use Rattle.player.proofs.PartLaws.{section-part, filled-section, window-room}
+use Rattle.player.proofs.PartLaws.{section-part, uncut-window, filled-section, window-room}
 
 -- Counting.
 pub tallied : (row : List (List ℕ)) (k : ℕ) (q : Pen) (ms ms' bs bs' : List ℕ) → Short row → k ≤ 65536
@@ -105,21 +105,25 @@ seen-all s (suc l) todo k row e h = let t : todo ≡ k = e (λ z. omega arith) i
 -- The pens of the pattern and of the tail, as the code makes them.
 abbrev pub AtPattern : Plan → Pen → Pen → Type 0
 AtPattern plan lead p =
-    ((p .base ≡ lead .base) × (p .m ≡ lead .m) × (p .b ≡ lead .b)) × ((p .skip ≡ plan .skip + lead .skip) × ((p .left ≡ min (lead .left) (plan .left - lead .skip)) × ((p .left ≡ 0 → ⊥) → p .todo ≡ plan .todo)))
+    ((p .base ≡ lead .base) × (p .m ≡ lead .m) × (p .b ≡ lead .b)) × ((p .skip ≡ plan .skip + lead .skip) × ((p .left ≡ min (lead .left)
+    (plan .left - lead .skip)) × ((p .left ≡ 0 → ⊥) → p .todo ≡ plan .todo)))
 
 abbrev pub AtTail : Plan → Pen → Pen → Pen → Type 0
 AtTail plan lead pattern p =
     ((p .base ≡ pattern .base) × (p .m ≡ pattern .m) × (p .b ≡ pattern .b)) × ((p .skip ≡ lead .skip - plan .left) × ((p .left ≡ lead .left - (plan .left - lead .skip)) × ((p .left ≡ 0 → ⊥) → p .todo ≡ 65536)))
 
 -- Three texts on one page.
-module _ (f k : Cut) (r : ℕ) (lead row tail : List (List ℕ)) (plan : Plan) (planned : (plan .todo ≡ length (times r row)) × (plan .skip ≡ firstBeat f (times r row)) × (plan .left ≡ lastBeat k (times r row) - firstBeat f (times r row)))
-    (p a : Pen) (ms bs ms1 bs1 : List ℕ) (first : (p .todo ≡ 65536) × (p .m ≡ 0) × (p .b ≡ 0)) (short : (length lead ≤ 65536) × (length tail ≤ 65536))
+module _ (f k : Cut) (r : ℕ) (lead row tail : List (List ℕ)) (plan : Plan)
+    (planned : (plan .todo ≡ length (times r row)) × (plan .skip ≡ firstBeat f (times r row)) × (plan .left ≡ lastBeat k (times r row) - firstBeat f
+    (times r row)))
+    (p a : Pen) (ms bs ms1 bs1 : List ℕ) (first : (p .todo ≡ 65536) × (p .m ≡ 0) × (p .b ≡ 0))
+    (short : length lead + length (times r row) + length tail ≤ 65536)
     (led : page a ms1 bs1 ≡ play (times 1 lead) (page p ms bs)) where
   lead-page : page a ms1 bs1 ≡ play lead (page p ms bs)
   lead-page = rw (times-one lead) at led
 
   lead-all : take (p .todo) lead ≡ lead
-  lead-all = let t = first .0 in take-all (p .todo) lead (omega (arith, short .0))
+  lead-all = let t = first .0 in take-all (p .todo) lead (omega (arith, short))
 
   lead-done : Done (page p ms bs) (page a ms1 bs1) lead
   lead-done = let g : Page = page p ms bs in subst (λ (h : Page). Done g h lead) (sym lead-page) (played lead g)
@@ -133,22 +137,46 @@ module _ (f k : Cut) (r : ℕ) (lead row tail : List (List ℕ)) (plan : Plan) (
       let u = total-short (times r row) x in
       omega arith
 
-  pub wrote-window : (o b u c : Pen) (ms2 bs2 ms3 bs3 : List ℕ) → AtPattern plan a o → page b ms2 bs2 ≡ play (times r row) (page o ms1 bs1) → AtTail plan a b u → page c ms3 bs3 ≡ play (times 1 tail) (page u ms2 bs2)
+  pub wrote-window : (o b u c : Pen) (ms2 bs2 ms3 bs3 : List ℕ) → AtPattern plan a o → page b ms2 bs2 ≡ play (times r row) (page o ms1 bs1)
+      → AtTail plan a b u → page c ms3 bs3 ≡ play (times 1 tail) (page u ms2 bs2)
       → Wrote (p .base) ms bs (window (p .skip) (p .left) (sectionRow f k r lead row tail)) c ms3 bs3
   wrote-window o b u c ms2 bs2 ms3 bs3 i j x y =
       let s1 : a .skip ≡ p .skip - total lead = rw lead-all at (lead-done .skip) in
       let l1 : a .left ≡ p .left - (total lead - p .skip) = rw lead-all at (lead-done .left) in
       let all = times r row in
-      let w1 = wrote-more (p .base) ms bs [] lead (window (p .skip) (p .left) lead) p p a ms bs ms1 bs1 (wrote-none p ms bs (first .1) (first .2)) (refl, refl, refl) (rw lead-all) lead-page in
+      let w1 = wrote-more (p .base) ms bs [] lead (window (p .skip) (p .left) lead) p p a ms bs ms1 bs1 (wrote-none p ms bs (first .1) (first .2))
+      (refl, refl, refl) (rw lead-all) lead-page in
       let kept = seen-all (o .skip) (o .left) (o .todo) (plan .todo) all (i .1 .1 .1) (same-le (planned .0)) in
       let w2 = wrote-more (p .base) ms bs (window (p .skip) (p .left) lead) all (window (o .skip) (o .left) all) a o b ms1 bs1 ms2 bs2 w1 (i .0) kept j in
-      let rest = seen-all (u .skip) (u .left) (u .todo) 65536 tail (x .1 .1 .1) (short .1) in
-      let w3 = wrote-more (p .base) ms bs (window (p .skip) (p .left) lead ++ window (o .skip) (o .left) all) tail (window (u .skip) (u .left) tail) b u c ms2 bs2 ms3 bs3 w2 (x .0) rest (rw (times-one tail) at y) in
+      let rest = seen-all (u .skip) (u .left) (u .todo) 65536 tail (x .1 .1 .1) (omega (arith, short)) in
+      let w3 = wrote-more (p .base) ms bs (window (p .skip) (p .left) lead ++ window (o .skip) (o .left) all) tail
+      (window (u .skip) (u .left) tail) b u c ms2 bs2 ms3 bs3 w2 (x .0) rest (rw (times-one tail) at y) in
       let e = section-part (p .skip) (p .left) f k r lead row tail (plan .skip) (plan .left) (a .skip) (a .left) (planned .1) (planned .2) s1 l1 in
       rw (e, ← (i .1 .0), ← (i .1 .1 .0), ← (x .1 .0), ← (x .1 .1 .0)) w3
     where
       same-le : plan .todo ≡ length (times r row) → length (times r row) ≤ plan .todo
       same-le e = omega arith
+
+-- The three texts behind one another, with one pen.
+pub three-texts : (lead all tail : List (List ℕ)) (g h i j : Page) → h ≡ play (times 1 lead) g → i ≡ play all h → j ≡ play (times 1 tail) i
+    → j ≡ play (lead ++ (all ++ tail)) g
+three-texts lead all tail g h i j a b c =
+    let a' : h ≡ play lead g = rw (times-one lead) at a in
+    let c' : j ≡ play tail i = rw (times-one tail) at c in
+    rw (c', b, a', play-append lead (all ++ tail) g, play-append all tail (play lead g))
+
+pub wrote-uncut : (f k : Cut) (r : ℕ) (lead row tail : List (List ℕ)) (p q : Pen) (ms bs ms' bs' : List ℕ)
+    → (f .measures .0 ≡ 0) × (f .beats .0 ≡ 0) × (k .measures .0 ≡ 0) × (k .beats .0 ≡ 0)
+    → (p .todo ≡ 65536) × (p .m ≡ 0) × (p .b ≡ 0) → length lead + length (times r row) + length tail ≤ 65536
+    → page q ms' bs' ≡ play (lead ++ (times r row ++ tail)) (page p ms bs)
+    → Wrote (p .base) ms bs (window (p .skip) (p .left) (sectionRow f k r lead row tail)) q ms' bs'
+wrote-uncut f k r lead row tail p q ms bs ms' bs' z first h e =
+    let all = lead ++ (times r row ++ tail) in
+    let l : length all ≡ length lead + (length (times r row) + length tail) = rw (length-append, length-append) in
+    let t = first .0 in
+    rw (uncut-window (p .skip) (p .left) f k r lead row tail (z .0) (z .1) (z .2) (z .3))
+    (wrote-more (p .base) ms bs [] all (window (p .skip) (p .left) all) p p q ms bs ms' bs' (wrote-none p ms bs (first .1) (first .2)) (refl, refl, refl)
+    (rw (take-all (p .todo) all (omega arith))) e)
 
 -- The beats of the parts.
 pub total-whole : (row : List (List ℕ)) → total (wholeOf row) ≤ total row
@@ -162,7 +190,8 @@ total-kept f k row =
     (rw (total-window (firstBeat f row) (total (take (length row - k .measures .0) row) - k .beats .0 - firstBeat f row) row) (omega arith), omega arith)
 
 -- Cuts only take beats away.
-pub section-beats : (f k : Cut) (r : ℕ) (lead row tail : List (List ℕ)) → Short lead → Short row → Short tail → total (sectionRow f k r lead row tail) ≤ 32 * (length lead + length (times r row) + length tail)
+pub section-beats : (f k : Cut) (r : ℕ) (lead row tail : List (List ℕ)) → Short lead → Short row → Short tail
+    → total (sectionRow f k r lead row tail) ≤ 32 * (length lead + length (times r row) + length tail)
 unfolding sectionRow
 section-beats f k r lead row tail x y z =
     let a = total-whole lead in
@@ -179,18 +208,23 @@ section-beats f k r lead row tail x y z =
 abbrev Told : ℕ → List ℕ → List ℕ → List (List ℕ) → Counts → List ℕ → List ℕ → Type 0
 Told base ms bs row c ms' bs' = ((c .measures ≡ length row) × (c .beats ≡ total row)) × ((ms' ≡ sets ms 0 (heads base row)) × (bs' ≡ sets bs 0 (flat row)))
 
-told-same : (base base' : ℕ) (ms bs : List ℕ) (row row' : List (List ℕ)) (c : Counts) (ms' bs' : List ℕ) → base ≡ base' → row ≡ row' → Told base ms bs row c ms' bs' → Told base' ms bs row' c ms' bs'
+told-same : (base base' : ℕ) (ms bs : List ℕ) (row row' : List (List ℕ)) (c : Counts) (ms' bs' : List ℕ) → base ≡ base' → row ≡ row'
+    → Told base ms bs row c ms' bs' → Told base' ms bs row' c ms' bs'
 told-same base base' ms bs row row' c ms' bs' e k t = rw (e, k) at t
 
 -- A section is the part of all its beats.
-module _ (f k : Cut) (r : ℕ) (lead row tail : List (List ℕ)) (x : Short lead) (y : Short row) (z : Short tail) (p : Pen) (ms bs : List ℕ) (c : Counts) (ms' bs' : List ℕ)
+module _ (f k : Cut) (r : ℕ) (lead row tail : List (List ℕ)) (x : Short lead) (y : Short row) (z : Short tail) (p : Pen) (ms bs : List ℕ) (c : Counts)
+    (ms' bs' : List ℕ)
     (t : Told (p .base) ms bs (window (p .skip) (p .left) (sectionRow f k r lead row tail)) c ms' bs') where
-  pub told-section : (base : ℕ) → base + 32 * (length lead + length (times r row) + length tail) ≤ 2097120 → (p .base ≡ base) × (p .skip ≡ 0) × (p .left ≡ 2097120 - base) → Told base ms bs (sectionRow f k r lead row tail) c ms' bs'
+  pub told-section : (base : ℕ) → base + 32 * (length lead + length (times r row) + length tail) ≤ 2097120
+      → (p .base ≡ base) × (p .skip ≡ 0) × (p .left ≡ 2097120 - base) → Told base ms bs (sectionRow f k r lead row tail) c ms' bs'
   told-section base h e =
       let n = section-beats f k r lead row tail x y z in
-      told-same (p .base) base ms bs _ _ c ms' bs' (e .0) (rw (e .1, e .2) (window-filled (2097120 - base) (sectionRow f k r lead row tail) (filled-section f k r lead row tail) (omega arith))) t
+      told-same (p .base) base ms bs _ _ c ms' bs' (e .0)
+      (rw (e .1, e .2) (window-filled (2097120 - base) (sectionRow f k r lead row tail) (filled-section f k r lead row tail) (omega arith))) t
 
-  pub told-part : (from : ℕ) → 32 * (length lead + length (times r row) + length tail) ≤ 2097120 → (p .base ≡ 0) × (p .skip ≡ from) × (p .left ≡ min (length bs) 2097120)
+  pub told-part : (from : ℕ) → 32 * (length lead + length (times r row) + length tail) ≤ 2097120
+      → (p .base ≡ 0) × (p .skip ≡ from) × (p .left ≡ min (length bs) 2097120)
       → Told 0 ms bs (window from (length bs) (sectionRow f k r lead row tail)) c ms' bs'
   told-part from h e =
       let n = section-beats f k r lead row tail x y z in
@@ -205,7 +239,8 @@ fine-pattern plan a o f i =
     let base = i .0 .0 in let m = i .0 .1 in let b = i .0 .2 in let l = i .1 .1 .0 in
     record { few = omega (arith, f .few); fits = omega (arith, f .fits) }
 
-pub fine-tail : (plan : Plan) (row : List (List ℕ)) (a o b u : Pen) (ms bs ms' bs' : List ℕ) → Fine a → AtPattern plan a o → page b ms' bs' ≡ play row (page o ms bs) → AtTail plan a b u → Fine u
+pub fine-tail : (plan : Plan) (row : List (List ℕ)) (a o b u : Pen) (ms bs ms' bs' : List ℕ) → Fine a → AtPattern plan a o
+    → page b ms' bs' ≡ play row (page o ms bs) → AtTail plan a b u → Fine u
 fine-tail plan row a o b u ms bs ms' bs' f i e x =
     let g : Page = page o ms bs in
     let d = subst (λ (h : Page). Done g h row) (sym e) (played row g) in
@@ -213,7 +248,11 @@ fine-tail plan row a o b u ms bs ms' bs' f i e x =
     let t = total-window (o .skip) (o .left) (take (o .todo) row) in
     let wrote : b .b ≤ a .b + min (a .left) (plan .left - a .skip) = omega (arith, d .b, i .0 .2, i .1 .1 .0) in
     let base : u .base ≡ a .base = x .0 .0 ∙ d .base ∙ i .0 .0 in
-    record { few = omega (arith, n .few, x .0 .1, x .0 .2); fits = room (a .base) (a .b) (a .left) (plan .left - a .skip) (u .base) (u .b) (u .left) (f .fits) (omega (arith, x .0 .2)) base (x .1 .1 .0) }
+    record {
+      few = omega (arith, n .few, x .0 .1, x .0 .2);
+      fits = room (a .base) (a .b) (a .left) (plan .left - a .skip) (u .base) (u .b) (u .left)
+          (f .fits) (omega (arith, x .0 .2)) base (x .1 .1 .0);
+    }
   where
     room : (base b l n base' b' l' : ℕ) → base + b + l ≤ 2097120 → b' ≤ b + min l n → base' ≡ base → l' ≡ l - n → base' + b' + l' ≤ 2097120
     room base b l n base' b' l' h i e k = omega arith

@@ -60,7 +60,12 @@ module _ {A : Type 0} where
       let d = length-drop s x in
       let a = enough n s (length x) (total xs) h in
       let b = enough m s (length x) (total xs) k in
-      rw (take-all n (drop s x) (omega arith), take-all m (drop s x) (omega arith), window-enough (s - length x) (n - (length x - s)) (m - (length x - s)) xs (a .1) (b .1))
+      rw (
+        take-all n (drop s x) (omega arith),
+        take-all m (drop s x) (omega arith),
+        window-enough (s - length x) (n - (length x - s))
+            (m - (length x - s)) xs (a .1) (b .1),
+      )
 
   pub window-large : (n m : ℕ) (row : List (List A)) → total row ≤ n → total row ≤ m → window 0 n row ≡ window 0 m row
   window-large n m row h k = window-enough 0 n m row (omega arith) (omega arith)

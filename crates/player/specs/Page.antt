@@ -1,6 +1,6 @@
 -- What the pen and the two tables become: left folds over beats and over measures.
-use Prim.Native.Nat.{ℕ, zero, suc, _+_, _-_, _*_, _^_, _≤_}
-use mathlib.Core.List.{List, [], _∷_, _++_}
+use Prim.Native.Nat.{ℕ, zero, suc, _+_, _-_, _≤_}
+use mathlib.Core.List.{List, [], _∷_}
 use mathlib.Core.Bool.{Bool, true, false}
 use lib.ListN.{set}
 use lib.Dec.{eqb}
@@ -62,7 +62,8 @@ rested g = record { pen = restOf (g .pen); ms = g .ms; bs = g .bs }
 
 -- A measure that is looked at, t more behind it.
 unfoldable pub lookedAt : ℕ → List ℕ → Page → Page
-lookedAt t x g = closed (g .pen .b) (onPage (inked x (record { pen = record { base = g .pen .base; todo = t; skip = g .pen .skip; left = g .pen .left; m = g .pen .m; b = g .pen .b }; bs = g .bs })) (g .ms))
+lookedAt t x g = closed (g .pen .b)
+    (onPage (inked x (record { pen = record { base = g .pen .base; todo = t; skip = g .pen .skip; left = g .pen .left; m = g .pen .m; b = g .pen .b }; bs = g .bs })) (g .ms))
 
 -- A measure, if any is still to be looked at.
 unfoldable pub measureBy : ℕ → List ℕ → Page → Page

@@ -8,6 +8,8 @@ use super::walks::again;
 use super::walks::items;
 use settings::Cut;
 ghost use mathlib.Core.Path.{_≡_};
+ghost use mathlib.Core.Bool.{true};
+ghost use mathlib.Core.List.{_++_};
 ghost use Prim.Native.Nat.{_+_, _-_, _*_, _≤_, min};
 ghost use lib.ListN.{length, take};
 ghost use lib.Seq.{sets};
@@ -184,7 +186,78 @@ fn at_tail(plan: Plan, lead: Pen, pattern: Pen) -> Pen
 }
 
 // The lead-in, the pattern r times less the two cuts, and the tail, on one page: as many beats as are to be written, behind those that are
-// passed over. Each text may be an empty stretch.
+// passed over.
+pub fn play_cut(
+    words: &[u32],
+    d: Definitions,
+    n: usize,
+    lead: Stretch,
+    pattern: Stretch,
+    tail: Stretch,
+    r: usize,
+    front: Cut,
+    back: Cut,
+    p: Pen,
+    ms: &mut [u32],
+    bs: &mut [u32],
+) -> Counts
+    requires cuts { ⌜ (n ≤ 32) × (front .beats .0 ≤ 9999) × (length (times r (rowOf d n (now words) pattern)) ≤ 65535) ⌝ }
+    requires texts { ⌜ length (rowOf d n (now words) lead) + length (times r (rowOf d n (now words) pattern)) + length (rowOf d n (now words) tail) ≤ 65536 ⌝ }
+    requires pen { ⌜ (p .todo ≡ 65536) × (p .m ≡ 0) × (p .b ≡ 0) × (p .skip ≤ 2097120) × (p .base + p .left ≤ 2097120) ⌝ }
+    ensures counts { λ c. ⌜ (c .measures ≡ length (window (p .skip) (p .left) (rowOfSection d n (now (words .entry)) lead pattern tail r front back)))
+        × (c .beats ≡ total (window (p .skip) (p .left) (rowOfSection d n (now (words .entry)) lead pattern tail r front back))) ⌝ }
+    ensures measures { λ c. ⌜ now (ms .exit) ≡ sets (now (ms .entry)) 0
+        (heads (p .base) (window (p .skip) (p .left) (rowOfSection d n (now (words .entry)) lead pattern tail r front back))) ⌝ }
+    ensures beats { λ c. ⌜ now (bs .exit) ≡ sets (now (bs .entry)) 0
+        (flat (window (p .skip) (p .left) (rowOfSection d n (now (words .entry)) lead pattern tail r front back))) ⌝ }
+{
+    let plan = planned(words, d, n, pattern, r, front, back);
+    let a = rounds(words, d, n, lead, 1, p, ms, bs);
+    let b = rounds(words, d, n, pattern, r, at_pattern(plan, a), ms, bs);
+    let c = rounds(words, d, n, tail, 1, at_tail(plan, a, b), ms, bs);
+    Counts {
+        measures: c.m,
+        beats: c.b,
+    }
+}
+
+// Whether both cuts take nothing.
+fn is_uncut(front: Cut, back: Cut) -> bool
+    ensures { λ r. ⌜ (r ≡ true → (front .measures .0 ≡ 0) × (front .beats .0 ≡ 0) × (back .measures .0 ≡ 0) × (back .beats .0 ≡ 0)) ⌝ }
+{
+    if 0 < front.measures.0 || 0 < front.beats.0 {
+        return false;
+    }
+    if 0 < back.measures.0 || 0 < back.beats.0 {
+        return false;
+    }
+    true
+}
+
+// Three texts behind one another, the second r times, with one pen: nothing is counted beforehand.
+pub fn play_uncut(
+    words: &[u32],
+    d: Definitions,
+    n: usize,
+    lead: Stretch,
+    pattern: Stretch,
+    tail: Stretch,
+    r: usize,
+    p: Pen,
+    ms: &mut [u32],
+    bs: &mut [u32],
+) -> Pen
+    requires { ⌜ Fine p × (n ≤ 32) ⌝ }
+    ensures { λ q. ⌜ _≡_ {A = Page} (record { pen = q; ms = now (ms .exit); bs = now (bs .exit) })
+        (play (rowOf d n (now (words .entry)) lead ++ (times r (rowOf d n (now (words .entry)) pattern) ++ rowOf d n (now (words .entry)) tail))
+        (record { pen = p; ms = now (ms .entry); bs = now (bs .entry) })) ⌝ }
+{
+    let a = rounds(words, d, n, lead, 1, p, ms, bs);
+    let b = rounds(words, d, n, pattern, r, a, ms, bs);
+    rounds(words, d, n, tail, 1, b, ms, bs)
+}
+
+// The same for any cuts; only a pattern that is cut is counted beforehand. Each text may be an empty stretch.
 pub fn play_window(
     words: &[u32],
     d: Definitions,
@@ -200,21 +273,23 @@ pub fn play_window(
     bs: &mut [u32],
 ) -> Counts
     requires cuts { ⌜ (n ≤ 32) × (front .beats .0 ≤ 9999) × (length (times r (rowOf d n (now words) pattern)) ≤ 65535) ⌝ }
-    requires texts { ⌜ (length (rowOf d n (now words) lead) ≤ 65536) × (length (rowOf d n (now words) tail) ≤ 65536) ⌝ }
+    requires texts { ⌜ length (rowOf d n (now words) lead) + length (times r (rowOf d n (now words) pattern)) + length (rowOf d n (now words) tail) ≤ 65536 ⌝ }
     requires pen { ⌜ (p .todo ≡ 65536) × (p .m ≡ 0) × (p .b ≡ 0) × (p .skip ≤ 2097120) × (p .base + p .left ≤ 2097120) ⌝ }
     ensures counts { λ c. ⌜ (c .measures ≡ length (window (p .skip) (p .left) (rowOfSection d n (now (words .entry)) lead pattern tail r front back)))
         × (c .beats ≡ total (window (p .skip) (p .left) (rowOfSection d n (now (words .entry)) lead pattern tail r front back))) ⌝ }
-    ensures measures { λ c. ⌜ now (ms .exit) ≡ sets (now (ms .entry)) 0 (heads (p .base) (window (p .skip) (p .left) (rowOfSection d n (now (words .entry)) lead pattern tail r front back))) ⌝ }
-    ensures beats { λ c. ⌜ now (bs .exit) ≡ sets (now (bs .entry)) 0 (flat (window (p .skip) (p .left) (rowOfSection d n (now (words .entry)) lead pattern tail r front back))) ⌝ }
+    ensures measures { λ c. ⌜ now (ms .exit) ≡ sets (now (ms .entry)) 0
+        (heads (p .base) (window (p .skip) (p .left) (rowOfSection d n (now (words .entry)) lead pattern tail r front back))) ⌝ }
+    ensures beats { λ c. ⌜ now (bs .exit) ≡ sets (now (bs .entry)) 0
+        (flat (window (p .skip) (p .left) (rowOfSection d n (now (words .entry)) lead pattern tail r front back))) ⌝ }
 {
-    let plan = planned(words, d, n, pattern, r, front, back);
-    let a = rounds(words, d, n, lead, 1, p, ms, bs);
-    let b = rounds(words, d, n, pattern, r, at_pattern(plan, a), ms, bs);
-    let c = rounds(words, d, n, tail, 1, at_tail(plan, a, b), ms, bs);
-    Counts {
-        measures: c.m,
-        beats: c.b,
+    if is_uncut(front, back) {
+        let q = play_uncut(words, d, n, lead, pattern, tail, r, p, ms, bs);
+        return Counts {
+            measures: q.m,
+            beats: q.b,
+        };
     }
+    play_cut(words, d, n, lead, pattern, tail, r, front, back, p, ms, bs)
 }
 
 // A section, its first beat at `base`.
@@ -275,10 +350,13 @@ pub fn play_part(
     requires room { ⌜
         32 * (length (rowOf d n (now words) lead) + length (times r (rowOf d n (now words) pattern)) + length (rowOf d n (now words) tail)) ≤ 2097120 ⌝ }
     requires place { ⌜ from ≤ 2097120 ⌝ }
-    ensures counts { λ c. ⌜ (c .measures ≡ length (window from (length (now (bs .entry))) (rowOfSection d n (now (words .entry)) lead pattern tail r front back)))
+    ensures counts { λ c. ⌜ (c .measures ≡ length
+        (window from (length (now (bs .entry))) (rowOfSection d n (now (words .entry)) lead pattern tail r front back)))
         × (c .beats ≡ total (window from (length (now (bs .entry))) (rowOfSection d n (now (words .entry)) lead pattern tail r front back))) ⌝ }
-    ensures measures { λ c. ⌜ now (ms .exit) ≡ sets (now (ms .entry)) 0 (heads 0 (window from (length (now (bs .entry))) (rowOfSection d n (now (words .entry)) lead pattern tail r front back))) ⌝ }
-    ensures beats { λ c. ⌜ now (bs .exit) ≡ sets (now (bs .entry)) 0 (flat (window from (length (now (bs .entry))) (rowOfSection d n (now (words .entry)) lead pattern tail r front back))) ⌝ }
+    ensures measures { λ c. ⌜ now (ms .exit) ≡ sets (now (ms .entry)) 0
+        (heads 0 (window from (length (now (bs .entry))) (rowOfSection d n (now (words .entry)) lead pattern tail r front back))) ⌝ }
+    ensures beats { λ c. ⌜ now (bs .exit) ≡ sets (now (bs .entry)) 0
+        (flat (window from (length (now (bs .entry))) (rowOfSection d n (now (words .entry)) lead pattern tail r front back))) ⌝ }
 {
     let left = least(bs.len(), 2097120);
     play_window(

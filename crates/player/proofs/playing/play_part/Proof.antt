@@ -19,7 +19,8 @@ returns c =
     let tail = rowOf (a .d) (a .n) ws (a .tail) in
     let short = short-row (a .d) (a .n) ws (q .pre .0 .0) in
     let e = begun .opening .ensures in
-    told-part (a .front) (a .back) (a .r) lead row tail (short (a .lead)) (short (a .pattern)) (short (a .tail)) (begun .opening .result) (a .ms .now) (a .bs .now) _ _ _ (played .play-window .ensures)
+    told-part (a .front) (a .back) (a .r) lead row tail (short (a .lead)) (short (a .pattern)) (short (a .tail)) (begun .opening .result) (a .ms .now)
+    (a .bs .now) _ _ _ (played .play-window .ensures)
     (a .from) (q .pre .1 .0) (e .0, e .2, e .3 ∙ begun .before .least .ensures)
 
 pub play-part-spec : {M : Type 1} → statement M
