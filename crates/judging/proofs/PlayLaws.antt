@@ -16,16 +16,13 @@ use Rattle.songcode.proofs.ListLaws.{append-is-nil, times-length}
 use Rattle.songcode.specs.EitherOrder.{Filled}
 use Rattle.songcode.proofs.RowLaws.{filled-items}
 use Rattle.songcode.proofs.SectionPlays.{meter-some, pass-of}
-use Rattle.songcode.proofs.TurnedRows.{total-append}
-use Rattle.settings.specs.declared.cuts.Cut.{Cut}
 use Rattle.settings.specs.Cuts.{cutIs, CutFits}
 use Rattle.player.specs.declared.leaves.Definitions.{Definitions}
 use Rattle.player.specs.Texts.{rowWords}
 use Rattle.player.specs.Walks.{rowOf}
-use Rattle.player.specs.Windows.{sectionRow}
-use Rattle.player.proofs.SectionLaws.{total-whole, total-kept}
+use Rattle.player.proofs.SectionLaws.{section-beats}
 use Rattle.player.proofs.SectionMeaning.{section-words}
-use Rattle.player.proofs.ShortLaws.{Short, short-times, short-row, total-short}
+use Rattle.player.proofs.ShortLaws.{short-row}
 use Rattle.sections.specs.declared.values.Modifiers.{Modifiers}
 use Rattle.scores.specs.declared.definitions.Score.{Score}
 use Rattle.scores.specs.declared.texts.Text.{Text}
@@ -87,20 +84,6 @@ kept-pass n ms none =
     let b : length (times (repeats ms) row) ≡ 0 = times-length (repeats ms) row ∙ omega arith in
     no-length (cutRow ms (times (repeats ms) row)) (omega arith)
 kept-pass n ms (some r) = refl
-
--- Cuts only take beats away.
-section-beats : (f k : Cut) (r : ℕ) (lead row tail : List (List ℕ)) → Short lead → Short row → Short tail → total (sectionRow f k r lead row tail) ≤ 32 * (length lead + length (times r row) + length tail)
-unfolding sectionRow
-section-beats f k r lead row tail x y z =
-    let a = total-whole lead in
-    let b = total-kept f k (times r row) in
-    let b0 = b .0 in
-    let b1 = b .1 in
-    let d = total-whole tail in
-    let p = total-short lead x in
-    let q = total-short (times r row) (short-times r row y) in
-    let u = total-short tail z in
-    rw (total-append, total-append) (omega arith)
 
 -- A section whose texts stand in the buffer.
 module _ (s : Song) (x : Section) (ws : List ℕ) (score : Score) (t : Texts) (m : Modifiers) (h : TextsAre (s .definitions) x ws (score .definitions) t)

@@ -1,5 +1,5 @@
 -- A pass that is passed over, or written whole, done again by arithmetic or by copying: what playing its row would leave.
-use Prim.Native.Nat.{ℕ, zero, suc, _+_, _-_, _*_, _≤_}
+use Prim.Native.Nat.{ℕ, zero, suc, _+_, _-_, _*_, _<_, _≤_}
 use mathlib.Core.Path.{_≡_, refl, sym, _∙_, subst}
 use mathlib.Core.List.{List, [], _∷_, map, append-nil}
 use mathlib.Core.Bool.{true, false}
@@ -24,10 +24,12 @@ pub not-true : {X : Type 0} → false ≡ true → X
 not-true h = let z : _≡_ {A = ℕ} 0 1 = cc in absurd (omega arith)
 
 -- What the two tests find.
-pub skips-found : (p q : Pen) (k m b : ℕ) → m ≡ p .todo - q .todo → b ≡ p .skip - q .skip → (q .todo ≡ 0 → ⊥) → (q .skip ≡ 0 → ⊥) → k * m ≤ q .todo → k * b ≤ q .skip → Skips p q k
+pub skips-found : (p q : Pen) (k m b : ℕ) → m ≡ p .todo - q .todo → b ≡ p .skip - q .skip → (q .todo ≡ 0 → ⊥) → (q .skip ≡ 0 → ⊥) → k * m ≤ q .todo
+    → k * b < q .skip → Skips p q k
 skips-found p q k m b e f t s h l = record { some-todo = not-none t; some-skip = not-none s; measures = rw (← e) h; beats = rw (← f) l }
 
-pub copies-found : (p q : Pen) (m b : ℕ) → m ≡ p .todo - q .todo → b ≡ q .b - p .b → p .skip ≤ 0 → (q .todo ≡ 0 → ⊥) → (q .left ≡ 0 → ⊥) → m ≤ q .todo → b ≤ q .left → Copies p q
+pub copies-found : (p q : Pen) (m b : ℕ) → m ≡ p .todo - q .todo → b ≡ q .b - p .b → p .skip ≤ 0 → (q .todo ≡ 0 → ⊥) → (q .left ≡ 0 → ⊥) → m ≤ q .todo
+    → b < q .left → Copies p q
 copies-found p q m b e f s t l h i = record { no-skip = omega arith; some-todo = not-none t; some-left = not-none l; measures = omega arith; beats = omega arith }
 
 -- Rows of which every beat is passed over.
@@ -56,35 +58,39 @@ pub took-onward : (row : List (List ℕ)) (p q : Pen) (ms bs : List ℕ) → Too
 took-onward row p q ms bs t = let d = took-done row p q ms bs t in (omega (arith, d .m), omega (arith, d .b))
 
 -- It ended before the last measure, so it looked at the whole row.
-whole-row : (row : List (List ℕ)) (p q : Pen) (ms bs : List ℕ) → Took row p q ms bs → 1 ≤ q .todo → (take (p .todo) row ≡ row) × (p .todo - q .todo ≡ length row)
-whole-row row p q ms bs t h = let d = took-done row p q ms bs t in (take-all (p .todo) row (omega (arith, d .todo)), omega (arith, d .todo))
+whole-row : (row : List (List ℕ)) (p q : Pen) (ms bs : List ℕ) → Took row p q ms bs → 1 ≤ q .todo → 1 ≤ q .skip + q .left
+    → (take (p .todo) row ≡ row) × (p .todo - q .todo ≡ length row)
+whole-row row p q ms bs t h some = let e = took-done row p q ms bs t .todo some in (take-all (p .todo) row (omega arith), omega arith)
 
 passed-beats : (row : List (List ℕ)) (p q : Pen) (ms bs : List ℕ) → Took row p q ms bs → 1 ≤ q .todo → 1 ≤ q .skip → p .skip - q .skip ≡ total row
 passed-beats row p q ms bs t h k =
     let d = took-done row p q ms bs t in
-    let e : q .skip ≡ p .skip - total row = rw (whole-row row p q ms bs t h .0) at (d .skip) in
+    let e : q .skip ≡ p .skip - total row = rw (whole-row row p q ms bs t h (omega arith) .0) at (d .skip) in
     omega arith
 
 -- A row with no more measures and beats than are to be passed over moves the pen alone.
-row-passed : (row : List (List ℕ)) (q r : Pen) (ms bs : List ℕ) → length row ≤ q .todo → total row ≤ q .skip → r .base ≡ q .base → r .todo ≡ q .todo - length row → r .skip ≡ q .skip - total row → r .left ≡ q .left → r .m ≡ q .m → r .b ≡ q .b
+row-passed : (row : List (List ℕ)) (q r : Pen) (ms bs : List ℕ) → length row ≤ q .todo → total row < q .skip → r .base ≡ q .base
+    → r .todo ≡ q .todo - length row → r .skip ≡ q .skip - total row → r .left ≡ q .left → r .m ≡ q .m → r .b ≡ q .b
     → page r ms bs ≡ play row (page q ms bs)
 unfolding total heads flat
 row-passed row q r ms bs h k a b c d e f =
     let n = played row (page q ms bs) in
     let all : take (q .todo) row ≡ row = take-all (q .todo) row h in
-    let w : window (q .skip) (q .left) (take (q .todo) row) ≡ [] = rw all (window-passed (q .skip) (q .left) row k) in
+    let w : window (q .skip) (q .left) (take (q .todo) row) ≡ [] = rw all (window-passed (q .skip) (q .left) row (omega arith)) in
     let s : play row (page q ms bs) .pen .skip ≡ q .skip - total row = rw all at (n .skip) in
     let l : play row (page q ms bs) .pen .left ≡ q .left - (total row - q .skip) = rw all at (n .left) in
     let m : play row (page q ms bs) .pen .m ≡ q .m + 0 = rw w at (n .m) in
     let o : play row (page q ms bs) .pen .b ≡ q .b + 0 = rw w at (n .b) in
     let x : play row (page q ms bs) .ms ≡ ms = rw w at (n .ms) in
     let y : play row (page q ms bs) .bs ≡ bs = rw w at (n .bs) in
-    page-equal (page r ms bs) (play row (page q ms bs)) (a ∙ sym (n .base)) (b ∙ sym (n .todo)) (c ∙ sym s) (omega arith) (omega arith) (omega arith) (sym x) (sym y)
+    page-equal (page r ms bs) (play row (page q ms bs)) (a ∙ sym (n .base)) (b ∙ sym (n .todo (omega arith))) (c ∙ sym s) (omega arith) (omega arith)
+    (omega arith) (sym x) (sym y)
 
 pub skipped-again : (row : List (List ℕ)) (p q r : Pen) (k : ℕ) (ms bs : List ℕ) → Took row p q ms bs → Skips p q k → r ≡ skippedOf p q k → page r ms bs ≡ play (times k row) (page q ms bs)
 unfolding skippedOf
 skipped-again row p q r k ms bs t s e =
-    let n = whole-row row p q ms bs t (s .some-todo) .1 in
+    let some = s .some-skip in
+    let n = whole-row row p q ms bs t (s .some-todo) (omega arith) .1 in
     let b = passed-beats row p q ms bs t (s .some-todo) (s .some-skip) in
     let l : length (times k row) ≡ k * (p .todo - q .todo) = rw n (times-length k row) in
     let m : total (times k row) ≡ k * (p .skip - q .skip) = rw b (total-times k row) in
@@ -111,11 +117,11 @@ record Written (row : List (List ℕ)) (p q : Pen) (ms bs ms-before bs-before : 
 written : (row : List (List ℕ)) (p q : Pen) (ms bs : List ℕ) (t : Took row p q ms bs) → Copies p q → Written row p q ms bs (t .ms-before) (t .bs-before)
 written row p q ms bs t c =
     let d = took-done row p q ms bs t in
-    let a = whole-row row p q ms bs t (c .some-todo) in
+    let some = c .some-left in
+    let a = whole-row row p q ms bs t (c .some-todo) (omega arith) in
     let z = c .no-skip in
     let s : q .skip ≡ 0 - total row = rw (a .0, z) at (d .skip) in
     let l : q .left ≡ p .left - (total row - 0) = rw (a .0, z) at (d .left) in
-    let some = c .some-left in
     let m : q .m ≡ p .m + length (window 0 (p .left) row) = rw (a .0, z) at (d .m) in
     let b : q .b ≡ p .b + total (window 0 (p .left) row) = rw (a .0, z) at (d .b) in
     let w = total-window 0 (p .left) row in
@@ -157,7 +163,7 @@ copied-again row p q r ms bs ms' bs' f t c e g h =
     let a2 = sets-again same (t .bs-before) (flat w) (p .b) (q .b) (rw (length-flat w) (omega arith)) in
     let y' : copyOf (later (d * 2048)) ms (p .m) (q .m) ≡ sets ms (q .m) (heads (q .base + q .b) w) = rw (← x .words, hl) at a1 in
     let z' : copyOf same bs (p .b) (q .b) ≡ sets bs (q .b) (flat w) = rw (← x .sounds, map-same (flat w)) at a2 in
-    let n-todo = n .todo in
+    let n-todo = n .todo (omega arith) in
     rw e
     (page-equal (page (copiedOf p q) ms' bs') (play row (page q ms bs)) (sym (n .base)) (omega arith) (omega arith) (omega arith) (omega arith) (omega arith)
     (g ∙ y' ∙ sym y)

@@ -1,6 +1,6 @@
 -- What a played row leaves: the words of the window in both tables, and the pen's numbers.
-use Prim.Native.Nat.{ℕ, zero, suc, _+_, _-_, _*_, _<_, _≤_}
-use mathlib.Core.Path.{_≡_, refl, sym, _∙_}
+use Prim.Native.Nat.{ℕ, zero, suc, _+_, _-_, _≤_}
+use mathlib.Core.Path.{_≡_, refl, sym, _∙_, subst}
 use mathlib.Core.List.{List, [], _∷_, _++_}
 use mathlib.Core.Bool.{Bool, true, false}
 use native.Mathlib.Omega.{arith}
@@ -14,8 +14,9 @@ use Rattle.songcode.specs.Performance.{total}
 use Rattle.songcode.proofs.ListLaws.{by-cases}
 use Rattle.player.specs.Windows.{window, flat, heads}
 use Rattle.player.specs.declared.pens.Pen.{Pen}
-use Rattle.player.proofs.PageLaws.{measure-none, play-none}
-use Rattle.player.specs.Page.{Page, Ink, beatBy, beatOf, inked, closeBy, closed, onPage, measureBy, measureOf, play}
+use Rattle.player.proofs.PageLaws.{measure-none, play-none, goes-on, rests}
+use Rattle.player.proofs.WindowLaws.{window-none}
+use Rattle.player.specs.Page.{Page, Ink, beatBy, beatOf, inked, closeBy, closed, onPage, rested, lookedAt, measureBy, measureOf, play}
 
 abbrev pen-of : ℕ → ℕ → ℕ → ℕ → ℕ → ℕ → Pen
 pen-of base todo s l m b = record { base = base; todo = todo; skip = s; left = l; m = m; b = b }
@@ -82,8 +83,9 @@ record Stepped (x : List ℕ) (g h : Page) : Type 0 where
   left : h .pen .left ≡ g .pen .left - (length x - g .pen .skip)
   piece-of : Piece (g .pen .base) (g .pen .m) (g .pen .b) (g .ms) (g .bs) (take (g .pen .left) (drop (g .pen .skip) x)) h
 
-stepped : (x : List ℕ) (base t s l m b : ℕ) (ms bs : List ℕ) → Stepped x (page-of (pen-of base (suc t) s l m b) ms bs) (measureBy (suc t) x (page-of (pen-of base (suc t) s l m b) ms bs))
-unfolding measureBy onPage closed
+stepped : (x : List ℕ) (base t s l m b : ℕ) (ms bs : List ℕ)
+    → Stepped x (page-of (pen-of base (suc t) s l m b) ms bs) (lookedAt t x (page-of (pen-of base (suc t) s l m b) ms bs))
+unfolding lookedAt onPage closed
 stepped x base t s l m b ms bs =
     let y = take l (drop s x) in
     let h : Page = page-of (pen-of base t (s - length x) (l - (length x - s)) m (b + length y)) ms (sets bs b y) in
@@ -91,18 +93,19 @@ stepped x base t s l m b ms bs =
     let z : suc t - 1 ≡ t = omega arith in
     rw (inked-is x base t s l m b bs) (record { base = k .base; todo = k .todo ∙ sym z; skip = k .skip; left = k .left; piece-of = piece y base t (s - length x) (l - (length x - s)) m b ms bs })
 
-stepped-by : (x : List ℕ) (base t s l m b : ℕ) (ms bs : List ℕ) → (t ≡ 0 → ⊥) → Stepped x (page-of (pen-of base t s l m b) ms bs) (measureBy t x (page-of (pen-of base t s l m b) ms bs))
-stepped-by x base zero s l m b ms bs n = absurd (n refl)
-stepped-by x base (suc t) s l m b ms bs n = stepped x base t s l m b ms bs
-
-measure-step : (x : List ℕ) (g : Page) → (g .pen .todo ≡ 0 → ⊥) → Stepped x g (measureOf x g)
-unfolding measureOf
-measure-step x g n = stepped-by x (g .pen .base) (g .pen .todo) (g .pen .skip) (g .pen .left) (g .pen .m) (g .pen .b) (g .ms) (g .bs) n
+measure-step : (x : List ℕ) (g : Page) (t : ℕ) → g .pen .todo ≡ suc t → Stepped x g (lookedAt t x g) × (measureOf x g ≡ rested (lookedAt t x g))
+unfolding measureOf measureBy lookedAt
+measure-step x g t e =
+    let s = stepped x (g .pen .base) t (g .pen .skip) (g .pen .left) (g .pen .m) (g .pen .b) (g .ms) (g .bs) in (
+      subst (λ n. Stepped x (page-of (pen-of (g .pen .base) n (g .pen .skip) (g .pen .left) (g .pen .m) (g .pen .b)) (g .ms) (g .bs)) (lookedAt t x g))
+          (sym e) s,
+      rw e,
+    )
 
 -- the whole row
 pub record Done (g h : Page) (row : List (List ℕ)) : Type 0 where
   pub base : h .pen .base ≡ g .pen .base
-  pub todo : h .pen .todo ≡ g .pen .todo - length row
+  pub todo : 1 ≤ h .pen .skip + h .pen .left → h .pen .todo ≡ g .pen .todo - length row
   pub skip : h .pen .skip ≡ g .pen .skip - total (take (g .pen .todo) row)
   pub left : h .pen .left ≡ g .pen .left - (total (take (g .pen .todo) row) - g .pen .skip)
   pub m : h .pen .m ≡ g .pen .m + length (window (g .pen .skip) (g .pen .left) (take (g .pen .todo) row))
@@ -112,7 +115,17 @@ pub record Done (g h : Page) (row : List (List ℕ)) : Type 0 where
 
 done-none : (g : Page) (row : List (List ℕ)) (n : ℕ) → take (g .pen .todo) row ≡ [] → g .pen .todo ≡ g .pen .todo - length row → Done g g row
 unfolding window heads flat total
-done-none g row n e k = record { base = refl; todo = k; skip = rw e (omega arith); left = rw e (omega arith); m = rw e (omega arith); b = rw e (omega arith); ms = rw e; bs = rw e }
+done-none g row n e k = record {
+  base = refl;
+  todo = λ _. k;
+  skip = rw e (omega arith);
+  left = rw e (omega arith);
+  m = rw e (omega arith);
+  b = rw e
+      (omega arith);
+  ms = rw e;
+  bs = rw e;
+}
 
 -- What is to be passed over and to be written behind n beats, and then behind t more.
 skip-after : (s s' n t : ℕ) → s ≡ s' - n → s - t ≡ s' - (n + t)
@@ -140,10 +153,10 @@ done-cons x xs t g k h e p d =
     let dbs : h .bs ≡ sets (k .bs) (k .pen .b) (flat w) = rw v at (d .bs) in
     let ds : h .pen .skip ≡ k .pen .skip - total (take t xs) = rw q at (d .skip) in
     let dl : h .pen .left ≡ k .pen .left - (total (take t xs) - k .pen .skip) = rw q at (d .left) in
-    let t1 = d .todo in let t2 = p .todo in
+    let t2 = p .todo in
     record {
       base = d .base ∙ p .base;
-      todo = omega arith;
+      todo = λ some. let t1 = d .todo some in omega arith;
       skip = rw e (ds ∙ skip-after _ _ (length x) (total (take t xs)) (p .skip));
       left = rw e (dl ∙ left-after _ _ _ _ (length x) (total (take t xs)) (p .skip) (p .left));
       m = rw e (dm ∙ sym (o .0));
@@ -152,6 +165,44 @@ done-cons x xs t g k h e p d =
       bs = rw e (dbs ∙ sym (o .3));
     }
 
+-- A pen that rests does what it would have done.
+module _ (g h : Page) (row : List (List ℕ)) where
+  done-resting : g .pen .skip ≤ 0 → g .pen .left ≤ 0
+      → Done (page-of (pen-of (g .pen .base) 0 (g .pen .skip) (g .pen .left) (g .pen .m) (g .pen .b)) (g .ms) (g .bs)) h row → Done g h row
+  unfolding heads flat total
+  done-resting s l d =
+      let s0 : g .pen .skip ≡ 0 = omega arith in
+      let l0 : g .pen .left ≡ 0 = omega arith in
+      let w : window (g .pen .skip) (g .pen .left) (take (g .pen .todo) row) ≡ [] = rw (s0, l0) (window-none 0 (take (g .pen .todo) row)) in
+      let v : window (g .pen .skip) (g .pen .left) (take 0 row) ≡ [] = rw (s0, l0) (window-none 0 (take 0 row)) in
+      let ds = d .skip in
+      let dl = d .left in
+      let dm : h .pen .m ≡ g .pen .m + 0 = rw v at (d .m) in
+      let db : h .pen .b ≡ g .pen .b + 0 = rw v at (d .b) in
+      let dms : h .ms ≡ g .ms = rw v at (d .ms) in
+      let dbs : h .bs ≡ g .bs = rw v at (d .bs) in
+      record {
+        base = d .base;
+        todo = λ some. absurd (omega arith);
+        skip = omega arith;
+        left = omega arith;
+        m = rw w (omega arith);
+        b = rw w (omega arith);
+        ms = rw w dms;
+        bs = rw w dbs;
+      }
+
+  done-rested : Done (rested g) h row → Done g h row
+  unfolding rested
+  done-rested d =
+      by-cases (leb (g .pen .skip + g .pen .left) 0)
+      (λ q.
+      let k = leb-true (g .pen .skip + g .pen .left) 0 q in
+      let s : g .pen .skip ≤ 0 = omega arith in
+      let l : g .pen .left ≤ 0 = omega arith in
+      done-resting s l (subst (λ (p : Pen). Done (page-of p (g .ms) (g .bs)) h row) (sym (rests (g .pen) s l)) d))
+      (λ q. let k = leb-false (g .pen .skip + g .pen .left) 0 q in subst (λ (p : Pen). Done (page-of p (g .ms) (g .bs)) h row) (sym (goes-on (g .pen) k)) d)
+
 pub played : (row : List (List ℕ)) (g : Page) → Done g (play row g) row
 unfolding play
 played [] g = done-none g [] 0 (take-nil {A = List ℕ} (g .pen .todo)) (omega arith)
@@ -159,4 +210,7 @@ played (x ∷ xs) g = go (played xs (measureOf x g)) (g .pen .todo) refl
   where
     go : Done (measureOf x g) (play xs (measureOf x g)) xs → (t : ℕ) → g .pen .todo ≡ t → Done g (play xs (measureOf x g)) (x ∷ xs)
     go d zero e = rw (← measure-none x g e, play-none xs g e) (done-none g (x ∷ xs) 0 (rw e) (rw e (omega arith)))
-    go d (suc t) e = done-cons x xs t g (measureOf x g) (play xs (measureOf x g)) e (measure-step x g (λ z. omega arith)) d
+    go d (suc t) e =
+        let k = measure-step x g t e in
+        done-cons x xs t g (lookedAt t x g) (play xs (measureOf x g)) e (k .0)
+        (done-rested (lookedAt t x g) (play xs (measureOf x g)) xs (subst (λ (i : Page). Done i (play xs (measureOf x g)) xs) (k .1) d))

@@ -17,4 +17,5 @@ pub mod WrittenWords
 pub mod WalkedItems
 pub mod Meaning
 pub mod SectionMeaning
+pub mod PartLaws
 pub mod Walkables

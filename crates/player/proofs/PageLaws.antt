@@ -1,17 +1,16 @@
 -- Laws of the page, one for each way through the code: beats, sounds, measures, rows.
-use Prim.Native.Nat.{ℕ, zero, suc, _+_, _-_, _*_, _<_, _≤_}
+use Prim.Native.Nat.{ℕ, zero, suc, _+_, _-_, _<_, _≤_}
 use mathlib.Core.Path.{_≡_, refl, sym, ap, _∙_, subst}
 use mathlib.Core.List.{List, [], _∷_, _++_}
 use mathlib.Core.Bool.{Bool, true, false}
 use native.Mathlib.Omega.{arith}
-use native.Mathlib.Nat.{sub-zero, sub-self}
 use borrow.Author.Tests.{eq-eqb, ne-eqb}
 use lib.Dec.{eqb}
-use lib.ListN.{length, set, replicate, length-replicate}
+use lib.ListN.{length, set, replicate}
 use Rattle.songcode.specs.Tables.{measureWord}
 use Rattle.player.specs.Signs.{lastingOf}
 use Rattle.player.specs.declared.pens.Pen.{Pen}
-use Rattle.player.specs.Page.{Page, Ink, Fine, beatBy, beatOf, inked, closeBy, closed, onPage, measureBy, measureOf, play}
+use Rattle.player.specs.Page.{Page, Ink, Fine, beatBy, beatOf, inked, closeBy, closed, onPage, restBy, restOf, rested, lookedAt, measureBy, measureOf, play}
 
 by-skip : (s l w : ℕ) (g : Ink) → 0 < s → record { pen = record { base = g .pen .base; todo = g .pen .todo; skip = s - 1; left = g .pen .left; m = g .pen .m; b = g .pen .b }; bs = g .bs } ≡ beatBy s l w g
 unfolding beatBy
@@ -140,28 +139,55 @@ measure-none x g e = none-by (g .pen .todo) x g e
 some-by : (t : ℕ) (x : List ℕ) (p q r : Pen) (ms ms' bs bs' : List ℕ) → (t ≡ 0 → ⊥)
     → _≡_ {A = Ink} (record { pen = q; bs = bs' }) (inked x (record { pen = record { base = p .base; todo = t - 1; skip = p .skip; left = p .left; m = p .m; b = p .b }; bs = bs }))
     → _≡_ {A = Page} (record { pen = r; ms = ms'; bs = bs' }) (closed (p .b) (record { pen = q; ms = ms; bs = bs' }))
-    → _≡_ {A = Page} (record { pen = r; ms = ms'; bs = bs' }) (measureBy t x (record { pen = p; ms = ms; bs = bs }))
-unfolding measureBy onPage
+    → _≡_ {A = Page} (record { pen = restOf r; ms = ms'; bs = bs' }) (measureBy t x (record { pen = p; ms = ms; bs = bs }))
+unfolding measureBy rested lookedAt onPage
 some-by zero x p q r ms ms' bs bs' n e k = absurd (n refl)
 some-by (suc t) x p q r ms ms' bs bs' n e k =
     let z : suc t - 1 ≡ t = omega arith in
-    k ∙ ap (λ (i : Ink). closed (p .b) (onPage i ms)) (rw z at e)
+    ap (λ (g : Page). rested g) (k ∙ ap (λ (i : Ink). closed (p .b) (onPage i ms)) (rw z at e))
 
 pub measure-some : (x : List ℕ) (p q r : Pen) (ms ms' bs bs' : List ℕ) → (p .todo ≡ 0 → ⊥)
     → _≡_ {A = Ink} (record { pen = q; bs = bs' }) (inked x (record { pen = record { base = p .base; todo = p .todo - 1; skip = p .skip; left = p .left; m = p .m; b = p .b }; bs = bs }))
     → _≡_ {A = Page} (record { pen = r; ms = ms'; bs = bs' }) (closed (p .b) (record { pen = q; ms = ms; bs = bs' }))
-    → _≡_ {A = Page} (record { pen = r; ms = ms'; bs = bs' }) (measureOf x (record { pen = p; ms = ms; bs = bs }))
+    → _≡_ {A = Page} (record { pen = restOf r; ms = ms'; bs = bs' }) (measureOf x (record { pen = p; ms = ms; bs = bs }))
 unfolding measureOf
 measure-some x p q r ms ms' bs bs' n e k = some-by (p .todo) x p q r ms ms' bs bs' n e k
 
 -- A measure that is passed over as a whole.
 pub measure-pass : (x : List ℕ) (p : Pen) (k : ℕ) (ms bs : List ℕ) → (p .todo ≡ 0 → ⊥) → k ≡ length x → k ≤ p .skip
-    → _≡_ {A = Page} (record { pen = record { base = p .base; todo = p .todo - 1; skip = p .skip - k; left = p .left; m = p .m; b = p .b }; ms = ms; bs = bs }) (measureOf x (record { pen = p; ms = ms; bs = bs }))
+    → _≡_ {A = Page} (record {
+      pen = restOf
+          (record { base = p .base; todo = p .todo - 1; skip = p .skip - k; left = p .left; m = p .m; b = p .b });
+      ms = ms;
+      bs = bs;
+    })
+    (measureOf x (record { pen = p; ms = ms; bs = bs }))
 measure-pass x p k ms bs n e h =
     let q : Pen = record { base = p .base; todo = p .todo - 1; skip = p .skip - k; left = p .left; m = p .m; b = p .b } in
     measure-some x p q q ms ms bs bs n
     (rw e (sym (inked-pass x (record { base = p .base; todo = p .todo - 1; skip = p .skip; left = p .left; m = p .m; b = p .b }) bs (omega arith))))
     (close-none (p .b) q ms bs refl)
+
+-- The pen rests, or goes on.
+by-rest : (t s l : ℕ) → 0 < s + l → restBy t s l ≡ t
+unfolding restBy
+by-rest t zero zero h = absurd (omega arith)
+by-rest t zero (suc l) h = refl
+by-rest t (suc s) l h = refl
+
+by-rest-none : (t s l : ℕ) → s ≤ 0 → l ≤ 0 → restBy t s l ≡ 0
+unfolding restBy
+by-rest-none t zero zero h k = refl
+by-rest-none t (suc s) l h k = absurd (omega arith)
+by-rest-none t zero (suc l) h k = absurd (omega arith)
+
+pub goes-on : (p : Pen) → 0 < p .skip + p .left → p ≡ restOf p
+unfolding restOf
+goes-on p h = rw (by-rest (p .todo) (p .skip) (p .left) h)
+
+pub rests : (p : Pen) → p .skip ≤ 0 → p .left ≤ 0 → record { base = p .base; todo = 0; skip = p .skip; left = p .left; m = p .m; b = p .b } ≡ restOf p
+unfolding restOf
+rests p h k = rw (by-rest-none (p .todo) (p .skip) (p .left) h k)
 
 -- rows
 pub play-append : (xs ys : List (List ℕ)) (g : Page) → play (xs ++ ys) g ≡ play ys (play xs g)
@@ -186,12 +212,13 @@ close-fine false from g e f h k =
     ne-lt a b n h = omega arith
 
 fine-by : (t : ℕ) (x : List ℕ) (g : Page) → Fine (g .pen) → Fine (measureBy t x g .pen)
-unfolding measureBy closed onPage
+unfolding measureBy rested restOf lookedAt closed onPage
 fine-by zero x g f = f
 fine-by (suc t) x g f =
     let p : Pen = record { base = g .pen .base; todo = t; skip = g .pen .skip; left = g .pen .left; m = g .pen .m; b = g .pen .b } in
     let h = moved-inked x (record { pen = p; bs = g .bs }) (record { few = f .few; fits = f .fits }) in
-    close-fine _ (g .pen .b) (onPage (inked x (record { pen = p; bs = g .bs })) (g .ms)) refl (h .fine) (omega (arith, h .m-same, f .few)) (h .b-up)
+    let c = close-fine _ (g .pen .b) (onPage (inked x (record { pen = p; bs = g .bs })) (g .ms)) refl (h .fine) (omega (arith, h .m-same, f .few)) (h .b-up) in
+    record { few = c .few; fits = c .fits }
 
 pub fine-play : (xs : List (List ℕ)) (g : Page) → Fine (g .pen) → Fine (play xs g .pen)
 unfolding play measureOf

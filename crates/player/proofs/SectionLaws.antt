@@ -1,12 +1,11 @@
 -- From what a played row leaves to the contracts of counting, of the plan and of a section.
-use Prim.Native.Nat.{ℕ, zero, suc, _+_, _-_, _*_, _<_, _≤_, min}
+use Prim.Native.Nat.{ℕ, zero, suc, _+_, _-_, _*_, _≤_, min}
 use mathlib.Core.Path.{_≡_, refl, sym, ap, _∙_, subst}
-use mathlib.Core.List.{List, [], _∷_, _++_, append-assoc, append-nil}
-use mathlib.Core.Bool.{Bool, true, false}
+use mathlib.Core.List.{List, [], _++_, append-nil}
 use native.Mathlib.Omega.{arith}
 use borrow.Author.Tests.{leb-true, leb-false}
 use lib.Dec.{leb}
-use lib.ListN.{length, take, drop, length-append}
+use lib.ListN.{length, take, length-append}
 use lib.Seq.{sets, take-all}
 use Rattle.songcode.specs.Lists.{times}
 use Rattle.songcode.specs.Performance.{total}
@@ -14,16 +13,16 @@ use Rattle.songcode.proofs.TurnedRows.{total-append}
 use Rattle.songcode.proofs.ListLaws.{by-cases}
 use Rattle.songcode.proofs.CutLaws.{total-take-le}
 use Rattle.player.specs.declared.pens.Pen.{Pen}
+use Rattle.player.specs.declared.playing.Plan.{Plan}
+use Rattle.player.specs.declared.playing.Counts.{Counts}
 use Rattle.settings.specs.declared.cuts.Cut.{Cut}
 use Rattle.player.specs.Page.{Page, Fine, play}
 use Rattle.player.specs.Windows.{window, firstBeat, lastBeat, keptOf, wholeOf, sectionRow, flat, heads}
-use Rattle.player.proofs.PageLaws.{page, fine-play}
+use Rattle.player.proofs.PageLaws.{page, fine-play, play-append}
 use Rattle.player.proofs.ContentLaws.{Done, played, sets-append}
-use Rattle.player.proofs.ShortLaws.{Short, total-short, total-few}
-use Rattle.player.proofs.WindowLaws.{total-window, window-none, window-large, length-flat, length-heads, flat-append, heads-append}
-
-abbrev pen-at : ℕ → ℕ → ℕ → ℕ → ℕ → ℕ → Pen
-pen-at base todo s l m b = record { base = base; todo = todo; skip = s; left = l; m = m; b = b }
+use Rattle.player.proofs.ShortLaws.{Short, short-times, total-short, total-few}
+use Rattle.player.proofs.WindowLaws.{total-window, window-none, window-filled, length-flat, length-heads, flat-append, heads-append}
+use Rattle.player.proofs.PartLaws.{section-part, uncut-window, filled-section, window-room}
 
 -- Counting.
 pub tallied : (row : List (List ℕ)) (k : ℕ) (q : Pen) (ms ms' bs bs' : List ℕ) → Short row → k ≤ 65536
@@ -33,7 +32,8 @@ tallied row k q ms ms' bs bs' f h e =
     let g : Page = record { pen = record { base = 0; todo = k; skip = 4294967295; left = 0; m = 0; b = 0 }; ms = ms; bs = bs } in
     let d = subst (λ (h : Page). Done g h row) (sym e) (played row g) in
     let t = total-few k row f in
-    (d .todo, d .skip, omega arith)
+    let e = d .skip in
+    (d .todo (omega arith), e, omega arith)
 
 -- The plan.
 take-capped : (m : ℕ) (row : List (List ℕ)) → length row ≤ 65535 → take (min m 65536) row ≡ take m row
@@ -55,26 +55,30 @@ planned-is row f k a j x i y u v h p e q o r s w =
 
 -- What was written so far: the words of a row from the first place of both tables on.
 pub record Wrote (base : ℕ) (ms bs : List ℕ) (row : List (List ℕ)) (q : Pen) (ms' bs' : List ℕ) : Type 0 where
+  pub first : q .base ≡ base
   pub measures : q .m ≡ length row
   pub beats : q .b ≡ total row
   pub measureTable : ms' ≡ sets ms 0 (heads base row)
   pub beatTable : bs' ≡ sets bs 0 (flat row)
 
-wrote-none : (base todo s l : ℕ) (ms bs : List ℕ) → Wrote base ms bs [] (pen-at base todo s l 0 0) ms bs
+wrote-none : (p : Pen) (ms bs : List ℕ) → p .m ≡ 0 → p .b ≡ 0 → Wrote (p .base) ms bs [] p ms bs
 unfolding total heads flat
-wrote-none base todo s l ms bs = record { measures = refl; beats = refl; measureTable = refl; beatTable = refl }
+wrote-none p ms bs e k = record { first = refl; measures = e; beats = k; measureTable = refl; beatTable = refl }
 
-wrote-more : (base todo s l : ℕ) (ms bs : List ℕ) (w row v : List (List ℕ)) (p q : Pen) (ms1 bs1 ms2 bs2 : List ℕ) → Wrote base ms bs w p ms1 bs1 → v ≡ window s l (take todo row)
-    → page q ms2 bs2 ≡ play row (page (pen-at base todo s l (p .m) (p .b)) ms1 bs1) → Wrote base ms bs (w ++ v) q ms2 bs2
-wrote-more base todo s l ms bs w row v p q ms1 bs1 ms2 bs2 o e k =
-    let g : Page = page (pen-at base todo s l (p .m) (p .b)) ms1 bs1 in
+-- A row behind it, begun with the pen o.
+wrote-more : (base : ℕ) (ms bs : List ℕ) (w row v : List (List ℕ)) (p o q : Pen) (ms1 bs1 ms2 bs2 : List ℕ) → Wrote base ms bs w p ms1 bs1
+    → (o .base ≡ p .base) × (o .m ≡ p .m) × (o .b ≡ p .b) → v ≡ window (o .skip) (o .left) (take (o .todo) row) → page q ms2 bs2 ≡ play row (page o ms1 bs1)
+    → Wrote base ms bs (w ++ v) q ms2 bs2
+wrote-more base ms bs w row v p o q ms1 bs1 ms2 bs2 h same e k =
+    let g : Page = page o ms1 bs1 in
     let d = subst (λ (h : Page). Done g h row) (sym k) (played row g) in
-    let m1 : q .m ≡ p .m + length v = rw (← e) at (d .m) in
-    let b1 : q .b ≡ p .b + total v = rw (← e) at (d .b) in
-    let ms3 : ms2 ≡ sets ms1 (p .m) (heads (base + p .b) v) = rw (← e) at (d .ms) in
-    let bs3 : bs2 ≡ sets bs1 (p .b) (flat v) = rw (← e) at (d .bs) in
-    let om = o .measures in
-    let ob = o .beats in
+    let ob : o .base ≡ base = same .0 ∙ h .first in
+    let om : o .m ≡ length w = same .1 ∙ h .measures in
+    let obs : o .b ≡ total w = same .2 ∙ h .beats in
+    let m1 : q .m ≡ length w + length v = rw (← e, om) at (d .m) in
+    let b1 : q .b ≡ total w + total v = rw (← e, obs) at (d .b) in
+    let ms3 : ms2 ≡ sets ms1 (length w) (heads (base + total w) v) = rw (← e, ob, om, obs) at (d .ms) in
+    let bs3 : bs2 ≡ sets bs1 (total w) (flat v) = rw (← e, obs) at (d .bs) in
     let lm = length-heads base w in
     let lb = length-flat w in
     let zm : 0 + length (heads base w) ≡ length w = omega arith in
@@ -82,42 +86,97 @@ wrote-more base todo s l ms bs w row v p q ms1 bs1 ms2 bs2 o e k =
     let am : sets ms 0 (heads base w ++ heads (base + total w) v) ≡ sets (sets ms 0 (heads base w)) (length w) (heads (base + total w) v) = rw zm at (sets-append ms 0 (heads base w) (heads (base + total w) v)) in
     let ab : sets bs 0 (flat w ++ flat v) ≡ sets (sets bs 0 (flat w)) (total w) (flat v) = rw zb at (sets-append bs 0 (flat w) (flat v)) in
     record {
+      first = d .base ∙ ob;
       measures = rw length-append (omega arith);
       beats = rw total-append (omega arith);
-      measureTable = rw (ms3, o .measureTable, om, ob, heads-append base w v) (sym am);
-      beatTable = rw (bs3, o .beatTable, ob, flat-append w v) (sym ab);
+      measureTable = rw (ms3, h .measureTable, heads-append base w v) (sym am);
+      beatTable = rw (bs3, h .beatTable, flat-append w v) (sym ab);
     }
 
 times-one : (row : List (List ℕ)) → times 1 row ≡ row
 unfolding times
 times-one row = append-nil row
 
--- A whole text behind what was written.
-pub wrote-whole : (base l : ℕ) (ms bs : List ℕ) (w row : List (List ℕ)) (p q : Pen) (ms1 bs1 ms2 bs2 : List ℕ) → Wrote base ms bs w p ms1 bs1 → length row ≤ 65536 → total row ≤ l
-    → page q ms2 bs2 ≡ play (times 1 row) (page (pen-at base 65536 0 l (p .m) (p .b)) ms1 bs1) → Wrote base ms bs (w ++ wholeOf row) q ms2 bs2
-unfolding wholeOf
-wrote-whole base l ms bs w row p q ms1 bs1 ms2 bs2 o h k e =
-    wrote-more base 65536 0 l ms bs w row (window 0 (total row) row) p q ms1 bs1 ms2 bs2 o
-    (rw (take-all 65536 row h) (window-large (total row) l row (omega arith) k)) (rw (times-one row) at e)
+-- Every measure is looked at where a beat is to be written.
+seen-all : (s l todo k : ℕ) (row : List (List ℕ)) → ((l ≡ 0 → ⊥) → todo ≡ k) → length row ≤ k → window s l row ≡ window s l (take todo row)
+seen-all s zero todo k row e h = window-none s row ∙ sym (window-none s (take todo row))
+seen-all s (suc l) todo k row e h = let t : todo ≡ k = e (λ z. omega arith) in rw t (ap (λ x. window s (suc l) x) (sym (take-all k row h)))
 
-pub wrote-lead : (base l : ℕ) (ms bs : List ℕ) (row : List (List ℕ)) (q : Pen) (ms2 bs2 : List ℕ) → length row ≤ 65536 → total row ≤ l
-    → page q ms2 bs2 ≡ play (times 1 row) (page (pen-at base 65536 0 l 0 0) ms bs) → Wrote base ms bs (wholeOf row) q ms2 bs2
-wrote-lead base l ms bs row q ms2 bs2 h k e = wrote-whole base l ms bs [] row (pen-at base 0 0 0 0 0) q ms bs ms2 bs2 (wrote-none base 0 0 0 ms bs) h k e
+-- The pens of the pattern and of the tail, as the code makes them.
+abbrev pub AtPattern : Plan → Pen → Pen → Type 0
+AtPattern plan lead p =
+    ((p .base ≡ lead .base) × (p .m ≡ lead .m) × (p .b ≡ lead .b)) × ((p .skip ≡ plan .skip + lead .skip) × ((p .left ≡ min (lead .left)
+    (plan .left - lead .skip)) × ((p .left ≡ 0 → ⊥) → p .todo ≡ plan .todo)))
 
--- The pattern behind it, by its plan.
-pub wrote-kept : (base : ℕ) (f k : Cut) (todo s l : ℕ) (ms bs : List ℕ) (w row : List (List ℕ)) (p q : Pen) (ms1 bs1 ms2 bs2 : List ℕ) → Wrote base ms bs w p ms1 bs1 → todo ≡ length row → s ≡ firstBeat f row → l ≡ lastBeat k row - firstBeat f row
-    → page q ms2 bs2 ≡ play row (page (pen-at base todo s l (p .m) (p .b)) ms1 bs1) → Wrote base ms bs (w ++ keptOf f k row) q ms2 bs2
-unfolding keptOf
-wrote-kept base f k todo s l ms bs w row p q ms1 bs1 ms2 bs2 o a b d e =
-    wrote-more base todo s l ms bs w row (window (firstBeat f row) (lastBeat k row - firstBeat f row) row) p q ms1 bs1 ms2 bs2 o
-    (rw (a, b, d, take-all (length row) row (le-self (length row)))) e
-  where
-    le-self : (n : ℕ) → n ≤ n
-    le-self n = omega arith
+abbrev pub AtTail : Plan → Pen → Pen → Pen → Type 0
+AtTail plan lead pattern p =
+    ((p .base ≡ pattern .base) × (p .m ≡ pattern .m) × (p .b ≡ pattern .b)) × ((p .skip ≡ lead .skip - plan .left) × ((p .left ≡ lead .left - (plan .left - lead .skip)) × ((p .left ≡ 0 → ⊥) → p .todo ≡ 65536)))
 
-pub wrote-section : (base r : ℕ) (f k : Cut) (ms bs : List ℕ) (lead row tail : List (List ℕ)) (q : Pen) (ms' bs' : List ℕ) → Wrote base ms bs ((wholeOf lead ++ keptOf f k (times r row)) ++ wholeOf tail) q ms' bs' → Wrote base ms bs (sectionRow f k r lead row tail) q ms' bs'
-unfolding sectionRow
-wrote-section base r f k ms bs lead row tail q ms' bs' o = rw (append-assoc (wholeOf lead) (keptOf f k (times r row)) (wholeOf tail)) at o
+-- Three texts on one page.
+module _ (f k : Cut) (r : ℕ) (lead row tail : List (List ℕ)) (plan : Plan)
+    (planned : (plan .todo ≡ length (times r row)) × (plan .skip ≡ firstBeat f (times r row)) × (plan .left ≡ lastBeat k (times r row) - firstBeat f
+    (times r row)))
+    (p a : Pen) (ms bs ms1 bs1 : List ℕ) (first : (p .todo ≡ 65536) × (p .m ≡ 0) × (p .b ≡ 0))
+    (short : length lead + length (times r row) + length tail ≤ 65536)
+    (led : page a ms1 bs1 ≡ play (times 1 lead) (page p ms bs)) where
+  lead-page : page a ms1 bs1 ≡ play lead (page p ms bs)
+  lead-page = rw (times-one lead) at led
+
+  lead-all : take (p .todo) lead ≡ lead
+  lead-all = let t = first .0 in take-all (p .todo) lead (omega (arith, short))
+
+  lead-done : Done (page p ms bs) (page a ms1 bs1) lead
+  lead-done = let g : Page = page p ms bs in subst (λ (h : Page). Done g h lead) (sym lead-page) (played lead g)
+
+  pub skip-fits : f .beats .0 ≤ 9999 → Short (times r row) → length (times r row) ≤ 65535 → p .skip ≤ 2097120 → plan .skip + a .skip ≤ 18446744073709551615
+  unfolding firstBeat
+  skip-fits few x long h =
+      let s = lead-done .skip in
+      let e = planned .1 in
+      let t = total-take-le (f .measures .0) (times r row) in
+      let u = total-short (times r row) x in
+      omega arith
+
+  pub wrote-window : (o b u c : Pen) (ms2 bs2 ms3 bs3 : List ℕ) → AtPattern plan a o → page b ms2 bs2 ≡ play (times r row) (page o ms1 bs1)
+      → AtTail plan a b u → page c ms3 bs3 ≡ play (times 1 tail) (page u ms2 bs2)
+      → Wrote (p .base) ms bs (window (p .skip) (p .left) (sectionRow f k r lead row tail)) c ms3 bs3
+  wrote-window o b u c ms2 bs2 ms3 bs3 i j x y =
+      let s1 : a .skip ≡ p .skip - total lead = rw lead-all at (lead-done .skip) in
+      let l1 : a .left ≡ p .left - (total lead - p .skip) = rw lead-all at (lead-done .left) in
+      let all = times r row in
+      let w1 = wrote-more (p .base) ms bs [] lead (window (p .skip) (p .left) lead) p p a ms bs ms1 bs1 (wrote-none p ms bs (first .1) (first .2))
+      (refl, refl, refl) (rw lead-all) lead-page in
+      let kept = seen-all (o .skip) (o .left) (o .todo) (plan .todo) all (i .1 .1 .1) (same-le (planned .0)) in
+      let w2 = wrote-more (p .base) ms bs (window (p .skip) (p .left) lead) all (window (o .skip) (o .left) all) a o b ms1 bs1 ms2 bs2 w1 (i .0) kept j in
+      let rest = seen-all (u .skip) (u .left) (u .todo) 65536 tail (x .1 .1 .1) (omega (arith, short)) in
+      let w3 = wrote-more (p .base) ms bs (window (p .skip) (p .left) lead ++ window (o .skip) (o .left) all) tail
+      (window (u .skip) (u .left) tail) b u c ms2 bs2 ms3 bs3 w2 (x .0) rest (rw (times-one tail) at y) in
+      let e = section-part (p .skip) (p .left) f k r lead row tail (plan .skip) (plan .left) (a .skip) (a .left) (planned .1) (planned .2) s1 l1 in
+      rw (e, ← (i .1 .0), ← (i .1 .1 .0), ← (x .1 .0), ← (x .1 .1 .0)) w3
+    where
+      same-le : plan .todo ≡ length (times r row) → length (times r row) ≤ plan .todo
+      same-le e = omega arith
+
+-- The three texts behind one another, with one pen.
+pub three-texts : (lead all tail : List (List ℕ)) (g h i j : Page) → h ≡ play (times 1 lead) g → i ≡ play all h → j ≡ play (times 1 tail) i
+    → j ≡ play (lead ++ (all ++ tail)) g
+three-texts lead all tail g h i j a b c =
+    let a' : h ≡ play lead g = rw (times-one lead) at a in
+    let c' : j ≡ play tail i = rw (times-one tail) at c in
+    rw (c', b, a', play-append lead (all ++ tail) g, play-append all tail (play lead g))
+
+pub wrote-uncut : (f k : Cut) (r : ℕ) (lead row tail : List (List ℕ)) (p q : Pen) (ms bs ms' bs' : List ℕ)
+    → (f .measures .0 ≡ 0) × (f .beats .0 ≡ 0) × (k .measures .0 ≡ 0) × (k .beats .0 ≡ 0)
+    → (p .todo ≡ 65536) × (p .m ≡ 0) × (p .b ≡ 0) → length lead + length (times r row) + length tail ≤ 65536
+    → page q ms' bs' ≡ play (lead ++ (times r row ++ tail)) (page p ms bs)
+    → Wrote (p .base) ms bs (window (p .skip) (p .left) (sectionRow f k r lead row tail)) q ms' bs'
+wrote-uncut f k r lead row tail p q ms bs ms' bs' z first h e =
+    let all = lead ++ (times r row ++ tail) in
+    let l : length all ≡ length lead + (length (times r row) + length tail) = rw (length-append, length-append) in
+    let t = first .0 in
+    rw (uncut-window (p .skip) (p .left) f k r lead row tail (z .0) (z .1) (z .2) (z .3))
+    (wrote-more (p .base) ms bs [] all (window (p .skip) (p .left) all) p p q ms bs ms' bs' (wrote-none p ms bs (first .1) (first .2)) (refl, refl, refl)
+    (rw (take-all (p .todo) all (omega arith))) e)
 
 -- The beats of the parts.
 pub total-whole : (row : List (List ℕ)) → total (wholeOf row) ≤ total row
@@ -130,40 +189,70 @@ total-kept f k row =
     let t = total-take-le (length row - k .measures .0) row in
     (rw (total-window (firstBeat f row) (total (take (length row - k .measures .0) row) - k .beats .0 - firstBeat f row) row) (omega arith), omega arith)
 
+-- Cuts only take beats away.
+pub section-beats : (f k : Cut) (r : ℕ) (lead row tail : List (List ℕ)) → Short lead → Short row → Short tail
+    → total (sectionRow f k r lead row tail) ≤ 32 * (length lead + length (times r row) + length tail)
+unfolding sectionRow
+section-beats f k r lead row tail x y z =
+    let a = total-whole lead in
+    let b = total-kept f k (times r row) in
+    let b0 = b .0 in
+    let b1 = b .1 in
+    let d = total-whole tail in
+    let p = total-short lead x in
+    let q = total-short (times r row) (short-times r row y) in
+    let u = total-short tail z in
+    rw (total-append, total-append) (omega arith)
+
+-- Both tables and the counts, as the contracts say them.
+abbrev Told : ℕ → List ℕ → List ℕ → List (List ℕ) → Counts → List ℕ → List ℕ → Type 0
+Told base ms bs row c ms' bs' = ((c .measures ≡ length row) × (c .beats ≡ total row)) × ((ms' ≡ sets ms 0 (heads base row)) × (bs' ≡ sets bs 0 (flat row)))
+
+told-same : (base base' : ℕ) (ms bs : List ℕ) (row row' : List (List ℕ)) (c : Counts) (ms' bs' : List ℕ) → base ≡ base' → row ≡ row'
+    → Told base ms bs row c ms' bs' → Told base' ms bs row' c ms' bs'
+told-same base base' ms bs row row' c ms' bs' e k t = rw (e, k) at t
+
+-- A section is the part of all its beats.
+module _ (f k : Cut) (r : ℕ) (lead row tail : List (List ℕ)) (x : Short lead) (y : Short row) (z : Short tail) (p : Pen) (ms bs : List ℕ) (c : Counts)
+    (ms' bs' : List ℕ)
+    (t : Told (p .base) ms bs (window (p .skip) (p .left) (sectionRow f k r lead row tail)) c ms' bs') where
+  pub told-section : (base : ℕ) → base + 32 * (length lead + length (times r row) + length tail) ≤ 2097120
+      → (p .base ≡ base) × (p .skip ≡ 0) × (p .left ≡ 2097120 - base) → Told base ms bs (sectionRow f k r lead row tail) c ms' bs'
+  told-section base h e =
+      let n = section-beats f k r lead row tail x y z in
+      told-same (p .base) base ms bs _ _ c ms' bs' (e .0)
+      (rw (e .1, e .2) (window-filled (2097120 - base) (sectionRow f k r lead row tail) (filled-section f k r lead row tail) (omega arith))) t
+
+  pub told-part : (from : ℕ) → 32 * (length lead + length (times r row) + length tail) ≤ 2097120
+      → (p .base ≡ 0) × (p .skip ≡ from) × (p .left ≡ min (length bs) 2097120)
+      → Told 0 ms bs (window from (length bs) (sectionRow f k r lead row tail)) c ms' bs'
+  told-part from h e =
+      let n = section-beats f k r lead row tail x y z in
+      told-same (p .base) 0 ms bs _ _ c ms' bs' (e .0) (rw (e .1, e .2) (window-room from (length bs) 2097120 (sectionRow f k r lead row tail) (omega arith))) t
+
 pub fine-rounds : (row : List (List ℕ)) (g : Page) (q : Pen) (ms bs : List ℕ) → page q ms bs ≡ play row g → Fine (g .pen) → Fine q
 fine-rounds row g q ms bs e f = subst (λ (h : Page). Fine (h .pen)) (sym e) (fine-play row g f)
 
--- The song's beats are no more than 65,535 measures of 32.
-pub lead-fits : (base : ℕ) (lead row tail : List (List ℕ)) → Short lead → base + 32 * (length lead + length row + length tail) ≤ 2097120 → (base ≤ 2097120) × (length lead ≤ 65536) × (total lead ≤ 2097120 - base)
-lead-fits base lead row tail x h = let a = total-short lead x in (omega arith, omega arith, omega arith)
+-- A pen behind another writes no more than that one would.
+pub fine-pattern : (plan : Plan) (a o : Pen) → Fine a → AtPattern plan a o → Fine o
+fine-pattern plan a o f i =
+    let base = i .0 .0 in let m = i .0 .1 in let b = i .0 .2 in let l = i .1 .1 .0 in
+    record { few = omega (arith, f .few); fits = omega (arith, f .fits) }
 
-pub kept-fits : (base b l : ℕ) (f k : Cut) (lead row tail : List (List ℕ)) → Short lead → Short row → b ≡ total (wholeOf lead) → l ≡ lastBeat k row - firstBeat f row → base + 32 * (length lead + length row + length tail) ≤ 2097120 → base + b + l ≤ 2097120
-kept-fits base b l f k lead row tail x y e d h =
-    let a = total-short lead x in
-    let c = total-short row y in
-    let t = total-whole lead in
-    let u = total-kept f k row in
-    sum-fits base b l _ _ _ (length tail) (total lead) (total row) _ e d a c t (u .1) h
+pub fine-tail : (plan : Plan) (row : List (List ℕ)) (a o b u : Pen) (ms bs ms' bs' : List ℕ) → Fine a → AtPattern plan a o
+    → page b ms' bs' ≡ play row (page o ms bs) → AtTail plan a b u → Fine u
+fine-tail plan row a o b u ms bs ms' bs' f i e x =
+    let g : Page = page o ms bs in
+    let d = subst (λ (h : Page). Done g h row) (sym e) (played row g) in
+    let n = fine-rounds row g b ms' bs' e (fine-pattern plan a o f i) in
+    let t = total-window (o .skip) (o .left) (take (o .todo) row) in
+    let wrote : b .b ≤ a .b + min (a .left) (plan .left - a .skip) = omega (arith, d .b, i .0 .2, i .1 .1 .0) in
+    let base : u .base ≡ a .base = x .0 .0 ∙ d .base ∙ i .0 .0 in
+    record {
+      few = omega (arith, n .few, x .0 .1, x .0 .2);
+      fits = room (a .base) (a .b) (a .left) (plan .left - a .skip) (u .base) (u .b) (u .left)
+          (f .fits) (omega (arith, x .0 .2)) base (x .1 .1 .0);
+    }
   where
-    sum-fits : (base b l n m z t p q w : ℕ) → b ≡ w → l ≡ z → p ≤ 32 * n → q ≤ 32 * m → w ≤ p → z ≤ q → base + 32 * (n + m + t) ≤ 2097120 → base + b + l ≤ 2097120
-    sum-fits base b l n m z t p q w e d a c v u h = omega arith
-
-pub tail-fits : (base b : ℕ) (f k : Cut) (lead row tail : List (List ℕ)) → Short lead → Short row → Short tail → b ≡ total (wholeOf lead ++ keptOf f k row) → base + 32 * (length lead + length row + length tail) ≤ 2097120 → (length tail ≤ 65536) × (base + b + total tail ≤ 2097120)
-tail-fits base b f k lead row tail x y z e h =
-    let a = total-short lead x in
-    let c = total-short row y in
-    let d = total-short tail z in
-    let t = total-whole lead in
-    let u = total-kept f k row in
-    let v = total-append (wholeOf lead) (keptOf f k row) in
-    (omega arith, sum-fits base b (total (wholeOf lead)) (total (keptOf f k row)) (lastBeat k row - firstBeat f row) (total lead) (total row) (total tail) (length lead) (length row) (length tail) (e ∙ v) a c d t (u .0) (u .1) h)
-  where
-    sum-fits : (base b v w z p q r n m t : ℕ) → b ≡ v + w → p ≤ 32 * n → q ≤ 32 * m → r ≤ 32 * t → v ≤ p → w ≤ z → z ≤ q → base + 32 * (n + m + t) ≤ 2097120 → base + b + r ≤ 2097120
-    sum-fits base b v w z p q r n m t e a c d f g i h = omega arith
-
--- The pens of a section's texts.
-pub played-from : (row : List (List ℕ)) (p r q : Pen) (ms ms' bs bs' : List ℕ) → p ≡ r → page q ms' bs' ≡ play row (page p ms bs) → page q ms' bs' ≡ play row (page r ms bs)
-played-from row p r q ms ms' bs bs' e k = rw e at k
-
-pub fine-pen : (p : Pen) (base todo s l m b : ℕ) → p ≡ pen-at base todo s l m b → m ≤ b → base + b + l ≤ 2097120 → Fine p
-fine-pen p base todo s l m b e h k = rw e (record { few = h; fits = k })
+    room : (base b l n base' b' l' : ℕ) → base + b + l ≤ 2097120 → b' ≤ b + min l n → base' ≡ base → l' ≡ l - n → base' + b' + l' ≤ 2097120
+    room base b l n base' b' l' h i e k = omega arith

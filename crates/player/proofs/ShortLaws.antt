@@ -22,7 +22,7 @@ unfoldable pub Short : List (List ℕ) → Type 0
 Short [] = Unit {0}
 Short (x ∷ xs) = (length x ≤ 32) × Short xs
 
-short-append : (a b : List (List ℕ)) → Short a → Short b → Short (a ++ b)
+pub short-append : (a b : List (List ℕ)) → Short a → Short b → Short (a ++ b)
 unfolding Short
 short-append [] b f g = g
 short-append (x ∷ a) b f g = (f .0, short-append a b (f .1) g)

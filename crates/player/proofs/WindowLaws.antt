@@ -33,6 +33,10 @@ sums n s l t = go (leb s l) refl
         let c : l + t - s ≡ 0 + (t - (s - l)) = omega arith in
         rw (a, c) (sum-min n 0 (t - (s - l)))
 
+-- A measure of l beats and t behind it.
+enough : (n s l t : ℕ) → l + t - s ≤ n → (l - s ≤ n) × (t - (s - l) ≤ n - (l - s))
+enough n s l t h = (omega arith, omega arith)
+
 module _ {A : Type 0} where
   -- How many beats the window holds.
   pub total-window : (s n : ℕ) (row : List (List A)) → total (window s n row) ≡ min n (total row - s)
@@ -48,16 +52,26 @@ module _ {A : Type 0} where
   window-none s [] = refl
   window-none s (x ∷ xs) = let e : 0 - (length x - s) ≡ 0 = omega arith in rw e (window-none (s - length x) xs)
 
-  -- A window over all beats is the same, however large.
-  pub window-large : (n m : ℕ) (row : List (List A)) → total row ≤ n → total row ≤ m → window 0 n row ≡ window 0 m row
+  -- A window over all beats that are left is the same, however large.
+  pub window-enough : (s n m : ℕ) (row : List (List A)) → total row - s ≤ n → total row - s ≤ m → window s n row ≡ window s m row
   unfolding window total
-  window-large n m [] h k = refl
-  window-large n m (x ∷ xs) h k =
-      let e : 0 - length x ≡ 0 = omega arith in
-      rw (e, take-all n x (omega arith), take-all m x (omega arith), window-large (n - (length x - 0)) (m - (length x - 0)) xs (omega arith) (omega arith))
+  window-enough s n m [] h k = refl
+  window-enough s n m (x ∷ xs) h k =
+      let d = length-drop s x in
+      let a = enough n s (length x) (total xs) h in
+      let b = enough m s (length x) (total xs) k in
+      rw (
+        take-all n (drop s x) (omega arith),
+        take-all m (drop s x) (omega arith),
+        window-enough (s - length x) (n - (length x - s))
+            (m - (length x - s)) xs (a .1) (b .1),
+      )
+
+  pub window-large : (n m : ℕ) (row : List (List A)) → total row ≤ n → total row ≤ m → window 0 n row ≡ window 0 m row
+  window-large n m row h k = window-enough 0 n m row (omega arith) (omega arith)
 
   -- It keeps every measure that has a beat.
-  window-filled : (n : ℕ) (row : List (List A)) → Filled row → total row ≤ n → window 0 n row ≡ row
+  pub window-filled : (n : ℕ) (row : List (List A)) → Filled row → total row ≤ n → window 0 n row ≡ row
   unfolding window total Filled
   window-filled n [] f h = refl
   window-filled n (x ∷ xs) f h =

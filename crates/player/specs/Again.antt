@@ -1,5 +1,5 @@
 -- When the passes of a row can be done again without reading it: they are passed over, or written whole.
-use Prim.Native.Nat.{ℕ, _+_, _-_, _*_, _%_, _^_, _≤_}
+use Prim.Native.Nat.{ℕ, _+_, _-_, _*_, _%_, _^_, _<_, _≤_}
 use mathlib.Core.Path.{_≡_}
 use mathlib.Core.List.{List, map}
 use lib.ListN.{take, drop}
@@ -13,20 +13,20 @@ pub record Took (row : List (List ℕ)) (p q : Pen) (ms bs : List ℕ) : Type 0 
   pub bs-before : List ℕ
   pub pass : _≡_ {A = Page} (record { pen = q; ms = ms; bs = bs }) (play row (record { pen = p; ms = ms-before; bs = bs-before }))
 
--- The pass from p to q ended before the last measure and the last beat to pass over, and k more do not go beyond them.
+-- The pass from p to q ended before the last measure and the last beat to pass over, and k more do so, or end with the last measure.
 pub record Skips (p q : Pen) (k : ℕ) : Type 0 where
   pub some-todo : 1 ≤ q .todo
   pub some-skip : 1 ≤ q .skip
   pub measures : k * (p .todo - q .todo) ≤ q .todo
-  pub beats : k * (p .skip - q .skip) ≤ q .skip
+  pub beats : k * (p .skip - q .skip) < q .skip
 
--- The pass from p to q ended before the last measure and the last beat to write, and one more does not go beyond them.
+-- The pass from p to q ended before the last measure and the last beat to write, and one more does so, or ends with the last measure.
 pub record Copies (p q : Pen) : Type 0 where
   pub no-skip : p .skip ≡ 0
   pub some-todo : 1 ≤ q .todo
   pub some-left : 1 ≤ q .left
   pub measures : p .todo - q .todo ≤ q .todo
-  pub beats : q .b - p .b ≤ q .left
+  pub beats : q .b - p .b < q .left
 
 -- The pen behind k more passes that are passed over, and behind one more that is written.
 unfoldable pub skippedOf : Pen → Pen → ℕ → Pen

@@ -1,6 +1,6 @@
 -- What the pen and the two tables become: left folds over beats and over measures.
-use Prim.Native.Nat.{ℕ, zero, suc, _+_, _-_, _*_, _^_, _≤_}
-use mathlib.Core.List.{List, [], _∷_, _++_}
+use Prim.Native.Nat.{ℕ, zero, suc, _+_, _-_, _≤_}
+use mathlib.Core.List.{List, [], _∷_}
 use mathlib.Core.Bool.{Bool, true, false}
 use lib.ListN.{set}
 use lib.Dec.{eqb}
@@ -48,10 +48,27 @@ closed from g = closeBy (eqb from (g .pen .b)) from g
 unfoldable pub onPage : Ink → List ℕ → Page
 onPage i ms = record { pen = i .pen; ms = ms; bs = i .bs }
 
+-- No measure is looked at any more once no beat is to be passed over and none to be written.
+unfoldable pub restBy : ℕ → ℕ → ℕ → ℕ
+restBy todo zero zero = zero
+restBy todo zero (suc l) = todo
+restBy todo (suc s) l = todo
+
+unfoldable pub restOf : Pen → Pen
+restOf p = record { base = p .base; todo = restBy (p .todo) (p .skip) (p .left); skip = p .skip; left = p .left; m = p .m; b = p .b }
+
+unfoldable pub rested : Page → Page
+rested g = record { pen = restOf (g .pen); ms = g .ms; bs = g .bs }
+
+-- A measure that is looked at, t more behind it.
+unfoldable pub lookedAt : ℕ → List ℕ → Page → Page
+lookedAt t x g = closed (g .pen .b)
+    (onPage (inked x (record { pen = record { base = g .pen .base; todo = t; skip = g .pen .skip; left = g .pen .left; m = g .pen .m; b = g .pen .b }; bs = g .bs })) (g .ms))
+
 -- A measure, if any is still to be looked at.
 unfoldable pub measureBy : ℕ → List ℕ → Page → Page
 measureBy zero x g = g
-measureBy (suc t) x g = closed (g .pen .b) (onPage (inked x (record { pen = record { base = g .pen .base; todo = t; skip = g .pen .skip; left = g .pen .left; m = g .pen .m; b = g .pen .b }; bs = g .bs })) (g .ms))
+measureBy (suc t) x g = rested (lookedAt t x g)
 
 unfoldable pub measureOf : List ℕ → Page → Page
 measureOf x g = measureBy (g .pen .todo) x g

@@ -1,5 +1,5 @@
 -- The two cuts as one window: beats passed over, beats kept.
-use Prim.Native.Nat.{ℕ, zero, suc, _+_, _-_, _*_}
+use Prim.Native.Nat.{ℕ, _+_, _-_}
 use mathlib.Core.List.{List, [], _∷_, _++_}
 use mathlib.Core.Option.{Option, none, some}
 use lib.ListN.{length, take, drop}
@@ -9,6 +9,9 @@ use Rattle.songcode.specs.Tables.{measureWord}
 use Rattle.songcode.specs.Playing.{keep}
 use Rattle.songcode.specs.Performance.{total}
 use Rattle.settings.specs.declared.cuts.Cut.{Cut}
+use Rattle.player.specs.declared.leaves.Definitions.{Definitions}
+use Rattle.player.specs.declared.leaves.Stretch.{Stretch}
+use Rattle.player.specs.Walks.{rowOf}
 
 -- A cut of the description as the code's value.
 unfoldable pub cutOf : Song.Cut → Cut
@@ -59,3 +62,7 @@ module _ {A : Type 0} where
   unfolding measureWord
   heads f [] = []
   heads f (x ∷ xs) = measureWord f (length x) ∷ heads (f + length x) xs
+
+-- The row of a section whose three texts stand in the buffer.
+abbrev pub rowOfSection : Definitions → ℕ → List ℕ → Stretch → Stretch → Stretch → ℕ → Cut → Cut → List (List ℕ)
+rowOfSection d n ws lead row tail r front back = sectionRow front back r (rowOf d n ws lead) (rowOf d n ws row) (rowOf d n ws tail)

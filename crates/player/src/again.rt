@@ -21,7 +21,7 @@ pub fn skips(p: Pen, q: Pen, k: usize) -> bool
     if 65536 < measures || 4294967295 < beats || 67108864 < k {
         return false;
     }
-    if q.todo < k * measures || q.skip < k * beats {
+    if q.todo < k * measures || q.skip <= k * beats {
         return false;
     }
     true
@@ -49,7 +49,7 @@ pub fn copies(p: Pen, q: Pen) -> bool
     if 0 < p.skip || q.todo == 0 || q.left == 0 {
         return false;
     }
-    if q.todo < minus(p.todo, q.todo) || q.left < minus(q.b, p.b) {
+    if q.todo < minus(p.todo, q.todo) || q.left <= minus(q.b, p.b) {
         return false;
     }
     true

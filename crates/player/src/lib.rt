@@ -18,5 +18,6 @@ pub use pens::Pen;
 pub use playing::Counts;
 pub use playing::Plan;
 pub use playing::planned;
+pub use playing::play_part;
 pub use playing::play_section;
 pub use playing::tally;

@@ -9,6 +9,7 @@ use super::leaves::word_at;
 use super::pens::Pen;
 use super::pens::close;
 use super::pens::lasting;
+use super::pens::resting;
 ghost use mathlib.Core.Path.{_≡_};
 ghost use Prim.Native.Nat.{ℕ, _+_, _-_, _*_, _≤_, _<_};
 ghost use lib.ListN.{length};
@@ -127,11 +128,11 @@ pub fn sounded(
     }
     let beats = share * seen.sounding;
     if beats <= p.skip {
-        return begun(p, p.skip - beats);
+        return resting(begun(p, p.skip - beats));
     }
     let from = p.b;
     let q = positions(words, to, at, seen.stop, share, last, begun(p, p.skip), bs);
-    close(from, q, ms)
+    resting(close(from, q, ms))
 }
 
 // One measure of the text.

@@ -4,7 +4,7 @@ ghost use mathlib.Core.List.{List};
 ghost use Prim.Native.Nat.{ℕ, _+_, _-_, _*_, _≤_, _<_};
 ghost use lib.ListN.{length, set, replicate};
 ghost use Rattle.player.specs.Signs.{lastingOf};
-ghost use Rattle.player.specs.Page.{Page, Ink, Fine, beatOf, inked, closed};
+ghost use Rattle.player.specs.Page.{Page, Ink, Fine, beatOf, inked, closed, restOf};
 
 // todo: measures still to be looked at; skip: beats still to be passed over; left: beats still to be written;
 // m, b: measures and beats written; base: the place of beat 0 in the song's table.
@@ -95,6 +95,26 @@ pub fn close(from: usize, p: Pen, ms: &mut [u32]) -> Pen
         skip: p.skip,
         left: p.left,
         m: p.m + 1,
+        b: p.b,
+    }
+}
+
+// No measure is looked at any more once no beat is to be passed over and none to be written.
+pub fn resting(p: Pen) -> Pen
+    ensures { λ r. ⌜ r ≡ restOf p ⌝ }
+{
+    if 0 < p.skip {
+        return p;
+    }
+    if 0 < p.left {
+        return p;
+    }
+    Pen {
+        base: p.base,
+        todo: 0,
+        skip: p.skip,
+        left: p.left,
+        m: p.m,
         b: p.b,
     }
 }

@@ -1,5 +1,5 @@
 use Rattle.player.proofs.AgainLaws.{not-true, copies-found}
-use borrow.Author.Tests.{eqb-false, ltb-false}
+use borrow.Author.Tests.{eqb-false, leb-false}
 use borrow.Author.Needs.{needs}
 use Rattle.player.proofs.again.copies.Statement.{statement}
 use Rattle.player.proofs.again.copies.Tie as tie
@@ -25,7 +25,7 @@ returns-2 c = λ e. not-true e
 
 -- src/again.rt:46:1
 returns-3 : tie.Need-returns-3
-returns-3 c = λ e. copies-found (c .before .before .before .before .before .before .before .before .before .before .before .before .args .p) (c .before .before .before .before .before .before .before .before .before .before .before .before .args .q) _ _ (c .before .before .before .before .before .minus .ensures) (c .before .before .minus2 .ensures) (c .before .before .before .before .before .before .before .before .before .before .if1 .left) (eqb-false (c .before .before .before .before .before .before .before .before .before .before .before .before .args .q .todo) 0 (c .before .before .before .before .before .before .before .before .if2 .left)) (eqb-false (c .before .before .before .before .before .before .before .before .before .before .before .before .args .q .left) 0 (c .before .before .before .before .before .before .if3 .left)) (c .before .before .before .if4 .left) (ltb-false (c .before .before .before .before .before .before .before .before .before .before .before .before .args .q .left) (c .before .before .minus2 .result) (c .if5 .left))
+returns-3 c = λ e. copies-found (c .before .before .before .before .before .before .before .before .before .before .before .before .args .p) (c .before .before .before .before .before .before .before .before .before .before .before .before .args .q) _ _ (c .before .before .before .before .before .minus .ensures) (c .before .before .minus2 .ensures) (c .before .before .before .before .before .before .before .before .before .before .if1 .left) (eqb-false (c .before .before .before .before .before .before .before .before .before .before .before .before .args .q .todo) 0 (c .before .before .before .before .before .before .before .before .if2 .left)) (eqb-false (c .before .before .before .before .before .before .before .before .before .before .before .before .args .q .left) 0 (c .before .before .before .before .before .before .if3 .left)) (c .before .before .before .if4 .left) (leb-false (c .before .before .before .before .before .before .before .before .before .before .before .before .args .q .left) (c .before .before .minus2 .result) (c .if5 .left))
 
 pub copies-spec : {M : Type 1} → statement M
 copies-spec = tie.close (tie.spec returns minus-requires minus-requires-2 returns-2 returns-3)

@@ -1,6 +1,6 @@
 use Rattle.player.specs.Again.{skippedOf}
 use native.Mathlib.Omega.{arith}
-use Prim.Native.Nat.{_≤_, _*_}
+use Prim.Native.Nat.{_<_, _≤_, _*_}
 use borrow.Author.Needs.{needs}
 use Rattle.player.proofs.again.skipped.Statement.{statement}
 use Rattle.player.proofs.again.skipped.Tie as tie
@@ -26,11 +26,13 @@ minus-requires-2 c κs = search needs
 
 -- src/again.rt:38:24
 mul-t8 : tie.Need-mul-t8
-mul-t8 c = let h : c .before .before .before .args .k * c .minus2 .result ≤ c .before .before .before .args .q .skip = rw (c .minus2 .ensures) (c .before .before .before .pre .beats) in omega arith
+mul-t8 c = let h : c .before .before .before .args .k * c .minus2 .result < c .before .before .before .args .q .skip = rw (c .minus2 .ensures)
+    (c .before .before .before .pre .beats) in omega arith
 
 -- src/again.rt:38:15
 sub-t9 : tie.Need-sub-t9
-sub-t9 c = let h : c .before .before .before .before .args .k * c .before .minus2 .result ≤ c .before .before .before .before .args .q .skip = rw (c .before .minus2 .ensures) (c .before .before .before .before .pre .beats) in omega arith
+sub-t9 c = let h : c .before .before .before .before .args .k * c .before .minus2 .result < c .before .before .before .before .args .q .skip = rw
+    (c .before .minus2 .ensures) (c .before .before .before .before .pre .beats) in omega arith
 
 -- src/again.rt:31:1
 returns : tie.Need-returns

@@ -2,7 +2,7 @@ use Rattle.player.proofs.AgainLaws.{not-true, skips-found}
 use native.Mathlib.Omega.{arith}
 use Prim.Native.Nat.{_*_}
 use native.Mathlib.Nat.{mul-le-mul}
-use borrow.Author.Tests.{eqb-false, ltb-false}
+use borrow.Author.Tests.{eqb-false, ltb-false, leb-false}
 use borrow.Author.Needs.{needs}
 use Rattle.player.proofs.again.skips.Statement.{statement}
 use Rattle.player.proofs.again.skips.Tie as tie
@@ -40,7 +40,7 @@ returns-3 c = λ e. not-true e
 
 -- src/again.rt:13:1
 returns-4 : tie.Need-returns-4
-returns-4 c = λ e. skips-found (c .before .before .before .before .before .before .before .before .before .before .before .before .before .args .p) (c .before .before .before .before .before .before .before .before .before .before .before .before .before .args .q) (c .before .before .before .before .before .before .before .before .before .before .before .before .before .args .k) _ _ (c .before .before .before .before .before .before .before .before .minus .ensures) (c .before .before .before .before .before .before .before .minus2 .ensures) (c .before .before .before .before .before .before .before .before .before .before .before .if1 .left) (eqb-false (c .before .before .before .before .before .before .before .before .before .before .before .before .before .args .q .skip) 0 (c .before .before .before .before .before .before .before .before .before .if2 .left)) (c .before .before .if6 .left) (ltb-false (c .before .before .before .before .before .before .before .before .before .before .before .before .before .args .q .skip) (c .before .before .before .before .before .before .before .before .before .before .before .before .before .args .k * c .before .before .before .before .before .before .before .minus2 .result) (c .if7 .left))
+returns-4 c = λ e. skips-found (c .before .before .before .before .before .before .before .before .before .before .before .before .before .args .p) (c .before .before .before .before .before .before .before .before .before .before .before .before .before .args .q) (c .before .before .before .before .before .before .before .before .before .before .before .before .before .args .k) _ _ (c .before .before .before .before .before .before .before .before .minus .ensures) (c .before .before .before .before .before .before .before .minus2 .ensures) (c .before .before .before .before .before .before .before .before .before .before .before .if1 .left) (eqb-false (c .before .before .before .before .before .before .before .before .before .before .before .before .before .args .q .skip) 0 (c .before .before .before .before .before .before .before .before .before .if2 .left)) (c .before .before .if6 .left) (leb-false (c .before .before .before .before .before .before .before .before .before .before .before .before .before .args .q .skip) (c .before .before .before .before .before .before .before .before .before .before .before .before .before .args .k * c .before .before .before .before .before .before .before .minus2 .result) (c .if7 .left))
 
 pub skips-spec : {M : Type 1} → statement M
 skips-spec =

@@ -1,5 +1,7 @@
+-- One measure: passed over, or written and closed.
 use Rattle.player.proofs.PageLaws.{page, measure-none, measure-some, measure-pass, measured, not-none, fine-begun, inked-from}
 use Rattle.player.proofs.SignLaws.{parts-length}
+use Rattle.player.specs.Page.{restOf}
 use Rattle.player.specs.Signs.{partsOf, positionsAt}
 use Rattle.player.specs.declared.pens.Pen.{Pen}
 use mathlib.Core.Path.{sym, ap, _∙_}
@@ -8,51 +10,53 @@ use native.Mathlib.Omega.{arith}
 use borrow.Author.Needs.{needs}
 use Rattle.player.proofs.measures.sounded.Statement.{statement}
 use Rattle.player.proofs.measures.sounded.Tie as tie
-use Rattle.player.proofs.measures.sounded.Reads as reads
-use Rattle.player.proofs.measures.sounded.Lts as lts
-use Rattle.player.proofs.measures.begun.Reads as begun-reads
-use Rattle.player.proofs.measures.positions.Reads as positions-reads
-use Rattle.player.proofs.pens.close.Reads as close-reads
 
--- src/measures.rt:126:9
 returns : tie.Need-returns
 returns c = let a = c .before .before .before .before .before .args in measure-none _ (record { pen = a .p; ms = a .ms .now; bs = a .bs .now }) (c .if1 .taken)
 
--- src/measures.rt:128:17
 mul-beats : tie.Need-mul-beats
 mul-beats c = search needs
 
--- src/measures.rt:130:9
 begun-requires : tie.Need-begun-requires
 begun-requires c κs = not-none (c .before .before .before .before .if1 .left)
 
--- src/measures.rt:130:9
 returns-2 : tie.Need-returns-2
-returns-2 c = let q = c .before .before .before .before .before .before .before .before .before .before in let a = q .args in let ps = positionsAt (a .words .now) (a .to) (a .at) in let e = ap (λ s. a .share * s) (q .pre .3) ∙ sym (parts-length (a .share) (a .last) ps) in ap (λ (r : Pen). page r (a .ms .now) (a .bs .now)) (c .begun .ensures) ∙ measure-pass (partsOf (a .share) (a .last) ps) (a .p) _ (a .ms .now) (a .bs .now) (c .before .before .before .before .before .if1 .left) e (c .before .before .if2 .taken)
+returns-2 c =
+    let q = c .before .before .before .before .before .before .before .before .before .before .before in
+    let a = q .args in
+    let ps = positionsAt (a .words .now) (a .to) (a .at) in
+    let e = ap (λ s. a .share * s) (q .pre .3) ∙ sym (parts-length (a .share) (a .last) ps) in
+    ap (λ (r : Pen). page r (a .ms .now) (a .bs .now)) (c .resting .ensures ∙ ap (λ (p : Pen). restOf p) (c .before .begun .ensures))
+    ∙ measure-pass (partsOf (a .share) (a .last) ps) (a .p) _ (a .ms .now) (a .bs .now)
+    (c .before .before .before .before .before .before .if1 .left) e (c .before .before .before .if2 .taken)
 
--- src/measures.rt:133:62
 begun-requires-2 : tie.Need-begun-requires-2
 begun-requires-2 c κs = not-none (c .before .before .before .if1 .left)
 
--- src/measures.rt:133:9
 positions-requires : tie.Need-positions-requires
 positions-requires c κs = let q = c .before .before .before .before .before .before .before .before .before .before in (fine-begun (q .args .p) _ _ _ (c .before .begun2 .ensures) (q .pre .0), q .pre .1, q .pre .2)
 
--- src/measures.rt:134:5
 close-requires : tie.Need-close-requires
 close-requires c κs = let q = c .before .before .before .before .before .before .before .before .before .before .before .before .before .before in let a = q .args in let ps = positionsAt (a .words .now) (a .to) (a .at) in let e = ap (λ s. a .share * s) (q .pre .3) ∙ sym (parts-length (a .share) (a .last) ps) in let o = inked-from (partsOf (a .share) (a .last) ps) _ _ _ _ _ (c .before .before .before .before .before .begun2 .ensures) (c .before .before .before .positions .ensures) in measured (partsOf (a .share) (a .last) ps) _ _ _ _ (record { few = q .pre .0 .few; fits = q .pre .0 .fits }) (omega (arith, e, q .pre .4)) o
 
--- src/measures.rt:111:1
 same-length : tie.Need-same-length
 same-length c = search needs
 
--- src/measures.rt:111:1
 same-length-2 : tie.Need-same-length-2
 same-length-2 c = search needs
 
--- src/measures.rt:111:1
 returns-3 : tie.Need-returns-3
-returns-3 c = let q = c .before .before .before .before .before .before .before .before .before .before .before .before .before .before .before .before .before in let a = q .args in let ps = positionsAt (a .words .now) (a .to) (a .at) in let o = inked-from (partsOf (a .share) (a .last) ps) _ _ _ _ _ (c .before .before .before .before .before .before .before .before .begun2 .ensures) (c .before .before .before .before .before .before .positions .ensures) in measure-some (partsOf (a .share) (a .last) ps) (a .p) _ _ (a .ms .now) _ (a .bs .now) _ (c .before .before .before .before .before .before .before .before .before .before .before .before .if1 .left) o (c .before .before .close .ensures _)
+returns-3 c =
+    let q = c .before .before .before .before .before .before .before .before .before .before .before .before .before .before .before .before .before .before in
+    let a = q .args in
+    let ps = positionsAt (a .words .now) (a .to) (a .at) in
+    let o = inked-from (partsOf (a .share) (a .last) ps) _ _ _ _ _
+    (c .before .before .before .before .before .before .before .before .before .begun2 .ensures)
+    (c .before .before .before .before .before .before .before .positions .ensures) in
+    rw (c .resting2 .ensures)
+    (measure-some (partsOf (a .share) (a .last) ps) (a .p) _ _ (a .ms .now) _ (a .bs .now) _
+    (c .before .before .before .before .before .before .before .before .before .before .before .before .before .if1 .left) o
+    (c .before .before .before .close .ensures _))
 
 pub sounded-spec : {M : Type 1} → statement M
 sounded-spec =
@@ -61,10 +65,12 @@ sounded-spec =
     returns
     mul-beats
     begun-requires
+    (λ c κs. search needs)
     returns-2
     begun-requires-2
     positions-requires
     close-requires
+    (λ c κs. search needs)
     same-length
     same-length-2
     returns-3)

@@ -1,0 +1,25 @@
+-- Cuts that take nothing, and others.
+use Rattle.player.proofs.SectionLaws.{wrote-uncut}
+use Rattle.player.specs.Walks.{rowOf}
+use borrow.Author.Needs.{needs}
+use Rattle.player.proofs.playing.play_window.Statement.{statement}
+use Rattle.player.proofs.playing.play_window.Tie as tie
+
+returns : tie.Need-returns
+returns c =
+    let played = c .before .before .before .before in
+    let test = played .before .before .before in
+    let q = test .before .before .before .before .before in
+    let a = q .args in
+    let row = rowOf (a .d) (a .n) (a .words .now) in
+    let pen = q .pre .1 .1 in
+    let w =
+    wrote-uncut (a .front) (a .back) (a .r) (row (a .lead)) (row (a .pattern)) (row (a .tail)) (a .p) _ (a .ms .now) (a .bs .now) _ _
+    (test .before .is-uncut .ensures (test .if1 .taken)) (pen .0, pen .1, pen .2) (q .pre .1 .0) (played .play-uncut .ensures) in
+    ((w .measures, w .beats), (w .measureTable, w .beatTable))
+
+pub play-window-spec : {M : Type 1} → statement M
+play-window-spec =
+    tie.close
+    (tie.spec (λ c κs. search needs) (λ c κs. search needs) (λ c. search needs) (λ c. search needs) returns (λ c κs. search needs) (λ c. search needs)
+    (λ c. search needs) (λ c. search needs))
