@@ -72,8 +72,8 @@ fn is_slip(b: u8) -> bool
     b == b'$'
 }
 
-// An extension holds one.
-fn has_slip(w: &[u8]) -> bool
+// A text holds one.
+pub fn has_slip(w: &[u8]) -> bool
     ensures { λ r. ⌜ r ≡ any isSlipByte (now (w .entry)) ⌝ }
 {
     let mut i = 0;
