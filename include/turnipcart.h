@@ -227,6 +227,7 @@ enum turnipcart_cause_kind {
     TURNIPCART_CAUSE_REFERENCE_NOT_HERE = 719, /* place: a `$n` in a section's pattern that has more, or in a lead-in or tail */
     TURNIPCART_CAUSE_COLON_NOT_HERE = 720,     /* place: the `:` in a lead-in or tail */
     TURNIPCART_CAUSE_SIDE_EMPTY = 721,         /* a lead-in or tail without text. Place: behind the name, length 0 */
+    TURNIPCART_CAUSE_EXTENSION_SIGN = 722,     /* place: a chord with `%`, `_`, `=` or `$` behind its base, however long */
 
     /* 8. */
     TURNIPCART_CAUSE_LINE_IN_METADATA = 801, /* place: a line that is no key, in a metadata block. other_line: the block's first */

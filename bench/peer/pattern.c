@@ -14,6 +14,9 @@ static const unsigned char kind_of[256] = {
 /* The bytes that end a chord. */
 static const bool ends_position[256] = {[' '] = true, ['\t'] = true, [';'] = true, [':'] = true, ['['] = true, [']'] = true};
 
+/* The bytes that no extension holds. */
+static const bool is_slip[256] = {['%'] = true, ['_'] = true, ['='] = true, ['$'] = true};
+
 /* The numbers of a letter's chords; its minor ones stand behind its others. */
 static const struct {
     unsigned char plain, sharp, flat, minor;
@@ -35,7 +38,7 @@ bool peer_end_pattern(struct pattern *pattern)
     return !pattern->bad && pattern->place == ITEM && pattern->loop == NULL;
 }
 
-/* The longest base chord at a letter. */
+/* The longest base chord at a letter; its `m` is none of a `maj`. */
 const unsigned char *peer_read_base(const unsigned char *at, const unsigned char *stop, unsigned *base)
 {
     unsigned letter = (unsigned)(*at++ - 'A');
@@ -47,7 +50,7 @@ const unsigned char *peer_read_base(const unsigned char *at, const unsigned char
         *base = bases[letter].flat;
         at++;
     }
-    if (at < stop && *at == 'm') {
+    if (at < stop && *at == 'm' && !(stop - at > 2 && at[1] == 'a' && at[2] == 'j')) {
         *base += bases[letter].minor;
         at++;
     }
@@ -58,8 +61,8 @@ static const unsigned char *read_chord(struct pattern *pattern, const unsigned c
 {
     unsigned base;
     const unsigned char *extension = peer_read_base(at, stop, &base);
-    for (at = extension; at < stop && !ends_position[*at];)
-        at++;
+    for (at = extension; at < stop && !ends_position[*at]; at++)
+        pattern->bad |= is_slip[*at];
     uint32_t length = (uint32_t)(at - extension);
     pattern->bad |= length > MOST_EXTENSION;
     *word = base << BASE_AT | HEAD;

@@ -1,6 +1,6 @@
 /* 7: pattern text, but for words that are no chords and for loops. */
 #include "names.h"
-#include "page.h"
+#include "rules.h"
 
 static bool is_side(struct text text, struct stretch line)
 {
@@ -94,6 +94,15 @@ static void advise_malformed_reference(struct page *page)
         repair(page, "write `$` and the number of a definition, as `$1`");
 }
 
+/* A chord with a sign in it: `A=`, or `A$1`, `A_7` and the like, which no space puts right by itself. */
+static void advise_sign(struct page *page)
+{
+    if (joined_signs(page, page->place))
+        return;
+    say(page, "`%w` is not a chord: none of `%s`, `_`, `=` and `$` stands in one", page->place, "%");
+    repair(page, "put a space before the sign, `;` before a reference as `$1`, or take the sign away");
+}
+
 void advise_pattern(struct page *page)
 {
     size_t cause = page->cause->cause;
@@ -107,6 +116,7 @@ void advise_pattern(struct page *page)
         say(page, "`%w` is too long for a chord", page->place);
         repair(page, "at most 31 bytes stand behind a base chord; if these are several chords, part them by spaces, and measures by `;`");
         break;
+    case TURNIPCART_CAUSE_EXTENSION_SIGN: advise_sign(page); break;
     case TURNIPCART_CAUSE_REFERENCE_MALFORMED: advise_malformed_reference(page); break;
     case TURNIPCART_CAUSE_REMOVER_FIRST:
         say(page, "`=` has no chord before it in its measure");

@@ -125,7 +125,7 @@ static bool is_sign(unsigned char byte)
     return byte == '%' || byte == '_' || byte == '=';
 }
 
-/* `A=`, `G%`, `%%`: signs that do not stand apart. */
+/* `A=`, `G%`, `%%`: signs that do not stand apart, behind a chord or alone. */
 bool joined_signs(struct page *page, struct stretch word)
 {
     size_t at = word.start;
@@ -139,7 +139,7 @@ bool joined_signs(struct page *page, struct stretch word)
         if (!is_sign(byte_at(page, at)))
             return false;
     say(page, "`%w` is not a chord: `%s`, `_` and `=` stand apart", word, "%");
-    repair(page, "write `%w", chord);
+    repair(page, chord.length > 0 ? "put a space before the sign: `%w" : "write `%w", chord);
     for (at = rest.start; at < end_of(rest); at++)
         go_on(page, at == word.start ? "%w" : " %w", (struct stretch){at, 1});
     go_on(page, "`");

@@ -57,13 +57,19 @@ static struct stretch next_odd_chord(struct warning_search *search)
     return word;
 }
 
-/* Bytes of the base chord at a word's beginning, as the reader takes it: the longest. */
+/* Whether the first bytes of a word, so many, end in the `m` of a `maj`. */
+static bool ends_in_maj(struct text text, struct stretch word, size_t length)
+{
+    return begins_with(text, (struct stretch){word.start + length - 1, word.length - length + 1}, "maj");
+}
+
+/* Bytes of the base chord at a word's beginning, as the reader takes it: the longest whose `m` is none of a `maj`. */
 static size_t base_length(struct text text, struct stretch word)
 {
     size_t longest = 0;
     for (unsigned base = 0; base < TURNIPCART_BASES; base++) {
         size_t length = word_length(turnipcart_base_name(base));
-        if (length > longest && begins_with(text, word, turnipcart_base_name(base)))
+        if (length > longest && begins_with(text, word, turnipcart_base_name(base)) && !ends_in_maj(text, word, length))
             longest = length;
     }
     return longest;

@@ -67,6 +67,7 @@ static void except_gaps(struct reader_cause *cause, const struct turnipcart_caus
     case TURNIPCART_CAUSE_MODIFIER_EARLY: cause->first = told->first; break;
     case TURNIPCART_CAUSE_NO_CHORD:
     case TURNIPCART_CAUSE_EXTENSION_LONG:
+    case TURNIPCART_CAUSE_EXTENSION_SIGN:
     case TURNIPCART_CAUSE_REFERENCE_MALFORMED:
     case TURNIPCART_CAUSE_LOOP_COUNT_MISSING: cause->first = cause->offset; break;
     case TURNIPCART_CAUSE_REFERENCE_NOT_HERE: cause->first = in_word ? cause->offset : cause->first; break;

@@ -86,7 +86,7 @@ static size_t line_around(const struct chart *chart, size_t place, size_t *start
 static void change_bytes(struct numbers *numbers, struct chart *chart)
 {
     static const char *const pieces[] = {" ", "\t", ";", ":", "[", "]", "%", "_", "=", "$", "@", "!", "-", "--", "*", "0", "1", "2", "9",
-                                         "A", "H", "b", "m", "#", "\r", "\n", "\r\n", "\n\n", "é", "\xC2\xA0", "[A]2", "$1", "/4",
+                                         "A", "H", "b", "m", "#", "maj", "aj", "j", "\r", "\n", "\r\n", "\n\n", "é", "\xC2\xA0", "[A]2", "$1", "/4",
                                          "\x80", "\xFF", "\xC0\x80", "\xED\xA0\x80", "\xF4\x90\x80\x80", "\xE2\x82", "𝄞", "\xEF\xBB\xBF"};
     size_t at = below(numbers, chart->length + 1);
     size_t taken = at < chart->length ? below(numbers, 2) : 0;

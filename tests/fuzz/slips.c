@@ -5,12 +5,14 @@
 
 #define FIFTEEN "123456789012345"
 #define LONGEST "A" FIFTEEN FIFTEEN "1" /* a chord with an extension of 31 bytes */
+#define LONGEST_MAJ "Amaj" FIFTEEN "1234567890123" /* another one */
 #define FIFTY "ééééé" FIFTEEN FIFTEEN FIFTEEN
 
 static const char *const signs[] = {
     "A", "Bm7", "A", "A;", "A;", "A\n", "A:", "A ", "[A", "[A;", "A]2", "A]2;", "%", "_", "=", " = ", " ", " ", "\t", ";", ":", "\n",
     "\r\n", " \n\t", "[", "[ ", "]2", "]2;", "$1;", "$1\n", "]", "]1", "]0x", "]9999", "]10000", "$1", "$4", "$", "$0",
     "$10000", "$1x", "A$1", "x", "%x", "=x", "é", LONGEST, LONGEST "2",
+    "A=", "B%", "Bm_", "Cmaj", "maj7", LONGEST_MAJ, LONGEST_MAJ "2",
 };
 
 static const char *const words[] = {

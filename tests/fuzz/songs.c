@@ -11,7 +11,8 @@ struct song {
 };
 
 static const char *const bases[] = {"A", "A#", "Abm", "B", "Bb", "Bbm", "C", "C#m", "D", "Dbm", "Eb", "E", "F#m", "G", "Gb", "Cb", "H"};
-static const char *const extensions[] = {"", "", "", "7", "maj7", "sus4", "m7b5", "/E", "é", "♯9", "b", "#", "=", "%", "!x"};
+static const char *const extensions[] = {"", "", "", "7", "maj7", "sus4", "m7b5", "/E", "é", "♯9", "b", "#", "maj", "aj7", "ma7", "mmaj9", "!x"};
+static const char *const slips[] = {"%", "_", "=", "$", "$1", "=7", "7%"};
 static const size_t times[] = {4, 4, 4, 3, 6, 12, 2, 1, 8, 32};
 
 static size_t divisor(struct numbers *numbers, size_t time)
@@ -39,6 +40,7 @@ static void write_measure(struct numbers *numbers, struct chart *chart, size_t t
             size_t base = below(numbers, sizeof bases / sizeof *bases);
             append(chart, bases[below(numbers, 20) != 0 && base > 15 ? 0 : base]);
             append(chart, PICK(numbers, extensions));
+            append(chart, below(numbers, 400) == 0 ? PICK(numbers, slips) : "");
         }
     }
 }

@@ -124,14 +124,16 @@ static bool read_name(struct reading *reading, struct span word)
     return false;
 }
 
-/* A word that is no position: no base chord begins it, or it is too long. */
+/* A word that is no position: no base chord begins it, a sign stands in it, or it is too long. */
 static bool blame_word(struct reading *reading, struct span word)
 {
     struct chord chord;
     struct span letters = word;
     while (letters.end > letters.start && !read_chord(reading->text, letters, &chord))
         letters.end--;
-    return blame(reading, letters.end == letters.start ? CAUSE_NO_CHORD : CAUSE_EXTENSION_LONG, word);
+    if (letters.end == letters.start)
+        return blame(reading, CAUSE_NO_CHORD, word);
+    return blame(reading, has_slip(reading->text, word) ? CAUSE_EXTENSION_SIGN : CAUSE_EXTENSION_LONG, word);
 }
 
 static bool read_position(struct reading *reading, struct span word)

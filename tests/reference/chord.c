@@ -20,7 +20,27 @@ const char *base_name(unsigned base)
     return base < BASE_CHORDS ? base_chords[base] : "?";
 }
 
-/* The longest base that fits at the word's front, and the rest as its extension. */
+/* Request 2: "A base ending in `m` isn't taken where `aj` follows the `m`". */
+static bool is_before_aj(const char *base, const unsigned char *behind, size_t left)
+{
+    return base[strlen(base) - 1] == 'm' && left >= 2 && behind[0] == 'a' && behind[1] == 'j';
+}
+
+/* Request 4: a byte that no extension holds. */
+static bool is_slip(unsigned char byte)
+{
+    return byte == '%' || byte == '_' || byte == '=' || byte == '$';
+}
+
+bool has_slip(const unsigned char *text, struct span word)
+{
+    for (size_t at = word.start; at < word.end; at++)
+        if (is_slip(text[at]))
+            return true;
+    return false;
+}
+
+/* The longest base that fits at the word's front and may be taken there, and the rest as its extension. */
 bool read_chord(const unsigned char *text, struct span word, struct chord *chord)
 {
     size_t word_length = word.end - word.start;
@@ -28,7 +48,7 @@ bool read_chord(const unsigned char *text, struct span word, struct chord *chord
     for (unsigned base = 0; base < BASE_CHORDS; base++) {
         size_t length = strlen(base_chords[base]);
         bool fits = length <= word_length && memcmp(text + word.start, base_chords[base], length) == 0;
-        if (fits && length > longest) {
+        if (fits && length > longest && !is_before_aj(base_chords[base], text + word.start + length, word_length - length)) {
             longest = length;
             chord->base = base;
         }
@@ -37,5 +57,5 @@ bool read_chord(const unsigned char *text, struct span word, struct chord *chord
         return false;
     chord->extension_length = word_length - longest;
     chord->extension = chord->extension_length > 0 ? word.start + longest : 0;
-    return chord->extension_length <= EXTENSION_LIMIT;
+    return chord->extension_length <= EXTENSION_LIMIT && !has_slip(text, (struct span){word.start + longest, word.end});
 }

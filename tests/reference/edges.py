@@ -4,7 +4,7 @@ TEXT_LIMIT = 65536
 MEASURE_LIMIT = 65535
 COUNT_LIMIT = 9999
 PATTERN_PIECES = ["A", "G", "Cb7", "Abm7", "%", "_", "=", " ", ";", ";", ":", "\n", "[", "]2", "]2", "]1", "]", "]10000",
-                  "]02", "] 2", "$1", "$2", "$0", "H", "A=", "%%", "\t"]
+                  "]02", "] 2", "$1", "$2", "$0", "H", "A=", "G%", "C$1", "Cmaj7", "Bb", "maj", "%%", "\t"]
 SECTION_LINES = ["@bpm 100", "@bpm 0", "@time 3/4", "@time 4/4", "@name x", "@bpm x", "A;G", "A", "A;G;C", "$1", "_ A", "_", "A B C",
                  "_repeat 2", "_repeat x", "_cutStart 1", "_cutStart -1", "_cutEnd 1", "_cutEnd -2", "_before A", "_before H",
                  "_after A;%", "_x", "--", "Go _1", "Go _2", "Go"]

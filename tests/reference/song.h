@@ -167,6 +167,7 @@ void split_name(const unsigned char *text, struct span line, struct span *name, 
 /* chord.c */
 const char *base_name(unsigned base);
 bool read_chord(const unsigned char *text, struct span word, struct chord *chord);
+bool has_slip(const unsigned char *text, struct span word);
 
 /* pattern.c */
 bool ends_word(unsigned char byte);

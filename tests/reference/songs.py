@@ -5,8 +5,10 @@ An item is ("measure", [positions]), ("loop", items, times) or ("reference", num
 
 BASES = ("A A# Ab Am A#m Abm B Bb Bm Bbm C C# Cm C#m D Db D# Dm Dbm D#m "
          "E Eb Em Ebm F F# Fm F#m G Gb G# Gm Gbm G#m").split()
-EXTENSIONS = ["7", "maj7", "sus4", "b7", "#m", "m7b5", "/E", "9#11", "=", "%", "_", "!", "@1", "-2", "b", "#", "m",
-              "é", "♯9", "𝄞", "\u00a0", "\u2028x", "x" * 31, "y" * 30, "€" * 10 + "z"]
+EXTENSIONS = ["7", "maj7", "sus4", "b7", "#m", "m7b5", "/E", "9#11", "maj", "aj", "majaj", "ma7", "!", "@1", "-2", "b", "#", "m",
+              "é", "♯9", "𝄞", "\u00a0", "\u2028x", "x" * 31, "y" * 30, "€" * 10 + "z",
+              "maj" + "x" * 28, "maj" + "x" * 29]
+SLIPS = ["%", "_", "=", "$", "$1", "=7", "7%", "maj_"]
 NAMES = ["Verse", "Chorus", "V", "Intro", "--", "_repeat 2", "[A]2", ";", "Näme", "\ufeffV", "#1", "Two words",
          "n" * 50, "é" * 50, "𝄞" * 50, "tab\tin it"]
 WORDS = ["Go", "Living easy", "***In***", ":::Out:::", "*** In ***", "******", "*******", ":::x***", "_", "_9", "Go _9",
@@ -47,14 +49,13 @@ class Song:
         return next((one for one in self.definitions if one.number == number), None)
 
 
-def make_chord(random, joined):
+def make_chord(random):
+    """A base and an extension of at most 31 bytes, now and then with a slip in it."""
     extension = random.choice(EXTENSIONS) if random.random() < 0.4 else ""
-    if not joined and random.random() < 0.02:
-        extension += "$"
-    return random.choice(BASES) + extension[:31]
+    return random.choice(BASES) + extension[:31] + (random.choice(SLIPS) if random.random() < 0.002 else "")
 
 
-def make_measure(random, time, chord_before, joined=False):
+def make_measure(random, time, chord_before):
     size = random.choice(divisors(time)[:random.choice([1, 2, 3, 9])])
     removed = random.randrange(size) if random.random() < 0.2 else 0
     positions = []
@@ -65,7 +66,7 @@ def make_measure(random, time, chord_before, joined=False):
         elif kind < 0.25:
             positions.append("_")
         else:
-            positions.append(make_chord(random, joined))
+            positions.append(make_chord(random))
             chord_before = True
     return ("measure", positions + ["="] * removed), chord_before
 
@@ -96,7 +97,7 @@ def choose_reference(random, song, in_loop):
     return ("reference", random.choice(fit).number) if fit else None
 
 
-def make_items(random, song, time, references, joined=False, in_loop=False, chord_before=False):
+def make_items(random, song, time, references, in_loop=False, chord_before=False):
     items = []
     for _ in range(random.choice([1, 1, 2, 2, 3, 4, 6])):
         kind = random.random()
@@ -105,11 +106,11 @@ def make_items(random, song, time, references, joined=False, in_loop=False, chor
             items.append(reference)
             chord_before = chord_before or holds_chord(song, [reference])
         elif kind > 0.85 and not in_loop:
-            inner = make_items(random, song, time, references, joined, True, chord_before)
+            inner = make_items(random, song, time, references, True, chord_before)
             items.append(("loop", inner, random.choice([2, 2, 3, 4, 9])))
             chord_before = chord_before or holds_chord(song, inner)
         else:
-            measure, chord_before = make_measure(random, time, chord_before, joined)
+            measure, chord_before = make_measure(random, time, chord_before)
             items.append(measure)
     return items
 
@@ -174,7 +175,7 @@ def make_modifiers(random, song, section):
         section.modifiers.pop("cutEnd", None)
     for name in ("before", "after"):
         if random.random() < chance:
-            section.modifiers[name] = make_items(random, song, section.time, False, joined=True)
+            section.modifiers[name] = make_items(random, song, section.time, False)
 
 
 def make_pattern(random, song, section):

@@ -12,7 +12,7 @@ clauseOfCause cause = cause % 100
 
 -- How many clauses each refusal has, from 0 (accepted) to 17; `include/turnipcart.h` names them in their order.
 abbrev pub clauses : List ℕ
-clauses = 0 ∷ 1 ∷ 2 ∷ 2 ∷ 4 ∷ 2 ∷ 3 ∷ 21 ∷ 9 ∷ 1 ∷ 1 ∷ 3 ∷ 1 ∷ 1 ∷ 1 ∷ 2 ∷ 4 ∷ 1 ∷ []
+clauses = 0 ∷ 1 ∷ 2 ∷ 2 ∷ 4 ∷ 2 ∷ 3 ∷ 22 ∷ 9 ∷ 1 ∷ 1 ∷ 3 ∷ 1 ∷ 1 ∷ 1 ∷ 2 ∷ 4 ∷ 1 ∷ []
 
 -- The cause is of this refusal, and one of its clauses, or no clause of it.
 abbrev pub Belongs : ℕ → ℕ → Type 0

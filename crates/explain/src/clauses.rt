@@ -4,7 +4,7 @@ ghost use Prim.Native.Nat.{_≤_};
 ghost use Rattle.explain.specs.Causes.{Belongs};
 
 // How many clauses each refusal has.
-const CLAUSES: [usize; 18] = [0, 1, 2, 2, 4, 2, 3, 21, 9, 1, 1, 3, 1, 1, 1, 2, 4, 1];
+const CLAUSES: [usize; 18] = [0, 1, 2, 2, 4, 2, 3, 22, 9, 1, 1, 3, 1, 1, 1, 2, 4, 1];
 
 // The refusal alone where it has no clause of that number.
 pub fn cause_of(refusal: usize, clause: usize) -> usize

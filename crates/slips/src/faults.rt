@@ -9,6 +9,7 @@ use super::signs::WRONG;
 use super::signs::is_sound;
 use grammar::Check;
 use grammar::Place;
+use tokens::has_slip;
 use tokens::longest_base;
 ghost use Prim.Native.Nat.{_+_, _≤_, _<_};
 ghost use lib.ListN.{length};
@@ -55,6 +56,8 @@ pub const COLON_NOT_HERE: usize = 20;
 
 pub const SIDE_EMPTY: usize = 21;
 
+pub const EXTENSION_SIGN: usize = 22;
+
 // The places of the grammar as numbers: an item is to come at the first four.
 const FRESH: usize = 0;
 
@@ -99,8 +102,11 @@ fn wrong_clause(w: &[u8]) -> usize {
     }
     if w[0] != b']' {
         let base = longest_base(w);
-        return if base.length == 0 {
-            NO_CHORD
+        if base.length == 0 {
+            return NO_CHORD;
+        }
+        return if has_slip(w) {
+            EXTENSION_SIGN
         } else {
             EXTENSION_LONG
         };

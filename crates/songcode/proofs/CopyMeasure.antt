@@ -12,7 +12,7 @@ use Rattle.songcode.specs.Chords.{Chord, bases}
 use Rattle.songcode.specs.Song.{Sound, chord, silence, Sounds, only, also, Measure}
 use Rattle.songcode.specs.Tokens.{Token, sound, remover, class}
 use Rattle.songcode.specs.Playing.{Beat, beat, lasting, soundCount, positions}
-use Rattle.songcode.specs.WrittenPattern.{Begins, SpelledChord, Word, spells-silence, spells-remover, spells-chord}
+use Rattle.songcode.specs.WrittenPattern.{Begins, PassedOver, SpelledChord, Word, spells-silence, spells-remover, spells-chord}
 use Rattle.songcode.specs.WrittenPattern.{Plain, NoPlain, Text, t-end, t-blank, t-word, writeMeasure}
 use Rattle.songcode.specs.WrittenText.{Inside, Characters}
 use Rattle.songcode.specs.Performance.{Hears, HearsAll, PlaysMeasure}
@@ -56,8 +56,10 @@ spelled-again at c w s =
       base = placed at (getD bases (c .base) []);
       joined = placed-append at (getD bases (c .base) []) (values (c .extension));
       numbered = rw (values-placed at (getD bases (c .base) []), g) (s .numbered);
-      longest = λ n t e b. rw l (s .longest n t e (subst (λ x. Begins t x) v b));
+      taken = λ p. s .taken (subst (λ x. PassedOver x (values w)) (values-placed at _ ∙ g) (subst (λ x. PassedOver (values (placed at (getD bases (c .base) []))) x) v p));
+      longest = λ n t e b p. rw l (s .longest n t e (subst (λ x. Begins t x) v b) (λ q. p (subst (λ x. PassedOver t x) (sym v) q)));
       short = rw (length-placed, length-values) (s .short);
+      clean = rw (values-placed) (s .clean);
     }
 
 -- Bytes of the same values are plain alike.

@@ -25,6 +25,7 @@ pub mod NumbersAgree
 pub mod DecimalAgree
 pub mod Spellings
 pub mod ChordNumbers
+pub mod TakenBases
 pub mod LongestBase
 pub mod ChordsAgree
 pub mod WordsAgree
@@ -86,6 +87,7 @@ pub mod AnswerAgree
 pub mod RefusalsAgree
 pub mod RefusalNumbers
 pub mod ApartAgree
+pub mod AsBeforeProved
 pub mod LayoutLaws
 pub mod SongAlone
 -- The flat copy.

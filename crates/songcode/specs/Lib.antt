@@ -52,6 +52,7 @@ pub mod Edges
 pub mod EitherOrder
 pub mod EachSection
 pub mod Apart
+pub mod AsBefore
 pub mod Shown
 pub mod Clauses
 pub mod Demands

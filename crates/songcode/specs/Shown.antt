@@ -58,6 +58,14 @@ shown =
     (0x00000080 ∷ [])
     (0x28000C50 ∷ 0x28000C40 ∷ 0x5C002430 ∷ 0x5C002420 ∷ [])
     []
+    -- Request 2: "`Cmaj7` is C with `maj7`", `C#maj7` is C#; `Cmmaj7` and `Cma7` are Cm
+    ∷ shows
+    "V\nCmaj7 C#maj7 Cmmaj7 Cma7\n"
+    (replicate 8 0)
+    (0x00008000000089FF ∷ [])
+    (0x00000080 ∷ [])
+    (0x28000C90 ∷ 0x2C002890 ∷ 0x30004490 ∷ 0x30006050 ∷ [])
+    []
     -- "`%` has its own" head; "63 silence"
     ∷ shows
     "V\nA;_;%\n"

@@ -3,6 +3,7 @@ pub mod FitLaws
 pub mod RowLaws
 pub mod NumberLaws
 pub mod BaseLaws
+pub mod TakenLaws
 pub mod DecimalLaws
 pub mod PartLaws
 pub mod WordLaws

@@ -6,19 +6,19 @@ use mathlib.Core.Bool.{Bool, true, false, _&&_}
 use mathlib.Core.Option.{Option, none, some}
 use native.Mathlib.Omega.{arith}
 use native.Mathlib.Numerals.{add-one}
-use native.Mathlib.Nat.{add-suc, zero-add}
+use native.Mathlib.Nat.{add-suc}
 use borrow.Author.Tests.{leb-true, leb-false, ltb-true, lt-ltb, le-ltb, ne-eqb}
 use lib.Dec.{leb, ltb}
 use lib.ListN.{length, getD, drop, drop-of-length-le, List·getD-map, List·getD-eq-default}
 use lib.Seq.{drop-cons}
 use Rattle.songcode.specs.Lists.{if_then_else_, every, gather}
 use Rattle.songcode.specs.Bytes.{begins, ascii}
-use Rattle.songcode.specs.Chords.{rows, spellings, bases, longer, longestFrom}
+use Rattle.songcode.specs.Chords.{rows, spellings, bases, endsInM, isPassedOver, isTaken, longer, longestFrom}
 use Rattle.songcode.specs.Chords as songcode
 use Rattle.songcode.proofs.ListLaws.{by-cases, both-pass}
 use Rattle.text.proofs.TestLaws.{false-not-true}
 use Rattle.tokens.specs.declared.bases.Base.{Base}
-use Rattle.tokens.specs.Bases.{baseOf, unpadded, three, fitted, firstOf, rowOf}
+use Rattle.tokens.specs.Bases.{baseOf, unpadded, three, takenLength, firstOf, rowOf}
 
 -- Six spellings: those of a row, and empty ones behind them.
 abbrev six : List (List ℕ) → List (List ℕ)
@@ -85,26 +85,26 @@ unfolding if_then_else_
 better n l b = if ltb (b .length) l then record { number = n; length = l } else b
 
 better-is : (n : ℕ) (s w : List ℕ) (o : Option songcode.Base) → 0 < length s
-    → better n (fitted 0 s w) (baseOf o) ≡ baseOf (if begins s w then longer o (record { number = n; length = length s }) else o)
-unfolding better fitted baseOf longer if_then_else_
-better-is n s w none h = by-cases (begins s w) (λ e. rw (e, zero-add, lt-ltb 0 (length s) h)) (λ e. rw e)
+    → better n (takenLength s w) (baseOf o) ≡ baseOf (if isTaken s w then longer o (record { number = n; length = length s }) else o)
+unfolding better takenLength baseOf longer if_then_else_
+better-is n s w none h = by-cases (isTaken s w) (λ e. rw (e, lt-ltb 0 (length s) h)) (λ e. rw e)
 better-is n s w (some b) h =
     by-cases
-    (begins s w)
-    (λ e. by-cases (ltb (b .length) (length s)) (λ t. rw (e, zero-add, t)) (λ t. rw (e, zero-add, t)))
+    (isTaken s w)
+    (λ e. by-cases (ltb (b .length) (length s)) (λ t. rw (e, t)) (λ t. rw (e, t)))
     (λ e. rw (e, le-ltb (b .length) 0 (omega arith)))
 
 -- Behind the spellings of a row nothing is better.
-better-past : (n : ℕ) (ss : List (List ℕ)) (j : ℕ) (w : List ℕ) (b : Base) → length ss ≤ j → better n (fitted 0 (getD ss j []) w) b ≡ b
-unfolding better fitted begins if_then_else_
+better-past : (n : ℕ) (ss : List (List ℕ)) (j : ℕ) (w : List ℕ) (b : Base) → length ss ≤ j → better n (takenLength (getD ss j []) w) b ≡ b
+unfolding better takenLength isTaken begins isPassedOver endsInM if_then_else_
 better-past n ss j w b h = rw (List·getD-eq-default ss [] h, le-ltb (b .length) 0 (omega arith))
 
 -- What is found of the rest of a row, behind the best so far.
 abbrev pub found : ℕ → ℕ → List ℕ → Option songcode.Base → Option songcode.Base
-found r j w o = longestFrom (firstOf r + j) (drop j (rowOf r)) w o
+found r j w o = longestFrom isTaken (firstOf r + j) (drop j (rowOf r)) w o
 
 pub found-more : (r j : ℕ) (w : List ℕ) (o : Option songcode.Base) → r < 7 → j < 6
-    → (p : Option songcode.Base) × (better (firstOf r + j) (fitted 0 (getD (rowOf r) j []) w) (baseOf o) ≡ baseOf p) × (found r (j + 1) w p ≡ found r j w o)
+    → (p : Option songcode.Base) × (better (firstOf r + j) (takenLength (getD (rowOf r) j []) w) (baseOf o) ≡ baseOf p) × (found r (j + 1) w p ≡ found r j w o)
 unfolding longestFrom
 found-more r j w o h l =
     let ss = rowOf r in
@@ -122,11 +122,11 @@ unfolding longestFrom
 found-all r j w o h l = rw (drop-of-length-le (rowOf r) {i = j} (omega (arith, row-full r h)))
 
 -- The row of a letter is enough: no spelling of another row fits.
-pub row-enough : (r : ℕ) → r < 7 → (bs : List ℕ) → longestFrom 0 bases ((65 + r) ∷ bs) none ≡ longestFrom (firstOf r) (rowOf r) ((65 + r) ∷ bs) none
-unfolding longestFrom bases rowOf firstOf begins if_then_else_
+pub row-enough : (r : ℕ) → r < 7 → (bs : List ℕ) → longestFrom isTaken 0 bases ((65 + r) ∷ bs) none ≡ longestFrom isTaken (firstOf r) (rowOf r) ((65 + r) ∷ bs) none
+unfolding longestFrom bases rowOf firstOf isTaken begins if_then_else_
 row-enough =
     seven
-    (λ r. (bs : List ℕ) → longestFrom 0 bases ((65 + r) ∷ bs) none ≡ longestFrom (firstOf r) (rowOf r) ((65 + r) ∷ bs) none)
+    (λ r. (bs : List ℕ) → longestFrom isTaken 0 bases ((65 + r) ∷ bs) none ≡ longestFrom isTaken (firstOf r) (rowOf r) ((65 + r) ∷ bs) none)
     (λ bs. refl)
     (λ bs. refl)
     (λ bs. refl)
@@ -139,8 +139,8 @@ row-enough =
 abbrev letter : List ℕ → Bool
 letter s = leb 65 (getD s 0 0) && leb (getD s 0 0) 71
 
-other-letter : (s w : List ℕ) → (65 ≤ getD w 0 0 → getD w 0 0 ≤ 71 → ⊥) → letter s ≡ true → begins s w ≡ false
-unfolding begins
+other-letter : (s w : List ℕ) → (65 ≤ getD w 0 0 → getD w 0 0 ≤ 71 → ⊥) → letter s ≡ true → isTaken s w ≡ false
+unfolding isTaken begins
 other-letter [] w h e = absurd (false-not-true e)
 other-letter (x ∷ s) [] h e = refl
 other-letter (x ∷ s) (b ∷ w) h e =
@@ -150,19 +150,19 @@ other-letter (x ∷ s) (b ∷ w) h e =
     rw (ne-eqb x b (λ z. h (omega arith) (omega arith)))
 
 none-fits : (n : ℕ) (ss : List (List ℕ)) (w : List ℕ) (o : Option songcode.Base) → (65 ≤ getD w 0 0 → getD w 0 0 ≤ 71 → ⊥) → every letter ss ≡ true
-    → longestFrom n ss w o ≡ o
+    → longestFrom isTaken n ss w o ≡ o
 unfolding longestFrom every if_then_else_
 none-fits n [] w o h e = refl
 none-fits n (s ∷ ss) w o h e =
     let l = both-pass (letter s) (every letter ss) e in
     rw (other-letter s w h (l .0)) (none-fits (suc n) ss w o h (l .1))
 
-pub no-row : (w : List ℕ) → (65 ≤ getD w 0 0 → getD w 0 0 ≤ 71 → ⊥) → longestFrom 0 bases w none ≡ none
+pub no-row : (w : List ℕ) → (65 ≤ getD w 0 0 → getD w 0 0 ≤ 71 → ⊥) → longestFrom isTaken 0 bases w none ≡ none
 unfolding bases every
 no-row w h = none-fits 0 bases w none h refl
 
 pub row-of : (w : List ℕ) → 65 ≤ getD w 0 0 → getD w 0 0 ≤ 71
-    → longestFrom 0 bases w none ≡ longestFrom (firstOf (getD w 0 0 - 65)) (rowOf (getD w 0 0 - 65)) w none
+    → longestFrom isTaken 0 bases w none ≡ longestFrom isTaken (firstOf (getD w 0 0 - 65)) (rowOf (getD w 0 0 - 65)) w none
 row-of [] p q = absurd (omega arith)
 row-of (b ∷ w) p q =
     let e : 65 + (b - 65) ≡ b = omega arith in

@@ -8,10 +8,10 @@ use native.Mathlib.Omega.{arith}
 use borrow.Author.Tests.{leb-true}
 use lib.Dec.{leb}
 use lib.ListN.{length, drop}
-use Rattle.songcode.specs.Lists.{if_then_else_}
+use Rattle.songcode.specs.Lists.{if_then_else_, any}
 use Rattle.songcode.specs.Bytes.{Byte, placed, values, is, isByte}
 use Rattle.songcode.specs.Numbers.{numberIn, countIn, repeatIn}
-use Rattle.songcode.specs.Chords.{bases, longestFrom, longestBase, chordBy, chordIn}
+use Rattle.songcode.specs.Chords.{bases, isTaken, longestFrom, longestBase, Chord, chordBy, isSlip, withoutSlip, chordIn}
 use Rattle.songcode.specs.Chords as songcode
 use Rattle.songcode.specs.Song.{again, silence}
 use Rattle.songcode.specs.Tables.{offset}
@@ -42,7 +42,7 @@ unfolding Below offset
 offset-below [] h = omega arith
 offset-below (b ∷ bs) h = h .0
 
-chord-by-fit : (o : Option songcode.Base) (w : List Byte) → longestFrom 0 bases (values w) none ≡ o → Below w → Fit (chordToken (chordBy o w))
+chord-by-fit : (o : Option songcode.Base) (w : List Byte) → longestFrom isTaken 0 bases (values w) none ≡ o → Below w → Fit (chordToken (chordBy o w))
 unfolding chordBy chordToken Fit if_then_else_
 chord-by-fit none w e h = tt
 chord-by-fit (some b) w e h =
@@ -51,9 +51,15 @@ chord-by-fit (some b) w e h =
     (λ t. rw t (longest-fits (values w) b e .number, offset-below (drop (b .length) w) (drop-below (b .length) w h), leb-true (length (drop (b .length) w)) 31 t))
     (λ t. rw t tt)
 
+slip-fit : (o : Option Chord) → Fit (chordToken o) → Fit (chordToken (withoutSlip o))
+unfolding withoutSlip chordToken Fit if_then_else_
+slip-fit none h = tt
+slip-fit (some c) h = by-cases (any isSlip (c .extension)) (λ t. rw t tt) (λ t. rw t h)
+
 chord-fit : (w : List Byte) → Below w → Fit (chordToken (chordIn w))
 unfolding chordIn longestBase
-chord-fit w h = chord-by-fit (longestFrom 0 bases (values w) none) w refl h
+chord-fit w h =
+    slip-fit (chordBy (longestFrom isTaken 0 bases (values w) none) w) (chord-by-fit (longestFrom isTaken 0 bases (values w) none) w refl h)
 
 reference-fit : (bs : List Byte) → Fit (referenceToken (countIn bs))
 unfolding referenceToken countIn Fit

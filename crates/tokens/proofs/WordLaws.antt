@@ -8,10 +8,10 @@ use native.Mathlib.Omega.{arith}
 use borrow.Author.Tests.{le-leb, lt-leb, eq-eqb, ne-eqb, eqb-true, eqb-false}
 use lib.Dec.{eqb}
 use lib.ListN.{length, getD, drop, length-drop}
-use Rattle.songcode.specs.Lists.{if_then_else_}
+use Rattle.songcode.specs.Lists.{if_then_else_, any}
 use Rattle.songcode.specs.Bytes.{Byte, placed, values, ascii, same, is, isByte}
 use Rattle.songcode.specs.Numbers.{isDigit, digits, isDecimal, valueFrom, numberIn, countIn, repeatIn}
-use Rattle.songcode.specs.Chords.{bases, longestFrom, longestBase, chordBy, chordIn}
+use Rattle.songcode.specs.Chords.{bases, isTaken, longestFrom, longestBase, chordBy, withoutSlip, chordIn}
 use Rattle.songcode.specs.Chords as songcode
 use Rattle.songcode.specs.Tables.{offset}
 use Rattle.songcode.specs.Tokens.{chordToken, referenceToken, closingToken, dollarOr, wordToken}
@@ -26,7 +26,9 @@ use Rattle.tokens.specs.declared.numbers.Number.the-variants.{Is, Not}
 use Rattle.tokens.specs.Bases.{baseOf}
 use Rattle.tokens.specs.Decimals.{numberOf}
 use Rattle.tokens.specs.TokenWords.{tokenWord, chordWord}
+use Rattle.tokens.specs.Lexing.{isSlipByte}
 use Rattle.tokens.proofs.BaseLaws.{Fits, longest-fits}
+use Rattle.tokens.proofs.TakenLaws.{slips-placed}
 use Rattle.tokens.proofs.PartLaws.{placed-drop}
 
 -- A number does not depend on the places of its digits.
@@ -99,20 +101,20 @@ offset-first a [] h = absurd (h refl)
 offset-first a (b ∷ bs) h = refl
 
 -- The word of a chord, by the longest base of its bytes.
-module _ (a : ℕ) (w : List ℕ) (b : Base) (e : b ≡ baseOf (longestFrom 0 bases w none)) where
-  base-there : (b .length ≡ 0 → ⊥) → longestFrom 0 bases w none ≡ some (record { number = b .number; length = b .length })
+module _ (a : ℕ) (w : List ℕ) (b : Base) (e : b ≡ baseOf (longestFrom isTaken 0 bases w none)) where
+  base-there : (b .length ≡ 0 → ⊥) → longestFrom isTaken 0 bases w none ≡ some (record { number = b .number; length = b .length })
   unfolding baseOf
-  base-there h = go (longestFrom 0 bases w none) e
+  base-there h = go (longestFrom isTaken 0 bases w none) e
     where
       go : (o : Option songcode.Base) → b ≡ baseOf o → o ≡ some (record { number = b .number; length = b .length })
       go none e = absurd (h (ap (λ (c : Base). c .length) e))
       go (some c) e = rw e
 
-  base-absent : b .length ≡ 0 → longestFrom 0 bases w none ≡ none
+  base-absent : b .length ≡ 0 → longestFrom isTaken 0 bases w none ≡ none
   unfolding baseOf
-  base-absent h = go (longestFrom 0 bases w none) refl e
+  base-absent h = go (longestFrom isTaken 0 bases w none) refl e
     where
-      go : (o : Option songcode.Base) → longestFrom 0 bases w none ≡ o → b ≡ baseOf o → o ≡ none
+      go : (o : Option songcode.Base) → longestFrom isTaken 0 bases w none ≡ o → b ≡ baseOf o → o ≡ none
       go none f e = refl
       go (some c) f e =
           let l : b .length ≡ c .length = ap (λ (c : Base). c .length) e in
@@ -122,42 +124,52 @@ module _ (a : ℕ) (w : List ℕ) (b : Base) (e : b ≡ baseOf (longestFrom 0 ba
   pub base-fits : (b .length ≡ 0 → ⊥) → Fits w (record { number = b .number; length = b .length })
   base-fits h = longest-fits w (record { number = b .number; length = b .length }) (base-there h)
 
-  chord-of : chordIn (placed a w) ≡ chordBy (longestFrom 0 bases w none) (placed a w)
+  chord-of : chordIn (placed a w) ≡ withoutSlip (chordBy (longestFrom isTaken 0 bases w none) (placed a w))
   unfolding chordIn longestBase
-  chord-of = ap (λ l. chordBy (longestFrom 0 bases l none) (placed a w)) (values-placed a w)
+  chord-of = ap (λ l. withoutSlip (chordBy (longestFrom isTaken 0 bases l none) (placed a w))) (values-placed a w)
 
   pub chord-none : b .length ≡ 0 → 54 * 2 ^ 26 ≡ tokenWord (chordToken (chordIn (placed a w)))
-  unfolding tokenWord chordToken chordBy
+  unfolding tokenWord chordToken chordBy withoutSlip
   chord-none h = rw (chord-of, base-absent h)
 
   module _ (h : b .length ≡ 0 → ⊥) where
     pub chord-long : 31 < length w - b .length → 54 * 2 ^ 26 ≡ tokenWord (chordToken (chordIn (placed a w)))
-    unfolding tokenWord chordToken chordBy if_then_else_
+    unfolding tokenWord chordToken chordBy withoutSlip if_then_else_
     chord-long l =
         rw (chord-of, base-there h, length-drop (b .length) (placed a w), length-placed a w, lt-leb (length w - b .length) 31 l)
 
     chord-by : length w - b .length ≤ 31
-        → chordIn (placed a w) ≡ some (record { base = b .number; extension = placed (a + b .length) (drop (b .length) w) })
+        → chordIn (placed a w) ≡ withoutSlip (some (record { base = b .number; extension = placed (a + b .length) (drop (b .length) w) }))
     unfolding chordBy if_then_else_
     chord-by l =
         rw (chord-of, base-there h, length-drop (b .length) (placed a w), length-placed a w, le-leb (length w - b .length) 31 l, placed-drop a (b .length) w)
 
-    chord-word : length w - b .length ≤ 31
+    pub chord-slip : length w - b .length ≤ 31 → any isSlipByte (drop (b .length) w) ≡ true → 54 * 2 ^ 26 ≡ tokenWord (chordToken (chordIn (placed a w)))
+    unfolding tokenWord chordToken withoutSlip if_then_else_
+    chord-slip l t = rw (chord-by l, slips-placed (a + b .length) (drop (b .length) w), t)
+
+    chord-word : length w - b .length ≤ 31 → any isSlipByte (drop (b .length) w) ≡ false
         → tokenWord (chordToken (chordIn (placed a w)))
         ≡ b .number * 2 ^ 26 + offset (placed (a + b .length) (drop (b .length) w)) * 2 ^ 10 + (length w - b .length) * 2 ^ 5
-    unfolding tokenWord chordWord chordToken
-    chord-word l = rw (chord-by l, length-placed (a + b .length) (drop (b .length) w), length-drop (b .length) w)
+    unfolding tokenWord chordWord chordToken withoutSlip if_then_else_
+    chord-word l t =
+        rw (chord-by l, slips-placed (a + b .length) (drop (b .length) w), t, length-placed (a + b .length) (drop (b .length) w), length-drop (b .length) w)
 
     pub chord-bare : length w - b .length ≡ 0 → b .number * 2 ^ 26 ≡ tokenWord (chordToken (chordIn (placed a w)))
+    unfolding any
     chord-bare l =
         let o = offset-none (a + b .length) (drop (b .length) w) (length-drop (b .length) w ∙ l) in
-        omega (arith, chord-word (omega arith))
+        omega (arith, chord-word (omega arith) (no-slip (drop (b .length) w) (length-drop (b .length) w ∙ l)))
+      where
+        no-slip : (v : List ℕ) → length v ≡ 0 → any isSlipByte v ≡ false
+        no-slip [] z = refl
+        no-slip (x ∷ v) z = absurd (omega arith)
 
-    pub chord-extended : (length w - b .length ≡ 0 → ⊥) → length w - b .length ≤ 31
+    pub chord-extended : (length w - b .length ≡ 0 → ⊥) → length w - b .length ≤ 31 → any isSlipByte (drop (b .length) w) ≡ false
         → b .number * 2 ^ 26 + (a + b .length) * 2 ^ 10 + (length w - b .length) * 2 ^ 5 ≡ tokenWord (chordToken (chordIn (placed a w)))
-    chord-extended z l =
+    chord-extended z l t =
         let o = offset-first (a + b .length) (drop (b .length) w) (λ g. z (sym (length-drop (b .length) w) ∙ g)) in
-        omega (arith, chord-word l)
+        omega (arith, chord-word l t)
 
 dollar-chord : (b : Byte) (bs : List Byte) → isByte 36 b ≡ false → dollarOr (b ∷ bs) ≡ chordToken (chordIn (b ∷ bs))
 unfolding dollarOr if_then_else_
@@ -211,7 +223,7 @@ sign-single sign (b ∷ []) h =
 sign-single sign (b ∷ c ∷ w) h = absurd (omega arith)
 
 -- A base of a part of a text lies in the part.
-pub base-inside : (s : List ℕ) (a e : ℕ) (b : Base) → b ≡ baseOf (longestFrom 0 bases (part a e s) none) → e ≤ length s → (b .length ≡ 0 → ⊥)
+pub base-inside : (s : List ℕ) (a e : ℕ) (b : Base) → b ≡ baseOf (longestFrom isTaken 0 bases (part a e s) none) → e ≤ length s → (b .length ≡ 0 → ⊥)
     → (b .number ≤ 33) × (b .length ≤ e - a)
 base-inside s a e b h l n =
     let f = base-fits a (part a e s) b h n in

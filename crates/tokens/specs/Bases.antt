@@ -6,7 +6,7 @@ use lib.Dec.{eqb, ltb}
 use lib.ListN.{length, getD}
 use Rattle.songcode.specs.Lists.{if_then_else_}
 use Rattle.songcode.specs.Bytes.{begins, ascii}
-use Rattle.songcode.specs.Chords.{spellings, rows}
+use Rattle.songcode.specs.Chords.{spellings, rows, isTaken}
 use Rattle.songcode.specs.Chords as songcode
 use Rattle.tokens.specs.declared.bases.Base.{Base}
 
@@ -29,6 +29,11 @@ three n = getD n 0 0 ∷ getD n 1 0 ∷ getD n 2 0 ∷ []
 unfoldable pub fitted : ℕ → List ℕ → List ℕ → ℕ
 unfolding if_then_else_ begins
 fitted k s w = if begins s w then k + length s else 0
+
+-- The length of a spelling that is taken at the front of a word, else 0.
+unfoldable pub takenLength : List ℕ → List ℕ → ℕ
+unfolding if_then_else_ isTaken
+takenLength s w = if isTaken s w then length s else 0
 
 -- A row of spellings, and the number of its first.
 unfoldable pub rowOf : ℕ → List (List ℕ)

@@ -6,6 +6,7 @@ use mathlib.Core.Bool.{Bool, true, false}
 use lib.ListN.{length, take, drop}
 use Rattle.songcode.specs.Lists.{if_then_else_}
 use Rattle.songcode.specs.Bytes.{placed}
+use Rattle.songcode.specs.Chords.{isSlip}
 use Rattle.songcode.specs.Tokens.{Class, blank, semi, double, bracket, closing, plain, class, tokens}
 use Rattle.songcode.specs.Tokens as songcode
 use Rattle.text.specs.Spans.{part}
@@ -25,6 +26,11 @@ plainClass plain = true
 unfoldable pub isPlain : ℕ → Bool
 unfolding plainClass class
 isPlain b = plainClass (class (record { place = 0; value = b }))
+
+-- A byte, wherever it stands, is one that no extension holds.
+unfoldable pub isSlipByte : ℕ → Bool
+unfolding isSlip
+isSlipByte b = isSlip (record { place = 0; value = b })
 
 -- How many plain bytes stand in front.
 unfoldable pub plainLength : List ℕ → ℕ

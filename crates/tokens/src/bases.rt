@@ -1,11 +1,11 @@
-// Base chords: seven rows of spellings, and the longest that stands at the front of a word.
+// Base chords: seven rows of spellings, and the longest that is taken at the front of a word.
 use text::byte_at;
 ghost use mathlib.Core.Path.{_≡_};
 ghost use mathlib.Core.Option.{none};
 ghost use Prim.Native.Nat.{_<_};
 ghost use Rattle.songcode.specs.Bytes.{placed};
-ghost use Rattle.songcode.specs.Chords.{bases, spellingOf, longestFrom, isBase};
-ghost use Rattle.tokens.specs.Bases.{baseOf, unpadded, three, fitted, firstOf, rowOf, rowOfNumber};
+ghost use Rattle.songcode.specs.Chords.{bases, spellingOf, isTaken, longestFrom, isBase};
+ghost use Rattle.tokens.specs.Bases.{baseOf, unpadded, three, fitted, takenLength, firstOf, rowOf, rowOfNumber};
 
 // What pads a row of less than six.
 const NONE: [u8; 3] = *b"\0\0\0";
@@ -23,6 +23,9 @@ const ROWS: [[[u8; 3]; 6]; 7] = [
 
 // The number of the first base chord of each row.
 const FIRSTS: [usize; 7] = [0, 6, 10, 14, 20, 24, 28];
+
+// What an `m` begins that is none of a base.
+const MAJ: [u8; 3] = *b"maj";
 
 // A base chord: its number and how many bytes spell it; length 0 where there is none.
 pub struct Base {
@@ -47,10 +50,24 @@ fn fit(name: [u8; 3], w: &[u8]) -> usize
     k
 }
 
-// The longest of a row that fits.
+// The length of a spelling that is taken at the front of a word: it fits, and its last byte is not the `m` of a `maj`; else 0.
+fn taken(name: [u8; 3], w: &[u8]) -> usize
+    ensures { λ r. ⌜ r ≡ takenLength (unpadded (three name)) (now (w .entry)) ⌝ }
+{
+    let n = fit(name, w);
+    if n == 0 {
+        return 0;
+    }
+    if fit(MAJ, &w[n - 1..w.len()]) == 3 {
+        return 0;
+    }
+    n
+}
+
+// The longest of a row that is taken.
 fn longest_in(row: usize, w: &[u8]) -> Base
     requires { ⌜ row < 7 ⌝ }
-    ensures { λ r. ⌜ r ≡ baseOf (longestFrom (firstOf row) (rowOf row) (now (w .entry)) none) ⌝ }
+    ensures { λ r. ⌜ r ≡ baseOf (longestFrom isTaken (firstOf row) (rowOf row) (now (w .entry)) none) ⌝ }
 {
     let names = ROWS[row];
     let first = FIRSTS[row];
@@ -60,7 +77,7 @@ fn longest_in(row: usize, w: &[u8]) -> Base
     };
     let mut j = 0;
     while j < 6 {
-        let l = fit(names[j], w);
+        let l = taken(names[j], w);
         if best.length < l {
             best = Base {
                 number: first + j,
@@ -74,7 +91,7 @@ fn longest_in(row: usize, w: &[u8]) -> Base
 
 // The longest base chord at the front of a word, looked up in the row of its letter.
 pub fn longest_base(w: &[u8]) -> Base
-    ensures { λ r. ⌜ r ≡ baseOf (longestFrom 0 bases (now (w .entry)) none) ⌝ }
+    ensures { λ r. ⌜ r ≡ baseOf (longestFrom isTaken 0 bases (now (w .entry)) none) ⌝ }
 {
     let b = byte_at(w, 0);
     if b < 65 {

@@ -6,12 +6,14 @@ ghost use mathlib.Core.Path.{_≡_};
 ghost use mathlib.Core.List.{[], _∷_};
 ghost use Prim.Native.Nat.{_≤_, _<_};
 ghost use lib.ListN.{length};
+ghost use Rattle.songcode.specs.Lists.{any};
 ghost use Rattle.songcode.specs.Bytes.{placed, same};
 ghost use Rattle.songcode.specs.Numbers.{countIn, repeatIn};
 ghost use Rattle.songcode.specs.Chords.{chordIn};
 ghost use Rattle.songcode.specs.Tokens.{chordToken, referenceToken, closingToken, wordToken};
 ghost use Rattle.text.specs.Spans.{part};
 ghost use Rattle.tokens.specs.TokenWords.{tokenWord};
+ghost use Rattle.tokens.specs.Lexing.{isSlipByte};
 
 // What a kind weighs in a word, and the words of the three signs and of a wrong word.
 const KIND: usize = 67108864;
@@ -54,6 +56,36 @@ pub fn closing_token(w: &[u8]) -> u32
     (56 * KIND + n) as u32
 }
 
+// A byte that no extension holds.
+fn is_slip(b: u8) -> bool
+    ensures { λ r. ⌜ r ≡ isSlipByte b ⌝ }
+{
+    if b == b'%' {
+        return true;
+    }
+    if b == b'_' {
+        return true;
+    }
+    if b == b'=' {
+        return true;
+    }
+    b == b'$'
+}
+
+// A text holds one.
+pub fn has_slip(w: &[u8]) -> bool
+    ensures { λ r. ⌜ r ≡ any isSlipByte (now (w .entry)) ⌝ }
+{
+    let mut i = 0;
+    while i < w.len() {
+        if is_slip(w[i]) {
+            return true;
+        }
+        i += 1;
+    }
+    false
+}
+
 // The token of a chord: its base, and the place and length of its extension.
 fn chord_token(s: &[u8], a: usize, e: usize) -> u32
     requires { ⌜ (a ≤ e) × (e ≤ length (now s)) × (e ≤ 65536) ⌝ }
@@ -63,15 +95,19 @@ fn chord_token(s: &[u8], a: usize, e: usize) -> u32
     if base.length == 0 {
         return WRONG;
     }
+    let kind = base.number * KIND;
     let x = a + base.length;
     let k = e - x;
     if 31 < k {
         return WRONG;
     }
     if k == 0 {
-        return (base.number * KIND) as u32;
+        return kind as u32;
     }
-    (base.number * KIND + x * 1024 + k * 32) as u32
+    if has_slip(&s[x..e]) {
+        return WRONG;
+    }
+    (kind + x * 1024 + k * 32) as u32
 }
 
 // The token of a word: one of three signs, a reference or a chord.

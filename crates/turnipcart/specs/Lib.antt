@@ -1,1 +1,2 @@
+-- What the contracts of the exported calls say.
 pub mod Answers

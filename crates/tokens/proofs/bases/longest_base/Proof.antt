@@ -1,6 +1,6 @@
 use Rattle.tokens.proofs.RowLaws.{no-row, row-of}
 use Rattle.tokens.specs.Bases.{baseOf, firstOf, rowOf}
-use Rattle.songcode.specs.Chords.{longestFrom}
+use Rattle.songcode.specs.Chords.{isTaken, longestFrom}
 use mathlib.Core.Option.{none}
 use native.Mathlib.Omega.{arith}
 use mathlib.Core.Path.{_≡_, sym, ap, _∙_}
@@ -42,7 +42,7 @@ returns-3 : tie.Need-returns-3
 returns-3 c =
     let e = c .before .before .before .byte-at .ensures in
     let w = c .before .before .before .before .before .args .w .now in
-    c .longest-in .ensures ∙ ap (λ r. baseOf (longestFrom (firstOf (r - 65)) (rowOf (r - 65)) w none)) e ∙ ap baseOf (sym (row-of w (omega arith) (omega arith)))
+    c .longest-in .ensures ∙ ap (λ r. baseOf (longestFrom isTaken (firstOf (r - 65)) (rowOf (r - 65)) w none)) e ∙ ap baseOf (sym (row-of w (omega arith) (omega arith)))
 
 pub longest-base-spec : {M : Type 1} → statement M
 longest-base-spec =

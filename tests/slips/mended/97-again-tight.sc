@@ -1,0 +1,8 @@
+@name Song
+@bpm 100
+@time 4/4
+
+
+Verse
+C;G7 %
+F
