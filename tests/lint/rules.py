@@ -47,9 +47,9 @@ def imported(match):
 
 
 def is_used(name, found):
-    """Whether a name stands among the words: of an operator such as `_≡_`, each of its parts."""
+    """Whether a name stands among the words: of an operator such as `_≡_`, each of its parts or the whole, as behind `unfolding`."""
     parts = [part for part in name.split("_") if part] if name.startswith("_") or name.endswith("_") else [name]
-    return all(part in found for part in parts)
+    return name in found or all(part in found for part in parts)
 
 
 def idle_imports(tree):

@@ -34,7 +34,8 @@ pub record Along (s ws : List ℕ) (score : Score) (p : Place) (m b : ℕ) : Typ
   pub meters : gather (sectionMeter (songOf s)) (sectionsFrom s p) ≡ []
   pub lengths : lengthFaults (songOf s) sofar (sectionsFrom s p) ≡ []
 
-pub along-start : {s ws : List ℕ} {score : Score} {p : Place} → Begins s p → Ready s ws score → score .fill ≤ p .at → meterFaults (songOf s) ≡ [] → lengthFaults (songOf s) 0 (songOf s .sections) ≡ [] → Along s ws score p 0 0
+pub along-start : {s ws : List ℕ} {score : Score} {p : Place} → Begins s p → Ready s ws score → score .fill ≤ p .at
+    → meterFaults (songOf s) ≡ [] → lengthFaults (songOf s) 0 (songOf s .sections) ≡ [] → Along s ws score p 0 0
 unfolding meterFaults
 along-start {s} {ws} {score} {p} b r f e l =
     record {
@@ -64,11 +65,13 @@ along-same {s} {ws} {score} {p} {m} {n} {b} {d} e f a =
     }
 
 -- The next section is opened, and played in its own N.
-module _ {s ws vs : List ℕ} {score : Score} {p : Place} {m b : ℕ} (a : Along s ws score p m b) (x : Opened) (o : Opens s p vs score x) (ready : Ready s vs score) (n : ℕ) (e : n ≡ timeOf (songOf s) (sectionAt s p)) where
+module _ {s ws vs : List ℕ} {score : Score} {p : Place} {m b : ℕ} (a : Along s ws score p m b) (x : Opened) (o : Opens s p vs score x)
+    (ready : Ready s vs score) (n : ℕ) (e : n ≡ timeOf (songOf s) (sectionAt s p)) where
   few-beats : n ≤ 32
   few-beats = let h = meter-range (songOf s) (sectionAt s p) .1 in omega arith
 
-  here-lengths : (a .sofar + sectionCount (songOf s) (sectionAt s p) ≤ 65535) × (lengthFaults (songOf s) (a .sofar + sectionCount (songOf s) (sectionAt s p)) (sectionsFrom s (x .next)) ≡ [])
+  here-lengths : (a .sofar + sectionCount (songOf s) (sectionAt s p) ≤ 65535)
+      × (lengthFaults (songOf s) (a .sofar + sectionCount (songOf s) (sectionAt s p)) (sectionsFrom s (x .next)) ≡ [])
   here-lengths =
       lengths-step (songOf s) (a .sofar) (sectionAt s p) (sectionsFrom s (x .next))
       (ap (λ (xs : List Section). lengthFaults (songOf s) (a .sofar) xs) (sym (o .met .first)) ∙ a .lengths)
@@ -83,12 +86,14 @@ module _ {s ws vs : List ℕ} {score : Score} {p : Place} {m b : ℕ} (a : Along
   pub along-within : (base : ℕ) → base ≤ b → PlaysWithin vs score n (x .texts) (x .section .modifiers) base
   along-within base h =
       let g = a .beats in
-      texts-within (songOf s) (sectionAt s p) vs score (x .texts) (x .section .modifiers) (o .texts) (o .met .says .repeat) n base (a .sofar) few-beats (o .met .read .modifiers .front-fits) (here-lengths .0) (omega arith)
+      texts-within (songOf s) (sectionAt s p) vs score (x .texts) (x .section .modifiers) (o .texts) (o .met .says .repeat) n base
+      (a .sofar) few-beats (o .met .read .modifiers .front-fits) (here-lengths .0) (omega arith)
 
   pub along-row : rowOfTexts vs score n (x .texts) (x .section .modifiers) ≡ rowWords (played (songOf s) (sectionAt s p))
   along-row =
       rw e
-      (texts-play (songOf s) (sectionAt s p) vs score (x .texts) (x .section .modifiers) (o .texts) (o .met .says .repeat) (o .met .says .front) (o .met .says .back) (here-meters .0))
+      (texts-play (songOf s) (sectionAt s p) vs score (x .texts) (x .section .modifiers) (o .texts) (o .met .says .repeat)
+      (o .met .says .front) (o .met .says .back) (here-meters .0))
 
   -- The counts of the row that the code plays.
   pub along-measures : (k : ℕ) → k ≡ length (rowOfTexts vs score n (x .texts) (x .section .modifiers)) → k ≡ length (played (songOf s) (sectionAt s p))

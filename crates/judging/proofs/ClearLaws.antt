@@ -12,13 +12,13 @@ use Rattle.songcode.specs.Complaints.{Complaint, complainIf, earlier, earliest,
 use Rattle.songcode.specs.Song.{Items, Definition, Song, KeyName, time, bpm}
 use Rattle.songcode.specs.PatternText.{depth, loopsDeep, references, noReference}
 use Rattle.songcode.specs.Keys.{keyPlace, timeIn, bpmIn}
-use Rattle.songcode.specs.References.{putIn, itemsOf, definitionOf, itemsFault, referenceFault, depthFault, definitionReferences, definitionsReferences, referenceFaults}
+use Rattle.songcode.specs.References.{putIn, itemsOf, definitionOf, itemsFault, referenceFault, depthFault, definitionReferences}
+use Rattle.songcode.specs.References.{definitionsReferences, referenceFaults}
 use Rattle.songcode.specs.Playing as playing
 use Rattle.songcode.specs.Playing.{timeAmong, bpmAmong}
 use Rattle.songcode.specs.Meter.{meterFaults, lengthFaults}
 use Rattle.songcode.specs.Lyrics.{countFaults, sumFaults}
 use Rattle.songcode.specs.SongText.{metadataLines, songIn}
-use Rattle.songcode.specs.Answer as songcode
 use Rattle.songcode.specs.Answer.{blocksOf, songOf}
 use Rattle.songcode.proofs.ListLaws.{Each, each-append}
 use Rattle.text.specs.declared.Refusal.{Refusal}
@@ -50,24 +50,34 @@ numbered-reference (some d) head = numbered-items (d .items) head
 numbered-all : (earlier : List Definition) (head : ℕ) (ns : List ℕ) → Each Numbered (gather (λ n. referenceFault (definitionOf n earlier) head) ns)
 unfolding gather Each
 numbered-all earlier head [] = tt
-numbered-all earlier head (n ∷ ns) = each-append Numbered (referenceFault (definitionOf n earlier) head) (gather (λ n. referenceFault (definitionOf n earlier) head) ns) (numbered-reference (definitionOf n earlier) head) (numbered-all earlier head ns)
+numbered-all earlier head (n ∷ ns) =
+    each-append Numbered (referenceFault (definitionOf n earlier) head) (gather (λ n. referenceFault (definitionOf n earlier) head) ns)
+    (numbered-reference (definitionOf n earlier) head) (numbered-all earlier head ns)
 
 numbered-definition : (earlier : List Definition) (o : Option Items) (head : ℕ) → Each Numbered (definitionReferences earlier o head)
 unfolding definitionReferences depthFault Each
 numbered-definition earlier none head = tt
-numbered-definition earlier (some r) head = each-append Numbered (gather (λ n. referenceFault (definitionOf n earlier) head) (references r)) (complainIf (not (leb (depth (putIn (itemsOf earlier) r)) loopsDeep)) 11 head) (numbered-all earlier head (references r)) (numbered-if (not (leb (depth (putIn (itemsOf earlier) r)) loopsDeep)) 11 head (omega arith))
+numbered-definition earlier (some r) head =
+    each-append Numbered (gather (λ n. referenceFault (definitionOf n earlier) head) (references r))
+    (complainIf (not (leb (depth (putIn (itemsOf earlier) r)) loopsDeep)) 11 head) (numbered-all earlier head (references r))
+    (numbered-if (not (leb (depth (putIn (itemsOf earlier) r)) loopsDeep)) 11 head (omega arith))
 
 numbered-definitions : (earlier ds : List Definition) → Each Numbered (definitionsReferences earlier ds)
 unfolding definitionsReferences Each
 numbered-definitions earlier [] = tt
-numbered-definitions earlier (d ∷ ds) = each-append Numbered (definitionReferences earlier (d .items) (d .head)) (definitionsReferences (d ∷ earlier) ds) (numbered-definition earlier (d .items) (d .head)) (numbered-definitions (d ∷ earlier) ds)
+numbered-definitions earlier (d ∷ ds) =
+    each-append Numbered (definitionReferences earlier (d .items) (d .head)) (definitionsReferences (d ∷ earlier) ds)
+    (numbered-definition earlier (d .items) (d .head)) (numbered-definitions (d ∷ earlier) ds)
 
 numbered-song : (song : Song) → Each Numbered (referenceFaults song)
 unfolding referenceFaults sectionFault
-numbered-song song = each-append Numbered (definitionsReferences [] (song .definitions)) (gather (sectionFault (song .definitions)) (song .sections)) (numbered-definitions [] (song .definitions)) (all-numbered (song .definitions) (song .sections))
+numbered-song song =
+    each-append Numbered (definitionsReferences [] (song .definitions)) (gather (sectionFault (song .definitions)) (song .sections))
+    (numbered-definitions [] (song .definitions)) (all-numbered (song .definitions) (song .sections))
 
 -- A verdict of number 0 over numbered stages: none of them has a complaint.
-pub verdict-clear : (xs : List Complaint) (rest : List (List Complaint)) → Each Numbered xs → refusalOf (verdict (xs ∷ rest)) .number ≡ 0 → (xs ≡ []) × (refusalOf (verdict rest) .number ≡ 0)
+pub verdict-clear : (xs : List Complaint) (rest : List (List Complaint)) → Each Numbered xs → refusalOf (verdict (xs ∷ rest)) .number ≡ 0
+    → (xs ≡ []) × (refusalOf (verdict rest) .number ≡ 0)
 unfolding verdict refusalOf stageOr
 verdict-clear xs rest h z =
     let e = of (earliest xs) z in
@@ -78,7 +88,8 @@ verdict-clear xs rest h z =
     of none z = refl
     of (some c) z = z
 
-pub measures-clear : (song : Song) (r : Refusal) → r ≡ refusalOf (verdict (meterFaults song ∷ lengthFaults song 0 (song .sections) ∷ [])) → r .number ≡ 0 → (meterFaults song ≡ []) × (lengthFaults song 0 (song .sections) ≡ [])
+pub measures-clear : (song : Song) (r : Refusal) → r ≡ refusalOf (verdict (meterFaults song ∷ lengthFaults song 0 (song .sections) ∷ []))
+    → r .number ≡ 0 → (meterFaults song ≡ []) × (lengthFaults song 0 (song .sections) ≡ [])
 measures-clear song r e z =
     let a = verdict-clear (meterFaults song) (lengthFaults song 0 (song .sections) ∷ []) (numbered-meters song) (ap (λ (q : Refusal). q .number) (sym e) ∙ z) in
     let b = verdict-clear (lengthFaults song 0 (song .sections)) [] (numbered-lengths song 0 (song .sections)) (a .1) in
@@ -96,7 +107,9 @@ song-clear song z =
 
 -- The song's time and bpm, as they are found among the lines before the metadata's end.
 module _ (s : List ℕ) (p : Place) (k : Keys) (ends : MetadataEnds s p) (are : KeysAre (linesOf s (linesBefore p)) k) where
-  song-key : (f : List Byte → Option ℕ) (n : KeyName) → keyPlace n < 8 → andThen (settingAmong (keyPlace n) (linesOf s (linesBefore p))) (λ x. f (x .text)) ≡ andThen (playing.settingOf n (songOf s .keys)) f
+  song-key : (f : List Byte → Option ℕ) (n : KeyName) → keyPlace n < 8
+      → andThen (settingAmong (keyPlace n) (linesOf s (linesBefore p))) (λ x. f (x .text))
+      ≡ andThen (playing.settingOf n (songOf s .keys)) f
   unfolding songOf songIn
   song-key f n h = ap (λ (o : Option Setting). andThen o (λ x. f (x .text))) (ends .keys (keyPlace n) h) ∙ sym (key-among f n (metadataLines (blocksOf s)))
 

@@ -42,7 +42,8 @@ side-count none = refl
 side-count (some x) = refl
 
 -- The measures that a text plays, k times over.
-pub played-length : (ws : List ℕ) (d : Definitions) (t : Text) (o : Option Items) (n k : ℕ) → Carries ws d t o → length (times k (rowOf d n ws (t .at))) ≡ k * countOf o
+pub played-length : (ws : List ℕ) (d : Definitions) (t : Text) (o : Option Items) (n k : ℕ) → Carries ws d t o
+    → length (times k (rowOf d n ws (t .at))) ≡ k * countOf o
 unfolding Carries countOf rowWords
 played-length ws d t none n k w = times-length k (rowOf d n ws (t .at)) ∙ ap (λ (x : ℕ). k * x) (ap length (w .1 n))
 played-length ws d t (some r) n k w =
@@ -72,20 +73,25 @@ all-counted k a p b h =
     passed : (q : ℕ) → 65536 ≤ q → Counted (min 65536 a + k * 65536 + min 65536 b) (a + q + b)
     passed q l = inr (omega arith, omega arith)
 
-pub section-counted : (song : Song) (x : Section) (ws : List ℕ) (d : Definitions) (m : Modifiers) (t : Texts) → TextsAre (song .definitions) x ws d t → m .repeat ≡ repeats (x .modifiers) → 1 ≤ m .repeat
+pub section-counted : (song : Song) (x : Section) (ws : List ℕ) (d : Definitions) (m : Modifiers) (t : Texts)
+    → TextsAre (song .definitions) x ws d t → m .repeat ≡ repeats (x .modifiers) → 1 ≤ m .repeat
     → Counted (countOfTexts m t) (sectionCount song x)
 unfolding countOfTexts sectionCount
 section-counted song x ws d m t w e h =
-    let a = carried-count ws d (t .lead) (sideItems (saidBy beforeSaid (x .modifiers))) (w .lead) ∙ ap (min 65536) (side-count (saidBy beforeSaid (x .modifiers))) in
+    let a = carried-count ws d (t .lead) (sideItems (saidBy beforeSaid (x .modifiers))) (w .lead) ∙ ap (min 65536)
+    (side-count (saidBy beforeSaid (x .modifiers))) in
     let p = carried-count ws d (t .pattern) (patternItems (song .definitions) (x .pattern)) (w .pattern) in
-    let b = carried-count ws d (t .tail) (sideItems (saidBy afterSaid (x .modifiers))) (w .tail) ∙ ap (min 65536) (side-count (saidBy afterSaid (x .modifiers))) in
-    rw (a, p, b, ← e) (all-counted (m .repeat) (sideCount (saidBy beforeSaid (x .modifiers))) (countOf (patternItems (song .definitions) (x .pattern))) (sideCount (saidBy afterSaid (x .modifiers))) h)
+    let b = carried-count ws d (t .tail) (sideItems (saidBy afterSaid (x .modifiers))) (w .tail) ∙ ap (min 65536)
+    (side-count (saidBy afterSaid (x .modifiers))) in
+    rw (a, p, b, ← e) (all-counted (m .repeat) (sideCount (saidBy beforeSaid (x .modifiers)))
+    (countOf (patternItems (song .definitions) (x .pattern))) (sideCount (saidBy afterSaid (x .modifiers))) h)
 
 pub pattern-within : (song : Song) (x : Section) → repeats (x .modifiers) * countOf (patternItems (song .definitions) (x .pattern)) ≤ sectionCount song x
 unfolding sectionCount
 pattern-within song x = omega arith
 
-pub count-small : (m : Modifiers) (t : Texts) → m .repeat ≤ 9999 → t .lead .outline .measures ≤ 65536 → t .pattern .outline .measures ≤ 65536 → t .tail .outline .measures ≤ 65536
+pub count-small : (m : Modifiers) (t : Texts) → m .repeat ≤ 9999 → t .lead .outline .measures ≤ 65536
+    → t .pattern .outline .measures ≤ 65536 → t .tail .outline .measures ≤ 65536
     → countOfTexts m t ≤ 655425536
 unfolding countOfTexts
 count-small m t k a p b = let h : m .repeat * t .pattern .outline .measures ≤ 9999 * 65536 = mul-le-mul k p in omega arith

@@ -78,7 +78,9 @@ side-faults n line (some x) h = ap (λ (l : ℕ). rowFaults n l (x .items)) (sym
 -- Every complaint of the stage has a number.
 numbered-row : (n line : ℕ) (r : Items) → Each Numbered (rowFaults n line r)
 unfolding rowFaults
-numbered-row n line r = each-append Numbered (complainIf (not (allFit n r)) 12 line) (complainIf (stray none r) 13 line) (numbered-if (not (allFit n r)) 12 line (omega arith)) (numbered-if (stray none r) 13 line (omega arith))
+numbered-row n line r =
+    each-append Numbered (complainIf (not (allFit n r)) 12 line) (complainIf (stray none r) 13 line)
+    (numbered-if (not (allFit n r)) 12 line (omega arith)) (numbered-if (stray none r) 13 line (omega arith))
 
 numbered-played : (n line : ℕ) (o : Option Items) → Each Numbered (playedFaults n line o)
 unfolding playedFaults Each
@@ -114,9 +116,13 @@ section-fault song x s ws d m t w before after a b =
     let y = saidBy beforeSaid (x .modifiers) in
     let z = saidBy afterSaid (x .modifiers) in
     let f = carried-fault ws d (t .pattern) (patternItems (song .definitions) (x .pattern)) n (x .header) (w .pattern) a b in
-    let g = carried-fault ws d (t .lead) (sideItems y) n (m .before .line) (w .lead) a b ∙ ap (λ (l : List Complaint). refusalOf (earliest l)) (side-faults n (m .before .line) y (side-line s (m .before) before)) in
-    let h = carried-fault ws d (t .tail) (sideItems z) n (m .after .line) (w .tail) a b ∙ ap (λ (l : List Complaint). refusalOf (earliest l)) (side-faults n (m .after .line) z (side-line s (m .after) after)) in
+    let g = carried-fault ws d (t .lead) (sideItems y) n (m .before .line) (w .lead) a b
+    ∙ ap (λ (l : List Complaint). refusalOf (earliest l)) (side-faults n (m .before .line) y (side-line s (m .before) before)) in
+    let h = carried-fault ws d (t .tail) (sideItems z) n (m .after .line) (w .tail) a b
+    ∙ ap (λ (l : List Complaint). refusalOf (earliest l)) (side-faults n (m .after .line) z (side-line s (m .after) after)) in
     rw (f, g, h)
     (ap (soonerOf (refusalOf (earliest p))) (sym (sooner-append (sideFaults n y) (sideFaults n z) (numbered-side n y) (numbered-side n z)))
-    ∙ sym (sooner-append p (sideFaults n y ++ sideFaults n z) (numbered-played n (x .header) (patternItems (song .definitions) (x .pattern))) (each-append Numbered (sideFaults n y) (sideFaults n z) (numbered-side n y) (numbered-side n z)))
+    ∙ sym (sooner-append p (sideFaults n y ++ sideFaults n z)
+    (numbered-played n (x .header) (patternItems (song .definitions) (x .pattern)))
+    (each-append Numbered (sideFaults n y) (sideFaults n z) (numbered-side n y) (numbered-side n z)))
     ∙ ap (λ (l : List Complaint). refusalOf (earliest l)) (sym (append-assoc p (sideFaults n y) (sideFaults n z))))

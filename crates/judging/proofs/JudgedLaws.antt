@@ -26,13 +26,16 @@ use Rattle.judging.proofs.FaultLaws.{numbered-section, section-fault}
 
 -- The complaints so far, whose refusal is known, and those of the sections from the place on are all of the stage.
 unfoldable pub Judged : List ℕ → Place → Refusal → Type 0
-Judged s p best = (done : List Complaint) × (best ≡ refusalOf (earliest done)) × Each Numbered done × (done ++ gather (sectionMeter (songOf s)) (sectionsFrom s p) ≡ meterFaults (songOf s))
+Judged s p best =
+    (done : List Complaint) × (best ≡ refusalOf (earliest done)) × Each Numbered done
+    × (done ++ gather (sectionMeter (songOf s)) (sectionsFrom s p) ≡ meterFaults (songOf s))
 
 pub judged-start : (s : List ℕ) (p : Place) → Begins s p → Judged s p nothingRefused
 unfolding Judged Each refusalOf earliest meterFaults
 judged-start s p b = ([], refl, tt, ap (gather (sectionMeter (songOf s))) (b .sections))
 
-pub judged-next : (s : List ℕ) (p q : Place) (best f : Refusal) → sectionsFrom s p ≡ sectionAt s p ∷ sectionsFrom s q → f ≡ refusalOf (earliest (sectionMeter (songOf s) (sectionAt s p)))
+pub judged-next : (s : List ℕ) (p q : Place) (best f : Refusal) → sectionsFrom s p ≡ sectionAt s p ∷ sectionsFrom s q
+    → f ≡ refusalOf (earliest (sectionMeter (songOf s) (sectionAt s p)))
     → Judged s p best → Judged s q (soonerOf best f)
 unfolding Judged gather
 judged-next s p q best f first e w =
@@ -43,7 +46,8 @@ judged-next s p q best f first e w =
       done ++ x,
       rw (w .1, e) (sym (sooner-append done x (w .2) n)),
       each-append Numbered done x (w .2) n,
-      append-assoc done x (gather (sectionMeter song) (sectionsFrom s q)) ∙ ap (λ (xs : List Section). done ++ gather (sectionMeter song) xs) (sym first) ∙ w .3,
+      append-assoc done x (gather (sectionMeter song) (sectionsFrom s q))
+          ∙ ap (λ (xs : List Section). done ++ gather (sectionMeter song) xs) (sym first) ∙ w .3,
     )
 
 pub judged-end : (s : List ℕ) (p : Place) (best : Refusal) → length s ≤ p .at → Judged s p best → best ≡ refusalOf (earliest (meterFaults (songOf s)))
@@ -54,8 +58,10 @@ judged-end s p best h w =
     w .1 ∙ ap (λ (xs : List Complaint). refusalOf (earliest xs)) (sym (append-nil done) ∙ sym over ∙ w .3)
 
 -- A section that is opened.
-pub opened-fault : (s ws : List ℕ) (p : Place) (score : Score) (r : Opened) {time n : ℕ} {f : Refusal} → Opens s p ws score r → time ≡ orElse (timeAmong (songOf s .keys)) 0
-    → n ≡ meterOf (r .section .keys .time) time → f ≡ meterFault (r .section .header) (r .section .modifiers) (r .texts) n → f ≡ refusalOf (earliest (sectionMeter (songOf s) (sectionAt s p)))
+pub opened-fault : (s ws : List ℕ) (p : Place) (score : Score) (r : Opened) {time n : ℕ} {f : Refusal} → Opens s p ws score r
+    → time ≡ orElse (timeAmong (songOf s .keys)) 0
+    → n ≡ meterOf (r .section .keys .time) time → f ≡ meterFault (r .section .header) (r .section .modifiers) (r .texts) n → f ≡ refusalOf
+    (earliest (sectionMeter (songOf s) (sectionAt s p)))
 opened-fault s ws p score r w e found h =
     let says = w .met .says in
     let x = sectionAt s p in

@@ -41,7 +41,8 @@ length-behind song line sofar (x ∷ xs) w =
     let cuts = cutFaults n (x .header) (x .modifiers) (patternItems (song .definitions) (x .pattern)) in
     let passes = complainIf (leb sofar mostMeasures && ltb mostMeasures (sofar + sectionCount song x)) 14 (x .header) in
     each-append (Behind line) (passes ++ cuts) (lengthFaults song (sofar + sectionCount song x) xs)
-    (each-append (Behind line) passes cuts (behind-if (leb sofar mostMeasures && ltb mostMeasures (sofar + sectionCount song x)) 14 line (x .header) (w .0)) (behind-cut n line (x .header) (x .modifiers) (patternItems (song .definitions) (x .pattern)) (w .0)))
+    (each-append (Behind line) passes cuts (behind-if (leb sofar mostMeasures && ltb mostMeasures (sofar + sectionCount song x)) 14 line
+    (x .header) (w .0)) (behind-cut n line (x .header) (x .modifiers) (patternItems (song .definitions) (x .pattern)) (w .0)))
     (length-behind song line (sofar + sectionCount song x) xs (w .1))
 
 passing-first : (b : Bool) (line : ℕ) → refusalOf (earliest (complaint 14 line ∷ complainIf b 15 line)) ≡ record { number = 14; line = line }
@@ -52,24 +53,30 @@ passing-first false line = refl
 module _ (song : Song) (sofar : ℕ) (x : Section) (xs : List Section) (away : Bool) (small : sofar ≤ 65535)
     (cuts : cutFaults (timeOf song x) (x .header) (x .modifiers) (patternItems (song .definitions) (x .pattern)) ≡ complainIf away 15 (x .header)) where
   -- The song passes its length here.
-  pub length-passes : 65535 < sofar + sectionCount song x → Later (x .header) xs → refusalOf (earliest (lengthFaults song sofar (x ∷ xs))) ≡ record { number = 14; line = x .header }
+  pub length-passes : 65535 < sofar + sectionCount song x → Later (x .header) xs
+      → refusalOf (earliest (lengthFaults song sofar (x ∷ xs))) ≡ record { number = 14; line = x .header }
   unfolding lengthFaults complainIf when mostMeasures
   length-passes h l =
       let rest = lengthFaults song (sofar + sectionCount song x) xs in
       rw (cuts, le-leb sofar 65535 small, lt-ltb 65535 (sofar + sectionCount song x) h)
-      (ap refusalOf (first-wins (x .header) (complaint 14 (x .header) ∷ complainIf away 15 (x .header)) rest (here away) (length-behind song (x .header) (sofar + sectionCount song x) xs l) (λ z. nil-is-not-cons (sym z)))
+      (ap refusalOf (first-wins (x .header) (complaint 14 (x .header) ∷ complainIf away 15 (x .header)) rest (here away)
+      (length-behind song (x .header) (sofar + sectionCount song x) xs l) (λ z. nil-is-not-cons (sym z)))
       ∙ passing-first away (x .header))
     where
       here : (b : Bool) → Each (UpTo (x .header)) (complaint 14 (x .header) ∷ complainIf b 15 (x .header))
-      here b = each-append (UpTo (x .header)) (complainIf true 14 (x .header)) (complainIf b 15 (x .header)) (here-if true 14 (x .header)) (here-if b 15 (x .header))
+      here b =
+          each-append (UpTo (x .header)) (complainIf true 14 (x .header)) (complainIf b 15 (x .header)) (here-if true 14 (x .header))
+          (here-if b 15 (x .header))
 
   -- Its cuts leave no beat.
-  pub length-cut : sofar + sectionCount song x ≤ 65535 → away ≡ true → Later (x .header) xs → refusalOf (earliest (lengthFaults song sofar (x ∷ xs))) ≡ record { number = 15; line = x .header }
+  pub length-cut : sofar + sectionCount song x ≤ 65535 → away ≡ true → Later (x .header) xs
+      → refusalOf (earliest (lengthFaults song sofar (x ∷ xs))) ≡ record { number = 15; line = x .header }
   unfolding lengthFaults complainIf when mostMeasures refusalOf earliest earlier
   length-cut h e l =
       let rest = lengthFaults song (sofar + sectionCount song x) xs in
       rw (cuts, e, le-leb sofar 65535 small, le-ltb 65535 (sofar + sectionCount song x) h)
-      (ap refusalOf (first-wins (x .header) (complaint 15 (x .header) ∷ []) rest (here-if true 15 (x .header)) (length-behind song (x .header) (sofar + sectionCount song x) xs l) (λ z. nil-is-not-cons (sym z))))
+      (ap refusalOf (first-wins (x .header) (complaint 15 (x .header) ∷ []) rest (here-if true 15 (x .header))
+      (length-behind song (x .header) (sofar + sectionCount song x) xs l) (λ z. nil-is-not-cons (sym z))))
 
   -- Neither.
   pub length-on : sofar + sectionCount song x ≤ 65535 → away ≡ false → lengthFaults song sofar (x ∷ xs) ≡ lengthFaults song (sofar + sectionCount song x) xs

@@ -40,12 +40,14 @@ pub lengths-small : (s : List ℕ) (p : Place) (x : Lengths) → LengthsAre s p 
 unfolding LengthsAre
 lengths-small s p x w z = ⊎-elim (λ a. a .1) (λ b. absurd (b .0 z)) w
 
-pub lengths-end : (s : List ℕ) (p : Place) (x : Lengths) → length s ≤ p .at → LengthsAre s p x → meterFaults (songOf s) ≡ [] → x .refusal ≡ refusalOf (earliest (lengthFaults (songOf s) 0 (songOf s .sections)))
+pub lengths-end : (s : List ℕ) (p : Place) (x : Lengths) → length s ≤ p .at → LengthsAre s p x → meterFaults (songOf s) ≡ []
+    → x .refusal ≡ refusalOf (earliest (lengthFaults (songOf s) 0 (songOf s .sections)))
 unfolding LengthsAre
 lengths-end s p x h w e = ⊎-elim (λ a. a .0 ∙ measured-end s p (x .measures) h (a .2 e)) (λ b. b .1 e) w
 
 -- One more section is opened.
-module _ (s ws : List ℕ) (p : Place) (score : Score) (r : Opened) (w : Opens s p ws score r) {time : ℕ} (t : time ≡ orElse (timeAmong (songOf s .keys)) 0) (o : Onward s p) (inside : p .at < length s) (x : Lengths) where
+module _ (s ws : List ℕ) (p : Place) (score : Score) (r : Opened) (w : Opens s p ws score r) {time : ℕ}
+    (t : time ≡ orElse (timeAmong (songOf s .keys)) 0) (o : Onward s p) (inside : p .at < length s) (x : Lengths) where
   abbrev m : Modifiers
   m = r .section .modifiers
 
@@ -58,11 +60,15 @@ module _ (s ws : List ℕ) (p : Place) (score : Score) (r : Opened) (w : Opens s
   abbrev next : Refusal → Type 0
   next f = LengthsAre s (r .next) (record { refusal = f; measures = all })
 
-  fault-next : x .measures ≤ 65535 → (meterFaults (songOf s) ≡ [] → Measured s p (x .measures)) → next (lengthFault ws score n (r .section .header) m (r .texts) all)
+  fault-next : x .measures ≤ 65535 → (meterFaults (songOf s) ≡ [] → Measured s p (x .measures))
+      → next (lengthFault ws score n (r .section .header) m (r .texts) all)
   unfolding LengthsAre lengthFault if_then_else_
   fault-next small measured =
       by-cases (ltb 65535 all)
-      (λ e. rw e (inr ((λ z. let q : ⊥ = omega arith in q), (λ f. opened-passes s ws p score r w t o inside (x .measures) small (measured f) (ltb-true _ _ e)))))
+      (λ e. rw e (inr (
+        (λ z. let q : ⊥ = omega arith in q),
+        (λ f. opened-passes s ws p score r w t o inside (x .measures) small (measured f) (ltb-true _ _ e)),
+      )))
       (λ e.
       let few = ltb-false 65535 all e in
       by-cases (cutAway ws score n m (r .texts))

@@ -36,11 +36,13 @@ time-fits ks = go (timeAmong ks) (time-range ks)
     go (some n) h = h n refl .1
 
 -- "N is the section's time, else the song's"; 0 stands for none.
-pub meter-is : (s : Song) (x : Section) {own song : ℕ} → own ≡ orElse (timeAmong (x .keys)) 0 → song ≡ orElse (timeAmong (s .keys)) 0 → meterOf own song ≡ timeOf s x
+pub meter-is : (s : Song) (x : Section) {own song : ℕ} → own ≡ orElse (timeAmong (x .keys)) 0 → song ≡ orElse (timeAmong (s .keys)) 0
+    → meterOf own song ≡ timeOf s x
 unfolding meterOf timeOf orElse if_then_else_
 meter-is s x e f = rw (e, f) (go (timeAmong (x .keys)) (timeAmong (s .keys)) (time-range (x .keys)) (time-range (s .keys)))
   where
-    go : (o p : Option ℕ) → Ranged o → Ranged p → (if eqb (orElse o 0) 0 then (if eqb (orElse p 0) 0 then 4 else orElse p 0) else orElse o 0) ≡ orElse o (orElse p 4)
+    go : (o p : Option ℕ) → Ranged o → Ranged p → (if eqb (orElse o 0) 0 then (if eqb (orElse p 0) 0 then 4 else orElse p 0) else orElse o
+        0) ≡ orElse o (orElse p 4)
     go none none a b = refl
     go none (some n) a b = let h = b n refl .0 in rw (ne-eqb n 0 (λ z. omega arith))
     go (some m) p a b = let h = a m refl .0 in rw (ne-eqb m 0 (λ z. omega arith))

@@ -58,7 +58,9 @@ module _ (s : List ℕ) (p : Place) (o : Onward s p) (inside : p .at < length s)
 
   clean : sectionFaults block ≡ []
   unfolding gather
-  clean = append-is-nil (sectionFaults (blockAt s (p .number) (p .at))) (gather sectionFaults (blocks (linesPast s (p .number) (p .at)))) (ap (gather sectionFaults) (sym (o .opens inside)) ∙ o .fair) .0
+  clean =
+      append-is-nil (sectionFaults (blockAt s (p .number) (p .at))) (gather sectionFaults (blocks (linesPast s (p .number) (p .at))))
+      (ap (gather sectionFaults) (sym (o .opens inside)) ∙ o .fair) .0
 
   said-by : {B : Type 0} (m : ModifierName) (g : Modifier → Option B) (said : Setting → Option B) → Tells m g said
       → andThen (settingAmong (8 + modifierPlace m) (lateLines (body block))) said ≡ saidBy g (sectionAt s p .modifiers)
@@ -71,19 +73,23 @@ module _ (s : List ℕ) (p : Place) (o : Onward s p) (inside : p .at < length s)
   -- "loop and repeat counts start at 2"
   repeat-least : (k : ℕ) → saidBy repeatSaid (sectionAt s p .modifiers) ≡ some k → 2 ≤ k
   unfolding repeatIn andThen
-  repeat-least k e = go (settingAmong (8 + modifierPlace ofRepeat) (lateLines (body block))) (said-by ofRepeat repeatSaid (λ x. repeatIn (x .text)) repeat-tells ∙ e)
+  repeat-least k e =
+      go (settingAmong (8 + modifierPlace ofRepeat) (lateLines (body block)))
+      (said-by ofRepeat repeatSaid (λ x. repeatIn (x .text)) repeat-tells ∙ e)
     where
       go : (x : Option Setting) → andThen x (λ x. repeatIn (x .text)) ≡ some k → 2 ≤ k
       go none h = none-some refl h
       go (some x) h = numberIn-range 2 9999 (x .text) h .0
 
   -- No modifier is no lead-in and no tail.
-  absent : (m : ModifierName) (g : Modifier → Option Side) → Tells m g sideSaid → (r : Said) → settingAt s r ≡ settingAmong (8 + modifierPlace m) (lateLines (body block)) → sectionAt s p .modifiers ≡ [] → r .line ≡ 0
+  absent : (m : ModifierName) (g : Modifier → Option Side) → Tells m g sideSaid → (r : Said)
+      → settingAt s r ≡ settingAmong (8 + modifierPlace m) (lateLines (body block)) → sectionAt s p .modifiers ≡ [] → r .line ≡ 0
   unfolding saidBy
   absent m g tells r e n =
       no-line s r
       (ap (λ (x : Option Setting). andThen x (λ y. some true)) e
-      ∙ said-by m (known g) (λ x. some true) (λ j k bs y q. known-told (eqb (modifierPlace j) (modifierPlace m)) (g y) (sideSaid (record { line = k; text = bs })) (tells j k bs y q))
+      ∙ said-by m (known g) (λ x. some true) (λ j k bs y q. known-told (eqb (modifierPlace j) (modifierPlace m)) (g y)
+      (sideSaid (record { line = k; text = bs })) (tells j k bs y q))
       ∙ ap (saidBy (known g)) n)
 
   module _ (r : SectionRead) (w : ModifiersAre s (lateLines (body block)) (r .modifiers)) (says : SectionSays s (sectionAt s p) r) where
@@ -96,7 +102,13 @@ module _ (s : List ℕ) (p : Place) (o : Onward s p) (inside : p .at < length s)
         let k : m .repeat ≡ 1 = says .repeat ∙ ap repeats e in
         let f : m .front ≡ cutIs none = says .front ∙ ap (λ ms. cutIs (saidBy cutStartSaid ms)) e in
         let b : m .back ≡ cutIs none = says .back ∙ ap (λ ms. cutIs (saidBy cutEndSaid ms)) e in
-        rw (eq-eqb (m .repeat) 1 k, eq-eqb (m .before .line) 0 (absent ofBefore beforeSaid before-tells (m .before) (w .before) e), eq-eqb (m .after .line) 0 (absent ofAfter afterSaid after-tells (m .after) (w .after) e), f, b)
+        rw (
+          eq-eqb (m .repeat) 1 k,
+          eq-eqb (m .before .line) 0 (absent ofBefore beforeSaid before-tells (m .before) (w .before) e),
+          eq-eqb (m .after .line) 0 (absent ofAfter afterSaid after-tells (m .after) (w .after) e),
+          f,
+          b,
+        )
     modified-by (repeated k ∷ ms) e =
         let two = repeat-least k (ap (saidBy repeatSaid) e) in
         let k : m .repeat ≡ k = says .repeat ∙ ap repeats e in
@@ -110,7 +122,10 @@ module _ (s : List ℕ) (p : Place) (o : Onward s p) (inside : p .at < length s)
     modified-by (before l q ∷ ms) e =
         rw (ne-eqb (m .before .line) 0 (line-there s (m .before) (says .before ∙ ap (saidBy beforeSaid) e)), or-true (not (eqb (m .repeat) 1)))
     modified-by (after l q ∷ ms) e =
-        rw (ne-eqb (m .after .line) 0 (line-there s (m .after) (says .after ∙ ap (saidBy afterSaid) e)), or-true (not (eqb (m .repeat) 1) || not (eqb (m .before .line) 0)))
+        rw (
+          ne-eqb (m .after .line) 0 (line-there s (m .after) (says .after ∙ ap (saidBy afterSaid) e)),
+          or-true (not (eqb (m .repeat) 1) || not (eqb (m .before .line) 0)),
+        )
 
     pub modified-is : isModified (r .modifiers) ≡ not (isEmpty (sectionAt s p .modifiers))
     modified-is = modified-by (sectionAt s p .modifiers) refl

@@ -60,5 +60,6 @@ unfolding linesOf blockAt ending
 lyrics-behind s n at r w h =
     let all = textLines s (n + 1) (lineAt s n at .next) in
     let others = each-taken (From (n + 1)) (passing Full) all (from-lines s (n + 1) (lineAt s n at .next)) in
-    let lyrics = each-behind (From (n + 1)) (left notDashes (taken (passing Full) all)) (each-left (From (n + 1)) notDashes (taken (passing Full) all) others) in
+    let lyrics = each-behind (From (n + 1)) (left notDashes (taken (passing Full) all))
+    (each-left (From (n + 1)) notDashes (taken (passing Full) all) others) in
     first-number s (n + 1) (r .lyrics .number) (r .lyrics .at) (r .lyrics .lines) h (subst (Each (From (n + 1))) (sym (w .lyrics)) lyrics)

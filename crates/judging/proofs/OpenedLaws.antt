@@ -21,7 +21,6 @@ use Rattle.sections.specs.declared.blocks.Place.{Place}
 use Rattle.sections.specs.declared.values.Modifiers.{Modifiers}
 use Rattle.sections.specs.Onward.{sectionsFrom, Onward, sectionAt}
 use Rattle.scores.specs.declared.definitions.Score.{Score}
-use Rattle.scores.specs.declared.texts.Texts.{Texts}
 use Rattle.scores.specs.declared.texts.Opened.{Opened}
 use Rattle.scores.specs.Scores.{Begins, Opens, sideItems}
 use Rattle.judging.specs.Meters.{meterOf}
@@ -41,18 +40,25 @@ Measured s p k =
 
 pub measured-start : (s : List ℕ) (p : Place) → Begins s p → meterFaults (songOf s) ≡ [] → Measured s p 0
 unfolding Measured meterFaults
-measured-start s p b e = (ap (λ (xs : List Section). refusalOf (earliest (lengthFaults (songOf s) 0 xs))) (b .sections), ap (gather (sectionMeter (songOf s))) (b .sections) ∙ e)
+measured-start s p b e = (
+  ap (λ (xs : List Section). refusalOf (earliest (lengthFaults (songOf s) 0 xs))) (b .sections),
+  ap (gather (sectionMeter (songOf s))) (b .sections) ∙ e,
+)
 
-pub measured-end : (s : List ℕ) (p : Place) (k : ℕ) → length s ≤ p .at → Measured s p k → record { number = 0; line = 0 } ≡ refusalOf (earliest (lengthFaults (songOf s) 0 (songOf s .sections)))
+pub measured-end : (s : List ℕ) (p : Place) (k : ℕ) → length s ≤ p .at → Measured s p k
+    → record { number = 0; line = 0 } ≡ refusalOf (earliest (lengthFaults (songOf s) 0 (songOf s .sections)))
 unfolding Measured lengthFaults refusalOf earliest
 measured-end s p k h w = ap (λ (xs : List Section). refusalOf (earliest (lengthFaults (songOf s) k xs))) (sym (sections-over s p h)) ∙ w .0
 
 -- A pattern of which stage 4 complains in no way.
 pub row-fits : (n line : ℕ) (r : Items) → rowFaults n line r ≡ [] → allFit n r ≡ true
 unfolding rowFaults
-row-fits n line r e = not-false (allFit n r) (complainIf-nil _ 12 line (append-is-nil (complainIf (not (allFit n r)) 12 line) (complainIf (stray none r) 13 line) e .0))
+row-fits n line r e =
+    not-false (allFit n r) (complainIf-nil _ 12 line (append-is-nil (complainIf (not (allFit n r)) 12 line)
+    (complainIf (stray none r) 13 line) e .0))
 
-pub pattern-fits : (song : Song) (x : Section) → sectionMeter song x ≡ [] → (r : Items) → patternItems (song .definitions) (x .pattern) ≡ some r → allFit (timeOf song x) r ≡ true
+pub pattern-fits : (song : Song) (x : Section) → sectionMeter song x ≡ [] → (r : Items)
+    → patternItems (song .definitions) (x .pattern) ≡ some r → allFit (timeOf song x) r ≡ true
 unfolding sectionMeter playedFaults
 pattern-fits song x e r h =
     let n = timeOf song x in
@@ -99,7 +105,8 @@ module _ (s ws : List ℕ) (p : Place) (score : Score) (r : Opened) (w : Opens s
           tail = carried-fits ws (score .definitions) (r .texts .tail) (sideItems (saidBy afterSaid (x .modifiers))) (w .texts .tail);
           played = λ h.
               let e = all-counted 0 (omega arith) in
-              let l = played-length ws (score .definitions) (r .texts .pattern) (patternItems (song .definitions) (x .pattern)) n (m .repeat) (w .texts .pattern) in
+              let l = played-length ws (score .definitions) (r .texts .pattern) (patternItems (song .definitions) (x .pattern)) n
+              (m .repeat) (w .texts .pattern) in
               let often = ap (λ (j : ℕ). j * countOf (patternItems (song .definitions) (x .pattern))) (w .met .says .repeat) in
               let within = pattern-within song x in
               omega arith;
@@ -108,26 +115,32 @@ module _ (s ws : List ℕ) (p : Place) (score : Score) (r : Opened) (w : Opens s
     module _ (o : Onward s p) (inside : p .at < length s) (k : ℕ) (small : k ≤ 65535) (measured : Measured s p k) where
       metered : (sectionMeter song x ≡ []) × (gather (sectionMeter song) (sectionsFrom s (r .next)) ≡ [])
       unfolding Measured gather
-      metered = append-is-nil (sectionMeter song x) (gather (sectionMeter song) (sectionsFrom s (r .next))) (ap (gather (sectionMeter song)) (sym (w .met .first)) ∙ measured .1)
+      metered =
+          append-is-nil (sectionMeter song x) (gather (sectionMeter song) (sectionsFrom s (r .next)))
+          (ap (gather (sectionMeter song)) (sym (w .met .first)) ∙ measured .1)
 
-      cuts : cutFaults (timeOf song x) (x .header) (x .modifiers) (patternItems (song .definitions) (x .pattern)) ≡ complainIf (cutAway ws score n m (r .texts)) 15 (x .header)
+      cuts : cutFaults (timeOf song x) (x .header) (x .modifiers)
+          (patternItems (song .definitions) (x .pattern)) ≡ complainIf (cutAway ws score n m (r .texts)) 15 (x .header)
       cuts =
           let says = w .met .says in
           let read = w .met .read .modifiers in
           rw n-is
           (cut-away-is ws score (timeOf song x) (x .header) (x .modifiers) m (r .texts) (says .repeat) (read .repeat-fits .0) (says .front) (says .back)
-          (patternItems (song .definitions) (x .pattern)) (w .texts .pattern) (meter-range song x .0) (pattern-fits song x (metered .0)) (modified-is s p o inside (r .section) read says))
+          (patternItems (song .definitions) (x .pattern)) (w .texts .pattern) (meter-range song x .0) (pattern-fits song x (metered .0))
+          (modified-is s p o inside (r .section) read says))
 
       whole : refusalOf (earliest (lengthFaults song k (x ∷ sectionsFrom s (r .next)))) ≡ refusalOf (earliest (lengthFaults song 0 (song .sections)))
       unfolding Measured
       whole = ap (λ (xs : List Section). refusalOf (earliest (lengthFaults song k xs))) (sym (w .met .first)) ∙ measured .0
 
-      pub opened-passes : 65535 < k + countOfTexts m (r .texts) → record { number = 14; line = r .section .header } ≡ refusalOf (earliest (lengthFaults song 0 (song .sections)))
+      pub opened-passes : 65535 < k + countOfTexts m (r .texts)
+          → record { number = 14; line = r .section .header } ≡ refusalOf (earliest (lengthFaults song 0 (song .sections)))
       opened-passes h =
           rw (w .met .says .header)
           (sym (length-passes song k x (sectionsFrom s (r .next)) (cutAway ws score n m (r .texts)) small cuts (too-many k h) (w .met .later)) ∙ whole)
 
-      pub opened-cut : k + countOfTexts m (r .texts) ≤ 65535 → cutAway ws score n m (r .texts) ≡ true → record { number = 15; line = r .section .header } ≡ refusalOf (earliest (lengthFaults song 0 (song .sections)))
+      pub opened-cut : k + countOfTexts m (r .texts) ≤ 65535 → cutAway ws score n m (r .texts) ≡ true
+          → record { number = 15; line = r .section .header } ≡ refusalOf (earliest (lengthFaults song 0 (song .sections)))
       opened-cut h e =
           let c = all-counted k h in
           rw (w .met .says .header)
@@ -137,6 +150,7 @@ module _ (s ws : List ℕ) (p : Place) (score : Score) (r : Opened) (w : Opens s
       unfolding Measured
       opened-on h e =
           let c = all-counted k h in (
-            rw c (ap (λ (xs : List Complaint). refusalOf (earliest xs)) (sym (length-on song k x (sectionsFrom s (r .next)) (cutAway ws score n m (r .texts)) small cuts (omega arith) e)) ∙ whole),
+            rw c (ap (λ (xs : List Complaint). refusalOf (earliest xs))
+                (sym (length-on song k x (sectionsFrom s (r .next)) (cutAway ws score n m (r .texts)) small cuts (omega arith) e)) ∙ whole),
             metered .1,
           )

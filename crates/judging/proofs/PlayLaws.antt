@@ -8,7 +8,8 @@ use lib.ListN.{length, length-map}
 use Rattle.songcode.specs.Lists.{times, andThen}
 use Rattle.songcode.specs.Song.{Items, Modifier, Section, Song}
 use Rattle.songcode.specs.References.{patternItems}
-use Rattle.songcode.specs.Playing.{Beat, Side, cutStartSaid, cutEndSaid, saidBy, beforeSaid, afterSaid, repeats, cutRow, measuresOf, sideMeasures, keptMeasures, timeOf, played}
+use Rattle.songcode.specs.Playing.{Beat, Side, cutStartSaid, cutEndSaid, saidBy, beforeSaid, afterSaid, repeats, cutRow, measuresOf}
+use Rattle.songcode.specs.Playing.{sideMeasures, keptMeasures, timeOf, played}
 use Rattle.songcode.specs.Performance.{total}
 use Rattle.songcode.specs.Tables.{beatWord}
 use Rattle.songcode.specs.Meter.{rowFaults, playedFaults, sideFaults, sectionMeter, countOf, sideCount, sectionCount}
@@ -33,7 +34,8 @@ use Rattle.judging.specs.Sums.{rowOfTexts, PlaysWithin}
 use Rattle.judging.proofs.CountLaws.{played-length}
 use Rattle.judging.proofs.CutLaws.{cut-said}
 use Rattle.judging.proofs.OpenedLaws.{row-fits}
-use Rattle.judging.proofs.PlayedLaws.{cut-short, side-length}
+use Rattle.songcode.proofs.MeterAgree.{length-side}
+use Rattle.judging.proofs.PlayedLaws.{cut-short}
 
 -- The words of a row: as many measures and beats as the row has.
 pub words-length : (row : List (List Beat)) → length (rowWords row) ≡ length row
@@ -101,18 +103,36 @@ module _ (s : Song) (x : Section) (ws : List ℕ) (score : Score) (t : Texts) (m
       let p = append-is-nil (playedFaults n (x .header) o ++ sideFaults n lead) (sideFaults n tail) e in
       let q = append-is-nil (playedFaults n (x .header) o) (sideFaults n lead) (p .0) in
       let some-beat = meter-some s x in
-      let w = section-words ms (sideMeasures n lead) (pass-of n o) (sideMeasures n tail) (side-filled n lead some-beat (q .1)) (pass-filled n (x .header) o some-beat (q .0)) (side-filled n tail some-beat (p .1)) in
-      rw (again, f, b, cut-said (saidBy cutStartSaid ms), cut-said (saidBy cutEndSaid ms), carried-side ws d n (t .lead) lead (h .lead), carried ws d n (t .pattern) o (h .pattern), carried-side ws d n (t .tail) tail (h .tail), ← (kept-pass n ms o)) w
+      let w = section-words ms (sideMeasures n lead) (pass-of n o) (sideMeasures n tail) (side-filled n lead some-beat (q .1))
+      (pass-filled n (x .header) o some-beat (q .0)) (side-filled n tail some-beat (p .1)) in
+      rw (
+        again,
+        f,
+        b,
+        cut-said (saidBy cutStartSaid ms),
+        cut-said (saidBy cutEndSaid ms),
+        carried-side ws d n (t .lead) lead (h .lead),
+        carried ws d n (t .pattern) o (h .pattern),
+        carried-side ws d n (t .tail) tail (h .tail),
+        ← (kept-pass n ms o),
+      ) w
 
   -- Its measures before cuts are those that stage 5 counts.
   lead-length : (n : ℕ) → length (rowOf (score .definitions) n ws (t .lead .at)) ≡ sideCount (saidBy beforeSaid (x .modifiers))
-  lead-length n = rw (carried-side ws (score .definitions) n (t .lead) (saidBy beforeSaid (x .modifiers)) (h .lead)) (words-length _ ∙ side-length n (saidBy beforeSaid (x .modifiers)))
+  lead-length n =
+      rw (carried-side ws (score .definitions) n (t .lead) (saidBy beforeSaid (x .modifiers)) (h .lead))
+      (words-length _ ∙ length-side n (saidBy beforeSaid (x .modifiers)))
 
   tail-length : (n : ℕ) → length (rowOf (score .definitions) n ws (t .tail .at)) ≡ sideCount (saidBy afterSaid (x .modifiers))
-  tail-length n = rw (carried-side ws (score .definitions) n (t .tail) (saidBy afterSaid (x .modifiers)) (h .tail)) (words-length _ ∙ side-length n (saidBy afterSaid (x .modifiers)))
+  tail-length n =
+      rw (carried-side ws (score .definitions) n (t .tail) (saidBy afterSaid (x .modifiers)) (h .tail))
+      (words-length _ ∙ length-side n (saidBy afterSaid (x .modifiers)))
 
-  pattern-length : (n : ℕ) → length (times (m .repeat) (rowOf (score .definitions) n ws (t .pattern .at))) ≡ repeats (x .modifiers) * countOf (patternItems (s .definitions) (x .pattern))
-  pattern-length n = rw again (played-length ws (score .definitions) (t .pattern) (patternItems (s .definitions) (x .pattern)) n (repeats (x .modifiers)) (h .pattern))
+  pattern-length : (n : ℕ) → length (times (m .repeat) (rowOf (score .definitions) n ws (t .pattern .at)))
+      ≡ repeats (x .modifiers) * countOf (patternItems (s .definitions) (x .pattern))
+  pattern-length n =
+      rw again (played-length ws (score .definitions) (t .pattern) (patternItems (s .definitions) (x .pattern)) n (repeats (x .modifiers))
+      (h .pattern))
 
   pub texts-within : (n base sofar : ℕ) → n ≤ 32 → CutFits (m .front) → sofar + sectionCount s x ≤ 65535 → base ≤ 32 * sofar → PlaysWithin ws score n t m base
   unfolding sectionCount
@@ -129,6 +149,7 @@ module _ (s : Song) (x : Section) (ws : List ℕ) (score : Score) (t : Texts) (m
       let l = lead-length n in
       let p = pattern-length n in
       let q = tail-length n in
-      let a = section-beats (cutOrNone (m .front)) (cutOrNone (m .back)) (m .repeat) (rowOf d n ws (t .lead .at)) (rowOf d n ws (t .pattern .at)) (rowOf d n ws (t .tail .at))
+      let a = section-beats (cutOrNone (m .front)) (cutOrNone (m .back)) (m .repeat) (rowOf d n ws (t .lead .at))
+      (rowOf d n ws (t .pattern .at)) (rowOf d n ws (t .tail .at))
       (short-row d n ws few (t .lead .at)) (short-row d n ws few (t .pattern .at)) (short-row d n ws few (t .tail .at)) in
       omega arith

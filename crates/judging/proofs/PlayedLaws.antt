@@ -1,6 +1,6 @@
 -- A section plays no more measures than are counted before its cuts, and the songs that stage 5 accepts have few measures.
 use Prim.Native.Nat.{ℕ, _+_, _-_, _*_, _≤_}
-use mathlib.Core.Path.{_≡_, refl, ap, _∙_}
+use mathlib.Core.Path.{_≡_, ap, _∙_}
 use mathlib.Core.List.{List, [], _∷_, _++_}
 use mathlib.Core.Bool.{false, _&&_}
 use mathlib.Core.Option.{Option, none, some}
@@ -12,10 +12,13 @@ use Rattle.songcode.specs.Lists.{times}
 use Rattle.songcode.specs.Complaints.{complainIf}
 use Rattle.songcode.specs.Song.{Cut, Items, Modifier, Section, Song}
 use Rattle.songcode.specs.References.{patternItems}
-use Rattle.songcode.specs.Playing.{Side, keep, dropBeats, dropMeasures, cutFront, turned, cutBack, applied, cutRow, cutStartSaid, cutEndSaid, saidBy, beforeSaid, afterSaid, repeats, measuresOf, sideMeasures, keptMeasures, timeOf, played}
-use Rattle.songcode.specs.Meter.{count, countOf, sideCount, sectionCount, mostMeasures, cutFaults, lengthFaults}
+use Rattle.songcode.specs.Playing.{keep, dropBeats, dropMeasures, cutFront, turned, cutBack, applied, cutRow, cutStartSaid}
+use Rattle.songcode.specs.Playing.{cutEndSaid, saidBy, beforeSaid, afterSaid, repeats, measuresOf, keptMeasures, timeOf}
+use Rattle.songcode.specs.Playing.{played}
+use Rattle.songcode.specs.Meter.{count, countOf, sectionCount, mostMeasures, cutFaults, lengthFaults}
 use Rattle.songcode.proofs.ListLaws.{append-is-nil, complainIf-nil, times-length}
 use Rattle.songcode.proofs.RowLaws.{length-items}
+use Rattle.songcode.proofs.MeterAgree.{length-side}
 use Rattle.songcode.proofs.TurnedRows.{length-turned}
 
 -- Cuts only take away.
@@ -48,7 +51,8 @@ module _ {A : Type 0} where
       let b = length-turned (cutFront c (turned row)) in
       omega arith
 
-  applied-short : (f : Cut → List (List A) → List (List A)) → ((c : Cut) (row : List (List A)) → length (f c row) ≤ length row) → (o : Option Cut) (row : List (List A)) → length (applied f o row) ≤ length row
+  applied-short : (f : Cut → List (List A) → List (List A)) → ((c : Cut) (row : List (List A)) → length (f c row) ≤ length row)
+      → (o : Option Cut) (row : List (List A)) → length (applied f o row) ≤ length row
   unfolding applied
   applied-short f h none row = omega arith
   applied-short f h (some c) row = h c row
@@ -60,26 +64,22 @@ module _ {A : Type 0} where
       let b = applied-short cutBack back-short (saidBy cutEndSaid ms) (applied cutFront (saidBy cutStartSaid ms) row) in
       omega arith
 
-pub side-length : (n : ℕ) (o : Option Side) → length (sideMeasures n o) ≡ sideCount o
-unfolding sideMeasures sideCount
-side-length n none = refl
-side-length n (some x) = length-items n none (x .items)
-
 kept-short : (n : ℕ) (ms : List Modifier) (o : Option Items) → length (keptMeasures n ms o) ≤ repeats ms * countOf o
 unfolding keptMeasures countOf
 kept-short n ms none = omega arith
 kept-short n ms (some r) =
     let h = cut-short ms (times (repeats ms) (measuresOf n none r)) in
-    let e : length (times (repeats ms) (measuresOf n none r)) ≡ repeats ms * count r = times-length (repeats ms) (measuresOf n none r) ∙ ap (λ (k : ℕ). repeats ms * k) (length-items n none r) in
+    let e : length (times (repeats ms) (measuresOf n none r)) ≡ repeats ms * count r = times-length (repeats ms) (measuresOf n none r)
+    ∙ ap (λ (k : ℕ). repeats ms * k) (length-items n none r) in
     omega arith
 
 pub played-short : (s : Song) (x : Section) → length (played s x) ≤ sectionCount s x
 unfolding played sectionCount
 played-short s x =
     let n = timeOf s x in
-    let a = side-length n (saidBy beforeSaid (x .modifiers)) in
+    let a = length-side n (saidBy beforeSaid (x .modifiers)) in
     let b = kept-short n (x .modifiers) (patternItems (s .definitions) (x .pattern)) in
-    let d = side-length n (saidBy afterSaid (x .modifiers)) in
+    let d = length-side n (saidBy afterSaid (x .modifiers)) in
     rw (length-append, length-append) (omega arith)
 
 -- Where stage 5 refuses nothing, the sections so far and the next one have at most 65,535 measures.

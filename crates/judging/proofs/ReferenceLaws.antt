@@ -46,11 +46,13 @@ module _ (ds : List Definition) (header : ℕ) where
   fault-none (some d) e = refl
 
   -- A name that no definition has, and one that a definition has.
-  pub missing-name : (x : Pattern) (k : ℕ) (b : Bool) → Names x k → (k ≡ 0 → ⊥) → b ≡ not (isSome (definitionOf k ds)) → b ≡ true → record { number = 10; line = header } ≡ refusalOf (earliest (sectionReference ds x header))
+  pub missing-name : (x : Pattern) (k : ℕ) (b : Bool) → Names x k → (k ≡ 0 → ⊥) → b ≡ not (isSome (definitionOf k ds)) → b ≡ true
+      → record { number = 10; line = header } ≡ refusalOf (earliest (sectionReference ds x header))
   unfolding refusalOf earliest earlier
   missing-name x k b w n e t = rw (named-fault x k w n, fault-there (definitionOf k ds) (sym e ∙ t))
 
-  pub found-name : (x : Pattern) (k : ℕ) (b : Bool) → Names x k → (k ≡ 0 → ⊥) → b ≡ not (isSome (definitionOf k ds)) → b ≡ false → nothingRefused ≡ refusalOf (earliest (sectionReference ds x header))
+  pub found-name : (x : Pattern) (k : ℕ) (b : Bool) → Names x k → (k ≡ 0 → ⊥) → b ≡ not (isSome (definitionOf k ds)) → b ≡ false
+      → nothingRefused ≡ refusalOf (earliest (sectionReference ds x header))
   unfolding refusalOf earliest
   found-name x k b w n e t = rw (named-fault x k w n, fault-none (definitionOf k ds) (sym e ∙ t))
 
@@ -83,15 +85,18 @@ module _ (ds : List Definition) where
   all-numbered xs = numbered-gather sectionFault numbered xs
 
   -- A section's refusal is that of all from it on; where it has none, the next ones' is.
-  pub first-section : (x : Section) (xs : List Section) (r : Refusal) → Later (x .header) xs → r ≡ refusalOf (earliest (sectionFault x)) → (r .number ≡ 0 → ⊥) → r ≡ refusalOf (earliest (gather sectionFault (x ∷ xs)))
+  pub first-section : (x : Section) (xs : List Section) (r : Refusal) → Later (x .header) xs → r ≡ refusalOf (earliest (sectionFault x))
+      → (r .number ≡ 0 → ⊥) → r ≡ refusalOf (earliest (gather sectionFault (x ∷ xs)))
   unfolding gather refusalOf earliest
   first-section x xs r w e n =
-      e ∙ ap refusalOf (sym (first-wins (x .header) (sectionFault x) (gather sectionFault xs) (up-to x) (gather-behind (x .header) sectionFault on-header xs w) (λ z. n (ap (λ (q : Refusal). q .number) e ∙ of (sectionFault x) z))))
+      e ∙ ap refusalOf (sym (first-wins (x .header) (sectionFault x) (gather sectionFault xs) (up-to x)
+      (gather-behind (x .header) sectionFault on-header xs w) (λ z. n (ap (λ (q : Refusal). q .number) e ∙ of (sectionFault x) z))))
     where
       of : (cs : List Complaint) → cs ≡ [] → refusalOf (earliest cs) .number ≡ 0
       of cs z = rw z refl
 
-  pub next-section : (x : Section) (xs : List Section) (r : Refusal) → r ≡ refusalOf (earliest (sectionFault x)) → r .number ≡ 0 → gather sectionFault (x ∷ xs) ≡ gather sectionFault xs
+  pub next-section : (x : Section) (xs : List Section) (r : Refusal) → r ≡ refusalOf (earliest (sectionFault x)) → r .number ≡ 0
+      → gather sectionFault (x ∷ xs) ≡ gather sectionFault xs
   unfolding gather
   next-section x xs r e z = rw (refused-none (sectionFault x) (numbered x) (ap (λ (q : Refusal). q .number) (sym e) ∙ z)) refl
 
@@ -100,7 +105,9 @@ module _ (ds : List Definition) where
       → ((x : Pattern) → patternIn (linesOf s (m .section .pattern)) ≡ some x → r ≡ refusalOf (earliest (sectionReference ds x (m .section .header))))
       → r ≡ refusalOf (earliest (sectionFault (sectionAt s p)))
   unfolding sectionFault
-  fault-at s p m r w f = f (sectionAt s p .pattern) (w .written) ∙ ap (λ (h : ℕ). refusalOf (earliest (sectionReference ds (sectionAt s p .pattern) h))) (w .says .header)
+  fault-at s p m r w f =
+      f (sectionAt s p .pattern) (w .written) ∙ ap (λ (h : ℕ). refusalOf (earliest (sectionReference ds (sectionAt s p .pattern) h)))
+      (w .says .header)
 
 -- Stage 3 of the whole song, where nothing is wrong with the definitions.
 module _ (song : Song) (clear : definitionsReferences [] (song .definitions) ≡ []) where
@@ -108,8 +115,11 @@ module _ (song : Song) (clear : definitionsReferences [] (song .definitions) ≡
   unfolding referenceFaults sectionFault
   references-are = rw clear refl
 
-  pub song-references : (xs : List Section) (r : Refusal) → xs ≡ song .sections → r ≡ refusalOf (earliest (gather (sectionFault (song .definitions)) xs)) → r ≡ refusalOf (earliest (referenceFaults song))
-  song-references xs r e h = h ∙ ap (λ (ys : List Section). refusalOf (earliest (gather (sectionFault (song .definitions)) ys))) e ∙ ap (λ (cs : List Complaint). refusalOf (earliest cs)) (sym references-are)
+  pub song-references : (xs : List Section) (r : Refusal) → xs ≡ song .sections
+      → r ≡ refusalOf (earliest (gather (sectionFault (song .definitions)) xs)) → r ≡ refusalOf (earliest (referenceFaults song))
+  song-references xs r e h =
+      h ∙ ap (λ (ys : List Section). refusalOf (earliest (gather (sectionFault (song .definitions)) ys))) e
+      ∙ ap (λ (cs : List Complaint). refusalOf (earliest cs)) (sym references-are)
 
   pub references-none : (r : Refusal) → r ≡ refusalOf (earliest (referenceFaults song)) → r .number ≡ 0 → referenceFaults song ≡ []
   references-none r h z =

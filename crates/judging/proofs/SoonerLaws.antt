@@ -31,7 +31,9 @@ before-number c d l n = before-goes c d (inr (l, n))
 
 behind-number : (c d : Complaint) → c .line ≡ d .line → d .number < c .number → goesFirst c d ≡ false
 unfolding Before
-behind-number c d l n = by-cases (goesFirst c d) (λ t. absurd (⊎-elim (λ a. let z : ⊥ = omega arith in z) (λ a. let h = a .1 in let z : ⊥ = omega arith in z) (goes-before c d t))) (λ f. f)
+behind-number c d l n =
+    by-cases (goesFirst c d) (λ t. absurd (⊎-elim (λ a. let z : ⊥ = omega arith in z) (λ a. let h = a .1 in let z : ⊥ = omega arith in z)
+    (goes-before c d t))) (λ f. f)
 
 ordered : (c d : Complaint) → refusalOf (some (earlier c (some d)))
     ≡ (if ltb (d .line) (c .line) then refusalOf (some d)
@@ -56,7 +58,8 @@ ordered c d =
     (λ q. rw (before-number c d same (ltb-false _ _ q), e, g, q))))
 
 -- The refusals of two lists, put together.
-sooner-first : (x y : Option Complaint) → ((c : Complaint) → x ≡ some c → 1 ≤ c .number) → ((c : Complaint) → y ≡ some c → 1 ≤ c .number) → refusalOf (firstOf x y) ≡ soonerOf (refusalOf x) (refusalOf y)
+sooner-first : (x y : Option Complaint) → ((c : Complaint) → x ≡ some c → 1 ≤ c .number) → ((c : Complaint) → y ≡ some c → 1 ≤ c .number)
+    → refusalOf (firstOf x y) ≡ soonerOf (refusalOf x) (refusalOf y)
 unfolding refusalOf firstOf soonerOf earlier if_then_else_ Before
 sooner-first none y h k = refl
 sooner-first (some c) none h k = let a = h c refl in rw (ne-eqb (c .number) 0 (λ z. let q : ⊥ = omega arith in absurd q))
@@ -67,7 +70,8 @@ sooner-first (some c) (some d) h k =
     let n = ne-eqb (d .number) 0 (λ z. let q : ⊥ = omega arith in absurd q) in
     rw (m, n) (ordered c d)
 
-pub sooner-append : (xs ys : List Complaint) → Each Numbered xs → Each Numbered ys → refusalOf (earliest (xs ++ ys)) ≡ soonerOf (refusalOf (earliest xs)) (refusalOf (earliest ys))
+pub sooner-append : (xs ys : List Complaint) → Each Numbered xs → Each Numbered ys
+    → refusalOf (earliest (xs ++ ys)) ≡ soonerOf (refusalOf (earliest xs)) (refusalOf (earliest ys))
 unfolding Numbered
 sooner-append xs ys h k =
     ap refusalOf (earliest-append xs ys)

@@ -26,7 +26,8 @@ use Rattle.scores.proofs.ComplaintLaws.{Numbered, numbered-if, refused-none}
 use Rattle.judging.proofs.FaultLaws.{numbered-section}
 
 -- A stage that refuses gives the verdict; one that complains of nothing leaves it to the rest.
-pub stage-refused : (xs : List Complaint) (rest : List (List Complaint)) (r : Refusal) → r ≡ refusalOf (earliest xs) → (r .number ≡ 0 → ⊥) → r ≡ refusalOf (verdict (xs ∷ rest))
+pub stage-refused : (xs : List Complaint) (rest : List (List Complaint)) (r : Refusal) → r ≡ refusalOf (earliest xs) → (r .number ≡ 0 → ⊥)
+    → r ≡ refusalOf (verdict (xs ∷ rest))
 unfolding verdict refusalOf stageOr
 stage-refused xs rest r e n = e ∙ of (earliest xs) (λ z. n (ap (λ (q : Refusal). q .number) e ∙ z))
   where
@@ -92,16 +93,22 @@ module _ (song : Song) where
       let b = cutFaults (timeOf song x) (x .header) (x .modifiers) (patternItems (song .definitions) (x .pattern)) in
       let c = lengthFaults song (sofar + sectionCount song x) xs in
       each-append Numbered (a ++ b) c
-      (each-append Numbered a b (numbered-if (leb sofar mostMeasures && ltb mostMeasures (sofar + sectionCount song x)) 14 (x .header) (omega arith)) (numbered-cuts (timeOf song x) (x .header) (x .modifiers) (patternItems (song .definitions) (x .pattern))))
+      (each-append Numbered a b (numbered-if (leb sofar mostMeasures && ltb mostMeasures (sofar + sectionCount song x)) 14 (x .header)
+      (omega arith)) (numbered-cuts (timeOf song x) (x .header) (x .modifiers) (patternItems (song .definitions) (x .pattern))))
       (numbered-lengths (sofar + sectionCount song x) xs)
 
   pub numbered-counts : Each Numbered (countFaults song)
   unfolding countFaults
-  numbered-counts = numbered-when (hasCounts song) (gather (λ l. complainIf (not (isCounted l)) 16 (l .number)) (linesTaken song)) (numbered-gather (λ (l : LyricLine). complainIf (not (isCounted l)) 16 (l .number)) (λ l. numbered-if (not (isCounted l)) 16 (l .number) (omega arith)) (linesTaken song))
+  numbered-counts =
+      numbered-when (hasCounts song) (gather (λ l. complainIf (not (isCounted l)) 16 (l .number)) (linesTaken song))
+      (numbered-gather (λ (l : LyricLine). complainIf (not (isCounted l)) 16 (l .number))
+      (λ l. numbered-if (not (isCounted l)) 16 (l .number) (omega arith)) (linesTaken song))
 
   numbered-sum : (x : Section) → Each Numbered (sumFault song x)
   unfolding sumFault
-  numbered-sum x = numbered-if (isPlayed song x && not (isEmpty (x .lyrics)) && not (eqb (counted (x .lyrics)) (length (played song x)))) 17 (x .header) (omega arith)
+  numbered-sum x =
+      numbered-if (isPlayed song x && not (isEmpty (x .lyrics)) && not (eqb (counted (x .lyrics)) (length (played song x)))) 17 (x .header)
+      (omega arith)
 
   pub numbered-sums : Each Numbered (sumFaults song)
   unfolding sumFaults

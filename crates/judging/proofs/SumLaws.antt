@@ -107,7 +107,8 @@ module _ (s : Song) (x : Section) (empty : Bool) (t : Tally) (e : empty ≡ not 
       rw (lines-said, w, h)
 
 -- The tally of the lyric lines of a section that is opened.
-module _ {s vs : List ℕ} {score : Score} {p : Place} (x : Opened) (o : Opens s p vs score x) (t : Tally) (u : t ≡ tallied (map lyricLine (linesOf s (x .section .lyrics)))) where
+module _ {s vs : List ℕ} {score : Score} {p : Place} (x : Opened) (o : Opens s p vs score x) (t : Tally)
+    (u : t ≡ tallied (map lyricLine (linesOf s (x .section .lyrics)))) where
   opened-empty : x .texts .pattern .outline .empty ≡ not (isPlayed (songOf s) (sectionAt s p))
   unfolding isPlayed
   opened-empty = empty-is vs (score .definitions) (x .texts .pattern) (patternItems (songOf s .definitions) (sectionAt s p .pattern)) (o .texts .pattern)
@@ -117,12 +118,15 @@ module _ {s vs : List ℕ} {score : Score} {p : Place} (x : Opened) (o : Opens s
 
   opened-lined : Numbered (sectionAt s p .lyrics)
   unfolding linesOf
-  opened-lined = subst (λ ls. Numbered ls) (o .met .says .lyrics) (lyrics-numbered s (x .section .lyrics .number) (x .section .lyrics .at) (x .section .lyrics .lines) (o .met .read .lyrics-placed .number))
+  opened-lined =
+      subst (λ ls. Numbered ls) (o .met .says .lyrics) (lyrics-numbered s (x .section .lyrics .number) (x .section .lyrics .at)
+      (x .section .lyrics .lines) (o .met .read .lyrics-placed .number))
 
   opened-prompts : hasPrompts (x .texts .pattern .outline .empty) t ≡ isPrompted (songOf s) (sectionAt s p)
   opened-prompts = prompts-said (songOf s) (sectionAt s p) _ t opened-empty opened-tally opened-lined
 
-  opened-differs : (c : Bool) (k : ℕ) → k ≡ length (played (songOf s) (sectionAt s p)) → sumDiffers c (x .texts .pattern .outline .empty) t k ≡ c && offSum (songOf s) (sectionAt s p)
+  opened-differs : (c : Bool) (k : ℕ) → k ≡ length (played (songOf s) (sectionAt s p))
+      → sumDiffers c (x .texts .pattern .outline .empty) t k ≡ c && offSum (songOf s) (sectionAt s p)
   opened-differs c k e = differs-said (songOf s) (sectionAt s p) _ t opened-empty opened-tally c k e
 
   opened-lines : t .lines ≡ length (sectionAt s p .lyrics)
@@ -163,13 +167,15 @@ module _ (s : Song) (x : Section) (xs : List Section) where
       (λ c. let f : offSum s x ≡ false = rw c at e in rw (c, f))
       (λ c. rw c)
 
-  faults-stop : hasCounts s && offSum s x ≡ true → Later (x .header) xs → sumFaults s ≡ faultsLeft s (x ∷ xs) → refusalOf (earliest (sumFaults s)) ≡ record { number = 17; line = x .header }
+  faults-stop : hasCounts s && offSum s x ≡ true → Later (x .header) xs → sumFaults s ≡ faultsLeft s (x ∷ xs)
+      → refusalOf (earliest (sumFaults s)) ≡ record { number = 17; line = x .header }
   unfolding faultsLeft gather sumFault complainIf when if_then_else_ refusalOf earliest earlier UpTo Each
   faults-stop e l h =
       let b = both-pass (hasCounts s) (offSum s x) e in
       let here = complaint 17 (x .header) ∷ [] in
       let w : sumFaults s ≡ here ++ gather (sumFault s) xs = h ∙ rw (b .0, b .1) in
-      ap refusalOf (ap earliest w ∙ first-wins (x .header) here (gather (sumFault s) xs) (le-refl (x .header), tt) (gather-behind (x .header) (sumFault s) (fault-line s) xs l) (λ z. nil-is-not-cons (sym z)))
+      ap refusalOf (ap earliest w ∙ first-wins (x .header) here (gather (sumFault s) xs) (le-refl (x .header), tt)
+      (gather-behind (x .header) (sumFault s) (fault-line s) xs l) (λ z. nil-is-not-cons (sym z)))
 
 -- The sums so far, and what the sections that are left add to them.
 pub record Summed (s : Song) (rest : List Section) (x : Sums) : Type 0 where
@@ -196,7 +202,8 @@ summed-start s =
 pub summed-from : (s : Song) (xs : List Section) → xs ≡ s .sections → Summed s xs (record { sections = 0; measures = 0; beats = 0; lines = 0; all = true })
 summed-from s xs e = subst (λ ys. Summed s ys (record { sections = 0; measures = 0; beats = 0; lines = 0; all = true })) (sym e) (summed-start s)
 
-summed-next : (s : Song) (y : Section) (rest : List Section) (x : Sums) (c : Counts) (l : ℕ) (b : Bool) → c .measures ≡ length (played s y) → c .beats ≡ total (played s y) → l ≡ length (y .lyrics) → b ≡ isPrompted s y
+summed-next : (s : Song) (y : Section) (rest : List Section) (x : Sums) (c : Counts) (l : ℕ) (b : Bool) → c .measures ≡ length (played s y)
+    → c .beats ≡ total (played s y) → l ≡ length (y .lyrics) → b ≡ isPrompted s y
     → Summed s (y ∷ rest) x → Summed s rest (withSection x c l b)
 unfolding withSection gather every lyricsOf
 summed-next s y rest x c l b m t e p h =
@@ -216,28 +223,39 @@ summed-next s y rest x c l b m t e p h =
     }
 
 -- A section that is opened: stage 7 refuses it, or goes on to the next.
-module _ {s vs : List ℕ} {score : Score} {p : Place} (x : Opened) (o : Opens s p vs score x) (t : Tally) (u : t ≡ tallied (map lyricLine (linesOf s (x .section .lyrics)))) where
-  pub opened-off : (c r : Bool) (k : ℕ) → c ≡ hasCounts (songOf s) → r ≡ sumDiffers c (x .texts .pattern .outline .empty) t k → k ≡ length (played (songOf s) (sectionAt s p))
+module _ {s vs : List ℕ} {score : Score} {p : Place} (x : Opened) (o : Opens s p vs score x) (t : Tally)
+    (u : t ≡ tallied (map lyricLine (linesOf s (x .section .lyrics)))) where
+  pub opened-off : (c r : Bool) (k : ℕ) → c ≡ hasCounts (songOf s) → r ≡ sumDiffers c (x .texts .pattern .outline .empty) t k
+      → k ≡ length (played (songOf s) (sectionAt s p))
       → hasCounts (songOf s) && offSum (songOf s) (sectionAt s p) ≡ r
   opened-off c r k e f g = ap (λ (b : Bool). b && offSum (songOf s) (sectionAt s p)) (sym e) ∙ sym (opened-differs x o t u c k g) ∙ sym f
 
   pub opened-refused : hasCounts (songOf s) && offSum (songOf s) (sectionAt s p) ≡ true → sumFaults (songOf s) ≡ faultsLeft (songOf s) (sectionsFrom s p)
       → refusalOf (earliest (sumFaults (songOf s))) ≡ record { number = 17; line = x .section .header }
   opened-refused e h =
-      faults-stop (songOf s) (sectionAt s p) (sectionsFrom s (x .next)) e (o .met .later) (h ∙ ap (λ (xs : List Section). faultsLeft (songOf s) xs) (o .met .first))
+      faults-stop (songOf s) (sectionAt s p) (sectionsFrom s (x .next)) e (o .met .later)
+      (h ∙ ap (λ (xs : List Section). faultsLeft (songOf s) xs) (o .met .first))
       ∙ ap (λ (k : ℕ). record { number = 17; line = k }) (sym (o .met .says .header))
 
   pub opened-passed : hasCounts (songOf s) && offSum (songOf s) (sectionAt s p) ≡ false → sumFaults (songOf s) ≡ faultsLeft (songOf s) (sectionsFrom s p)
       → sumFaults (songOf s) ≡ faultsLeft (songOf s) (sectionsFrom s (x .next))
-  opened-passed e h = h ∙ ap (λ (xs : List Section). faultsLeft (songOf s) xs) (o .met .first) ∙ faults-pass (songOf s) (sectionAt s p) (sectionsFrom s (x .next)) e
+  opened-passed e h =
+      h ∙ ap (λ (xs : List Section). faultsLeft (songOf s) xs) (o .met .first) ∙ faults-pass (songOf s) (sectionAt s p)
+      (sectionsFrom s (x .next)) e
 
-  pub opened-summed : (y z : Sums) (c : Counts) (b : Bool) → z ≡ withSection y c (t .lines) b → b ≡ hasPrompts (x .texts .pattern .outline .empty) t → c .measures ≡ length (played (songOf s) (sectionAt s p)) → c .beats ≡ total (played (songOf s) (sectionAt s p))
+  pub opened-summed : (y z : Sums) (c : Counts) (b : Bool) → z ≡ withSection y c (t .lines) b
+      → b ≡ hasPrompts (x .texts .pattern .outline .empty) t → c .measures ≡ length (played (songOf s) (sectionAt s p))
+      → c .beats ≡ total (played (songOf s) (sectionAt s p))
       → Summed (songOf s) (sectionsFrom s p) y → Summed (songOf s) (sectionsFrom s (x .next)) z
   opened-summed y z c b w e m d h =
       let g : Summed (songOf s) (sectionAt s p ∷ sectionsFrom s (x .next)) y = subst (λ xs. Summed (songOf s) xs y) (o .met .first) h in
-      subst (λ v. Summed (songOf s) (sectionsFrom s (x .next)) v) (sym w) (summed-next (songOf s) (sectionAt s p) (sectionsFrom s (x .next)) y c (t .lines) b m d (opened-lines x o t u) (e ∙ opened-prompts x o t u) g)
+      subst (λ v. Summed (songOf s) (sectionsFrom s (x .next)) v) (sym w)
+      (summed-next (songOf s) (sectionAt s p) (sectionsFrom s (x .next)) y c (t .lines) b m d (opened-lines x o t u)
+      (e ∙ opened-prompts x o t u) g)
 
-pub with-counts : (z y : Sums) (c : Counts) (l : ℕ) (b : Bool) → z ≡ withSection y c l b → (z .sections ≡ y .sections + 1) × (z .measures ≡ y .measures + c .measures) × (z .beats ≡ y .beats + c .beats) × (z .lines ≡ y .lines + l)
+pub with-counts : (z y : Sums) (c : Counts) (l : ℕ) (b : Bool) → z ≡ withSection y c l b
+    → (z .sections ≡ y .sections + 1) × (z .measures ≡ y .measures + c .measures) × (z .beats ≡ y .beats + c .beats)
+    × (z .lines ≡ y .lines + l)
 unfolding withSection
 with-counts z y c l b e = rw e (refl, refl, refl, refl)
 
@@ -258,7 +276,8 @@ beat-words-length [] = refl
 beat-words-length (m ∷ row) = let h = beat-words-length row in let a = length-map m beatWord in rw length-append (omega arith)
 
 -- Where all sections have items, all their lines are taken.
-pub prompted-parts : (s : Song) (x : Section) → isPrompted s x ≡ true → (isPlayed s x ≡ true) × (not (isEmpty (x .lyrics)) ≡ true) × (every isCounted (x .lyrics) ≡ true)
+pub prompted-parts : (s : Song) (x : Section) → isPrompted s x ≡ true
+    → (isPlayed s x ≡ true) × (not (isEmpty (x .lyrics)) ≡ true) × (every isCounted (x .lyrics) ≡ true)
 prompted-parts s x e =
     let a = both-pass (isSung s x) (every isCounted (x .lyrics)) e in
     let b = both-pass (isPlayed s x) (not (isEmpty (x .lyrics))) (a .0) in

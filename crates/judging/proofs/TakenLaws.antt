@@ -53,7 +53,8 @@ module _ (s : Song) (x : Section) (xs : List Section) {played : Bool} (p : playe
     unfolding takenWith tallied if_then_else_
     taken-counted =
         by-cases played
-        (λ e. rw (taken-played e, any-append, ap (λ (t : Tally). t .counted) (is-by e)) (or-assoc c (any isCounted (x .lyrics)) (any isCounted (takenFrom s xs))))
+        (λ e. rw (taken-played e, any-append, ap (λ (t : Tally). t .counted) (is-by e))
+        (or-assoc c (any isCounted (x .lyrics)) (any isCounted (takenFrom s xs))))
         (λ e. rw (taken-not e, ap (λ (t : Tally). t .counted) (is-by e)))
 
     pub taken-bare : firstLine (r .bare) (bareLine (takenFrom s xs)) ≡ firstLine b (bareLine (takenFrom s (x ∷ xs)))
@@ -94,7 +95,8 @@ first-bare [] a = refl
 first-bare (l ∷ ls) a =
     by-cases (isCounted l)
     (λ e. rw e (first-bare ls (a .1)))
-    (λ e. rw e (ap (λ (o : Option Complaint). some (earlier (complaint 16 (l .number)) o)) (first-bare ls (a .1)) ∙ earlier-bare (l .number) (bareLine ls) (a .0)))
+    (λ e. rw e (ap (λ (o : Option Complaint). some (earlier (complaint 16 (l .number)) o)) (first-bare ls (a .1)) ∙ earlier-bare (l .number)
+    (bareLine ls) (a .0)))
 
 fault-of : (b : ℕ) → countFault true b .refusal ≡ refusalOf (bareOf b)
 unfolding countFault refusalOf bareOf if_then_else_
@@ -105,7 +107,8 @@ no-fault : (b : ℕ) → countFault false b .refusal ≡ refusalOf (earliest [])
 unfolding countFault refusalOf earliest if_then_else_
 no-fault b = refl
 
-pub count-refusal : (s : Song) (c : Bool) (b : ℕ) → c ≡ hasCounts s → b ≡ bareLine (linesTaken s) → Numbered (linesTaken s) → countFault c b .refusal ≡ refusalOf (earliest (countFaults s))
+pub count-refusal : (s : Song) (c : Bool) (b : ℕ) → c ≡ hasCounts s → b ≡ bareLine (linesTaken s) → Numbered (linesTaken s)
+    → countFault c b .refusal ≡ refusalOf (earliest (countFaults s))
 unfolding countFaults if_then_else_
 count-refusal s c b i j a =
     by-cases (hasCounts s)

@@ -44,9 +44,11 @@ first-assoc (suc a) zero c = ap (firstLine (suc a)) (zero-first c) ∙ ap (λ (k
 first-assoc (suc a) (suc b) zero = ap (firstLine (suc a)) (first-zero (suc b)) ∙ sym (first-zero (firstLine (suc a) (suc b)))
 first-assoc (suc a) (suc b) (suc c) =
     let e : min a (min b c) ≡ min (min a b) c = omega arith in
-    ap (firstLine (suc a)) (first-two b c) ∙ first-two a (min b c) ∙ ap suc e ∙ sym (first-two (min a b) c) ∙ ap (λ (k : ℕ). firstLine k (suc c)) (sym (first-two a b))
+    ap (firstLine (suc a)) (first-two b c) ∙ first-two a (min b c) ∙ ap suc e ∙ sym (first-two (min a b) c)
+    ∙ ap (λ (k : ℕ). firstLine k (suc c)) (sym (first-two a b))
 
-tally-is : {a b c d m n : ℕ} {x y : Bool} → a ≡ b → c ≡ d → x ≡ y → m ≡ n → _≡_ {A = Tally} (record { lines = a; sum = c; counted = x; bare = m }) (record { lines = b; sum = d; counted = y; bare = n })
+tally-is : {a b c d m n : ℕ} {x y : Bool} → a ≡ b → c ≡ d → x ≡ y → m ≡ n
+    → _≡_ {A = Tally} (record { lines = a; sum = c; counted = x; bare = m }) (record { lines = b; sum = d; counted = y; bare = n })
 tally-is p q r s = rw (p, q, r, s)
 
 unfoldable pub joined : Tally → Tally → Tally
@@ -60,7 +62,8 @@ pub none-joined : (u : Tally) → joined (record { lines = 0; sum = 0; counted =
 unfolding joined
 none-joined u = tally-is (omega arith) (omega arith) refl (zero-first (u .bare))
 
-joined-more : (t : Tally) (l : LyricLine) (ls : List LyricLine) (k : ℕ) → countOf l ≡ countFrom k → joined (withLine t (l .number) k) (tallied ls) ≡ joined t (tallied (l ∷ ls))
+joined-more : (t : Tally) (l : LyricLine) (ls : List LyricLine) (k : ℕ) → countOf l ≡ countFrom k
+    → joined (withLine t (l .number) k) (tallied ls) ≡ joined t (tallied (l ∷ ls))
 unfolding joined withLine tallied any counted bareLine isCounted isSome orElse countFrom if_then_else_
 joined-more t l ls zero e =
     tally-is (omega arith) (rw e (omega arith)) (rw e) (rw e (sym (first-assoc (t .bare) (l .number) (bareLine ls))))

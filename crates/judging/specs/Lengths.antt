@@ -60,7 +60,10 @@ lengthFault ws score n header m t measures =
 unfoldable pub withLengths : List ℕ → Score → ℕ → ℕ → Modifiers → Texts → Lengths → Lengths
 unfolding if_then_else_ lengthFault
 withLengths ws score n header m t x =
-    if eqb (x .refusal .number) 0 then record { refusal = lengthFault ws score n header m t (x .measures + countOfTexts m t); measures = x .measures + countOfTexts m t }
+    if eqb (x .refusal .number) 0 then record {
+      refusal = lengthFault ws score n header m t (x .measures + countOfTexts m t);
+      measures = x .measures + countOfTexts m t;
+    }
     else x
 
 -- The numbers of a section are small, and where its measures are few enough, all that its pattern plays are counted.

@@ -31,7 +31,8 @@ pub record PlaysWithin (ws : List ℕ) (score : Score) (n : ℕ) (t : Texts) (m 
   pub cuts : CutFits (m .front)
   pub measures : length (times (m .repeat) (rowOf (score .definitions) n ws (t .pattern .at))) ≤ 65535
   pub room :
-      base + 32 * (length (rowOf (score .definitions) n ws (t .lead .at)) + length (times (m .repeat) (rowOf (score .definitions) n ws (t .pattern .at))) + length (rowOf (score .definitions) n ws (t .tail .at)))
+      base + 32 * (length (rowOf (score .definitions) n ws (t .lead .at)) + length
+      (times (m .repeat) (rowOf (score .definitions) n ws (t .pattern .at))) + length (rowOf (score .definitions) n ws (t .tail .at)))
       ≤ 2097120
 
 -- Whether a section has lyric lines and a pattern that is not empty; whether, moreover, all its lines have counts; whether they sum to another number
@@ -54,7 +55,13 @@ withSection x c l b =
 unfoldable pub totalsOf : Sums → Totals
 unfolding if_then_else_
 totalsOf x =
-    record { refusal = record { number = 0; line = 0 }; sections = x .sections; measures = x .measures; beats = x .beats; items = if x .all then x .lines else 0 }
+    record {
+      refusal = record { number = 0; line = 0 };
+      sections = x .sections;
+      measures = x .measures;
+      beats = x .beats;
+      items = if x .all then x .lines else 0;
+    }
 
 -- The numbers are the lengths of the tables.
 pub record Holds (t : Tables) (r : Totals) : Type 0 where

@@ -10,7 +10,8 @@ use Rattle.songcode.specs.Lists.{isEmpty, gather}
 use Rattle.songcode.specs.Complaints.{Complaint, complainIf}
 use Rattle.songcode.specs.Lines.{Block}
 use Rattle.songcode.specs.Sections.{sectionFaults}
-use Rattle.songcode.specs.SongText.{blockKind, turn, blockOrder, metadataFaults, linesIf, metadataLines, definitionBlocks, sectionBlocks, definitionsFaults, orNoSection, textFaults}
+use Rattle.songcode.specs.SongText.{blockKind, turn, blockOrder, metadataFaults, linesIf, metadataLines, definitionBlocks, sectionBlocks}
+use Rattle.songcode.specs.SongText.{definitionsFaults, orNoSection, textFaults}
 use Rattle.songcode.proofs.ListLaws.{true-is-not-false, nil-is-not-cons, append-is-nil, complainIf-nil}
 use Rattle.songcode.proofs.BlockKinds.{by-kind}
 
@@ -45,4 +46,5 @@ no-metadata t (b ∷ bs) e =
     by-kind (blockKind b)
     (λ k. true-is-not-false (lt-ltb 0 (suc t) (omega arith)) (complainIf-nil (ltb 0 (suc t)) 3 (b .first .number) (rw k at (a .0))))
     (λ k. let m : max (suc t) 1 ≡ suc t = omega arith in let g : blockOrder (max (suc t) 1) bs ≡ [] = rw k at (a .1) in rw k (no-metadata t bs (rw m at g)))
-    (λ k. let m : max (suc t) 2 ≡ suc (max t 1) = omega arith in let g : blockOrder (max (suc t) 2) bs ≡ [] = rw k at (a .1) in rw k (no-metadata (max t 1) bs (rw m at g)))
+    (λ k. let m : max (suc t) 2 ≡ suc (max t 1) = omega arith in let g : blockOrder (max (suc t) 2) bs ≡ [] = rw k at (a .1) in rw k
+    (no-metadata (max t 1) bs (rw m at g)))

@@ -51,8 +51,10 @@ before-total c d e =
     (λ h.
     let l = ltb-false (c .line) (d .line) h in
     by-cases (eqb (c .line) (d .line))
-    (λ k. let g : leb (c .number) (d .number) ≡ false = rw (h, k) at e in let n = leb-false (c .number) (d .number) g in inr (sym (eqb-true _ _ k), omega arith))
-    (λ k. by-cases (ltb (d .line) (c .line)) (λ m. inl (ltb-true _ _ m)) (λ m. let w = ltb-false (d .line) (c .line) m in let z : c .line ≡ d .line = omega arith in absurd (eqb-false _ _ k z))))
+    (λ k. let g : leb (c .number) (d .number) ≡ false = rw (h, k) at e in let n = leb-false (c .number) (d .number) g in inr
+    (sym (eqb-true _ _ k), omega arith))
+    (λ k. by-cases (ltb (d .line) (c .line)) (λ m. inl (ltb-true _ _ m))
+    (λ m. let w = ltb-false (d .line) (c .line) m in let z : c .line ≡ d .line = omega arith in absurd (eqb-false _ _ k z))))
 
 -- One that goes behind a second, which goes behind a third, does not go before the third.
 goes-behind-both : (c d e : Complaint) → goesFirst c d ≡ false → goesFirst d e ≡ false → goesFirst c e ≡ false
@@ -146,7 +148,10 @@ first-wins line xs ys h k n = earliest-append xs ys ∙ of (earliest xs) (earlie
         rw (before-goes c d (inl (omega arith)))
 
 -- The complaints of sections behind a line, each on its section's header.
-pub gather-behind : (line : ℕ) (f : Section → List Complaint) → ((x : Section) → Each (λ c. c .line ≡ x .header) (f x)) → (xs : List Section) → Later line xs → Each (Behind line) (gather f xs)
+pub gather-behind : (line : ℕ) (f : Section → List Complaint) → ((x : Section) → Each (λ c. c .line ≡ x .header) (f x))
+    → (xs : List Section) → Later line xs → Each (Behind line) (gather f xs)
 unfolding Later gather Each Behind
 gather-behind line f h [] w = tt
-gather-behind line f h (x ∷ xs) w = each-append (λ c. line < c .line) (f x) (gather f xs) (each-map (λ c e. let l = w .0 in omega arith) (f x) (h x)) (gather-behind line f h xs (w .1))
+gather-behind line f h (x ∷ xs) w =
+    each-append (λ c. line < c .line) (f x) (gather f xs) (each-map (λ c e. let l = w .0 in omega arith) (f x) (h x))
+    (gather-behind line f h xs (w .1))

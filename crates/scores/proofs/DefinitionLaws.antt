@@ -13,7 +13,8 @@ use Rattle.songcode.specs.Lines.{Line, Block, blocks}
 use Rattle.songcode.specs.Complaints.{complainIf}
 use Rattle.songcode.specs.Song.{Items, Definition}
 use Rattle.songcode.specs.Sections.{behindFirst, twiceBy, twice, sectionIn}
-use Rattle.songcode.specs.SongText.{definition, blockKind, turn, blockOrder, definitionIf, definitionBlocks, sectionIf, sectionBlocks, headIn, headsFaults, firstLine, definitionItems, definitionFaults, definitionIn}
+use Rattle.songcode.specs.SongText.{definition, blockKind, turn, blockOrder, definitionIf, definitionBlocks, sectionIf, sectionBlocks}
+use Rattle.songcode.specs.SongText.{headIn, headsFaults, firstLine, definitionItems, definitionFaults, definitionIn}
 use Rattle.songcode.specs.PatternText.{depth, definitionText}
 use Rattle.songcode.specs.Tokens.{tokensOf}
 use Rattle.songcode.specs.References.{definitionOf}
@@ -86,7 +87,8 @@ unfolding Firsts LaterHeads definitionIn
 firsts-heads n [] h = tt
 firsts-heads n (b ∷ bs) h = let q = h .0 in (omega arith, firsts-heads n bs (h .1))
 
-module _ (s : List ℕ) (count : ℕ) (seen : List ℕ) (p : Place) (w : Leaves s count seen p) (inside : p .at < length s) (kind : blockKind (blockAt s (p .number) (p .at)) ≡ definition)
+module _ (s : List ℕ) (count : ℕ) (seen : List ℕ) (p : Place) (w : Leaves s count seen p) (inside : p .at < length s)
+    (kind : blockKind (blockAt s (p .number) (p .at)) ≡ definition)
     (e : DefinitionRead) (r : DefinitionAt s (p .number) (p .at) e) where
   abbrev block : Block
   block = blockAt s (p .number) (p .at)
@@ -106,12 +108,17 @@ module _ (s : List ℕ) (count : ℕ) (seen : List ℕ) (p : Place) (w : Leaves 
   unfolding blockOrder turn complainIf
   order-behind = let g : blockOrder 1 (block ∷ rest) ≡ [] = ap (blockOrder 1) (sym (w .opens inside)) ∙ w .order in rw kind at g
 
-  heads-parts : (complainIf (not (isSome (headIn (block .first))) || leb 26 count) 6 (block .first .number) ≡ []) × (headsFaults (suc count) (definitionBlocks rest) ≡ [])
+  heads-parts : (complainIf (not (isSome (headIn (block .first))) || leb 26 count) 6 (block .first .number) ≡ [])
+      × (headsFaults (suc count) (definitionBlocks rest) ≡ [])
   unfolding headsFaults
-  heads-parts = append-is-nil (complainIf (not (isSome (headIn (block .first))) || leb 26 count) 6 (block .first .number)) (headsFaults (suc count) (definitionBlocks rest)) (ap (headsFaults count) (sym first-definition) ∙ w .heads)
+  heads-parts =
+      append-is-nil (complainIf (not (isSome (headIn (block .first))) || leb 26 count) 6 (block .first .number))
+      (headsFaults (suc count) (definitionBlocks rest)) (ap (headsFaults count) (sym first-definition) ∙ w .heads)
 
   head-good : (not (isSome (headIn (block .first))) ≡ false) × (leb 26 count ≡ false)
-  head-good = none-passes (not (isSome (headIn (block .first)))) (leb 26 count) (complainIf-nil (not (isSome (headIn (block .first))) || leb 26 count) 6 (block .first .number) (heads-parts .0))
+  head-good =
+      none-passes (not (isSome (headIn (block .first)))) (leb 26 count)
+      (complainIf-nil (not (isSome (headIn (block .first))) || leb 26 count) 6 (block .first .number) (heads-parts .0))
 
   pub few-before : count < 26
   few-before = leb-false 26 count (head-good .1)
@@ -130,9 +137,11 @@ module _ (s : List ℕ) (count : ℕ) (seen : List ℕ) (p : Place) (w : Leaves 
   fresh-parts : (any (λ x. eqb x (e .id)) seen ≡ false) × (twice 6 headIn (e .id ∷ seen) (map firstLine (definitionBlocks rest)) ≡ [])
   unfolding twice twiceBy prepend firstLine
   fresh-parts =
-      let g : twice 6 headIn seen (map firstLine (block ∷ definitionBlocks rest)) ≡ [] = ap (λ bs. twice 6 headIn seen (map firstLine bs)) (sym first-definition) ∙ w .fresh in
+      let g : twice 6 headIn seen (map firstLine (block ∷ definitionBlocks rest)) ≡ [] = ap (λ bs. twice 6 headIn seen (map firstLine bs))
+      (sym first-definition) ∙ w .fresh in
       let h : complainIf (any (λ x. eqb x (e .id)) seen) 6 (block .first .number) ++ twice 6 headIn (e .id ∷ seen) (map firstLine (definitionBlocks rest)) ≡ [] = rw head-is at g in
-      let a = append-is-nil (complainIf (any (λ x. eqb x (e .id)) seen) 6 (block .first .number)) (twice 6 headIn (e .id ∷ seen) (map firstLine (definitionBlocks rest))) h in
+      let a = append-is-nil (complainIf (any (λ x. eqb x (e .id)) seen) 6 (block .first .number))
+      (twice 6 headIn (e .id ∷ seen) (map firstLine (definitionBlocks rest))) h in
       (complainIf-nil (any (λ x. eqb x (e .id)) seen) 6 (block .first .number) (a .0), a .1)
 
   pub not-seen : any (λ x. eqb x (e .id)) seen ≡ false
@@ -140,7 +149,9 @@ module _ (s : List ℕ) (count : ℕ) (seen : List ℕ) (p : Place) (w : Leaves 
 
   texts-parts : (definitionFaults (block .others) ≡ []) × (gather (λ b. definitionFaults (b .others)) (definitionBlocks rest) ≡ [])
   unfolding gather
-  texts-parts = append-is-nil (definitionFaults (block .others)) (gather (λ b. definitionFaults (b .others)) (definitionBlocks rest)) (ap (gather (λ b. definitionFaults (b .others))) (sym first-definition) ∙ w .texts)
+  texts-parts =
+      append-is-nil (definitionFaults (block .others)) (gather (λ b. definitionFaults (b .others)) (definitionBlocks rest))
+      (ap (gather (λ b. definitionFaults (b .others))) (sym first-definition) ∙ w .texts)
 
   abbrev pub readDefinition : Definition
   readDefinition = record { head = e .head; id = e .id; items = definitionItems (linesOf s (e .pattern)) }
@@ -177,7 +188,9 @@ module _ (s : List ℕ) (count : ℕ) (seen : List ℕ) (p : Place) (w : Leaves 
     unfolding linesPast
     firsts-left =
         let n = p .number in
-        let f = blocks-from (n + 1) (linesPast s n (p .at)) (each-left (From (n + 1)) (passing Full) (textLines s (n + 1) (lineAt s n (p .at) .next)) (from-lines s (n + 1) (lineAt s n (p .at) .next))) in
+        let f = blocks-from (n + 1) (linesPast s n (p .at))
+        (each-left (From (n + 1)) (passing Full) (textLines s (n + 1) (lineAt s n (p .at) .next))
+        (from-lines s (n + 1) (lineAt s n (p .at) .next))) in
         subst (Firsts (n + 1)) behind f
 
     pub heads-later : LaterHeads (e .head) (definitionsFrom s q)

@@ -10,7 +10,8 @@ use Rattle.songcode.specs.Lists.{gather, when}
 use Rattle.songcode.specs.Complaints.{complainIf}
 use Rattle.songcode.specs.Song.{Items, Pattern, items, named, Definition, Section}
 use Rattle.songcode.specs.PatternText.{noReference, depth, loopsDeep, references}
-use Rattle.songcode.specs.References.{definitionOf, itemsOf, putIn, itemsFault, referenceFault, depthFault, definitionReferences, definitionsReferences, namedFault, sectionReference}
+use Rattle.songcode.specs.References.{definitionOf, itemsOf, putIn, itemsFault, referenceFault, depthFault, definitionReferences}
+use Rattle.songcode.specs.References.{definitionsReferences, namedFault, sectionReference}
 use Rattle.songcode.proofs.ListLaws.{Each, each-append, each-map}
 use Rattle.scores.proofs.ComplaintLaws.{Behind}
 use Rattle.scores.proofs.DefinitionLaws.{LaterHeads}
@@ -34,7 +35,9 @@ reference-line (some x) head = items-line (x .items) head
 gathered-line : (ds : List Definition) (head : ℕ) (ns : List ℕ) → Each (λ c. c .line ≡ head) (gather (λ n. referenceFault (definitionOf n ds) head) ns)
 unfolding gather Each
 gathered-line ds head [] = tt
-gathered-line ds head (n ∷ ns) = each-append (λ c. c .line ≡ head) (referenceFault (definitionOf n ds) head) (gather (λ n. referenceFault (definitionOf n ds) head) ns) (reference-line (definitionOf n ds) head) (gathered-line ds head ns)
+gathered-line ds head (n ∷ ns) =
+    each-append (λ c. c .line ≡ head) (referenceFault (definitionOf n ds) head) (gather (λ n. referenceFault (definitionOf n ds) head) ns)
+    (reference-line (definitionOf n ds) head) (gathered-line ds head ns)
 
 pub definition-line : (ds : List Definition) (i : Option Items) (head : ℕ) → Each (λ c. c .line ≡ head) (definitionReferences ds i head)
 unfolding definitionReferences depthFault Each

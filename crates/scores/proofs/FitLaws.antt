@@ -14,8 +14,11 @@ use Rattle.songcode.specs.Bytes.{Byte, placed, is, isByte}
 use Rattle.songcode.specs.Numbers.{countIn, repeatIn}
 use Rattle.songcode.specs.Chords.{Chord, chordIn}
 use Rattle.songcode.specs.Lines.{Line}
-use Rattle.songcode.specs.Song.{Sound, chord, again, silence, Sounds, only, also, Beside, nothing, aLineEnd, Separator, bySemicolon, byLineEnd, byColon, Item, measure, loop, refer, Items, one, next}
-use Rattle.songcode.specs.Tokens.{Token, sound, remover, reference, semicolon, colon, lineEnd, opens, closes, wrong, Class, blank, semi, double, bracket, closing, plain, class, chordToken, referenceToken, closingToken, dollarOr, wordToken, Lexed, word, lexedBy, lexed, tokens, tokensOf}
+use Rattle.songcode.specs.Song.{Sound, chord, again, silence, Sounds, only, also, Beside, nothing, aLineEnd, Separator, bySemicolon}
+use Rattle.songcode.specs.Song.{byLineEnd, byColon, Item, measure, loop, refer, Items, one, next}
+use Rattle.songcode.specs.Tokens.{Token, sound, remover, reference, semicolon, colon, lineEnd, opens, closes, wrong, Class, blank, semi}
+use Rattle.songcode.specs.Tokens.{double, bracket, closing, plain, class, chordToken, referenceToken, closingToken, dollarOr, wordToken}
+use Rattle.songcode.specs.Tokens.{Lexed, word, lexedBy, lexed, tokens, tokensOf}
 use Rattle.songcode.specs.WrittenPattern.{writeSounds, writeRemovers, writeMeasure, writeBeside, writeSeparator, writeItem, writeItems}
 use Rattle.songcode.proofs.NumbersAgree.{count-exact, repeat-exact}
 use Rattle.songcode.proofs.ListLaws.{by-cases, Each, each-append}
@@ -76,7 +79,9 @@ word-counted w =
   where
     dollar : (v : List Byte) → Counted (dollarOr v)
     dollar [] = tt
-    dollar (b ∷ bs) = if-counted (isByte 36 b) (referenceToken (countIn bs)) (chordToken (chordIn (b ∷ bs))) (reference-counted bs) (chord-counted (chordIn (b ∷ bs)))
+    dollar (b ∷ bs) =
+        if-counted (isByte 36 b) (referenceToken (countIn bs)) (chordToken (chordIn (b ∷ bs))) (reference-counted bs)
+        (chord-counted (chordIn (b ∷ bs)))
 
 words-counted : (w : List Byte) (ts : List Token) → Each Counted ts → Each Counted (word w ts)
 unfolding word Each
@@ -156,7 +161,9 @@ module _ (s : List ℕ) (small : length s ≤ 65536) where
 
   pub run-good : (run : Run) → Each Good (runTokens (linesOf s run))
   unfolding linesOf textLines runTokens
-  run-good run = go (linesOf s run) (take-good (run .lines) (textLines s (run .number) (run .at)) (spans-good (spansFrom (run .number) (run .at) 0 (drop (run .at) s))))
+  run-good run =
+      go (linesOf s run) (take-good (run .lines) (textLines s (run .number) (run .at))
+      (spans-good (spansFrom (run .number) (run .at) 0 (drop (run .at) s))))
     where
       go : (ls : List Line) → Each GoodLine ls → Each Good (runTokens ls)
       go [] h = none-good

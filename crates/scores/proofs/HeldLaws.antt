@@ -57,7 +57,8 @@ laid-there fill new ws h =
     let l : length (take fill ws) ≡ fill = length-take fill ws ∙ omega arith in
     let a : take (length (take fill ws) + length new) (laid fill new ws) ≡ take fill ws ++ take (length new) (new ++ drop (fill + length new) ws) = take-append-add (take fill ws) (new ++ drop (fill + length new) ws) (length new) in
     let b : take (length new) (new ++ drop (fill + length new) ws) ≡ new = take-at new (drop (fill + length new) ws) (length new) refl in
-    let c : take (fill + length new) (laid fill new ws) ≡ take fill ws ++ new = ap (λ (k : ℕ). take (k + length new) (laid fill new ws)) (sym l) ∙ a ∙ ap (λ ys. take fill ws ++ ys) b in
+    let c : take (fill + length new) (laid fill new ws) ≡ take fill ws ++ new = ap (λ (k : ℕ). take (k + length new) (laid fill new ws))
+    (sym l) ∙ a ∙ ap (λ ys. take fill ws ++ ys) b in
     ap (drop fill) c ∙ drop-at (take fill ws) new fill l
 
 pub laid-before : (fill : ℕ) (new ws : List ℕ) → fill ≤ length ws → take fill (laid fill new ws) ≡ take fill ws
@@ -98,7 +99,8 @@ module _ (ds : List Definition) (ws : List ℕ) (fill : ℕ) where
     held-kept (some d) m at o h = (h .0, items-kept (d .items) at o (h .1))
 
   -- A definition that is found is held, and so are its items.
-  pub found-held : (c : Option Definition) (m : Bool) (at : Stretch) (o : Outline) (d : Definition) (q : Items) → Held ds ws fill c m at o → c ≡ some d → d .items ≡ some q → HeldText ds ws fill at o q
+  pub found-held : (c : Option Definition) (m : Bool) (at : Stretch) (o : Outline) (d : Definition) (q : Items) → Held ds ws fill c m at o
+      → c ≡ some d → d .items ≡ some q → HeldText ds ws fill at o q
   unfolding Held HeldItems
   found-held c m at o d q h e f = items (d .items) f (held c e h)
     where
@@ -122,7 +124,8 @@ pub references-right : (ds : List Definition) (r : Items) (head : ℕ) → defin
 unfolding definitionReferences
 references-right ds r head e =
     each-map (λ n f. refers-to ds n head (definitionOf n ds) refl f) (references r)
-    (gather-nil (λ n. referenceFault (definitionOf n ds) head) (references r) (append-is-nil (gather (λ n. referenceFault (definitionOf n ds) head) (references r)) (depthFault ds r head) e .0))
+    (gather-nil (λ n. referenceFault (definitionOf n ds) head) (references r)
+    (append-is-nil (gather (λ n. referenceFault (definitionOf n ds) head) (references r)) (depthFault ds r head) e .0))
 
 -- A new definition, where the earlier ones among all are held.
 module _ (ds earlier : List Definition) (d : Definitions) (o : Outlines) (ws : List ℕ) (fill : ℕ)
@@ -136,18 +139,29 @@ module _ (ds earlier : List Definition) (d : Definitions) (o : Outlines) (ws : L
   unfolding Each ReferAll
   refers-all [] h = tt
   refers-all (n ∷ ns) h =
-      let w = h .0 in
-      (record { definition = w .definition; items = w .items; found = agree n (w .definition) (w .found); filled = w .filled; plain = w .plain }, refers-all ns (h .1))
+      let w = h .0 in (
+        record {
+          definition = w .definition;
+          items = w .items;
+          found = agree n (w .definition) (w .found);
+          filled = w .filled;
+          plain = w .plain;
+        },
+        refers-all ns (h .1),
+      )
 
   refer-told : (n : ℕ) → Refers earlier n → Told (lookUp d o) (itemsOf ds) n
   unfolding Told putInItem itemsOf andThen orElse
   refer-told n w =
-      let t = found-held ds ws fill (definitionOf n earlier) (isMissing d o n) (stretchOf d n) (lookUp d o n) (w .definition) (w .items) (held n) (w .found) (w .filled) .tells in
+      let t = found-held ds ws fill (definitionOf n earlier) (isMissing d o n) (stretchOf d n) (lookUp d o n) (w .definition) (w .items)
+      (held n) (w .found) (w .filled) .tells in
       let k : Tells (lookUp d o n) (w .items) = rw (putIn-same (itemsOf ds) (w .items) (w .plain)) at t in
       rw (agree n (w .definition) (w .found), w .filled) k
 
   -- The words of its lines stand in its stretch.
-  module _ (vs : List ℕ) (at : Stretch) (ls : List Line) (good : Each Good (runTokens ls)) (there : drop (at .from) (take (at .to) vs) ≡ tokenWords (runTokens ls)) (size : at .to ≡ at .from + length (tokenWords (runTokens ls))) (head : ℕ) where
+  module _ (vs : List ℕ) (at : Stretch) (ls : List Line) (good : Each Good (runTokens ls))
+      (there : drop (at .from) (take (at .to) vs) ≡ tokenWords (runTokens ls))
+      (size : at .to ≡ at .from + length (tokenWords (runTokens ls))) (head : ℕ) where
     stands : (r : Items) → definitions.Says ls (some r) → Stands vs at r
     unfolding Stands definitions.Says
     stands r w = there ∙ ap tokenWords (w .0)
@@ -161,12 +175,15 @@ module _ (ds earlier : List Definition) (d : Definitions) (o : Outlines) (ws : L
     nothing-there w = there ∙ rw w
 
     -- Its fault is what stage 3 says of it.
-    pub fault-is : (i : Option Items) → definitions.Says ls i → refusal (faultIn (isMissing d o) (lookUp d o) (drop (at .from) (take (at .to) vs))) head ≡ earliest (definitionReferences earlier i head)
+    pub fault-is : (i : Option Items) → definitions.Says ls i
+        → refusal (faultIn (isMissing d o) (lookUp d o) (drop (at .from) (take (at .to) vs))) head
+        ≡ earliest (definitionReferences earlier i head)
     unfolding faultIn allFaults faultless faultNumber refusal earliest definitionReferences if_then_else_ definitions.Says
     fault-is none w = rw (nothing-there w) refl
     fault-is (some r) w = fault-given earlier (isMissing d o) (lookUp d o) earlier-known head vs at r (stands r w) (fits r w) (w .1)
 
-    pub items-new : (i : Option Items) → definitions.Says ls i → definitionReferences earlier i head ≡ [] → HeldItems ds vs (at .to) at (outlined (lookUp d o) (drop (at .from) (take (at .to) vs))) i
+    pub items-new : (i : Option Items) → definitions.Says ls i → definitionReferences earlier i head ≡ []
+        → HeldItems ds vs (at .to) at (outlined (lookUp d o) (drop (at .from) (take (at .to) vs))) i
     unfolding HeldItems KnowsItems definitions.Says tokenWords
     items-new none w e = (let z : length (tokenWords (runTokens ls)) ≡ 0 = rw w in omega arith, empty-known (lookUp d o) vs at (nothing-there w))
     items-new (some r) w e =
@@ -183,7 +200,8 @@ module _ (ds earlier : List Definition) (d : Definitions) (o : Outlines) (ws : L
 
 -- Where all definitions are held, each number says what the song does.
 module _ (ds : List Definition) (ws : List ℕ) (score : Score)
-    (held : (n : ℕ) → Held ds ws (score .fill) (definitionOf n ds) (isMissing (score .definitions) (score .outlines) n) (stretchOf (score .definitions) n) (lookUp (score .definitions) (score .outlines) n)) where
+    (held : (n : ℕ) → Held ds ws (score .fill) (definitionOf n ds) (isMissing (score .definitions) (score .outlines) n)
+    (stretchOf (score .definitions) n) (lookUp (score .definitions) (score .outlines) n)) where
   abbrev d : Definitions
   d = score .definitions
 
@@ -202,11 +220,13 @@ module _ (ds : List Definition) (ws : List ℕ) (score : Score)
   unfolding Held HeldItems isSome patternItems itemsOf andThen vacant namedText
   filled-told n = of (definitionOf n ds) (held n)
     where
-      items : (i : Option Items) → HeldItems ds ws (score .fill) (stretchOf d n) (lookUp d o n) i → lookUp d o n .empty ≡ not (isSome (andThen i (λ r. some (putIn (itemsOf ds) r))))
+      items : (i : Option Items) → HeldItems ds ws (score .fill) (stretchOf d n) (lookUp d o n) i
+          → lookUp d o n .empty ≡ not (isSome (andThen i (λ r. some (putIn (itemsOf ds) r))))
       items none h = rw (h .1)
       items (some r) h = h .sketched .filled
 
-      of : (c : Option Definition) → Held ds ws (score .fill) c (isMissing d o n) (stretchOf d n) (lookUp d o n) → lookUp d o n .empty ≡ not (isSome (andThen (andThen c (λ x. x .items)) (λ r. some (putIn (itemsOf ds) r))))
+      of : (c : Option Definition) → Held ds ws (score .fill) c (isMissing d o n) (stretchOf d n) (lookUp d o n)
+          → lookUp d o n .empty ≡ not (isSome (andThen (andThen c (λ x. x .items)) (λ r. some (putIn (itemsOf ds) r))))
       of none h = rw (h .2)
       of (some x) h = items (x .items) (h .1)
 
@@ -214,11 +234,18 @@ module _ (ds : List Definition) (ws : List ℕ) (score : Score)
     refers : (n : ℕ) → Refers ds n → walkables.Refers vs d (itemsOf ds) n
     unfolding itemsOf andThen
     refers n w =
-        let t = found-held ds ws (score .fill) (definitionOf n ds) (isMissing d o n) (stretchOf d n) (lookUp d o n) (w .definition) (w .items) (held n) (w .found) (w .filled) in
+        let t = found-held ds ws (score .fill) (definitionOf n ds) (isMissing d o n) (stretchOf d n) (lookUp d o n) (w .definition)
+        (w .items) (held n) (w .found) (w .filled) in
         let k = t .shallow in
         record {
           items = w .items;
-          says = record { said = rw (w .found) (w .filled); plain = w .plain; stands = stands-kept ws vs (score .fill) (stretchOf d n) (w .items) (t .within) same (t .stands) };
+          says =
+              record {
+                said = rw (w .found) (w .filled);
+                plain = w .plain;
+                stands = stands-kept ws vs (score .fill) (stretchOf d n)
+                    (w .items) (t .within) same (t .stands);
+              };
           fits = t .fits;
           shallow = omega arith;
         }
@@ -232,7 +259,8 @@ module _ (ds : List Definition) (ws : List ℕ) (score : Score)
     unfolding Held HeldItems patternItems itemsOf andThen Carries namedText
     carries-all n = of (definitionOf n ds) (held n)
       where
-        items : (i : Option Items) → HeldItems ds ws (score .fill) (stretchOf d n) (lookUp d o n) i → Carries vs d (namedText score n) (andThen i (λ r. some (putIn (itemsOf ds) r)))
+        items : (i : Option Items) → HeldItems ds ws (score .fill) (stretchOf d n) (lookUp d o n) i
+            → Carries vs d (namedText score n) (andThen i (λ r. some (putIn (itemsOf ds) r)))
         items none h = (h .1, λ k. empty-row d k vs (stretchOf d n) (h .0))
         items (some r) h =
             let z = h .shallow in (
@@ -244,6 +272,7 @@ module _ (ds : List Definition) (ws : List ℕ) (score : Score)
                   (stands-kept ws vs (score .fill) (stretchOf d n) r (h .within) same (h .stands)),
             )
 
-        of : (c : Option Definition) → Held ds ws (score .fill) c (isMissing d o n) (stretchOf d n) (lookUp d o n) → Carries vs d (namedText score n) (andThen (andThen c (λ x. x .items)) (λ r. some (putIn (itemsOf ds) r)))
+        of : (c : Option Definition) → Held ds ws (score .fill) c (isMissing d o n) (stretchOf d n) (lookUp d o n)
+            → Carries vs d (namedText score n) (andThen (andThen c (λ x. x .items)) (λ r. some (putIn (itemsOf ds) r)))
         of none h = (h .2, λ k. empty-row d k vs (stretchOf d n) (h .1))
         of (some x) h = items (x .items) (h .1)

@@ -28,7 +28,8 @@ module _ (n : ℕ) (all held : List ℕ) (inside : n ≤ length held) where
       let m : length (p ++ y) ≡ to = let k = length-append p y in omega arith in
       let w : laid n all held ≡ (p ++ y) ++ (z ++ rest) =
       ap (λ (ws : List ℕ). take n held ++ (ws ++ rest)) e
-      ∙ sym (append-assoc p y (z ++ rest) ∙ append-assoc (take n held) x (y ++ (z ++ rest)) ∙ ap (λ (ws : List ℕ). take n held ++ ws) (sym (append-assoc x (y ++ z) rest ∙ ap (λ (ws : List ℕ). x ++ ws) (append-assoc y z rest)))) in
+      ∙ sym (append-assoc p y (z ++ rest) ∙ append-assoc (take n held) x (y ++ (z ++ rest)) ∙ ap (λ (ws : List ℕ). take n held ++ ws)
+      (sym (append-assoc x (y ++ z) rest ∙ ap (λ (ws : List ℕ). x ++ ws) (append-assoc y z rest)))) in
       rw (w, take-at (p ++ y) (z ++ rest) to m, drop-at p y from l)
 
   pub laid-before : take n (laid n all held) ≡ take n held

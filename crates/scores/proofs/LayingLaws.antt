@@ -74,7 +74,8 @@ lines-less {s} {n} {at} {l} f h = let onward = f .onward in let over = f .over i
 
 -- The first line of a run is laid, if there is one; its line end is counted to it.
 pub record First (s : List ℕ) (run : Run) (l : Line) : Type 0 where
-  pub words : tokenWords (runTokens (linesOf s run)) ≡ tokenWords (tokensFrom (l .start) (l .stop) s) ++ moreWords (take (run .lines - 1) (textLines s (run .number + 1) (l .next)))
+  pub words : tokenWords (runTokens (linesOf s run))
+      ≡ tokenWords (tokensFrom (l .start) (l .stop) s) ++ moreWords (take (run .lines - 1) (textLines s (run .number + 1) (l .next)))
   pub room : (l .stop - l .start) + weight (take (run .lines - 1) (textLines s (run .number + 1) (l .next))) ≤ weight (linesOf s run)
 
 module _ {s : List ℕ} (run : Run) {l : Line} (f : Found s (run .number) (run .at) l) (some-left : run .lines ≡ 0 → ⊥) (inside : run .at ≤ length s) where
@@ -89,7 +90,9 @@ module _ {s : List ℕ} (run : Run) {l : Line} (f : Found s (run .number) (run .
       let before = f .next in
       let k = text-length s l (omega arith) in
       record {
-        words = ap (λ ls. tokenWords (runTokens ls)) e ∙ ap tokenWords (tokens-more (lineText s l) rest) ∙ words-append (tokens (lineText s l .text)) (moreTokens rest);
+        words =
+            ap (λ ls. tokenWords (runTokens ls)) e ∙ ap tokenWords (tokens-more (lineText s l) rest) ∙ words-append
+            (tokens (lineText s l .text)) (moreTokens rest);
         room = rw e (omega arith);
       }
 
@@ -121,7 +124,8 @@ pub record Lays (s : List ℕ) (held : List ℕ) (n line₀ at₀ left₀ : ℕ)
   pub all : done ++ moreWords (take left (textLines s line at)) ≡ moreWords (take left₀ (textLines s line₀ at₀))
   pub room : fill + weight (take left (textLines s line at)) ≤ length held
 
-pub lays-none : (s held : List ℕ) (n line at left : ℕ) → n + weight (take left (textLines s line at)) ≤ length held → Lays s held n line at left held n line at left
+pub lays-none : (s held : List ℕ) (n line at left : ℕ) → n + weight (take left (textLines s line at)) ≤ length held
+    → Lays s held n line at left held n line at left
 lays-none s held n line at left h =
     record { done = []; table = laid-none n held; filled = omega arith; same = refl; all = refl; room = h }
 
@@ -181,7 +185,8 @@ module _ (s held : List ℕ) (n line₀ at₀ left₀ : ℕ) {words : List ℕ} 
 
 -- The whole run is laid.
 pub run-laid : (s : List ℕ) (run : Run) (l : Line) (n : ℕ) (held table words : List ℕ) (fill₀ fill line at left : ℕ) → First s run l
-    → table ≡ laid n (tokenWords (tokensFrom (l .start) (l .stop) s)) held → fill₀ ≡ n + length (tokenWords (tokensFrom (l .start) (l .stop) s)) → fill₀ ≤ length held
+    → table ≡ laid n (tokenWords (tokensFrom (l .start) (l .stop) s)) held → fill₀ ≡ n + length
+    (tokenWords (tokensFrom (l .start) (l .stop) s)) → fill₀ ≤ length held
     → (i : Lays s table fill₀ (run .number + 1) (l .next) (run .lines - 1) words fill line at left)
     → i .done ≡ moreWords (take (run .lines - 1) (textLines s (run .number + 1) (l .next)))
     → (words ≡ laid n (tokenWords (runTokens (linesOf s run))) held) × (fill ≡ n + length (tokenWords (runTokens (linesOf s run))))
@@ -194,7 +199,8 @@ run-laid s run l n held table words fill₀ fill line at left f a b h i e =
     (rw w (i .table ∙ rw a (laid-laid n fill₀ x y held b h)), rw w (sym m))
 
 -- A setting that is said, and how long it is.
-pub said-some : (s : List ℕ) (r : Said) → (r .line ≡ 0 → ⊥) → settingAt s r ≡ some (record { line = r .line; text = placed (r .start) (part (r .start) (r .stop) s) })
+pub said-some : (s : List ℕ) (r : Said) → (r .line ≡ 0 → ⊥)
+    → settingAt s r ≡ some (record { line = r .line; text = placed (r .start) (part (r .start) (r .stop) s) })
 unfolding settingAt if_then_else_
 said-some s r h = rw (ne-eqb _ _ h)
 

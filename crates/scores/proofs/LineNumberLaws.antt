@@ -19,8 +19,10 @@ pub run-behind : (s : List ℕ) (t : Test) (n at : ℕ) (r : Run) → Longest s 
 unfolding linesBehind
 run-behind s t n at r w = ap (λ (k : ℕ). textLines s (k + r .lines) (r .next)) (sym (w .number)) ∙ w .behind
 
-pub run-passed : (s : List ℕ) (t : Test) (n at : ℕ) (r : Run) → Longest s t n at r → textLines s n at ≡ taken (passing t) (textLines s n at) ++ textLines s (n + r .lines) (r .next)
-run-passed s t n at r w = sym (taken-left (passing t) (textLines s n at)) ∙ ap (λ ls. taken (passing t) (textLines s n at) ++ ls) (sym (run-behind s t n at r w))
+pub run-passed : (s : List ℕ) (t : Test) (n at : ℕ) (r : Run) → Longest s t n at r
+    → textLines s n at ≡ taken (passing t) (textLines s n at) ++ textLines s (n + r .lines) (r .next)
+run-passed s t n at r w =
+    sym (taken-left (passing t) (textLines s n at)) ∙ ap (λ ls. taken (passing t) (textLines s n at) ++ ls) (sym (run-behind s t n at r w))
 
 -- Lines numbered one after another.
 Counts : ℕ → List Line → Type 0

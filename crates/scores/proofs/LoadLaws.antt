@@ -13,7 +13,9 @@ use Rattle.songcode.specs.Complaints.{Complaint, complaint, complainIf, earlies
 use Rattle.songcode.specs.Lines.{Block, blocks}
 use Rattle.songcode.specs.Song.{items, Definition}
 use Rattle.songcode.specs.Sections.{twice, sectionFaults, sectionIn}
-use Rattle.songcode.specs.SongText.{definition, blockKind, turn, blockOrder, definitionIf, definitionBlocks, sectionIf, sectionBlocks, headIn, headsFaults, firstLine, definitionItems, definitionFaults, definitionsFaults, definitionIn, textFaults, songIn}
+use Rattle.songcode.specs.SongText.{definition, blockKind, turn, blockOrder, definitionIf, definitionBlocks, sectionIf, sectionBlocks}
+use Rattle.songcode.specs.SongText.{headIn, headsFaults, firstLine, definitionItems, definitionFaults, definitionsFaults, definitionIn}
+use Rattle.songcode.specs.SongText.{textFaults, songIn}
 use Rattle.songcode.specs.References.{definitionOf, definitionReferences, definitionsReferences, sectionReference, referenceFaults}
 use Rattle.songcode.specs.WrittenSong.{idOf}
 use Rattle.songcode.specs.Answer.{blocksOf, songOf}
@@ -83,7 +85,8 @@ module _ (s ws : List ℕ) (p : Place) (faultless : textFaults (blocksOf s) ≡ 
         texts = a .1;
       }
 
-  pub loading-first : (d : Definitions) (o : Outlines) → length s ≤ 65536 → length s ≤ length ws → d .count ≡ 0 → length (d .ids) ≡ 26 → length (d .from) ≡ 26 → length (d .to) ≡ 26 → o .count ≡ 0 → Roomy o
+  pub loading-first : (d : Definitions) (o : Outlines) → length s ≤ 65536 → length s ≤ length ws → d .count ≡ 0 → length (d .ids) ≡ 26
+      → length (d .from) ≡ 26 → length (d .to) ≡ 26 → o .count ≡ 0 → Roomy o
       → Loading s ws (record { definitions = d; outlines = o; fill = 0 }) p
   unfolding idOf definitionOf firstThere Held
   loading-first d o small room count ids from to none-yet roomy =
@@ -108,7 +111,8 @@ refusal-some zero head n = absurd (n refl)
 refusal-some (suc f) head n = refl
 
 -- The definition at a place is loaded.
-module _ (s ws : List ℕ) (score : Score) (p : Place) (w : Loading s ws score p) (inside : p .at < length s) (kind : blockKind (blockAt s (p .number) (p .at)) ≡ definition)
+module _ (s ws : List ℕ) (score : Score) (p : Place) (w : Loading s ws score p) (inside : p .at < length s)
+    (kind : blockKind (blockAt s (p .number) (p .at)) ≡ definition)
     (e : DefinitionRead) (r : DefinitionAt s (p .number) (p .at) e) where
   abbrev new : List ℕ
   new = tokenWords (runTokens (linesOf s (e .pattern)))
@@ -150,7 +154,8 @@ module _ (s ws : List ℕ) (score : Score) (p : Place) (w : Loading s ws score p
         rw laid-is (laid-length (score .fill) new ws (omega arith))
 
     module _ (q : Place) (x : NextAt s (e .pattern .number + e .pattern .lines) (e .pattern .next) q) (f : ℕ)
-        (f-is : f ≡ faultIn (isMissing (score .definitions) (score .outlines)) (lookUp (score .definitions) (score .outlines)) (drop (score .fill) (take end vs))) where
+        (f-is : f ≡ faultIn (isMissing (score .definitions) (score .outlines)) (lookUp (score .definitions) (score .outlines))
+        (drop (score .fill) (take end vs))) where
       abbrev new-definition : Definition
       new-definition = record { head = e .head; id = e .id; items = definitionItems (linesOf s (e .pattern)) }
 
@@ -160,7 +165,8 @@ module _ (s ws : List ℕ) (score : Score) (p : Place) (w : Loading s ws score p
       fault-said : refusal f (e .head) ≡ earliest complaints
       fault-said =
           rw f-is
-          (fault-is ds (w .earlier) (score .definitions) (score .outlines) ws (score .fill) (w .held) agree vs text (linesOf s (e .pattern)) (run-good s (w .small) (e .pattern)) there end-is (e .head)
+          (fault-is ds (w .earlier) (score .definitions) (score .outlines) ws (score .fill) (w .held) agree vs text (linesOf s (e .pattern))
+          (run-good s (w .small) (e .pattern)) there end-is (e .head)
           (definitionItems (linesOf s (e .pattern)))
           (lines-say s (score .definitions .count) (map idOf (w .earlier)) p (w .leaves) inside kind e r))
 
@@ -194,7 +200,8 @@ module _ (s ws : List ℕ) (score : Score) (p : Place) (w : Loading s ws score p
       all-behind : Each (Behind (e .head)) (later-said ++ sections-said)
       all-behind =
           each-append (Behind (e .head)) later-said sections-said
-          (definitions-behind (e .head) (new-definition ∷ w .earlier) (definitionsFrom s q) (heads-later s (score .definitions .count) (map idOf (w .earlier)) p (w .leaves) inside kind e r q x))
+          (definitions-behind (e .head) (new-definition ∷ w .earlier) (definitionsFrom s q)
+          (heads-later s (score .definitions .count) (map idOf (w .earlier)) p (w .leaves) inside kind e r q x))
           sections-behind
 
       complaints-here : Each (UpTo (e .head)) complaints
@@ -227,27 +234,36 @@ module _ (s ws : List ℕ) (score : Score) (p : Place) (w : Loading s ws score p
         next-score = record { definitions = numbered (score .definitions) (e .id) text; outlines = extended (score .outlines) found-outline; fill = end }
 
         held-next : (n : ℕ)
-            → Held ds vs end (definitionOf n (new-definition ∷ w .earlier)) (isMissing (next-score .definitions) (next-score .outlines) n) (stretchOf (next-score .definitions) n) (lookUp (next-score .definitions) (next-score .outlines) n)
+            → Held ds vs end (definitionOf n (new-definition ∷ w .earlier)) (isMissing (next-score .definitions) (next-score .outlines) n)
+            (stretchOf (next-score .definitions) n) (lookUp (next-score .definitions) (next-score .outlines) n)
         unfolding definitionOf if_then_else_ Held
         held-next n =
             by-cases (eqb (e .id) n)
             (λ t.
             let i = eqb-true (e .id) n t in
-            let gone : isMissing (score .definitions) (score .outlines) n ≡ true = missing-before (ap (λ (k : ℕ). definitionOf k (w .earlier)) (sym i) ∙ not-before) (w .held n) in
+            let gone : isMissing (score .definitions) (score .outlines) n ≡ true = missing-before
+            (ap (λ (k : ℕ). definitionOf k (w .earlier)) (sym i) ∙ not-before) (w .held n) in
             let y = seen-new (score .definitions) (score .outlines) (e .id) text found-outline (w .even) few n i gone in
             rw (t, y .missing-is, y .at-is, y .outline-is) (refl, held-new))
             (λ t.
             let y = alike-other (score .definitions) (score .outlines) (e .id) text found-outline (w .even) few n (eqb-false (e .id) n t) in
             rw (t, y .missing-same, y .at-same, y .outline-same)
-            (held-kept ds ws (score .fill) vs end (omega arith) before (definitionOf n (w .earlier)) (isMissing (score .definitions) (score .outlines) n) (stretchOf (score .definitions) n) (lookUp (score .definitions) (score .outlines) n) (w .held n)))
+            (held-kept ds ws (score .fill) vs end (omega arith) before (definitionOf n (w .earlier))
+            (isMissing (score .definitions) (score .outlines) n) (stretchOf (score .definitions) n)
+            (lookUp (score .definitions) (score .outlines) n) (w .held n)))
           where
-            missing-before : definitionOf n (w .earlier) ≡ none → Held ds ws (score .fill) (definitionOf n (w .earlier)) (isMissing (score .definitions) (score .outlines) n) (stretchOf (score .definitions) n) (lookUp (score .definitions) (score .outlines) n)
+            missing-before : definitionOf n (w .earlier) ≡ none
+                → Held ds ws (score .fill) (definitionOf n (w .earlier)) (isMissing (score .definitions) (score .outlines) n)
+                (stretchOf (score .definitions) n) (lookUp (score .definitions) (score .outlines) n)
                 → isMissing (score .definitions) (score .outlines) n ≡ true
-            missing-before z h = let g : Held ds ws (score .fill) none (isMissing (score .definitions) (score .outlines) n) (stretchOf (score .definitions) n) (lookUp (score .definitions) (score .outlines) n) = rw z at h in g .0
+            missing-before z h =
+                let g : Held ds ws (score .fill) none (isMissing (score .definitions) (score .outlines) n) (stretchOf (score .definitions) n) (lookUp (score .definitions) (score .outlines) n) = rw z at h in
+                g .0
 
             held-new : HeldItems ds vs end text found-outline (definitionItems (linesOf s (e .pattern)))
             held-new =
-                items-new ds (w .earlier) (score .definitions) (score .outlines) ws (score .fill) (w .held) agree vs text (linesOf s (e .pattern)) (run-good s (w .small) (e .pattern)) there end-is (e .head)
+                items-new ds (w .earlier) (score .definitions) (score .outlines) ws (score .fill) (w .held) agree vs text
+                (linesOf s (e .pattern)) (run-good s (w .small) (e .pattern)) there end-is (e .head)
                 (definitionItems (linesOf s (e .pattern)))
                 (lines-say s (score .definitions .count) (map idOf (w .earlier)) p (w .leaves) inside kind e r)
                 none-said
@@ -281,7 +297,11 @@ module _ (s ws : List ℕ) (score : Score) (p : Place) (w : Loading s ws score p
 
       pub loads-one : (d' : Definitions) (o' : Outlines) (y : Outline) → d' ≡ numbered (score .definitions) (e .id) text → o' ≡ extended (score .outlines) y
           → y ≡ outlined (lookUp (score .definitions) (score .outlines)) (drop (score .fill) (take end vs))
-          → LoadsOne s vs p (record { score = record { definitions = d'; outlines = o'; fill = end }; sections = q; refusal = record { number = f; line = e .head } })
+          → LoadsOne s vs p (record {
+            score = record { definitions = d'; outlines = o'; fill = end };
+            sections = q;
+            refusal = record { number = f; line = e .head };
+          })
       loads-one d' o' y d-is o-is y-is =
           let a = r .onward in
           let b = x .onward in
@@ -302,7 +322,8 @@ only-sections (b ∷ bs) e =
     (λ k. nil-is-not-cons (sym (rw k at e)))
     (λ k. let h = only-sections bs (rw k at e) in (rw k (h .0), rw k (ap (λ xs. b ∷ xs) (h .1))))
 
-sections-first : (b : Block) (bs : List Block) → blockOrder 1 (b ∷ bs) ≡ [] → (blockKind b ≡ definition → ⊥) → (definitionBlocks (b ∷ bs) ≡ []) × (sectionBlocks (b ∷ bs) ≡ b ∷ bs)
+sections-first : (b : Block) (bs : List Block) → blockOrder 1 (b ∷ bs) ≡ [] → (blockKind b ≡ definition → ⊥)
+    → (definitionBlocks (b ∷ bs) ≡ []) × (sectionBlocks (b ∷ bs) ≡ b ∷ bs)
 unfolding blockOrder turn complainIf definitionBlocks sectionBlocks gather definitionIf sectionIf
 sections-first b bs e n =
     by-kind (blockKind b)
@@ -310,9 +331,12 @@ sections-first b bs e n =
     (λ k. absurd (n k))
     (λ k. let h = only-sections bs (rw k at e) in (rw k (h .0), rw k (ap (λ xs. b ∷ xs) (h .1))))
 
-module _ (s ws : List ℕ) (score : Score) (p : Place) (w : Loading s ws score p) (faultless : textFaults (blocksOf s) ≡ []) (inside : p .at < length s) (kind : blockKind (blockAt s (p .number) (p .at)) ≡ definition → ⊥) where
+module _ (s ws : List ℕ) (score : Score) (p : Place) (w : Loading s ws score p) (faultless : textFaults (blocksOf s) ≡ [])
+    (inside : p .at < length s) (kind : blockKind (blockAt s (p .number) (p .at)) ≡ definition → ⊥) where
   only : (definitionBlocks (blocksFrom s p) ≡ []) × (sectionBlocks (blocksFrom s p) ≡ blocksFrom s p)
-  only = let o = w .leaves .opens inside in rw o (sections-first (blockAt s (p .number) (p .at)) (blocks (linesPast s (p .number) (p .at))) (rw o at (w .leaves .order)) kind)
+  only =
+      let o = w .leaves .opens inside in
+      rw o (sections-first (blockAt s (p .number) (p .at)) (blocks (linesPast s (p .number) (p .at))) (rw o at (w .leaves .order)) kind)
 
   none-left : definitionsFrom s p ≡ []
   unfolding definitionsFrom
@@ -326,8 +350,12 @@ module _ (s ws : List ℕ) (score : Score) (p : Place) (w : Loading s ws score p
       of none = refl
       of (some x) = refl
 
-  held-all : (n : ℕ) → Held (songOf s .definitions) ws (score .fill) (definitionOf n (songOf s .definitions)) (isMissing (score .definitions) (score .outlines) n) (stretchOf (score .definitions) n) (lookUp (score .definitions) (score .outlines) n)
-  held-all n = subst (λ (c : Option Definition). Held (songOf s .definitions) ws (score .fill) c (isMissing (score .definitions) (score .outlines) n) (stretchOf (score .definitions) n) (lookUp (score .definitions) (score .outlines) n)) (sym (all-earlier n)) (w .held n)
+  held-all : (n : ℕ) → Held (songOf s .definitions) ws (score .fill) (definitionOf n (songOf s .definitions))
+      (isMissing (score .definitions) (score .outlines) n) (stretchOf (score .definitions) n)
+      (lookUp (score .definitions) (score .outlines) n)
+  held-all n =
+      subst (λ (c : Option Definition). Held (songOf s .definitions) ws (score .fill) c (isMissing (score .definitions) (score .outlines) n)
+      (stretchOf (score .definitions) n) (lookUp (score .definitions) (score .outlines) n)) (sym (all-earlier n)) (w .held n)
 
   begins-there : Begins s p
   unfolding blocksFrom sectionsFrom songOf songIn
@@ -351,7 +379,13 @@ module _ (s ws : List ℕ) (score : Score) (p : Place) (w : Loading s ws score p
         refused = λ n. absurd (n refl);
         clear = λ z. w .clear ∙ ap (definitionsReferences (w .earlier)) none-left;
         ready = λ z. record {
-          told = record { small = w .small; missing = missing-told (songOf s .definitions) ws score held-all; filled = filled-told (songOf s .definitions) ws score held-all };
+          told =
+              record {
+                small = w .small;
+                missing = missing-told (songOf s .definitions) ws score held-all;
+                filled = filled-told
+                    (songOf s .definitions) ws score held-all;
+              };
           room = w .room;
           carries = λ n vs same. carries-all (songOf s .definitions) ws score held-all vs same n;
         };

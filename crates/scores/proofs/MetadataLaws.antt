@@ -15,7 +15,8 @@ use Rattle.songcode.specs.Lines.{Line, Block, blocks}
 use Rattle.songcode.specs.Complaints.{complainIf}
 use Rattle.songcode.specs.Answer.{blocksOf}
 use Rattle.songcode.specs.Sections.{kindOfLine, kindOf}
-use Rattle.songcode.specs.SongText.{BlockKind, metadata, definition, section, kindOfText, blockKind, turn, blockOrder, linesIf, metadataLines, definitionIf, definitionBlocks, sectionIf, sectionBlocks, textFaults}
+use Rattle.songcode.specs.SongText.{BlockKind, metadata, definition, section, kindOfText, blockKind, turn, blockOrder, linesIf}
+use Rattle.songcode.specs.SongText.{metadataLines, definitionIf, definitionBlocks, sectionIf, sectionBlocks, textFaults}
 use Rattle.songcode.proofs.ListLaws.{by-cases, true-is-not-false, nil-is-not-cons}
 use Rattle.songcode.proofs.BlockKinds.{by-kind}
 use Rattle.songcode.proofs.ChoiceLaws.{zero-is-not-one}
@@ -74,7 +75,8 @@ unfolding firstThere
 there-none none = refl
 there-none (some x) = refl
 
-among-both : (k : ℕ) (xs ys us vs : List Line) → settingAmong k xs ≡ settingAmong k ys → settingAmong k us ≡ settingAmong k vs → settingAmong k (xs ++ us) ≡ settingAmong k (ys ++ vs)
+among-both : (k : ℕ) (xs ys us vs : List Line) → settingAmong k xs ≡ settingAmong k ys → settingAmong k us ≡ settingAmong k vs
+    → settingAmong k (xs ++ us) ≡ settingAmong k (ys ++ vs)
 among-both k xs ys us vs e f = among-append k xs us ∙ rw (e, f) (sym (among-append k ys vs))
 
 blank-slot : (l : Line) → passing Empty l ≡ true → slotOf l ≡ 13
@@ -151,7 +153,8 @@ module _ (s : List ℕ) (p : Place) (c : Come s p) (inside : p .at < length s) w
   abbrev pub block : Block
   block = blockAt s (p .number) (p .at)
 
-  module _ (kind : blockKind block ≡ metadata) (r : Run) (q : Place) (w : Longest s Full (p .number) (p .at) r) (v : Skips s (p .number + r .lines) (r .next) q) where
+  module _ (kind : blockKind block ≡ metadata) (r : Run) (q : Place) (w : Longest s Full (p .number) (p .at) r)
+      (v : Skips s (p .number + r .lines) (r .next) q) where
     full : passing Full (blockAt s (p .number) (p .at) .first) ≡ true
     full = begins-full s (p .number) (p .at) (λ e. let z : metadata ≡ section = sym kind ∙ e in zero-is-not-one cc)
 
@@ -168,7 +171,8 @@ module _ (s : List ℕ) (p : Place) (c : Come s p) (inside : p .at < length s) w
     unfolding gap
     passed-over =
         let b = blockAt s (p .number) (p .at) .first ∷ blockAt s (p .number) (p .at) .others in
-        let e = run-passed s Full (p .number) (p .at) r w ∙ ap (λ ls. ls ++ textLines s (p .number + r .lines) (r .next)) (block-lines s (p .number) (p .at) inside full) in
+        let e = run-passed s Full (p .number) (p .at) r w ∙ ap (λ ls. ls ++ textLines s (p .number + r .lines) (r .next))
+        (block-lines s (p .number) (p .at) inside full) in
         let f : textLines s (p .number) (p .at) ≡ (b ++ taken (passing Empty) (textLines s (p .number + r .lines) (r .next))) ++ textLines s (q .number) (q .at)
         = e ∙ ap (λ ls. b ++ ls) (v .lines) ∙ sym (append-assoc b _ _) in
         c .before ∙ ap (λ ls. c .lines ++ ls) f ∙ sym (append-assoc (c .lines) _ _)
@@ -187,9 +191,12 @@ module _ (s : List ℕ) (p : Place) (c : Come s p) (inside : p .at < length s) w
 
     more-said : metadataLines (blocksOf s) ≡ (c .said ++ (block .first ∷ block .others)) ++ metadataLines (blocks (textLines s (q .number) (q .at)))
     unfolding metadataLines gather linesIf
-    more-said = c .metadata-said ∙ ap (λ bs. c .said ++ metadataLines bs) opened ∙ rw kind (sym (append-assoc (c .said) (block .first ∷ block .others) (metadataLines (blocks (textLines s (q .number) (q .at))))))
+    more-said =
+        c .metadata-said ∙ ap (λ bs. c .said ++ metadataLines bs) opened ∙ rw kind
+        (sym (append-assoc (c .said) (block .first ∷ block .others) (metadataLines (blocks (textLines s (q .number) (q .at))))))
 
-    keys-kept : (k : ℕ) → k < 8 → settingAmong k (c .lines ++ ((block .first ∷ block .others) ++ gap)) ≡ settingAmong k (c .said ++ (block .first ∷ block .others))
+    keys-kept : (k : ℕ) → k < 8 → settingAmong k (c .lines ++ ((block .first ∷ block .others) ++ gap))
+        ≡ settingAmong k (c .said ++ (block .first ∷ block .others))
     unfolding gap
     keys-kept k i =
         let b = block .first ∷ block .others in
@@ -206,7 +213,8 @@ module _ (s : List ℕ) (p : Place) (c : Come s p) (inside : p .at < length s) w
     come-further =
         let a = v .next .onward in
         let b = w .counted in
-        let k = some-taken (r .lines) (textLines s (r .number) (r .at)) (block .first) (block .others) (w .lines ∙ block-lines s (p .number) (p .at) inside full) in
+        let k = some-taken (r .lines) (textLines s (r .number) (r .at)) (block .first) (block .others)
+        (w .lines ∙ block-lines s (p .number) (p .at) inside full) in
         omega arith
 
     pub come-next : Come s q
@@ -259,6 +267,7 @@ module _ (s : List ℕ) (p : Place) (c : Come s p) (inside : p .at < length s) w
         }
 
 -- A section is always left.
-pub come-over : (s : List ℕ) (p : Place) → textFaults (blocksOf s) ≡ [] → sectionBlocks (blocks (textLines s (p .number) (p .at))) ≡ sectionBlocks (blocksOf s) → length s ≤ p .at → ⊥
+pub come-over : (s : List ℕ) (p : Place) → textFaults (blocksOf s) ≡ []
+    → sectionBlocks (blocks (textLines s (p .number) (p .at))) ≡ sectionBlocks (blocksOf s) → length s ≤ p .at → ⊥
 unfolding sectionBlocks gather
 come-over s p h e over = clean (blocksOf s) h .some-section (sym e ∙ ap sectionBlocks (blocks-over s (p .number) (p .at) over))

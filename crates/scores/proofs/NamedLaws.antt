@@ -96,7 +96,8 @@ lines-none : (s : List ℕ) (run : Run) → linesOf s run ≡ [] → (p : Patter
 unfolding patternIn
 lines-none s run e p h = none-some (ap patternIn e) h
 
-module _ (s : List ℕ) (small : length s ≤ 65536) (run : Run) {l : text.Line} (f : Found s (run .number) (run .at) l) (p : Pattern) (h : patternIn (linesOf s run) ≡ some p) where
+module _ (s : List ℕ) (small : length s ≤ 65536) (run : Run) {l : text.Line} (f : Found s (run .number) (run .at) l) (p : Pattern)
+    (h : patternIn (linesOf s run) ≡ some p) where
   some-lines : run .lines ≡ 0 → ⊥
   unfolding linesOf
   some-lines e = lines-none s run (rw e) p h
@@ -175,5 +176,6 @@ pub plays-items : (ds : List Definition) (p : Pattern) → Names p 0 → true �
 unfolding patternItems isSome
 plays-items ds p h = rw (named-nothing p h .1)
 
-pub plays-named : (ds : List Definition) (p : Pattern) (n : ℕ) → Names p n → (n ≡ 0 → ⊥) → {b : Bool} → b ≡ not (isSome (patternItems ds (named n))) → not b ≡ isSome (patternItems ds p)
+pub plays-named : (ds : List Definition) (p : Pattern) (n : ℕ) → Names p n → (n ≡ 0 → ⊥) → {b : Bool}
+    → b ≡ not (isSome (patternItems ds (named n))) → not b ≡ isSome (patternItems ds p)
 plays-named ds p n h k e = rw (named-some p n h k, e) (Bool·not-not (isSome (patternItems ds (named n))))

@@ -26,7 +26,8 @@ unfolding placeBy
 place-set zero ids c v i n h = refl
 place-set (suc k) ids c v i n h = rw (getD-set-other ids c i v 0 (λ e. let z : ⊥ = omega arith in z), place-set k ids c v (i + 1) n (omega arith))
 
-place-more : (k : ℕ) (ids : List ℕ) (i n : ℕ) → placeBy (suc k) ids i n ≡ (if leb (i + k) (placeBy k ids i n) then (if eqb (getD ids (i + k) 0) n then i + k else i + k + 1) else placeBy k ids i n)
+place-more : (k : ℕ) (ids : List ℕ) (i n : ℕ) → placeBy (suc k) ids i n
+    ≡ (if leb (i + k) (placeBy k ids i n) then (if eqb (getD ids (i + k) 0) n then i + k else i + k + 1) else placeBy k ids i n)
 unfolding if_then_else_
 place-more k ids i n =
     let w = place-within k ids i n in
@@ -35,7 +36,8 @@ place-more k ids i n =
     (λ e. let h = leb-false (i + k) (placeBy k ids i n) e in rw e (place-kept k ids i n h))
 
 stretch-place : (k : ℕ) (ids from to : List ℕ) (i n : ℕ)
-    → stretchBy k ids from to i n ≡ (if leb (i + k) (placeBy k ids i n) then record { from = 0; to = 0 } else record { from = getD from (placeBy k ids i n) 0; to = getD to (placeBy k ids i n) 0 })
+    → stretchBy k ids from to i n ≡ (if leb (i + k) (placeBy k ids i n) then record { from = 0; to = 0 } else record
+    { from = getD from (placeBy k ids i n) 0; to = getD to (placeBy k ids i n) 0 })
 unfolding stretchBy placeBy if_then_else_
 stretch-place zero ids from to i n = rw (le-leb (i + 0) i (omega arith))
 stretch-place (suc k) ids from to i n =
@@ -75,8 +77,15 @@ pub record Alike (d : Definitions) (o : Outlines) (d' : Definitions) (o' : Outli
   pub at-same : stretchOf d' n ≡ stretchOf d n
   pub outline-same : lookUp d' o' n ≡ lookUp d o n
 
-alike : {d : Definitions} {o : Outlines} {d' : Definitions} {o' : Outlines} {n : ℕ} {m : Bool} {t : Stretch} {x : Outline} → Seen d' o' n m t x → Seen d o n m t x → Alike d o d' o' n
-alike a b = record { missing-same = a .missing-is ∙ sym (b .missing-is); at-same = a .at-is ∙ sym (b .at-is); outline-same = a .outline-is ∙ sym (b .outline-is) }
+alike : {d : Definitions} {o : Outlines} {d' : Definitions} {o' : Outlines} {n : ℕ} {m : Bool} {t : Stretch} {x : Outline}
+    → Seen d' o' n m t x → Seen d o n m t x → Alike d o d' o' n
+alike a b =
+    record {
+      missing-same = a .missing-is ∙ sym (b .missing-is);
+      at-same = a .at-is ∙ sym (b .at-is);
+      outline-same = a .outline-is ∙ sym
+          (b .outline-is);
+    }
 
 module _ (d : Definitions) (o : Outlines) (id : ℕ) (t : Stretch) (x : Outline) (even : Even d o) (few : d .count < 26) where
   abbrev c : ℕ
@@ -124,7 +133,8 @@ module _ (d : Definitions) (o : Outlines) (id : ℕ) (t : Stretch) (x : Outline)
         let g = getD-set-same (d .ids) c id 0 (rw (even .ids) few) in
         ap (λ (k : ℕ). placeBy k (set (d .ids) c id) 0 n) a ∙ place-more c (set (d .ids) c id) 0 n ∙ rw (z, place-set c (d .ids) c id 0 n (omega arith), g) refl
 
-    there : leb (c + 1) after ≡ false → Seen d' (extended o x) n false (record { from = getD (set (d .from) c (t .from)) after 0; to = getD (set (d .to) c (t .to)) after 0 }) (rowAt (extended o x) after)
+    there : leb (c + 1) after ≡ false → Seen d' (extended o x) n false
+        (record { from = getD (set (d .from) c (t .from)) after 0; to = getD (set (d .to) c (t .to)) after 0 }) (rowAt (extended o x) after)
     there = seen-at d' (extended o x) (c + 1) refl count-is (omega arith) n
 
     gone : leb (c + 1) after ≡ true → Seen d' (extended o x) n true (record { from = 0; to = 0 }) vacant

@@ -37,7 +37,8 @@ use Rattle.scores.proofs.NamedLaws.{pattern-shape, named-some}
 use Rattle.scores.proofs.SideLaws.{nothing-there}
 use Rattle.scores.proofs.TextLaws.{readText, side-carries, items-carries}
 
-module _ {s : List ℕ} {p : Place} {score : Score} {held : List ℕ} {met : Met} (o : Onward s p) (within : p .at < length s) (ready : Ready s held score) (low : score .fill ≤ p .at) (m : Meets s p met) where
+module _ {s : List ℕ} {p : Place} {score : Score} {held : List ℕ} {met : Met} (o : Onward s p) (within : p .at < length s)
+    (ready : Ready s held score) (low : score .fill ≤ p .at) (m : Meets s p met) where
   abbrev lead : Option Setting
   lead = settingAt s (met .section .modifiers .before)
 
@@ -127,14 +128,16 @@ module _ {s : List ℕ} {p : Place} {score : Score} {held : List ℕ} {met : Met
             let v = run-words lines in
             let w = said-words tail in
             let k = length-append leadWords lineWords in
-            let x : second ≡ laid (score .fill) (leadWords ++ lineWords) held = second-laid ∙ rw first-laid (laid-laid (score .fill) a leadWords lineWords held first-fill (omega arith)) in
+            let x : second ≡ laid (score .fill) (leadWords ++ lineWords) held = second-laid ∙ rw first-laid
+            (laid-laid (score .fill) a leadWords lineWords held first-fill (omega arith)) in
             words-laid ∙ rw x (laid-laid (score .fill) b (leadWords ++ lineWords) tailWords held (omega arith) (omega arith))
             ∙ ap (λ (ws : List ℕ). laid (score .fill) ws held) (append-assoc leadWords lineWords tailWords)
 
         inside : score .fill ≤ length held
         inside = let r = room in omega arith
 
-        part-there : (x y z : List ℕ) (from to : ℕ) → leadWords ++ (lineWords ++ tailWords) ≡ x ++ (y ++ z) → from ≡ score .fill + length x → to ≡ from + length y → drop from (take to words) ≡ y
+        part-there : (x y z : List ℕ) (from to : ℕ) → leadWords ++ (lineWords ++ tailWords) ≡ x ++ (y ++ z) → from ≡ score .fill + length x
+            → to ≡ from + length y → drop from (take to words) ≡ y
         part-there x y z from to e f t =
             ap (λ (ws : List ℕ). drop from (take to ws)) all ∙ laid-part (score .fill) (leadWords ++ (lineWords ++ tailWords)) held inside x y z from to e f t
 
@@ -143,34 +146,48 @@ module _ {s : List ℕ} {p : Place} {score : Score} {held : List ℕ} {met : Met
         ready-again =
             let l = words-length in
             let r = ready .room in
-            let k : take (score .fill) words ≡ take (score .fill) held = ap (take (score .fill)) all ∙ laid-before (score .fill) (leadWords ++ (lineWords ++ tailWords)) held inside in
+            let k : take (score .fill) words ≡ take (score .fill) held = ap (take (score .fill)) all ∙ laid-before (score .fill)
+            (leadWords ++ (lineWords ++ tailWords)) held inside in
             record {
               told = ready .told;
               room = omega arith;
               carries = λ n vs e. ready .carries n vs (e ∙ k);
             }
 
-        pub lead-carries : Carries words (score .definitions) (readText (lookUp (score .definitions) (score .outlines)) words (record { from = score .fill; to = a })) (sideItems (saidBy beforeSaid (sectionAt s p .modifiers)))
+        pub lead-carries : Carries words (score .definitions)
+            (readText (lookUp (score .definitions) (score .outlines)) words (record { from = score .fill; to = a }))
+            (sideItems (saidBy beforeSaid (sectionAt s p .modifiers)))
         lead-carries =
-            side-carries words (score .definitions) _ (record { from = score .fill; to = a }) lead (saidBy beforeSaid (sectionAt s p .modifiers)) (m .says .before) lead-clean
-            (said-good s (ready .told .small) (met .section .modifiers .before)) first-fill (part-there [] leadWords (lineWords ++ tailWords) (score .fill) a refl (omega arith) first-fill)
+            side-carries words (score .definitions) _ (record { from = score .fill; to = a }) lead
+            (saidBy beforeSaid (sectionAt s p .modifiers)) (m .says .before) lead-clean
+            (said-good s (ready .told .small) (met .section .modifiers .before)) first-fill
+            (part-there [] leadWords (lineWords ++ tailWords) (score .fill) a refl (omega arith) first-fill)
 
-        pub tail-carries : Carries words (score .definitions) (readText (lookUp (score .definitions) (score .outlines)) words (record { from = b; to = c })) (sideItems (saidBy afterSaid (sectionAt s p .modifiers)))
+        pub tail-carries : Carries words (score .definitions)
+            (readText (lookUp (score .definitions) (score .outlines)) words (record { from = b; to = c }))
+            (sideItems (saidBy afterSaid (sectionAt s p .modifiers)))
         tail-carries =
             let k = length-append leadWords lineWords in
-            side-carries words (score .definitions) _ (record { from = b; to = c }) tail (saidBy afterSaid (sectionAt s p .modifiers)) (m .says .after) tail-clean
+            side-carries words (score .definitions) _ (record { from = b; to = c }) tail (saidBy afterSaid (sectionAt s p .modifiers))
+            (m .says .after) tail-clean
             (said-good s (ready .told .small) (met .section .modifiers .after)) words-fill
-            (part-there (leadWords ++ lineWords) tailWords [] b c (sym (append-assoc leadWords lineWords tailWords) ∙ ap (λ (ws : List ℕ). (leadWords ++ lineWords) ++ ws) (sym (append-nil tailWords))) (omega arith) words-fill)
+            (part-there (leadWords ++ lineWords) tailWords [] b c
+            (sym (append-assoc leadWords lineWords tailWords) ∙ ap (λ (ws : List ℕ). (leadWords ++ lineWords) ++ ws)
+            (sym (append-nil tailWords))) (omega arith) words-fill)
 
         module _ {n : ℕ} (names : (x : Pattern) → patternIn lines ≡ some x → Names x n) where
-          pub items-pattern : n ≡ 0 → Carries words (score .definitions) (readText (lookUp (score .definitions) (score .outlines)) words (record { from = a; to = b })) (patternItems (songOf s .definitions) (sectionAt s p .pattern))
+          pub items-pattern : n ≡ 0 → Carries words (score .definitions)
+              (readText (lookUp (score .definitions) (score .outlines)) words (record { from = a; to = b }))
+              (patternItems (songOf s .definitions) (sectionAt s p .pattern))
           items-pattern e =
               let x = sectionAt s p .pattern in
               let h : Names x 0 = rw e at (names x (m .written)) in
-              items-carries words (score .definitions) _ (record { from = a; to = b }) (songOf s .definitions) x (runTokens lines) h (pattern-shape lines x (m .written))
+              items-carries words (score .definitions) _ (record { from = a; to = b }) (songOf s .definitions) x (runTokens lines) h
+              (pattern-shape lines x (m .written))
               (run-good s (ready .told .small) (met .section .pattern)) (part-there leadWords lineWords tailWords a b refl first-fill second-fill)
 
-          pub named-pattern : (n ≡ 0 → ⊥) → Carries words (score .definitions) (namedText score n) (patternItems (songOf s .definitions) (sectionAt s p .pattern))
+          pub named-pattern : (n ≡ 0 → ⊥) → Carries words (score .definitions) (namedText score n)
+              (patternItems (songOf s .definitions) (sectionAt s p .pattern))
           named-pattern e =
               let x = sectionAt s p .pattern in
               rw (named-some x n (names x (m .written)) e) (ready-again .carries n words refl)

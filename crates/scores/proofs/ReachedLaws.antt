@@ -129,7 +129,8 @@ first-of s n a l ls e =
     (λ t. nil-is-not-cons (sym (lines-over s n a (ltb-false a (length s) t)) ∙ e))
 
 -- Lines from a place up to another.
-pub lines-reach : (l : Line) (ls : List Line) (s : List ℕ) (n m a b : ℕ) → textLines s n a ≡ (l ∷ ls) ++ textLines s m b → b ≤ length s → a + weight (l ∷ ls) ≤ b + 1
+pub lines-reach : (l : Line) (ls : List Line) (s : List ℕ) (n m a b : ℕ) → textLines s n a ≡ (l ∷ ls) ++ textLines s m b → b ≤ length s
+    → a + weight (l ∷ ls) ≤ b + 1
 unfolding weight
 lines-reach l [] s n m a b e k =
     let f = first-of s n a l (textLines s m b) e in
@@ -169,7 +170,8 @@ definition-reach s n at r d h fill f = go (linesOf s (r .pattern)) refl
     go (l ∷ ls) e =
         let w = run-few l ls in
         let b = textLines s (r .pattern .number + r .pattern .lines) (r .pattern .next) in
-        let x = lines-reach l ls s (n + 1) (r .pattern .number + r .pattern .lines) m (r .pattern .next) (goes ∙ ap (λ (ks : List Line). ks ++ b) e) (d .pattern-placed .ends) in
+        let x = lines-reach l ls s (n + 1) (r .pattern .number + r .pattern .lines) m (r .pattern .next)
+        (goes ∙ ap (λ (ks : List Line). ks ++ b) e) (d .pattern-placed .ends) in
         let t = line-there s n at h in
         let g = t .further in
         rw e (omega arith)

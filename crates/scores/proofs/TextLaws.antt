@@ -62,7 +62,8 @@ module _ (ws : List ℕ) (d : Definitions) (find : ℕ → Outline) (t : Stretch
 
   -- A lead-in or tail.
   pub side-carries : (o : Option Setting) (y : Option Side) → andThen o sideSaid ≡ y → (andThen o sideSaid ≡ none → o ≡ none) → Each Good (saidTokens o)
-      → t .to ≡ t .from + length (tokenWords (saidTokens o)) → drop (t .from) (take (t .to) ws) ≡ tokenWords (saidTokens o) → Carries ws d (readText find ws t) (sideItems y)
+      → t .to ≡ t .from + length (tokenWords (saidTokens o)) → drop (t .from) (take (t .to) ws) ≡ tokenWords (saidTokens o) → Carries ws d
+      (readText find ws t) (sideItems y)
   unfolding saidTokens tokenWords andThen sideSaid sideOn sideItems loopsDeep
   side-carries none y e clean good size stands = rw (← e) (empty-carries (omega arith) stands)
   side-carries (some x) y e clean good size stands = go (sideText (x .text)) refl

@@ -62,9 +62,19 @@ line-fits (b ∷ bs) =
     let p = h .line in
     let q = h .both in
     by-ending b
-    (λ e. record { line = rw e (omega arith); both = rw e (omega arith); last = rw e (λ (z : suc (lineLength bs) + breakLength (drop (lineLength bs) bs) ≤ suc (lineLength bs)). let k = h .last (omega arith) in omega arith) })
+    (λ e. record {
+      line = rw e (omega arith);
+      both = rw e (omega arith);
+      last = rw e (λ (z : suc (lineLength bs) + breakLength (drop (lineLength bs) bs) ≤ suc (lineLength bs)). let k = h .last (omega arith) in
+          omega arith);
+    })
     (λ e. record { line = rw e (omega arith); both = rw (e, e) (omega arith); last = rw (e, e) (λ (z : 0 + 1 ≤ 0). let x : ⊥ = omega arith in absurd x) })
-    (λ e. record { line = rw e (omega arith); both = rw (e, e) (omega (arith, cr-width bs)); last = rw (e, e) (λ (z : 0 + breakWidth cr (end (getD bs 0 0)) ≤ 0). let x : ⊥ = omega (arith, cr-breaks (end (getD bs 0 0))) in absurd x) })
+    (λ e. record {
+      line = rw e (omega arith);
+      both = rw (e, e) (omega (arith, cr-width bs));
+      last = rw (e, e) (λ (z : 0 + breakWidth cr (end (getD bs 0 0)) ≤ 0). let x : ⊥ = omega (arith, cr-breaks (end (getD bs 0 0))) in
+          absurd x);
+    })
 
 front-le : (bs : List ℕ) → frontBlanks bs ≤ length bs
 unfolding frontBlanks if_then_else_

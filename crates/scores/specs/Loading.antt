@@ -90,7 +90,9 @@ pub record Loading (s ws : List ℕ) (score : Score) (p : Place) : Type 0 where
   pub leaves : Leaves s (score .definitions .count) (map idOf earlier) p
   pub found : (n : ℕ) → definitionOf n (songOf s .definitions) ≡ firstThere (definitionOf n earlier) (definitionOf n (definitionsFrom s p))
   pub clear : definitionsReferences [] (songOf s .definitions) ≡ definitionsReferences earlier (definitionsFrom s p)
-  pub held : (n : ℕ) → Held (songOf s .definitions) ws (score .fill) (definitionOf n earlier) (isMissing (score .definitions) (score .outlines) n) (stretchOf (score .definitions) n) (lookUp (score .definitions) (score .outlines) n)
+  pub held : (n : ℕ) → Held (songOf s .definitions) ws (score .fill) (definitionOf n earlier)
+      (isMissing (score .definitions) (score .outlines) n) (stretchOf (score .definitions) n)
+      (lookUp (score .definitions) (score .outlines) n)
 
 -- One more definition is loaded, or stage 3 refuses it.
 pub record LoadsOne (s ws : List ℕ) (p : Place) (r : Loaded) : Type 0 where

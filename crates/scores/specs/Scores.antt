@@ -53,7 +53,8 @@ pub record Told (s : List ℕ) (score : Score) : Type 0 where
 pub record Ready (s : List ℕ) (ws : List ℕ) (score : Score) : Type 0 where
   pub told : Told s score
   pub room : length s ≤ length ws
-  pub carries : (n : ℕ) (vs : List ℕ) → take (score .fill) vs ≡ take (score .fill) ws → Carries vs (score .definitions) (namedText score n) (patternItems (songOf s .definitions) (named n))
+  pub carries : (n : ℕ) (vs : List ℕ) → take (score .fill) vs ≡ take (score .fill) ws
+      → Carries vs (score .definitions) (namedText score n) (patternItems (songOf s .definitions) (named n))
 
 -- All sections of the song stand from the place on.
 pub record Begins (s : List ℕ) (p : Place) : Type 0 where

@@ -5,25 +5,18 @@ use mathlib.Core.Path.{sym, _∙_}
 use borrow.Author.Tests.{lt-ltb, le-ltb}
 use Rattle.judging.proofs.lengths.length_fault.Statement.{statement}
 use Rattle.judging.proofs.lengths.length_fault.Tie as tie
-use Rattle.judging.proofs.lengths.length_fault.Reads as reads
-use Rattle.judging.proofs.lengths.length_fault.Lts as lts
-use Rattle.judging.proofs.lengths.is_cut_away.Reads as is-cut-away-reads
 
--- src/lengths.rt:115:9
 returns : tie.Need-returns
 unfolding lengthFault if_then_else_
 returns c = rw (lt-ltb _ _ (c .if1 .taken))
 
--- src/lengths.rt:120:8
 is-cut-away-requires : tie.Need-is-cut-away-requires
 is-cut-away-requires c κs = let h = c .before .before .pre in (h .0 .meter, h .0 .cuts, h .0 .played (omega (arith, h .1, c .if1 .left)))
 
--- src/lengths.rt:121:9
 returns-2 : tie.Need-returns-2
 unfolding lengthFault if_then_else_
 returns-2 c = rw (le-ltb _ _ (c .before .before .if1 .left), sym (c .before .is-cut-away .ensures) ∙ c .if2 .taken)
 
--- src/lengths.rt:110:1
 returns-3 : tie.Need-returns-3
 unfolding lengthFault if_then_else_
 returns-3 c = rw (le-ltb _ _ (c .before .before .if1 .left), sym (c .before .is-cut-away .ensures) ∙ c .if2 .left)

@@ -4,22 +4,18 @@ use native.Mathlib.Omega.{arith}
 use native.Mathlib.Nat.{mul-le-mul}
 use Rattle.judging.proofs.lengths.section_count.Statement.{statement}
 use Rattle.judging.proofs.lengths.section_count.Tie as tie
-use Rattle.judging.proofs.lengths.section_count.Reads as reads
-use Rattle.judging.proofs.lengths.section_count.Lts as lts
 
--- src/lengths.rt:55:23
 mul-result : tie.Need-mul-result
 mul-result c = let h = c .before .before .before .before .before .before .before .before .pre in omega (arith, mul-le-mul (h .0) (h .2), h .1, h .3)
 
--- src/lengths.rt:55:5
 add-result : tie.Need-add-result
 add-result c = let h = c .before .before .before .before .before .before .before .before .before .pre in omega (arith, mul-le-mul (h .0) (h .2), h .1, h .3)
 
--- src/lengths.rt:55:5
 add-result-2 : tie.Need-add-result-2
-add-result-2 c = let h = c .before .before .before .before .before .before .before .before .before .before .pre in omega (arith, mul-le-mul (h .0) (h .2), h .1, h .3)
+add-result-2 c =
+    let h = c .before .before .before .before .before .before .before .before .before .before .pre in
+    omega (arith, mul-le-mul (h .0) (h .2), h .1, h .3)
 
--- src/lengths.rt:45:1
 returns : tie.Need-returns
 unfolding countOfTexts
 returns c = refl

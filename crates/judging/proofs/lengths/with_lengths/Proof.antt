@@ -5,33 +5,29 @@ use native.Mathlib.Omega.{arith}
 use borrow.Author.Tests.{eq-eqb, ne-eqb}
 use Rattle.judging.proofs.lengths.with_lengths.Statement.{statement}
 use Rattle.judging.proofs.lengths.with_lengths.Tie as tie
-use Rattle.judging.proofs.lengths.with_lengths.Reads as reads
-use Rattle.judging.proofs.lengths.with_lengths.Lts as lts
-use Rattle.judging.proofs.lengths.length_fault.Reads as length-fault-reads
-use Rattle.judging.proofs.lengths.section_count.Reads as section-count-reads
 
--- src/lengths.rt:142:9
 returns : tie.Need-returns
 unfolding withLengths if_then_else_
 returns c = rw (ne-eqb _ 0 (c .if1 .taken))
 
--- src/lengths.rt:144:33
 section-count-requires : tie.Need-section-count-requires
 section-count-requires c κs = let h = c .before .before .before .before .pre .0 in (h .repeat, h .lead, h .pattern, h .tail)
 
--- src/lengths.rt:144:20
 add-measures : tie.Need-add-measures
 add-measures c =
     let entry = c .before .before .before .before .before .before in
     let pre = entry .pre in
     let h = pre .0 in
-    omega (arith, count-small (entry .args .m) (entry .args .t) (h .repeat) (h .lead) (h .pattern) (h .tail), pre .1 (c .before .before .if1 .left), c .before .section-count .ensures)
+    omega (
+      arith,
+      count-small (entry .args .m) (entry .args .t) (h .repeat) (h .lead) (h .pattern) (h .tail),
+      pre .1 (c .before .before .if1 .left),
+      c .before .section-count .ensures,
+    )
 
--- src/lengths.rt:146:18
 length-fault-requires : tie.Need-length-fault-requires
 length-fault-requires c κs = (c .before .before .before .before .before .before .pre .0, omega (arith, c .before .section-count .ensures))
 
--- src/lengths.rt:136:1
 returns-2 : tie.Need-returns-2
 unfolding withLengths if_then_else_
 returns-2 c = rw (eq-eqb _ 0 (c .before .before .before .if1 .left), c .length-fault .ensures, c .before .before .section-count .ensures)

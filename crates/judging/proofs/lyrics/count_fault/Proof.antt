@@ -3,20 +3,15 @@ use Rattle.songcode.specs.Lists.{if_then_else_}
 use Rattle.judging.specs.Lyrics.{countFault}
 use Rattle.judging.proofs.lyrics.count_fault.Statement.{statement}
 use Rattle.judging.proofs.lyrics.count_fault.Tie as tie
-use Rattle.judging.proofs.lyrics.count_fault.Reads as reads
-use Rattle.judging.proofs.lyrics.count_fault.Lts as lts
 
--- src/lyrics.rt:101:13
 returns : tie.Need-returns
 unfolding countFault if_then_else_
 returns c = rw (c .before .if1 .taken, ne-eqb _ 0 (c .if2 .taken))
 
--- src/lyrics.rt:96:1
 returns-2 : tie.Need-returns-2
 unfolding countFault if_then_else_
 returns-2 c = rw (c .before .if1 .taken, eq-eqb _ 0 (c .if2 .left))
 
--- src/lyrics.rt:96:1
 returns-3 : tie.Need-returns-3
 unfolding countFault if_then_else_
 returns-3 c = rw (c .if1 .left)

@@ -3,25 +3,19 @@ use Rattle.songcode.specs.Lists.{if_then_else_}
 use Rattle.judging.specs.Lyrics.{firstLine}
 use Rattle.judging.proofs.lyrics.first_line.Statement.{statement}
 use Rattle.judging.proofs.lyrics.first_line.Tie as tie
-use Rattle.judging.proofs.lyrics.first_line.Reads as reads
-use Rattle.judging.proofs.lyrics.first_line.Lts as lts
 
--- src/lyrics.rt:36:9
 returns : tie.Need-returns
 unfolding firstLine if_then_else_
 returns c = rw (eq-eqb _ 0 (c .if1 .taken))
 
--- src/lyrics.rt:39:9
 returns-2 : tie.Need-returns-2
 unfolding firstLine if_then_else_
 returns-2 c = rw (ne-eqb _ 0 (c .before .if1 .left), eq-eqb _ 0 (c .if2 .taken))
 
--- src/lyrics.rt:32:1
 returns-3 : tie.Need-returns-3
 unfolding firstLine if_then_else_
 returns-3 c = rw (ne-eqb _ 0 (c .before .before .if1 .left), ne-eqb _ 0 (c .before .if2 .left), lt-ltb _ _ (c .if3 .taken))
 
--- src/lyrics.rt:32:1
 returns-4 : tie.Need-returns-4
 unfolding firstLine if_then_else_
 returns-4 c = rw (ne-eqb _ 0 (c .before .before .if1 .left), ne-eqb _ 0 (c .before .if2 .left), le-ltb _ _ (c .if3 .left))

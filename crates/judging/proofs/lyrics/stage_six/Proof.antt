@@ -1,3 +1,4 @@
+-- What the tally of the sections passed and the lines from here on give together is what the lines of all sections give.
 use Prim.Native.Nat.{_-_}
 use mathlib.Core.Path.{_≡_, sym, ap, _∙_, subst}
 use mathlib.Core.List.{List}
@@ -21,13 +22,6 @@ use Rattle.judging.proofs.TakenLaws.{takenFrom, taken-numbered, taken-c
 use borrow.Author.Needs.{needs}
 use Rattle.judging.proofs.lyrics.stage_six.Statement.{statement}
 use Rattle.judging.proofs.lyrics.stage_six.Tie as tie
-use Rattle.judging.proofs.lyrics.stage_six.Reads as reads
-use Rattle.judging.proofs.lyrics.stage_six.Lts as lts
-use Rattle.judging.proofs.lyrics.count_fault.Reads as count-fault-reads
-use Rattle.judging.proofs.lyrics.taken_with.Reads as taken-with-reads
-use Rattle.judging.proofs.lyrics.tally_lyrics.Reads as tally-lyrics-reads
-use Rattle.scores.proofs.is_played.Reads as is-played-reads
-use Rattle.sections.proofs.pass.Reads as pass-reads
 
 abbrev Inv-loop : tie.InvT-loop
 Inv-loop s score place₀ t₀ place t =
@@ -39,7 +33,6 @@ Inv-loop s score place₀ t₀ place t =
 abbrev μ-loop : tie.MeasureT-loop
 μ-loop s score place₀ t₀ place t = length s - place .at
 
--- src/lyrics.rt:153:5
 loop-holds : tie.Need-loop-holds Inv-loop μ-loop
 unfolding hasCounts linesTaken firstLine if_then_else_
 loop-holds c =
@@ -52,27 +45,6 @@ loop-holds c =
       λ h. subst (λ (xs : List Section). Numbered (takenFrom song xs)) all h,
     )
 
--- src/lyrics.rt:154:13
-pass-requires : tie.Need-pass-requires Inv-loop μ-loop
-pass-requires c κs = search needs
-
--- src/lyrics.rt:156:13
-is-played-requires : tie.Need-is-played-requires Inv-loop μ-loop
-is-played-requires c κs = search needs
-
--- src/lyrics.rt:157:51
-tally-lyrics-requires : tie.Need-tally-lyrics-requires Inv-loop μ-loop
-tally-lyrics-requires c κs = search needs
-
--- src/lyrics.rt:157:9
-taken-with-requires : tie.Need-taken-with-requires Inv-loop μ-loop
-taken-with-requires c κs = search needs
-
--- src/lyrics.rt:153:5
-loop-less : tie.Need-loop-less Inv-loop μ-loop
-loop-less c = search needs
-
--- src/lyrics.rt:153:5
 loop-again : tie.Need-loop-again Inv-loop μ-loop
 unfolding linesOf isPlayed
 loop-again c =
@@ -89,19 +61,17 @@ loop-again c =
     let p : played ≡ isPlayed song x = c .before .before .before .is-played .ensures (x .pattern) (m .written) in
     let tally = c .before .before .tally-lyrics .ensures ∙ ap tallied (m .says .lyrics) in
     let i = c .before .taken-with .ensures ∙ ap (λ (t : Tally). takenWith played (l .t .counted) (l .t .bare) t) tally in
-    let numbered = subst (λ (ls : List LyricLine). Numbered ls) (m .says .lyrics) (lyrics-numbered s (run .number) (run .at) (run .lines) (m .read .lyrics-placed .number)) in
+    let numbered = subst (λ (ls : List LyricLine). Numbered ls) (m .says .lyrics)
+    (lyrics-numbered s (run .number) (run .at) (run .lines) (m .read .lyrics-placed .number)) in
     let first = sym (m .first) in (
       m .onward,
-      taken-counted song x xs p (l .t .counted) (l .t .bare) i ∙ ap (λ (ys : List Section). l .t .counted || any isCounted (takenFrom song ys)) first ∙ l .inv .1,
-      taken-bare song x xs p (l .t .counted) (l .t .bare) i ∙ ap (λ (ys : List Section). firstLine (l .t .bare) (bareLine (takenFrom song ys))) first ∙ l .inv .2,
+      taken-counted song x xs p (l .t .counted) (l .t .bare) i
+          ∙ ap (λ (ys : List Section). l .t .counted || any isCounted (takenFrom song ys)) first ∙ l .inv .1,
+      taken-bare song x xs p (l .t .counted) (l .t .bare) i
+          ∙ ap (λ (ys : List Section). firstLine (l .t .bare) (bareLine (takenFrom song ys))) first ∙ l .inv .2,
       λ h. l .inv .3 (subst (λ (ys : List Section). Numbered (takenFrom song ys)) first (taken-numbered song x xs p numbered h)),
     )
 
--- src/lyrics.rt:160:5
-count-fault-requires : tie.Need-count-fault-requires Inv-loop μ-loop
-count-fault-requires c κs = search needs
-
--- src/lyrics.rt:141:1
 returns : tie.Need-returns Inv-loop μ-loop
 unfolding Each gather any bareLine countFault
 returns c =
@@ -121,15 +91,5 @@ returns c =
 pub stage-six-spec : {M : Type 1} → statement M
 stage-six-spec =
     tie.close
-    (tie.spec
-    Inv-loop
-    μ-loop
-    loop-holds
-    pass-requires
-    is-played-requires
-    tally-lyrics-requires
-    taken-with-requires
-    loop-less
-    loop-again
-    count-fault-requires
-    returns)
+    (tie.spec Inv-loop μ-loop loop-holds (λ c κs. search needs) (λ c κs. search needs) (λ c κs. search needs) (λ c κs. search needs)
+    (λ c. search needs) loop-again (λ c κs. search needs) returns)

@@ -6,26 +6,18 @@ use Rattle.judging.specs.Lyrics.{takenWith}
 use borrow.Author.Needs.{needs}
 use Rattle.judging.proofs.lyrics.taken_with.Statement.{statement}
 use Rattle.judging.proofs.lyrics.taken_with.Tie as tie
-use Rattle.judging.proofs.lyrics.taken_with.Reads as reads
-use Rattle.judging.proofs.lyrics.taken_with.Lts as lts
-use Rattle.judging.proofs.lyrics.first_line.Reads as first-line-reads
 
--- src/lyrics.rt:124:19
-first-line-requires : tie.Need-first-line-requires
-first-line-requires c κs = search needs
-
--- src/lyrics.rt:121:9
 returns : tie.Need-returns
 unfolding takenWith if_then_else_
 returns c =
     let a = c .before .before .before .args in
-    let one : c .before .if2 .t7 ≡ a .counted || a .t .counted = ⊎-elim (λ w. rw (w .0 .taken) (w .1 ∙ w .0 .taken)) (λ w. rw (w .0 .left) (w .1)) (c .before .if2 .came) in
+    let one : c .before .if2 .t7 ≡ a .counted || a .t .counted = ⊎-elim (λ w. rw (w .0 .taken) (w .1 ∙ w .0 .taken))
+    (λ w. rw (w .0 .left) (w .1)) (c .before .if2 .came) in
     rw (c .before .before .if1 .taken, c .first-line .ensures, one)
 
--- src/lyrics.rt:117:1
 returns-2 : tie.Need-returns-2
 unfolding takenWith if_then_else_
 returns-2 c = rw (c .if1 .left)
 
 pub taken-with-spec : {M : Type 1} → statement M
-taken-with-spec = tie.close (tie.spec first-line-requires returns returns-2)
+taken-with-spec = tie.close (tie.spec (λ c κs. search needs) returns returns-2)

@@ -12,24 +12,18 @@ use Rattle.judging.proofs.TallyLaws.{joined, joined-none, none-joined, 
 use borrow.Author.Needs.{needs}
 use Rattle.judging.proofs.lyrics.tally_lyrics.Statement.{statement}
 use Rattle.judging.proofs.lyrics.tally_lyrics.Tie as tie
-use Rattle.judging.proofs.lyrics.tally_lyrics.Reads as reads
-use Rattle.judging.proofs.lyrics.tally_lyrics.Lts as lts
-use Rattle.judging.proofs.lyrics.with_line.Reads as with-line-reads
-use Rattle.settings.proofs.lyric_words.Reads as lyric-words-reads
-use Rattle.text.proofs.line_at.Reads as line-at-reads
 
 abbrev Inv-loop : tie.InvT-loop
 Inv-loop s number₀ at₀ left₀ t₀ number at left t =
-    (1 ≤ number) × (number ≤ at + 1) × (at ≤ length s) × (t .lines ≤ at) × (t .sum ≤ 9999 * at) × (joined t (tallied (lyricsAt s number at left)) ≡ tallied (lyricsAt s number₀ at₀ left₀))
+    (1 ≤ number) × (number ≤ at + 1) × (at ≤ length s) × (t .lines ≤ at) × (t .sum ≤ 9999 * at)
+    × (joined t (tallied (lyricsAt s number at left)) ≡ tallied (lyricsAt s number₀ at₀ left₀))
 
 abbrev μ-loop : tie.MeasureT-loop
 μ-loop s number₀ at₀ left₀ t₀ number at left t = length s - at
 
--- src/lyrics.rt:80:5
 loop-holds : tie.Need-loop-holds Inv-loop μ-loop
 loop-holds c = (omega arith, omega arith, omega arith, omega arith, omega arith, none-joined _)
 
--- src/lyrics.rt:82:13
 returns : tie.Need-returns Inv-loop μ-loop
 unfolding linesOf
 returns c =
@@ -38,31 +32,6 @@ returns c =
     let none = lyrics-none (q .before .before .args .s .now) (l .number) (l .at) (l .left) (c .if1 .taken) in
     sym (joined-none (l .t)) ∙ ap (λ (ls : List LyricLine). joined (l .t) (tallied ls)) (sym none) ∙ l .inv .5
 
--- src/lyrics.rt:84:13
-line-at-requires : tie.Need-line-at-requires Inv-loop μ-loop
-line-at-requires c κs = search needs
-
--- src/lyrics.rt:85:13
-lyric-words-requires : tie.Need-lyric-words-requires Inv-loop μ-loop
-lyric-words-requires c κs = search needs
-
--- src/lyrics.rt:86:9
-with-line-requires : tie.Need-with-line-requires Inv-loop μ-loop
-with-line-requires c κs = search needs
-
--- src/lyrics.rt:87:9
-add-number : tie.Need-add-number Inv-loop μ-loop
-add-number c = search needs
-
--- src/lyrics.rt:89:9
-sub-left : tie.Need-sub-left Inv-loop μ-loop
-sub-left c = search needs
-
--- src/lyrics.rt:80:5
-loop-less : tie.Need-loop-less Inv-loop μ-loop
-loop-less c = search needs
-
--- src/lyrics.rt:80:5
 loop-again : tie.Need-loop-again Inv-loop μ-loop
 loop-again c =
     let q = c .before .before .before .before .before in
@@ -71,10 +40,10 @@ loop-again c =
     let e = c .with-line .ensures in
     let lines = ap (λ (t : Tally). t .lines) e ∙ with-lines (l .t) (l .number) (w .count) in
     let sum = ap (λ (t : Tally). t .sum) e ∙ with-sum (l .t) (l .number) (w .count) in
-    let more = tally-more w (l .t) (c .before .before .line-at .ensures) (c .before .before .before .before .loop-test .taken) (c .before .before .before .if1 .left) (c .before .lyric-words .ensures .0) e in
+    let more = tally-more w (l .t) (c .before .before .line-at .ensures) (c .before .before .before .before .loop-test .taken)
+    (c .before .before .before .if1 .left) (c .before .lyric-words .ensures .0) e in
     (omega arith, omega arith, omega arith, omega arith, omega arith, more ∙ l .inv .5)
 
--- src/lyrics.rt:67:1
 returns-2 : tie.Need-returns-2 Inv-loop μ-loop
 unfolding linesOf
 returns-2 c =
@@ -86,16 +55,5 @@ returns-2 c =
 pub tally-lyrics-spec : {M : Type 1} → statement M
 tally-lyrics-spec =
     tie.close
-    (tie.spec
-    Inv-loop
-    μ-loop
-    loop-holds
-    returns
-    line-at-requires
-    lyric-words-requires
-    with-line-requires
-    add-number
-    sub-left
-    loop-less
-    loop-again
-    returns-2)
+    (tie.spec Inv-loop μ-loop loop-holds returns (λ c κs. search needs) (λ c κs. search needs) (λ c κs. search needs) (λ c. search needs)
+    (λ c. search needs) (λ c. search needs) loop-again returns-2)

@@ -1,3 +1,4 @@
+-- What stages 4 and 5 found in the sections passed, and find from here on, is what they find in all of them.
 use Rattle.judging.proofs.JudgedLaws.{Judged, judged-start, judged-next, judged-end, opened-fault}
 use Rattle.judging.proofs.OpenedLaws.{opened-measurable}
 use Rattle.judging.proofs.LengthsAreLaws.{LengthsAre, lengths-start, lengths-small, lengths-next, lengths-end}
@@ -16,52 +17,36 @@ use Prim.Native.Nat.{_-_, _≤_}
 use borrow.Author.Needs.{needs}
 use Rattle.judging.proofs.measures.measure_stages.Statement.{statement}
 use Rattle.judging.proofs.measures.measure_stages.Tie as tie
-use Rattle.judging.proofs.measures.measure_stages.Reads as reads
-use Rattle.judging.proofs.measures.measure_stages.Lts as lts
-use Rattle.judging.proofs.lengths.with_lengths.Reads as with-lengths-reads
-use Rattle.judging.proofs.meters.meter_fault.Reads as meter-fault-reads
-use Rattle.judging.proofs.meters.meter_of.Reads as meter-of-reads
-use Rattle.judging.proofs.meters.sooner.Reads as sooner-reads
-use Rattle.scores.proofs.open_section.Reads as open-section-reads
 
 abbrev Inv-loop : tie.InvT-loop
-Inv-loop s score time words₀ place₀ best₀ lengths₀ words place best lengths = Onward s place × Ready s words score × (length words ≡ length words₀) × (score .fill ≤ place .at) × Judged s place best × LengthsAre s place lengths
+Inv-loop s score time words₀ place₀ best₀ lengths₀ words place best lengths =
+    Onward s place × Ready s words score × (length words ≡ length words₀) × (score .fill ≤ place .at) × Judged s place best
+    × LengthsAre s place lengths
 
 abbrev μ-loop : tie.MeasureT-loop
 μ-loop s score time words₀ place₀ best₀ lengths₀ words place best lengths = length s - place .at
 
--- src/measures.rt:34:5
 loop-holds : tie.Need-loop-holds Inv-loop μ-loop
 loop-holds c = let h = c .before .before .pre in (h .0 .onward, h .1, refl, h .2, judged-start _ _ (h .0), lengths-start _ _ (h .0))
 
--- src/measures.rt:35:13
 open-section-requires : tie.Need-open-section-requires Inv-loop μ-loop
 open-section-requires c κs = let i = c .before .before .before .loop .inv in (i .0, c .before .if1 .taken, i .1, i .3)
 
--- src/measures.rt:38:13
-meter-of-requires : tie.Need-meter-of-requires Inv-loop μ-loop
-meter-of-requires c κs = search needs
-
--- src/measures.rt:41:13
-meter-fault-requires : tie.Need-meter-fault-requires Inv-loop μ-loop
-meter-fault-requires c κs = search needs
-
--- src/measures.rt:39:9
-sooner-requires : tie.Need-sooner-requires Inv-loop μ-loop
-sooner-requires c κs = search needs
-
--- src/measures.rt:43:9
 with-lengths-requires : tie.Need-with-lengths-requires Inv-loop μ-loop
 with-lengths-requires c κs =
     let q = c .before .before .before .before .before .before .before .before in
-    let l = q .before .before .before .before .loop in
-    (rw (c .before .before .before .meter-of .ensures) (opened-measurable _ _ _ _ _ (q .open-section .ensures .0) (q .before .before .before .before .before .before .before .pre .3)), lengths-small _ _ _ (l .inv .5))
+    let l = q .before .before .before .before .loop in (
+      rw (c .before .before .before .meter-of .ensures)
+          (opened-measurable _ _ _ _ _ (q .open-section .ensures .0) (q .before .before .before .before .before .before .before .pre .3)),
+      lengths-small _ _ _ (l .inv .5),
+    )
 
--- src/measures.rt:34:5
 loop-less : tie.Need-loop-less Inv-loop μ-loop
-loop-less c = let further = c .before .before .before .before .before .before .before .before .before .before .open-section .ensures .0 .met .further in omega (arith, c .before .before .before .before .before .before .before .before .before .before .before .before .if1 .taken)
+loop-less c =
+    let further = c .before .before .before .before .before .before .before .before .before .before .open-section .ensures .0 .met .further
+    in
+    omega (arith, c .before .before .before .before .before .before .before .before .before .before .before .before .if1 .taken)
 
--- src/measures.rt:34:5
 loop-again : tie.Need-loop-again Inv-loop μ-loop
 loop-again c =
     let q = c .before .before .before .before .before .before .before .before .before .before in
@@ -79,22 +64,21 @@ loop-again c =
       rw (c .before .with-lengths .ensures, meter) (lengths-next _ _ _ _ _ (w .0) time (i .0) (q .before .before .if1 .taken) _ (i .5)),
     )
 
--- src/measures.rt:55:9
 same-length : tie.Need-same-length Inv-loop μ-loop
 same-length c = c .before .before .before .before .before .loop .inv .2
 
--- src/measures.rt:55:9
 returns : tie.Need-returns Inv-loop μ-loop
 returns c =
     let song = songOf (c .before .before .before .before .before .before .before .before .args .s .now) in
-    let i = c .before .before .before .before .before .loop .inv in
-    (stage-refused (meterFaults song) (lengthFaults song 0 (song .sections) ∷ []) _ (judged-end _ _ _ (c .before .before .before .if1 .left) (i .4)) (c .if2 .taken), (i .1, i .2))
+    let i = c .before .before .before .before .before .loop .inv in (
+      stage-refused (meterFaults song) (lengthFaults song 0 (song .sections) ∷ []) _
+          (judged-end _ _ _ (c .before .before .before .if1 .left) (i .4)) (c .if2 .taken),
+      (i .1, i .2),
+    )
 
--- src/measures.rt:23:1
 same-length-2 : tie.Need-same-length-2 Inv-loop μ-loop
 same-length-2 c = c .before .before .before .before .before .loop .inv .2
 
--- src/measures.rt:23:1
 returns-2 : tie.Need-returns-2 Inv-loop μ-loop
 returns-2 c =
     let song = songOf (c .before .before .before .before .before .before .before .before .args .s .now) in
@@ -110,18 +94,5 @@ returns-2 c =
 pub measure-stages-spec : {M : Type 1} → statement M
 measure-stages-spec =
     tie.close
-    (tie.spec
-    Inv-loop
-    μ-loop
-    loop-holds
-    open-section-requires
-    meter-of-requires
-    meter-fault-requires
-    sooner-requires
-    with-lengths-requires
-    loop-less
-    loop-again
-    same-length
-    returns
-    same-length-2
-    returns-2)
+    (tie.spec Inv-loop μ-loop loop-holds open-section-requires (λ c κs. search needs) (λ c κs. search needs) (λ c κs. search needs)
+    with-lengths-requires loop-less loop-again same-length returns same-length-2 returns-2)

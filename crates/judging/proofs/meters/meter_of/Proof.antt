@@ -3,20 +3,15 @@ use Rattle.songcode.specs.Lists.{if_then_else_}
 use Rattle.judging.specs.Meters.{meterOf}
 use Rattle.judging.proofs.meters.meter_of.Statement.{statement}
 use Rattle.judging.proofs.meters.meter_of.Tie as tie
-use Rattle.judging.proofs.meters.meter_of.Reads as reads
-use Rattle.judging.proofs.meters.meter_of.Lts as lts
 
--- src/meters.rt:28:9
 returns : tie.Need-returns
 unfolding meterOf if_then_else_
 returns c = rw (ne-eqb _ 0 (c .if1 .taken))
 
--- src/meters.rt:24:1
 returns-2 : tie.Need-returns-2
 unfolding meterOf if_then_else_
 returns-2 c = rw (eq-eqb _ 0 (c .before .if1 .left), ne-eqb _ 0 (c .if2 .taken))
 
--- src/meters.rt:24:1
 returns-3 : tie.Need-returns-3
 unfolding meterOf if_then_else_
 returns-3 c = rw (eq-eqb _ 0 (c .before .if1 .left), eq-eqb _ 0 (c .if2 .left))

@@ -1,44 +1,60 @@
+-- Of two refusals the one that goes first, by its line and then its number; none goes behind every other.
 use Rattle.judging.specs.Meters.{soonerOf}
 use Rattle.songcode.specs.Lists.{if_then_else_}
 use borrow.Author.Tests.{eq-eqb, ne-eqb, lt-ltb, le-ltb}
 use Rattle.judging.proofs.meters.sooner.Statement.{statement}
 use Rattle.judging.proofs.meters.sooner.Tie as tie
-use Rattle.judging.proofs.meters.sooner.Reads as reads
-use Rattle.judging.proofs.meters.sooner.Lts as lts
 
--- src/meters.rt:51:9
 returns : tie.Need-returns
 unfolding soonerOf if_then_else_
 returns c = rw (eq-eqb _ 0 (c .if1 .taken))
 
--- src/meters.rt:54:9
 returns-2 : tie.Need-returns-2
 unfolding soonerOf if_then_else_
 returns-2 c = rw (ne-eqb _ 0 (c .before .before .if1 .left), eq-eqb _ 0 (c .if2 .taken))
 
--- src/meters.rt:57:9
 returns-3 : tie.Need-returns-3
 unfolding soonerOf if_then_else_
-returns-3 c = rw (ne-eqb _ 0 (c .before .before .before .before .before .if1 .left), ne-eqb _ 0 (c .before .before .before .if2 .left), lt-ltb _ _ (c .if3 .taken))
+returns-3 c =
+    rw (
+      ne-eqb _ 0 (c .before .before .before .before .before .if1 .left),
+      ne-eqb _ 0 (c .before .before .before .if2 .left),
+      lt-ltb _ _ (c .if3 .taken),
+    )
 
--- src/meters.rt:60:9
 returns-4 : tie.Need-returns-4
 unfolding soonerOf if_then_else_
-returns-4 c = rw (ne-eqb _ 0 (c .before .before .before .before .before .before .before .before .if1 .left), ne-eqb _ 0 (c .before .before .before .before .before .before .if2 .left), le-ltb _ _ (c .before .before .before .if3 .left), lt-ltb _ _ (c .if4 .taken))
+returns-4 c =
+    rw (
+      ne-eqb _ 0 (c .before .before .before .before .before .before .before .before .if1 .left),
+      ne-eqb _ 0 (c .before .before .before .before .before .before .if2 .left),
+      le-ltb _ _ (c .before .before .before .if3 .left),
+      lt-ltb _ _ (c .if4 .taken),
+    )
 
--- src/meters.rt:47:1
 returns-5 : tie.Need-returns-5
 unfolding soonerOf if_then_else_
 returns-5 c =
     let q = c .before .before .before in
-    rw (ne-eqb _ 0 (q .before .before .before .before .before .before .before .before .if1 .left), ne-eqb _ 0 (q .before .before .before .before .before .before .if2 .left), le-ltb _ _ (q .before .before .before .if3 .left), le-ltb _ _ (q .if4 .left), lt-ltb _ _ (c .if5 .taken))
+    rw (
+      ne-eqb _ 0 (q .before .before .before .before .before .before .before .before .if1 .left),
+      ne-eqb _ 0 (q .before .before .before .before .before .before .if2 .left),
+      le-ltb _ _ (q .before .before .before .if3 .left),
+      le-ltb _ _ (q .if4 .left),
+      lt-ltb _ _ (c .if5 .taken),
+    )
 
--- src/meters.rt:47:1
 returns-6 : tie.Need-returns-6
 unfolding soonerOf if_then_else_
 returns-6 c =
     let q = c .before .before .before in
-    rw (ne-eqb _ 0 (q .before .before .before .before .before .before .before .before .if1 .left), ne-eqb _ 0 (q .before .before .before .before .before .before .if2 .left), le-ltb _ _ (q .before .before .before .if3 .left), le-ltb _ _ (q .if4 .left), le-ltb _ _ (c .if5 .left))
+    rw (
+      ne-eqb _ 0 (q .before .before .before .before .before .before .before .before .if1 .left),
+      ne-eqb _ 0 (q .before .before .before .before .before .before .if2 .left),
+      le-ltb _ _ (q .before .before .before .if3 .left),
+      le-ltb _ _ (q .if4 .left),
+      le-ltb _ _ (c .if5 .left),
+    )
 
 pub sooner-spec : {M : Type 1} → statement M
 sooner-spec = tie.close (tie.spec returns returns-2 returns-3 returns-4 returns-5 returns-6)

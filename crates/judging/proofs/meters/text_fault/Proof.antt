@@ -5,28 +5,18 @@ use borrow.Author.Tests.{not-true, not-false}
 use borrow.Author.Needs.{needs}
 use Rattle.judging.proofs.meters.text_fault.Statement.{statement}
 use Rattle.judging.proofs.meters.text_fault.Tie as tie
-use Rattle.judging.proofs.meters.text_fault.Reads as reads
-use Rattle.judging.proofs.meters.text_fault.Lts as lts
-use Rattle.outlines.proofs.sizes_fit.Reads as sizes-fit-reads
 
--- src/meters.rt:37:9
-sizes-fit-requires : tie.Need-sizes-fit-requires
-sizes-fit-requires c κs = search needs
-
--- src/meters.rt:38:9
 returns : tie.Need-returns
 unfolding textFault if_then_else_
 returns c = rw (sym (c .before .sizes-fit .ensures) ∙ not-true _ (c .if1 .taken))
 
--- src/meters.rt:41:9
 returns-2 : tie.Need-returns-2
 unfolding textFault if_then_else_
 returns-2 c = rw (sym (c .before .before .sizes-fit .ensures) ∙ not-false _ (c .before .if1 .left), c .if2 .taken)
 
--- src/meters.rt:34:1
 returns-3 : tie.Need-returns-3
 unfolding textFault if_then_else_
 returns-3 c = rw (sym (c .before .before .sizes-fit .ensures) ∙ not-false _ (c .before .if1 .left), c .if2 .left)
 
 pub text-fault-spec : {M : Type 1} → statement M
-text-fault-spec = tie.close (tie.spec sizes-fit-requires returns returns-2 returns-3)
+text-fault-spec = tie.close (tie.spec (λ c κs. search needs) returns returns-2 returns-3)

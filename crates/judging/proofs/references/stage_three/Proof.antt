@@ -1,3 +1,4 @@
+-- The sections passed have no fault, so the faults from here on are those of all sections.
 use Rattle.judging.proofs.ReferenceLaws.{sectionFault, fault-at, first-section, next-section}
 use Rattle.sections.proofs.MeetLaws.{sections-over}
 use Rattle.scores.specs.Scores.{Told}
@@ -14,31 +15,24 @@ use native.Mathlib.Omega.{arith}
 use Prim.Native.Nat.{_-_}
 use Rattle.judging.proofs.references.stage_three.Statement.{statement}
 use Rattle.judging.proofs.references.stage_three.Tie as tie
-use Rattle.judging.proofs.references.stage_three.Reads as reads
-use Rattle.judging.proofs.references.stage_three.Lts as lts
-use Rattle.judging.proofs.references.name_fault.Reads as name-fault-reads
-use Rattle.sections.proofs.pass.Reads as pass-reads
 
 abbrev Inv-loop : tie.InvT-loop
 Inv-loop s score place₀ place =
-    Onward s place × Told s score × (gather (sectionFault (songOf s .definitions)) (sectionsFrom s place) ≡ gather (sectionFault (songOf s .definitions)) (sectionsFrom s place₀))
+    Onward s place × Told s score × (gather (sectionFault (songOf s .definitions)) (sectionsFrom s place) ≡ gather
+    (sectionFault (songOf s .definitions)) (sectionsFrom s place₀))
 
 abbrev μ-loop : tie.MeasureT-loop
 μ-loop s score place₀ place = length s - place .at
 
--- src/references.rt:45:5
 loop-holds : tie.Need-loop-holds Inv-loop μ-loop
 loop-holds c = let p = c .before .pre in (p .0, p .1, refl)
 
--- src/references.rt:46:13
 pass-requires : tie.Need-pass-requires Inv-loop μ-loop
 pass-requires c κs = (c .before .before .loop .inv .0, c .if1 .taken)
 
--- src/references.rt:48:13
 name-fault-requires : tie.Need-name-fault-requires Inv-loop μ-loop
 name-fault-requires c κs = let m = c .before in (m .pass .ensures .read .pattern-placed, m .before .before .before .loop .inv .1)
 
--- src/references.rt:50:13
 returns : tie.Need-returns Inv-loop μ-loop
 unfolding sectionFault
 returns c =
@@ -53,11 +47,9 @@ returns c =
     ∙ ap (λ (xs : List Section). refusalOf (earliest (gather (sectionFault ds) xs))) (sym (w .first))
     ∙ ap (λ (cs : List Complaint). refusalOf (earliest cs)) (q .loop .inv .2)
 
--- src/references.rt:45:5
 loop-less : tie.Need-loop-less Inv-loop μ-loop
 loop-less c = let w = c .before .before .before .before .before .pass .ensures in let a = w .further in let b = w .onward .inside in omega arith
 
--- src/references.rt:45:5
 loop-again : tie.Need-loop-again Inv-loop μ-loop
 loop-again c =
     let m = c .before .before .before .before .before in
@@ -74,7 +66,6 @@ loop-again c =
           ∙ q .loop .inv .2,
     )
 
--- src/references.rt:40:1
 returns-2 : tie.Need-returns-2 Inv-loop μ-loop
 unfolding sectionFault refusalOf earliest gather
 returns-2 c =
@@ -87,13 +78,4 @@ returns-2 c =
 pub stage-three-spec : {M : Type 1} → statement M
 stage-three-spec =
     tie.close
-    (tie.spec
-    Inv-loop
-    μ-loop
-    loop-holds
-    pass-requires
-    name-fault-requires
-    returns
-    loop-less
-    loop-again
-    returns-2)
+    (tie.spec Inv-loop μ-loop loop-holds pass-requires name-fault-requires returns loop-less loop-again returns-2)

@@ -8,34 +8,24 @@ use mathlib.Core.Path.{sym, ap, _∙_}
 use borrow.Author.Needs.{needs}
 use Rattle.judging.proofs.stages.first_stages.Statement.{statement}
 use Rattle.judging.proofs.stages.first_stages.Tie as tie
-use Rattle.judging.proofs.stages.first_stages.Reads as reads
-use Rattle.judging.proofs.stages.first_stages.Lts as lts
-use Rattle.stage2.proofs.stage_two.Reads as stage-two-reads
-use Rattle.text.proofs.judge_input.Reads as judge-input-reads
 
--- src/stages.rt:31:9
-judge-input-requires : tie.Need-judge-input-requires
-judge-input-requires c κs = search needs
-
--- src/stages.rt:33:9
 returns : tie.Need-returns
 returns c = stage-refused _ _ _ (c .before .before .judge-input .ensures) (c .if1 .taken)
 
--- src/stages.rt:35:5
 stage-two-requires : tie.Need-stage-two-requires
 stage-two-requires c κs =
     let j = c .before .before .judge-input in
     let s = c .before .before .before .before .args .s .now in
     input-small s (stage-none (inputFaults s) (j .result) (numbered-input s) (j .ensures) (c .if1 .left))
 
--- src/stages.rt:28:1
 returns-2 : tie.Need-returns-2
 returns-2 c =
     let j = c .before .before .before .judge-input in
     let s = c .before .before .before .before .before .args .s .now in
     c .stage-two .ensures
     ∙ ap refusalOf (sym (last-stage (textFaults (blocksOf s))))
-    ∙ sym (stage-passed (inputFaults s) (textFaults (blocksOf s) ∷ []) (stage-none (inputFaults s) (j .result) (numbered-input s) (j .ensures) (c .before .if1 .left)))
+    ∙ sym (stage-passed (inputFaults s) (textFaults (blocksOf s) ∷ [])
+    (stage-none (inputFaults s) (j .result) (numbered-input s) (j .ensures) (c .before .if1 .left)))
 
 pub first-stages-spec : {M : Type 1} → statement M
-first-stages-spec = tie.close (tie.spec judge-input-requires returns stage-two-requires returns-2)
+first-stages-spec = tie.close (tie.spec (λ c κs. search needs) returns stage-two-requires returns-2)

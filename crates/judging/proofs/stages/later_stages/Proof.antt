@@ -1,3 +1,4 @@
+-- Each stage is asked where those before it found nothing; what comes out is the verdict over all their faults.
 use Rattle.judging.proofs.StageLaws.{stage-refused, stage-passed, refused-says}
 use Rattle.judging.proofs.ReferenceLaws.{sectionFault, song-references, references-none}
 use Rattle.judging.specs.Stages.{playingFaults, laterFaults}
@@ -9,17 +10,7 @@ use mathlib.Core.Path.{sym, ap, _∙_}
 use borrow.Author.Needs.{needs}
 use Rattle.judging.proofs.stages.later_stages.Statement.{statement}
 use Rattle.judging.proofs.stages.later_stages.Tie as tie
-use Rattle.judging.proofs.stages.later_stages.Reads as reads
-use Rattle.judging.proofs.stages.later_stages.Lts as lts
-use Rattle.judging.proofs.references.stage_three.Reads as stage-three-reads
-use Rattle.judging.proofs.stages.playing_stages.Reads as playing-stages-reads
-use Rattle.judging.proofs.stages.refused.Reads as refused-reads
 
--- src/stages.rt:96:9
-refused-requires : tie.Need-refused-requires
-refused-requires c κs = search needs
-
--- src/stages.rt:96:9
 returns : tie.Need-returns
 unfolding laterFaults
 returns c =
@@ -33,18 +24,12 @@ returns c =
       ((λ z. refused-says (c .refused .result) (loaded .refusal) e n z), (λ z. refused-says (c .refused .result) (loaded .refusal) e n z)),
     )
 
--- src/stages.rt:100:9
 stage-three-requires : tie.Need-stage-three-requires
 stage-three-requires c κs =
     let loads = c .before .before .before .before .before .before .before .pre .0 in
     let z = c .before .before .if1 .left in
     (loads .begins z .onward, loads .ready z .told)
 
--- src/stages.rt:102:9
-refused-requires-2 : tie.Need-refused-requires-2
-refused-requires-2 c κs = search needs
-
--- src/stages.rt:102:9
 returns-2 : tie.Need-returns-2
 unfolding laterFaults sectionFault
 returns-2 c =
@@ -55,23 +40,18 @@ returns-2 c =
     let three = c .before .before .before .stage-three in
     let n = c .before .if2 .taken in
     let e = ap (λ (r : Totals). r .refusal) (c .refused2 .ensures) in
-    let refused = song-references (songOf s) (loads .clear z) (sectionsFrom s (entry .args .loaded .sections)) (three .result) (loads .begins z .sections) (three .ensures) in (
+    let refused = song-references (songOf s) (loads .clear z) (sectionsFrom s (entry .args .loaded .sections)) (three .result)
+    (loads .begins z .sections) (three .ensures) in (
       e ∙ stage-refused (referenceFaults (songOf s)) (playingFaults (songOf s)) (three .result) refused n,
       ((λ y. refused-says (c .refused2 .result) (three .result) e n y), (λ y. refused-says (c .refused2 .result) (three .result) e n y)),
     )
 
--- src/stages.rt:104:5
 playing-stages-requires : tie.Need-playing-stages-requires
 playing-stages-requires c κs =
     let pre = c .before .before .before .before .before .before .before .before .before .before .before .pre in
     let z = c .before .before .before .before .before .before .if1 .left in
     (pre .0 .begins z, pre .0 .ready z, pre .0 .filled z, pre .1, pre .2)
 
--- src/stages.rt:88:1
-same-length : tie.Need-same-length
-same-length c = search needs
-
--- src/stages.rt:88:1
 returns-3 : tie.Need-returns-3
 unfolding laterFaults sectionFault
 returns-3 c =
@@ -81,20 +61,15 @@ returns-3 c =
     let z = c .before .before .before .before .before .before .before .before .before .if1 .left in
     let three = c .before .before .before .before .before .before .stage-three in
     let playing = c .before .before .playing-stages in
-    let refused = song-references (songOf s) (loads .clear z) (sectionsFrom s (entry .args .loaded .sections)) (three .result) (loads .begins z .sections) (three .ensures) in (
-      playing .ensures .0 ∙ sym (stage-passed (referenceFaults (songOf s)) (playingFaults (songOf s)) (references-none (songOf s) (loads .clear z) (three .result) refused (c .before .before .before .before .if2 .left))),
+    let refused = song-references (songOf s) (loads .clear z) (sectionsFrom s (entry .args .loaded .sections)) (three .result)
+    (loads .begins z .sections) (three .ensures) in (
+      playing .ensures .0 ∙ sym (stage-passed (referenceFaults (songOf s)) (playingFaults (songOf s))
+          (references-none (songOf s) (loads .clear z) (three .result) refused (c .before .before .before .before .if2 .left))),
       (playing .ensures .1 .0, (λ y. (z, playing .ensures .1 .1 y))),
     )
 
 pub later-stages-spec : {M : Type 1} → statement M
 later-stages-spec =
     tie.close
-    (tie.spec
-    refused-requires
-    returns
-    stage-three-requires
-    refused-requires-2
-    returns-2
-    playing-stages-requires
-    same-length
-    returns-3)
+    (tie.spec (λ c κs. search needs) returns stage-three-requires (λ c κs. search needs) returns-2 playing-stages-requires
+    (λ c. search needs) returns-3)

@@ -9,48 +9,30 @@ use mathlib.Core.Path.{sym, ap, _∙_}
 use borrow.Author.Needs.{needs}
 use Rattle.judging.proofs.stages.playing_stages.Statement.{statement}
 use Rattle.judging.proofs.stages.playing_stages.Tie as tie
-use Rattle.judging.proofs.stages.playing_stages.Reads as reads
-use Rattle.judging.proofs.stages.playing_stages.Lts as lts
-use Rattle.judging.proofs.measures.measure_stages.Reads as measure-stages-reads
-use Rattle.judging.proofs.stages.lyric_stages.Reads as lyric-stages-reads
-use Rattle.judging.proofs.stages.refused.Reads as refused-reads
 
--- src/stages.rt:76:9
-measure-stages-requires : tie.Need-measure-stages-requires
-measure-stages-requires c κs = search needs
-
--- src/stages.rt:78:9
-refused-requires : tie.Need-refused-requires
-refused-requires c κs = search needs
-
--- src/stages.rt:78:9
-same-length : tie.Need-same-length
-same-length c = search needs
-
--- src/stages.rt:78:9
 returns : tie.Need-returns
 unfolding playingFaults
 returns c =
     let measures = c .before .before .before .before .before .measure-stages in
     let song = songOf (c .before .before .before .before .before .before .before .before .before .args .s .now) in
     let e = ap (λ (r : Totals). r .refusal) (c .refused .ensures) in (
-      e ∙ stages-refused (meterFaults song ∷ lengthFaults song 0 (song .sections) ∷ []) (lyricFaults song) (measures .result) (measures .ensures .0) (c .before .if1 .taken),
-      ((λ z. refused-says (c .refused .result) (measures .result) e (c .before .if1 .taken) z), (λ z. refused-says (c .refused .result) (measures .result) e (c .before .if1 .taken) z)),
+      e ∙ stages-refused (meterFaults song ∷ lengthFaults song 0 (song .sections) ∷ []) (lyricFaults song) (measures .result)
+          (measures .ensures .0) (c .before .if1 .taken),
+      (
+        (λ z. refused-says (c .refused .result) (measures .result) e (c .before .if1 .taken) z),
+        (λ z. refused-says (c .refused .result) (measures .result) e (c .before .if1 .taken) z),
+      ),
     )
 
--- src/stages.rt:80:5
 lyric-stages-requires : tie.Need-lyric-stages-requires
 lyric-stages-requires c κs =
     let measures = c .before .before .before .before .before .measure-stages in
     let entry = c .before .before .before .before .before .before .before .before .before in
-    let pre = entry .pre in
-    ((pre .0, measures .ensures .1 .0, pre .2, pre .3, pre .4), measures-clear (songOf (entry .args .s .now)) (measures .result) (measures .ensures .0) (c .before .if1 .left))
+    let pre = entry .pre in (
+      (pre .0, measures .ensures .1 .0, pre .2, pre .3, pre .4),
+      measures-clear (songOf (entry .args .s .now)) (measures .result) (measures .ensures .0) (c .before .if1 .left),
+    )
 
--- src/stages.rt:70:1
-same-length-2 : tie.Need-same-length-2
-same-length-2 c = search needs
-
--- src/stages.rt:70:1
 returns-2 : tie.Need-returns-2
 unfolding playingFaults
 returns-2 c =
@@ -67,11 +49,4 @@ returns-2 c =
 pub playing-stages-spec : {M : Type 1} → statement M
 playing-stages-spec =
     tie.close
-    (tie.spec
-    measure-stages-requires
-    refused-requires
-    same-length
-    returns
-    lyric-stages-requires
-    same-length-2
-    returns-2)
+    (tie.spec (λ c κs. search needs) (λ c κs. search needs) (λ c. search needs) returns lyric-stages-requires (λ c. search needs) returns-2)

@@ -1,15 +1,11 @@
 use Rattle.judging.specs.Sums.{hasLines}
 use Rattle.judging.proofs.sums.has_lines.Statement.{statement}
 use Rattle.judging.proofs.sums.has_lines.Tie as tie
-use Rattle.judging.proofs.sums.has_lines.Reads as reads
-use Rattle.judging.proofs.sums.has_lines.Lts as lts
 
--- src/sums.rt:117:9
 returns : tie.Need-returns
 unfolding hasLines
 returns c = rw (c .if1 .taken)
 
--- src/sums.rt:113:1
 returns-2 : tie.Need-returns-2
 unfolding hasLines
 returns-2 c = rw (c .before .if1 .left)

@@ -1,3 +1,4 @@
+-- The sums of the sections passed, and those from here on, are the counts of the tables.
 use Prim.Native.Nat.{_-_, _*_, _≤_}
 use mathlib.Core.Path.{_≡_, refl, sym, ap, _∙_, subst}
 use native.Mathlib.Omega.{arith}
@@ -13,20 +14,10 @@ use Rattle.judging.specs.Sums.{totalsOf, Holds}
 use Rattle.judging.proofs.MeterLaws.{meter-is}
 use Rattle.judging.proofs.AlongLaws.{Along, along-start, along-same, along-within, along-measures, along-beats, along-next}
 use Rattle.sections.proofs.MeetLaws.{sections-over}
-use Rattle.judging.proofs.SumLaws.{opened-few, opened-off, opened-refused, opened-passed, opened-summed, faultsLeft, faults-start, faults-end, Summed, summed-from, summed-end, with-counts}
+use Rattle.judging.proofs.SumLaws.{opened-few, opened-off, opened-refused, opened-passed, opened-summed, faultsLeft, faults-start}
+use Rattle.judging.proofs.SumLaws.{faults-end, Summed, summed-from, summed-end, with-counts}
 use Rattle.judging.proofs.sums.stage_seven.Statement.{statement}
 use Rattle.judging.proofs.sums.stage_seven.Tie as tie
-use Rattle.judging.proofs.sums.stage_seven.Reads as reads
-use Rattle.judging.proofs.sums.stage_seven.Lts as lts
-use Rattle.judging.proofs.lyrics.tally_lyrics.Reads as tally-lyrics-reads
-use Rattle.judging.proofs.meters.meter_of.Reads as meter-of-reads
-use Rattle.judging.proofs.sums.counts_of.Reads as counts-of-reads
-use Rattle.judging.proofs.sums.has_prompts.Reads as has-prompts-reads
-use Rattle.judging.proofs.sums.sum_differs.Reads as sum-differs-reads
-use Rattle.judging.proofs.sums.sum_refused.Reads as sum-refused-reads
-use Rattle.judging.proofs.sums.totals_of.Reads as totals-of-reads
-use Rattle.judging.proofs.sums.with_section.Reads as with-section-reads
-use Rattle.scores.proofs.open_section.Reads as open-section-reads
 
 abbrev Inv-loop : tie.InvT-loop
 Inv-loop s score time counted words₀ place₀ sums₀ words place sums =
@@ -41,10 +32,11 @@ abbrev μ-loop : tie.MeasureT-loop
 μ-loop s score time counted words₀ place₀ sums₀ words place sums = length s - place .at
 
 -- The section that is opened is played in its own N.
-meter : (c : tie.After-meter-of Inv-loop μ-loop) → c .meter-of .result ≡ timeOf (songOf (c .before .before .before .before .before .before .before .before .before .before .before .before .before .before .before .before .args .s .now)) (sectionAt (c .before .before .before .before .before .before .before .before .before .before .before .before .before .before .before .before .args .s .now) (c .before .before .before .before .before .before .before .before .before .before .before .before .before .loop .place))
-meter c = c .meter-of .ensures ∙ meter-is _ _ (c .before .before .before .before .before .before .before .before .before .open-section .ensures .0 .met .says .time) (c .before .before .before .before .before .before .before .before .before .before .before .before .before .before .before .before .pre .3)
+meter : (c : tie.After-meter-of Inv-loop μ-loop) → c .meter-of .result
+    ≡ timeOf (songOf (c .before .before .before .before .before .before .before .before .before .before .before .before .before .before .before .before .args .s .now)) (sectionAt (c .before .before .before .before .before .before .before .before .before .before .before .before .before .before .before .before .args .s .now) (c .before .before .before .before .before .before .before .before .before .before .before .before .before .loop .place))
+meter c =
+    c .meter-of .ensures ∙ meter-is _ _ (c .before .before .before .before .before .before .before .before .before .open-section .ensures .0 .met .says .time) (c .before .before .before .before .before .before .before .before .before .before .before .before .before .before .before .before .pre .3)
 
--- src/sums.rt:192:5
 loop-holds : tie.Need-loop-holds Inv-loop μ-loop
 loop-holds c = let q = c .before .before .pre in
     let s = c .before .before .args .s .now in (
@@ -56,71 +48,61 @@ loop-holds c = let q = c .before .before .pre in
       faults-start (songOf s) ∙ ap (faultsLeft (songOf s)) (sym (q .0 .sections)),
     )
 
--- src/sums.rt:193:13
 open-section-requires : tie.Need-open-section-requires Inv-loop μ-loop
 open-section-requires c κs = let i = c .before .before .before .loop .inv .0 in (i .onward, c .before .if1 .taken, i .ready, i .filled)
 
--- src/sums.rt:202:13
-meter-of-requires : tie.Need-meter-of-requires Inv-loop μ-loop
-meter-of-requires c κs = search needs
-
--- src/sums.rt:199:13
 counts-of-requires : tie.Need-counts-of-requires Inv-loop μ-loop
 counts-of-requires c κs = let o = c .before .before .before .before .before .before .before .before .before .open-section in
-    along-within (c .before .before .before .before .before .before .before .before .before .before .before .before .before .loop .inv .0) (o .result) (o .ensures .0) (o .ensures .1 .0) (c .meter-of .result) (meter c) 0 (omega arith)
+    along-within (c .before .before .before .before .before .before .before .before .before .before .before .before .before .loop .inv .0)
+    (o .result) (o .ensures .0) (o .ensures .1 .0) (c .meter-of .result) (meter c) 0 (omega arith)
 
--- src/sums.rt:206:13
 tally-lyrics-requires : tie.Need-tally-lyrics-requires Inv-loop μ-loop
-tally-lyrics-requires c κs = (c .before .before .before .before .before .before .before .before .before .before .open-section .ensures .0 .met .read .lyrics-placed, c .before .before .before .before .before .before .before .before .before .before .before .before .before .before .loop .inv .0 .ready .told .small)
+tally-lyrics-requires c κs = (
+  c .before .before .before .before .before .before .before .before .before .before .open-section .ensures .0 .met .read .lyrics-placed,
+  c .before .before .before .before .before .before .before .before .before .before .before .before .before .before .loop .inv .0 .ready .told .small,
+)
 
--- src/sums.rt:207:12
-sum-differs-requires : tie.Need-sum-differs-requires Inv-loop μ-loop
-sum-differs-requires c κs = search needs
-
--- src/sums.rt:208:13
-sum-refused-requires : tie.Need-sum-refused-requires Inv-loop μ-loop
-sum-refused-requires c κs = search needs
-
--- src/sums.rt:208:13
 same-length : tie.Need-same-length Inv-loop μ-loop
-same-length c = omega (arith, c .before .before .before .before .before .before .before .before .before .before .before .before .before .before .open-section .ensures .1 .1, c .before .before .before .before .before .before .before .before .before .before .before .before .before .before .before .before .before .before .loop .inv .1)
+same-length c =
+    omega (arith, c .before .before .before .before .before .before .before .before .before .before .before .before .before .before .open-section .ensures .1 .1, c .before .before .before .before .before .before .before .before .before .before .before .before .before .before .before .before .before .before .loop .inv .1)
 
--- src/sums.rt:208:13
 returns : tie.Need-returns Inv-loop μ-loop
 returns c = let y = c .before .before .before .before .before in
     let l = y .before .before .before .before .before .before .before .before .before .before .before .before .before .loop in
     let o = y .before .before .before .before .before .before .before .before .before .open-section in
     let s = y .before .before .before .before .before .before .before .before .before .before .before .before .before .before .before .before .args .s .now in
     let tally = c .before .before .before .tally-lyrics in
-    let m = along-measures (l .inv .0) (o .result) (o .ensures .0) (o .ensures .1 .0) (y .meter-of .result) (meter y) _ (c .before .before .before .before .counts-of .ensures .0) in
-    let off = opened-off (o .result) (o .ensures .0) (tally .result) (tally .ensures) _ _ _ (y .before .before .before .before .before .before .before .before .before .before .before .before .before .before .before .before .pre .7) (c .before .before .sum-differs .ensures) m ∙ c .before .if2 .taken in
+    let m = along-measures (l .inv .0) (o .result) (o .ensures .0) (o .ensures .1 .0) (y .meter-of .result) (meter y) _
+    (c .before .before .before .before .counts-of .ensures .0) in
+    let off = opened-off (o .result) (o .ensures .0) (tally .result) (tally .ensures) _ _ _
+    (y .before .before .before .before .before .before .before .before .before .before .before .before .before .before .before .before .pre .7) (c .before .before .sum-differs .ensures) m ∙ c .before .if2 .taken in
     let r = c .sum-refused .ensures in (
       ap (λ (t : Totals). t .refusal) r ∙ sym (opened-refused (o .result) (o .ensures .0) (tally .result) (tally .ensures) off (l .inv .5)),
-      ((λ z. let w = ap (λ (t : Totals). t .refusal .number) r in let n : ⊥ = omega arith in absurd n), (o .ensures .1 .0, omega (arith, o .ensures .1 .1, l .inv .1))),
+      (
+        (λ z. let w = ap (λ (t : Totals). t .refusal .number) r in let n : ⊥ = omega arith in absurd n),
+        (o .ensures .1 .0, omega (arith, o .ensures .1 .1, l .inv .1)),
+      ),
     )
 
--- src/sums.rt:210:47
-has-prompts-requires : tie.Need-has-prompts-requires Inv-loop μ-loop
-has-prompts-requires c κs = search needs
-
--- src/sums.rt:210:9
 with-section-requires : tie.Need-with-section-requires Inv-loop μ-loop
 with-section-requires c κs = let y = c .before .before .before .before .before in
     let l = y .before .before .before .before .before .before .before .before .before .before .before .before .before .loop in
     let o = y .before .before .before .before .before .before .before .before .before .open-section in
     let a = along-next (l .inv .0) (o .result) (o .ensures .0) (o .ensures .1 .0) (y .meter-of .result) (meter y) in
-    let m = along-measures (l .inv .0) (o .result) (o .ensures .0) (o .ensures .1 .0) (y .meter-of .result) (meter y) _ (c .before .before .before .before .counts-of .ensures .0) in
-    let b = along-beats (l .inv .0) (o .result) (o .ensures .0) (o .ensures .1 .0) (y .meter-of .result) (meter y) _ (c .before .before .before .before .counts-of .ensures .1) in
+    let m = along-measures (l .inv .0) (o .result) (o .ensures .0) (o .ensures .1 .0) (y .meter-of .result) (meter y) _
+    (c .before .before .before .before .counts-of .ensures .0) in
+    let b = along-beats (l .inv .0) (o .result) (o .ensures .0) (o .ensures .1 .0) (y .meter-of .result) (meter y) _
+    (c .before .before .before .before .counts-of .ensures .1) in
     let small = l .inv .0 .ready .told .small in
-    let lines = opened-few (o .result) (o .ensures .0) (c .before .before .before .tally-lyrics .result) (c .before .before .before .tally-lyrics .ensures) small in
+    let lines = opened-few (o .result) (o .ensures .0) (c .before .before .before .tally-lyrics .result)
+    (c .before .before .before .tally-lyrics .ensures) small in
     let inside = y .before .before .before .before .before .before .before .before .before .before .before .if1 .taken in
     (omega (arith, l .inv .2), omega (arith, a .measures, a .few), omega (arith, a .beats, a .few), omega (arith, l .inv .2, l .inv .3))
 
--- src/sums.rt:192:5
 loop-less : tie.Need-loop-less Inv-loop μ-loop
-loop-less c = omega (arith, c .before .before .before .before .before .before .before .before .before .before .before .before .before .before .before .before .open-section .ensures .0 .met .further, c .before .before .before .before .before .before .before .before .before .before .before .before .before .before .before .before .before .before .if1 .taken)
+loop-less c =
+    omega (arith, c .before .before .before .before .before .before .before .before .before .before .before .before .before .before .before .before .open-section .ensures .0 .met .further, c .before .before .before .before .before .before .before .before .before .before .before .before .before .before .before .before .before .before .if1 .taken)
 
--- src/sums.rt:192:5
 loop-again : tie.Need-loop-again Inv-loop μ-loop
 loop-again c = let y = c .before .before .before .before .before .before .before in
     let l = y .before .before .before .before .before .before .before .before .before .before .before .before .before .loop in
@@ -135,7 +117,8 @@ loop-again c = let y = c .before .before .before .before .before .before .before
     let lines = opened-few x i (tally .result) (tally .ensures) (l .inv .0 .ready .told .small) in
     let w = c .before .with-section .ensures in
     let counted = with-counts (c .before .with-section .result) (l .sums) (counts .result) (tally .result .lines) (c .before .before .has-prompts .result) w in
-    let off = opened-off x i (tally .result) (tally .ensures) _ _ _ (y .before .before .before .before .before .before .before .before .before .before .before .before .before .before .before .before .pre .7) (c .before .before .before .before .sum-differs .ensures) m ∙ c .before .before .before .if2 .left in (
+    let off = opened-off x i (tally .result) (tally .ensures) _ _ _
+    (y .before .before .before .before .before .before .before .before .before .before .before .before .before .before .before .before .pre .7) (c .before .before .before .before .sum-differs .ensures) m ∙ c .before .before .before .if2 .left in (
       along-same (omega (arith, counted .1, m)) (omega (arith, counted .2, b)) a,
       omega (arith, o .ensures .1 .1, l .inv .1),
       omega (arith, counted .0, l .inv .2, i .met .further),
@@ -144,15 +127,6 @@ loop-again c = let y = c .before .before .before .before .before .before .before
       opened-passed x i (tally .result) (tally .ensures) off (l .inv .5),
     )
 
--- src/sums.rt:213:5
-totals-of-requires : tie.Need-totals-of-requires Inv-loop μ-loop
-totals-of-requires c κs = search needs
-
--- src/sums.rt:171:1
-same-length-2 : tie.Need-same-length-2 Inv-loop μ-loop
-same-length-2 c = search needs
-
--- src/sums.rt:171:1
 returns-2 : tie.Need-returns-2 Inv-loop μ-loop
 unfolding totalsOf
 returns-2 c = let l = c .before .before .before .loop in
@@ -161,28 +135,16 @@ returns-2 c = let l = c .before .before .before .loop in
     let r = c .totals-of .ensures in
     let stop = faults-end (songOf s) (l .inv .5 ∙ ap (faultsLeft (songOf s)) over) in (
       ap (λ (t : Totals). t .refusal) r ∙ sym stop,
-      ((λ z. subst (λ t. Holds (tables (songOf s)) t) (sym r) (summed-end (songOf s) (l .sums) (subst (λ xs. Summed (songOf s) xs (l .sums)) over (l .inv .4)))), (l .inv .0 .ready, l .inv .1)),
+      (
+        (λ z. subst (λ t. Holds (tables (songOf s)) t) (sym r)
+            (summed-end (songOf s) (l .sums) (subst (λ xs. Summed (songOf s) xs (l .sums)) over (l .inv .4)))),
+        (l .inv .0 .ready, l .inv .1),
+      ),
     )
 
 pub stage-seven-spec : {M : Type 1} → statement M
 stage-seven-spec =
     tie.close
-    (tie.spec
-    Inv-loop
-    μ-loop
-    loop-holds
-    open-section-requires
-    meter-of-requires
-    counts-of-requires
-    tally-lyrics-requires
-    sum-differs-requires
-    sum-refused-requires
-    same-length
-    returns
-    has-prompts-requires
-    with-section-requires
-    loop-less
-    loop-again
-    totals-of-requires
-    same-length-2
-    returns-2)
+    (tie.spec Inv-loop μ-loop loop-holds open-section-requires (λ c κs. search needs) counts-of-requires tally-lyrics-requires
+    (λ c κs. search needs) (λ c κs. search needs) same-length returns (λ c κs. search needs) with-section-requires loop-less loop-again
+    (λ c κs. search needs) (λ c. search needs) returns-2)

@@ -3,28 +3,28 @@ use Rattle.judging.specs.Sums.{sumDiffers}
 use borrow.Author.Needs.{needs}
 use Rattle.judging.proofs.sums.sum_differs.Statement.{statement}
 use Rattle.judging.proofs.sums.sum_differs.Tie as tie
-use Rattle.judging.proofs.sums.sum_differs.Reads as reads
-use Rattle.judging.proofs.sums.sum_differs.Lts as lts
-use Rattle.judging.proofs.sums.has_lines.Reads as has-lines-reads
 
--- src/sums.rt:137:9
 returns : tie.Need-returns
 unfolding sumDiffers
 returns c = rw (not-true (c .before .args .counted) (c .if1 .taken))
 
--- src/sums.rt:139:9
-has-lines-requires : tie.Need-has-lines-requires
-has-lines-requires c κs = search needs
-
--- src/sums.rt:140:9
 returns-2 : tie.Need-returns-2
 unfolding sumDiffers
-returns-2 c = rw (← (c .before .has-lines .ensures), not-true (c .before .has-lines .result) (c .if2 .taken), not-false (c .before .before .before .args .counted) (c .before .before .if1 .left))
+returns-2 c =
+    rw (
+      ← (c .before .has-lines .ensures),
+      not-true (c .before .has-lines .result) (c .if2 .taken),
+      not-false (c .before .before .before .args .counted) (c .before .before .if1 .left),
+    )
 
--- src/sums.rt:133:1
 returns-3 : tie.Need-returns-3
 unfolding sumDiffers
-returns-3 c = rw (← (c .before .before .has-lines .ensures), not-false (c .before .before .has-lines .result) (c .before .if2 .left), not-false (c .before .before .before .before .args .counted) (c .before .before .before .if1 .left))
+returns-3 c =
+    rw (
+      ← (c .before .before .has-lines .ensures),
+      not-false (c .before .before .has-lines .result) (c .before .if2 .left),
+      not-false (c .before .before .before .before .args .counted) (c .before .before .before .if1 .left),
+    )
 
 pub sum-differs-spec : {M : Type 1} → statement M
-sum-differs-spec = tie.close (tie.spec returns has-lines-requires returns-2 returns-3)
+sum-differs-spec = tie.close (tie.spec returns (λ c κs. search needs) returns-2 returns-3)

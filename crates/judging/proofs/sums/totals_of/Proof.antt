@@ -2,15 +2,11 @@ use Rattle.songcode.specs.Lists.{if_then_else_}
 use Rattle.judging.specs.Sums.{totalsOf}
 use Rattle.judging.proofs.sums.totals_of.Statement.{statement}
 use Rattle.judging.proofs.sums.totals_of.Tie as tie
-use Rattle.judging.proofs.sums.totals_of.Reads as reads
-use Rattle.judging.proofs.sums.totals_of.Lts as lts
 
--- src/sums.rt:99:1
 returns : tie.Need-returns
 unfolding totalsOf if_then_else_
 returns c = rw (c .if1 .taken)
 
--- src/sums.rt:99:1
 returns-2 : tie.Need-returns-2
 unfolding totalsOf if_then_else_
 returns-2 c = rw (c .if1 .left)

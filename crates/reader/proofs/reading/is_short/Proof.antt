@@ -3,27 +3,22 @@ use borrow.Author.Tests.{lt-ltb, le-ltb}
 use Rattle.reader.proofs.reading.is_short.Statement.{statement}
 use Rattle.reader.proofs.reading.is_short.Tie as tie
 
--- src/lib.rt:50:9
 returns : tie.Need-returns
 unfolding isShort
 returns c = rw (lt-ltb _ _ (c .if1 .taken))
 
--- src/lib.rt:53:9
 returns-2 : tie.Need-returns-2
 unfolding isShort
 returns-2 c = rw (le-ltb _ _ (c .before .before .if1 .left), lt-ltb _ _ (c .if2 .taken))
 
--- src/lib.rt:56:9
 returns-3 : tie.Need-returns-3
 unfolding isShort
 returns-3 c = rw (le-ltb _ _ (c .before .before .before .before .if1 .left), le-ltb _ _ (c .before .before .if2 .left), lt-ltb _ _ (c .if3 .taken))
 
--- src/lib.rt:59:9
 returns-4 : tie.Need-returns-4
 unfolding isShort
 returns-4 c = rw (le-ltb _ _ (c .before .before .before .before .before .before .if1 .left), le-ltb _ _ (c .before .before .before .before .if2 .left), le-ltb _ _ (c .before .before .if3 .left), lt-ltb _ _ (c .if4 .taken))
 
--- src/lib.rt:39:1
 returns-5 : tie.Need-returns-5
 unfolding isShort
 returns-5 c = rw (le-ltb _ _ (c .before .before .before .before .before .before .before .if1 .left), le-ltb _ _ (c .before .before .before .before .before .if2 .left), le-ltb _ _ (c .before .before .before .if3 .left), le-ltb _ _ (c .before .if4 .left))

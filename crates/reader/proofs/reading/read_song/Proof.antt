@@ -9,19 +9,6 @@ use borrow.Author.Needs.{needs}
 use Rattle.reader.proofs.reading.read_song.Statement.{statement}
 use Rattle.reader.proofs.reading.read_song.Tie as tie
 
--- src/lib.rt:77:9
-judge-requires : tie.Need-judge-requires
-judge-requires c κs = search needs
-
--- src/lib.rt:81:9
-refused-requires : tie.Need-refused-requires
-refused-requires c κs = search needs
-
--- src/lib.rt:81:9
-same-length : tie.Need-same-length
-same-length c = search needs
-
--- src/lib.rt:81:9
 returns : tie.Need-returns
 unfolding roomOf
 returns c =
@@ -33,19 +20,6 @@ returns c =
     let is = late-refused bs (entry .pre .0) (entry .pre .1) late (c .before .before .before .before .before .before .before .judge .ensures .refusal) (c .before .if1 .taken) in
     promised-refused bs lent (late .number) (late .line) (c .refused .result) (refused-with-tables (roomOf lent) bs _ _ is) (c .refused .ensures)
 
--- src/lib.rt:83:8
-is-short-requires : tie.Need-is-short-requires
-is-short-requires c κs = search needs
-
--- src/lib.rt:91:9
-refused-requires-2 : tie.Need-refused-requires-2
-refused-requires-2 c κs = search needs
-
--- src/lib.rt:91:9
-same-length-2 : tie.Need-same-length-2
-same-length-2 c = search needs
-
--- src/lib.rt:91:9
 returns-2 : tie.Need-returns-2
 unfolding roomOf
 returns-2 c =
@@ -59,7 +33,6 @@ returns-2 c =
     let is = short-refused (roomOf lent) bs (song-accepted bs (entry .pre .0) (entry .pre .1) (w .clear)) short in
     promised-refused bs lent 18 0 (c .refused2 .result) is (c .refused2 .ensures)
 
--- src/lib.rt:93:5
 write-tables-requires : tie.Need-write-tables-requires
 write-tables-requires c κs =
     let entry = c .before .before .before .before .before .before .before .before .before .before .before .before .before .before .before .before .before .before .before .before .before .before .before in
@@ -74,31 +47,6 @@ write-tables-requires c κs =
       ),
     )
 
--- src/lib.rt:65:1
-same-length-3 : tie.Need-same-length-3
-same-length-3 c = search needs
-
--- src/lib.rt:65:1
-same-length-4 : tie.Need-same-length-4
-same-length-4 c = search needs
-
--- src/lib.rt:65:1
-same-length-5 : tie.Need-same-length-5
-same-length-5 c = search needs
-
--- src/lib.rt:65:1
-same-length-6 : tie.Need-same-length-6
-same-length-6 c = search needs
-
--- src/lib.rt:65:1
-same-length-7 : tie.Need-same-length-7
-same-length-7 c = search needs
-
--- src/lib.rt:65:1
-same-length-8 : tie.Need-same-length-8
-same-length-8 c = search needs
-
--- src/lib.rt:65:1
 returns-3 : tie.Need-returns-3
 unfolding roomOf
 returns-3 c =
@@ -116,21 +64,6 @@ returns-3 c =
 pub read-song-spec : {M : Type 1} → statement M
 read-song-spec =
     tie.close
-    (tie.spec
-    judge-requires
-    refused-requires
-    same-length
-    returns
-    is-short-requires
-    refused-requires-2
-    same-length-2
-    returns-2
-    write-tables-requires
-    (λ c κs. search needs)
-    same-length-3
-    same-length-4
-    same-length-5
-    same-length-6
-    same-length-7
-    same-length-8
-    returns-3)
+    (tie.spec (λ c κs. search needs) (λ c κs. search needs) (λ c. search needs) returns (λ c κs. search needs) (λ c κs. search needs)
+    (λ c. search needs) returns-2 write-tables-requires (λ c κs. search needs) (λ c. search needs) (λ c. search needs) (λ c. search needs)
+    (λ c. search needs) (λ c. search needs) (λ c. search needs) returns-3)

@@ -1,3 +1,4 @@
+-- The definitions loaded so far stand in the buffer as they are written, and none of them has a fault.
 use Rattle.scores.specs.Loading.{blocksFrom, Loading}
 use Rattle.scores.proofs.LoadLaws.{loading-first, loads-refused, loads-all}
 use Rattle.scores.proofs.MetadataLaws.{is-metadata, is-definition, is-section, not-definition, come-over}
@@ -9,12 +10,6 @@ use native.Mathlib.Omega.{arith}
 use borrow.Author.Needs.{needs}
 use Rattle.scores.proofs.definitions.load.Statement.{statement}
 use Rattle.scores.proofs.definitions.load.Tie as tie
-use Rattle.scores.proofs.definitions.load.Reads as reads
-use Rattle.scores.proofs.definitions.load.Lts as lts
-use Rattle.outlines.proofs.no_outlines.Reads as no-outlines-reads
-use Rattle.scores.proofs.definitions.load_one.Reads as load-one-reads
-use Rattle.scores.proofs.definitions.no_definitions.Reads as no-definitions-reads
-use Rattle.sections.proofs.kind_at.Reads as kind-at-reads
 
 abbrev Inv-loop : tie.InvT-loop
 Inv-loop s words₀ score₀ place₀ words score place = Loading s words score place × (length words ≡ length words₀)
@@ -22,76 +17,47 @@ Inv-loop s words₀ score₀ place₀ words score place = Loading s words score 
 abbrev μ-loop : tie.MeasureT-loop
 μ-loop s words₀ score₀ place₀ words score place = length s - place .at
 
--- src/definitions.rt:122:22
-no-definitions-requires : tie.Need-no-definitions-requires Inv-loop μ-loop
-no-definitions-requires c κs = search needs
-
--- src/definitions.rt:123:19
-no-outlines-requires : tie.Need-no-outlines-requires Inv-loop μ-loop
-no-outlines-requires c κs = search needs
-
--- src/definitions.rt:127:5
 loop-holds : tie.Need-loop-holds Inv-loop μ-loop
 loop-holds c =
     let q = c .before .before .before .before in
     let d = c .before .no-definitions in
-    let o = c .no-outlines in
-    (loading-first (q .args .s .now) (q .args .words .now) (q .args .first) (q .pre .0) (q .pre .1) (d .result) (o .result) (q .pre .2) (q .pre .3) (d .ensures .0) (d .ensures .1) (d .ensures .2) (d .ensures .3) (o .ensures .0) (o .ensures .1), refl)
+    let o = c .no-outlines in (
+      loading-first (q .args .s .now) (q .args .words .now) (q .args .first) (q .pre .0) (q .pre .1) (d .result) (o .result) (q .pre .2)
+          (q .pre .3) (d .ensures .0) (d .ensures .1) (d .ensures .2) (d .ensures .3) (o .ensures .0) (o .ensures .1),
+      refl,
+    )
 
--- src/definitions.rt:128:15
 kind-at-requires : tie.Need-kind-at-requires Inv-loop μ-loop
 kind-at-requires c κs =
     c .before .before .loop .inv .0 .leaves .inside
 
--- src/definitions.rt:130:17
-enum-told : tie.Need-enum-told Inv-loop μ-loop
-enum-told c = search needs
-
--- src/definitions.rt:133:17
-enum-told-2 : tie.Need-enum-told-2 Inv-loop μ-loop
-enum-told-2 c = search needs
-
--- src/definitions.rt:136:54
-enum-told-3 : tie.Need-enum-told-3 Inv-loop μ-loop
-enum-told-3 c = search needs
-
--- src/definitions.rt:136:21
 load-one-requires : tie.Need-load-one-requires Inv-loop μ-loop
 load-one-requires c κs =
     let k = c .before .before .before in
     let q = k .before .before .before in
     (q .loop .inv .0, k .before .if1 .taken, is-definition _ (sym (k .kind-at .ensures) ∙ c .before .enum-told3 .given .1))
 
--- src/definitions.rt:139:21
-same-length : tie.Need-same-length Inv-loop μ-loop
-same-length c = search needs
-
--- src/definitions.rt:139:21
 returns : tie.Need-returns Inv-loop μ-loop
 returns c =
     let x = c .before .before .before .before .before .load-one in
-    let q = c .before .before .before .before .before .before .before .before .before .before .before .before in
-    (loads-refused (q .before .before .before .before .before .args .s .now) (x .last .1 .1 .1 .0) (q .loop .place) (x .result) (x .ensures .0) (c .if2 .taken), x .ensures .1 ∙ q .loop .inv .1)
+    let q = c .before .before .before .before .before .before .before .before .before .before .before .before in (
+      loads-refused (q .before .before .before .before .before .args .s .now) (x .last .1 .1 .1 .0) (q .loop .place) (x .result)
+          (x .ensures .0) (c .if2 .taken),
+      x .ensures .1 ∙ q .loop .inv .1,
+    )
 
--- src/definitions.rt:127:5
 loop-less : tie.Need-loop-less Inv-loop μ-loop
 loop-less c =
     let x = c .before .before .before .before .before .before .before .load-one .ensures .0 .further in
     let inside = c .before .before .before .before .before .before .before .before .before .before .before .before .if1 .taken in
     omega arith
 
--- src/definitions.rt:127:5
 loop-again : tie.Need-loop-again Inv-loop μ-loop
 loop-again c =
     let x = c .before .before .before .before .before .before .before .load-one in
     let q = c .before .before .before .before .before .before .before .before .before .before .before .before .before .before in
     (x .ensures .0 .loading (c .before .before .if2 .left), x .ensures .1 ∙ q .loop .inv .1)
 
--- src/definitions.rt:117:1
-same-length-2 : tie.Need-same-length-2 Inv-loop μ-loop
-same-length-2 c = search needs
-
--- src/definitions.rt:117:1
 returns-2 : tie.Need-returns-2 Inv-loop μ-loop
 unfolding blocksFrom
 returns-2 c =
@@ -99,51 +65,29 @@ returns-2 c =
     let a = q .before .before .before .before .before in
     absurd (come-over (a .args .s .now) (q .loop .place) (a .pre .0) (q .loop .inv .0 .leaves .sections) (c .if1 .left))
 
--- src/definitions.rt:117:1
-same-length-3 : tie.Need-same-length-3 Inv-loop μ-loop
-same-length-3 c = search needs
-
--- src/definitions.rt:117:1
 returns-3 : tie.Need-returns-3 Inv-loop μ-loop
 returns-3 c =
     let q = c .before .before .before .before .before in
     let a = q .before .before .before .before .before in
-    let kind = is-metadata _ (sym (c .before .before .kind-at .ensures) ∙ c .enum-told .given .1) in
-    (loads-all (a .args .s .now) (q .loop .words) (q .loop .score) (q .loop .place) (q .loop .inv .0) (a .pre .0) (c .before .before .before .if1 .taken) (not-definition (inl kind)), q .loop .inv .1)
+    let kind = is-metadata _ (sym (c .before .before .kind-at .ensures) ∙ c .enum-told .given .1) in (
+      loads-all (a .args .s .now) (q .loop .words) (q .loop .score) (q .loop .place) (q .loop .inv .0) (a .pre .0)
+          (c .before .before .before .if1 .taken) (not-definition (inl kind)),
+      q .loop .inv .1,
+    )
 
--- src/definitions.rt:117:1
-same-length-4 : tie.Need-same-length-4 Inv-loop μ-loop
-same-length-4 c = search needs
-
--- src/definitions.rt:117:1
 returns-4 : tie.Need-returns-4 Inv-loop μ-loop
 returns-4 c =
     let q = c .before .before .before .before .before in
     let a = q .before .before .before .before .before in
-    let kind = is-section _ (sym (c .before .before .kind-at .ensures) ∙ c .enum-told2 .given .1) in
-    (loads-all (a .args .s .now) (q .loop .words) (q .loop .score) (q .loop .place) (q .loop .inv .0) (a .pre .0) (c .before .before .before .if1 .taken) (not-definition (inr kind)), q .loop .inv .1)
+    let kind = is-section _ (sym (c .before .before .kind-at .ensures) ∙ c .enum-told2 .given .1) in (
+      loads-all (a .args .s .now) (q .loop .words) (q .loop .score) (q .loop .place) (q .loop .inv .0) (a .pre .0)
+          (c .before .before .before .if1 .taken) (not-definition (inr kind)),
+      q .loop .inv .1,
+    )
 
 pub load-spec : {M : Type 1} → statement M
 load-spec =
     tie.close
-    (tie.spec
-    Inv-loop
-    μ-loop
-    no-definitions-requires
-    no-outlines-requires
-    loop-holds
-    kind-at-requires
-    enum-told
-    enum-told-2
-    enum-told-3
-    load-one-requires
-    same-length
-    returns
-    loop-less
-    loop-again
-    same-length-2
-    returns-2
-    same-length-3
-    returns-3
-    same-length-4
-    returns-4)
+    (tie.spec Inv-loop μ-loop (λ c κs. search needs) (λ c κs. search needs) loop-holds kind-at-requires (λ c. search needs)
+    (λ c. search needs) (λ c. search needs) load-one-requires (λ c. search needs) returns loop-less loop-again (λ c. search needs) returns-2
+    (λ c. search needs) returns-3 (λ c. search needs) returns-4)

@@ -1,3 +1,4 @@
+-- The words of the lines passed are laid, those of the lines from here on fit behind them.
 use Prim.Native.Nat.{_+_, _-_, _*_, _^_, _≤_}
 use mathlib.Core.Path.{_≡_, ap, _∙_}
 use mathlib.Core.List.{[], _∷_}
@@ -12,30 +13,20 @@ use Rattle.scores.proofs.LayingLaws.{first-line, Lays, lays-none, lays-
 use borrow.Author.Needs.{needs}
 use Rattle.scores.proofs.laying.lay_run.Statement.{statement}
 use Rattle.scores.proofs.laying.lay_run.Tie as tie
-use Rattle.scores.proofs.laying.lay_run.Reads as reads
-use Rattle.scores.proofs.laying.lay_run.Lts as lts
-use Rattle.text.proofs.line_at.Reads as line-at-reads
-use Rattle.tokens.proofs.end_line.Reads as end-line-reads
-use Rattle.tokens.proofs.lex_line.Reads as lex-line-reads
 
 abbrev Inv-loop : tie.InvT-loop
-Inv-loop s words₀ n fill₀ line₀ at₀ left₀ words fill line at left = (line ≤ at + 2) × (at ≤ length s) × Lays s words₀ fill₀ line₀ at₀ left₀ words fill line at left
+Inv-loop s words₀ n fill₀ line₀ at₀ left₀ words fill line at left =
+    (line ≤ at + 2) × (at ≤ length s) × Lays s words₀ fill₀ line₀ at₀ left₀ words fill line at left
 
 abbrev μ-loop : tie.MeasureT-loop
 μ-loop s words₀ n fill₀ line₀ at₀ left₀ words fill line at left = length s - at
 
--- src/laying.rt:32:9
 returns : tie.Need-returns Inv-loop μ-loop
 unfolding linesOf runTokens tokenWords
 returns c = let e = c .if1 .taken in
     let a = c .before .before .before .before .args in
     (rw e (laid-none (a .n) (a .words .now)), rw e (omega arith))
 
--- src/laying.rt:34:9
-line-at-requires : tie.Need-line-at-requires Inv-loop μ-loop
-line-at-requires c κs = search needs
-
--- src/laying.rt:35:9
 lex-line-requires : tie.Need-lex-line-requires Inv-loop μ-loop
 lex-line-requires c κs =
     let q = c .before .before .before .before .before .before in
@@ -47,15 +38,6 @@ lex-line-requires c κs =
     let inside = q .pre .0 .inside in
     (f .stop, omega arith, omega arith, omega arith)
 
--- src/laying.rt:36:20
-add-line : tie.Need-add-line Inv-loop μ-loop
-add-line c = search needs
-
--- src/laying.rt:38:20
-sub-left : tie.Need-sub-left Inv-loop μ-loop
-sub-left c = search needs
-
--- src/laying.rt:39:5
 loop-holds : tie.Need-loop-holds Inv-loop μ-loop
 loop-holds c =
     let q = c .before .before .before .before .before .before .before .before .before .before .before in
@@ -68,10 +50,10 @@ loop-holds c =
     let onward = f .onward in
     let g = first-line (q .args .run) f (c .before .before .before .before .before .before .before .if1 .left) inside in
     let r = g .room in
-    let l : length (x .last .1 .1 .1 .0) ≡ length (q .args .words .now) = ap length (x .ensures .0) ∙ laid-length (q .args .n) (tokenWords (tokensFrom (w .start) (w .stop) (q .args .s .now))) (q .args .words .now) (omega arith) in
+    let l : length (x .last .1 .1 .1 .0) ≡ length (q .args .words .now) = ap length (x .ensures .0) ∙ laid-length (q .args .n)
+    (tokenWords (tokensFrom (w .start) (w .stop) (q .args .s .now))) (q .args .words .now) (omega arith) in
     (omega arith, omega arith, lays-none (q .args .s .now) (x .last .1 .1 .1 .0) (x .result) _ _ _ (omega arith))
 
--- src/laying.rt:41:13
 same-length : tie.Need-same-length Inv-loop μ-loop
 same-length c =
     let q = c .before .before .before .before .before .before .before .before .before .before .before .before .before .before in
@@ -79,7 +61,6 @@ same-length c =
     let same = c .before .before .loop .inv .2 .same in
     search needs
 
--- src/laying.rt:41:13
 returns-2 : tie.Need-returns-2 Inv-loop μ-loop
 returns-2 c =
     let q = c .before .before .before .before .before .before .before .before .before .before .before .before .before .before in
@@ -90,13 +71,9 @@ returns-2 c =
     let inside = q .pre .0 .inside in
     let g = first-line (q .args .run) f (c .before .before .before .before .before .before .before .before .before .before .if1 .left) inside in
     let r = g .room in
-    run-laid (q .args .s .now) (q .args .run) _ (q .args .n) (q .args .words .now) (x .last .1 .1 .1 .0) (v .words) (x .result) (v .fill) (v .line) (v .at) (v .left) g (x .ensures .0) (x .ensures .1 .0) (omega arith) i (lays-end _ _ _ _ _ _ i (c .if2 .taken))
+    run-laid (q .args .s .now) (q .args .run) _ (q .args .n) (q .args .words .now) (x .last .1 .1 .1 .0) (v .words) (x .result) (v .fill)
+    (v .line) (v .at) (v .left) g (x .ensures .0) (x .ensures .1 .0) (omega arith) i (lays-end _ _ _ _ _ _ i (c .if2 .taken))
 
--- src/laying.rt:43:13
-line-at-requires-2 : tie.Need-line-at-requires-2 Inv-loop μ-loop
-line-at-requires-2 c κs = search needs
-
--- src/laying.rt:44:13
 end-line-requires : tie.Need-end-line-requires Inv-loop μ-loop
 end-line-requires c κs =
     let v = c .before .before .before .before .loop in
@@ -104,7 +81,6 @@ end-line-requires c κs =
     let same = v .inv .2 .same in
     omega arith
 
--- src/laying.rt:45:9
 lex-line-requires-2 : tie.Need-lex-line-requires-2 Inv-loop μ-loop
 lex-line-requires-2 c κs =
     let q = c .before .before .before .before .before .before .before .before .before .before .before .before .before .before .before .before .before .before .before .before in
@@ -114,11 +90,11 @@ lex-line-requires-2 c κs =
     let over = f .over in
     let next = f .next in
     let same = v .inv .2 .same in
-    let r = lays-room _ _ _ _ _ _ (v .inv .2) f (c .before .before .before .before .before .before .before .loop-test .taken) (c .before .before .before .before .before .before .if2 .left) in
+    let r = lays-room _ _ _ _ _ _ (v .inv .2) f (c .before .before .before .before .before .before .before .loop-test .taken)
+    (c .before .before .before .before .before .before .if2 .left) in
     let l : length (e .last .0) ≡ length (v .words) = ap length (e .ensures .0) ∙ laid-length (v .fill) (58 * 2 ^ 26 ∷ []) (v .words) (omega arith) in
     (f .stop, omega arith, omega arith, omega arith)
 
--- src/laying.rt:46:9
 add-line-2 : tie.Need-add-line-2 Inv-loop μ-loop
 add-line-2 c =
     let v = c .before .before .before .before .before .before .before .before .before .before .before .loop in
@@ -127,15 +103,11 @@ add-line-2 c =
     let at = v .inv .1 in
     omega arith
 
--- src/laying.rt:48:9
-sub-left-2 : tie.Need-sub-left-2 Inv-loop μ-loop
-sub-left-2 c = search needs
-
--- src/laying.rt:39:5
 loop-less : tie.Need-loop-less Inv-loop μ-loop
-loop-less c = lines-less (c .before .before .before .before .before .before .before .before .line-at2 .ensures) (c .before .before .before .before .before .before .before .before .before .before .loop-test .taken)
+loop-less c =
+    lines-less (c .before .before .before .before .before .before .before .before .line-at2 .ensures)
+    (c .before .before .before .before .before .before .before .before .before .before .loop-test .taken)
 
--- src/laying.rt:39:5
 loop-again : tie.Need-loop-again Inv-loop μ-loop
 loop-again c =
     let v = c .before .before .before .before .before .before .before .before .before .before .before .loop in
@@ -143,16 +115,20 @@ loop-again c =
     let e = c .before .before .before .before .before .before .end-line in
     let x = c .before .before .lex-line2 in
     let over = f .over in
-    let onward = f .onward in
-    (omega arith, omega arith, lays-next _ _ _ _ _ _ (v .inv .2) f (c .before .before .before .before .before .before .before .before .before .before .loop-test .taken) (c .before .before .before .before .before .before .before .before .before .if2 .left) (e .ensures .0) (e .ensures .1) (x .ensures .0) (x .ensures .1 .0) (x .ensures .1 .1))
+    let onward = f .onward in (
+      omega arith,
+      omega arith,
+      lays-next _ _ _ _ _ _ (v .inv .2) f
+          (c .before .before .before .before .before .before .before .before .before .before .loop-test .taken)
+          (c .before .before .before .before .before .before .before .before .before .if2 .left) (e .ensures .0) (e .ensures .1) (x .ensures .0)
+          (x .ensures .1 .0) (x .ensures .1 .1),
+    )
 
--- src/laying.rt:26:1
 same-length-2 : tie.Need-same-length-2 Inv-loop μ-loop
 same-length-2 c =
     let same = c .before .loop .inv .2 .same in
     search needs
 
--- src/laying.rt:26:1
 returns-3 : tie.Need-returns-3 Inv-loop μ-loop
 returns-3 c =
     let q = c .before .before .before .before .before .before .before .before .before .before .before .before .before in
@@ -163,28 +139,12 @@ returns-3 c =
     let inside = q .pre .0 .inside in
     let g = first-line (q .args .run) f (c .before .before .before .before .before .before .before .before .before .if1 .left) inside in
     let r = g .room in
-    run-laid (q .args .s .now) (q .args .run) _ (q .args .n) (q .args .words .now) (x .last .1 .1 .1 .0) (v .words) (x .result) (v .fill) (v .line) (v .at) (v .left) g (x .ensures .0) (x .ensures .1 .0) (omega arith) i (lays-over _ _ _ _ _ _ i (c .loop-test .left))
+    run-laid (q .args .s .now) (q .args .run) _ (q .args .n) (q .args .words .now) (x .last .1 .1 .1 .0) (v .words) (x .result) (v .fill)
+    (v .line) (v .at) (v .left) g (x .ensures .0) (x .ensures .1 .0) (omega arith) i (lays-over _ _ _ _ _ _ i (c .loop-test .left))
 
 pub lay-run-spec : {M : Type 1} → statement M
 lay-run-spec =
     tie.close
-    (tie.spec
-    Inv-loop
-    μ-loop
-    returns
-    line-at-requires
-    lex-line-requires
-    add-line
-    sub-left
-    loop-holds
-    same-length
-    returns-2
-    line-at-requires-2
-    end-line-requires
-    lex-line-requires-2
-    add-line-2
-    sub-left-2
-    loop-less
-    loop-again
-    same-length-2
-    returns-3)
+    (tie.spec Inv-loop μ-loop returns (λ c κs. search needs) lex-line-requires (λ c. search needs) (λ c. search needs) loop-holds
+    same-length returns-2 (λ c κs. search needs) end-line-requires lex-line-requires-2 add-line-2 (λ c. search needs) loop-less loop-again
+    same-length-2 returns-3)

@@ -4,18 +4,13 @@ use Rattle.scores.proofs.LayingLaws.{said-weight, said-tokens, nothing-
 use borrow.Author.Needs.{needs}
 use Rattle.scores.proofs.laying.lay_said.Statement.{statement}
 use Rattle.scores.proofs.laying.lay_said.Tie as tie
-use Rattle.scores.proofs.laying.lay_said.Reads as reads
-use Rattle.scores.proofs.laying.lay_said.Lts as lts
-use Rattle.tokens.proofs.lex_line.Reads as lex-line-reads
 
--- src/laying.rt:60:9
 returns : tie.Need-returns
 returns c =
     let a = c .before .before .before .before .args in
     let e = nothing-said (a .s .now) (a .said) (c .if1 .taken) in
     (rw e (laid-none (a .n) (a .words .now)), rw e (omega arith))
 
--- src/laying.rt:62:5
 lex-line-requires : tie.Need-lex-line-requires
 lex-line-requires c κs =
     let q = c .before .before .before .before .before in
@@ -23,11 +18,6 @@ lex-line-requires c κs =
     let e = said-weight (q .args .s .now) (q .args .said) (c .before .if1 .left) stop in
     (q .pre .0 .start, stop, omega arith, omega arith)
 
--- src/laying.rt:54:1
-same-length : tie.Need-same-length
-same-length c = search needs
-
--- src/laying.rt:54:1
 returns-2 : tie.Need-returns-2
 returns-2 c =
     let a = c .before .before .before .before .before .before .before .before .args in
@@ -35,4 +25,4 @@ returns-2 c =
     (rw e (c .before .before .lex-line .ensures .0), rw e (c .before .before .lex-line .ensures .1 .0))
 
 pub lay-said-spec : {M : Type 1} → statement M
-lay-said-spec = tie.close (tie.spec returns lex-line-requires same-length returns-2)
+lay-said-spec = tie.close (tie.spec returns lex-line-requires (λ c. search needs) returns-2)

@@ -3,32 +3,20 @@ use Rattle.scores.proofs.NamedLaws.{plays-items, plays-named}
 use borrow.Author.Needs.{needs}
 use Rattle.scores.proofs.texts.is_played.Statement.{statement}
 use Rattle.scores.proofs.texts.is_played.Tie as tie
-use Rattle.scores.proofs.texts.is_played.Reads as reads
-use Rattle.scores.proofs.texts.is_played.Lts as lts
-use Rattle.scores.proofs.laying.named_in.Reads as named-in-reads
-use Rattle.scores.proofs.texts.named_text.Reads as named-text-reads
 
--- src/texts.rt:118:9
-named-in-requires : tie.Need-named-in-requires
-named-in-requires c κs = search needs
-
--- src/texts.rt:120:9
 returns : tie.Need-returns
 returns c = λ x e.
     let q = c .before .before .before in
     let n = c .before .named-in in
     plays-items (songOf (q .args .s .now) .definitions) x (rw (c .if1 .taken) at (n .ensures x e))
 
--- src/texts.rt:122:9
-named-text-requires : tie.Need-named-text-requires
-named-text-requires c κs = search needs
-
--- src/texts.rt:114:1
 returns-2 : tie.Need-returns-2
 returns-2 c = λ x e.
     let q = c .before .before .before .before .before .before in
     let n = c .before .before .before .before .named-in in
-    plays-named (songOf (q .args .s .now) .definitions) x (n .result) (n .ensures x e) (c .before .before .before .if1 .left) {b = c .before .before .named-text .result .outline .empty} (rw (c .before .before .named-text .ensures) (q .pre .1 .filled (n .result)))
+    plays-named (songOf (q .args .s .now) .definitions) x (n .result) (n .ensures x e)
+    (c .before .before .before .if1 .left) {b = c .before .before .named-text .result .outline .empty}
+    (rw (c .before .before .named-text .ensures) (q .pre .1 .filled (n .result)))
 
 pub is-played-spec : {M : Type 1} → statement M
-is-played-spec = tie.close (tie.spec named-in-requires returns named-text-requires returns-2)
+is-played-spec = tie.close (tie.spec (λ c κs. search needs) returns (λ c κs. search needs) returns-2)

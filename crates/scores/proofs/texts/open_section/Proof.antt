@@ -1,3 +1,4 @@
+-- The three texts are laid behind the definitions, one behind the other, and each is told by what it names.
 use mathlib.Core.Path.{sym, _∙_, subst}
 use mathlib.Core.Logic.{⊎-elim}
 use Rattle.songcode.specs.Playing.{saidBy, beforeSaid, afterSaid}
@@ -10,31 +11,13 @@ use Rattle.scores.proofs.OpenLaws.{room-lead, room-lines, room-tail, wo
 use borrow.Author.Needs.{needs}
 use Rattle.scores.proofs.texts.open_section.Statement.{statement}
 use Rattle.scores.proofs.texts.open_section.Tie as tie
-use Rattle.scores.proofs.texts.open_section.Reads as reads
-use Rattle.scores.proofs.texts.open_section.Lts as lts
-use Rattle.scores.proofs.laying.lay_run.Reads as lay-run-reads
-use Rattle.scores.proofs.laying.lay_said.Reads as lay-said-reads
-use Rattle.scores.proofs.laying.named_in.Reads as named-in-reads
-use Rattle.scores.proofs.texts.named_text.Reads as named-text-reads
-use Rattle.scores.proofs.texts.plain_text.Reads as plain-text-reads
-use Rattle.sections.proofs.meet.Reads as meet-reads
 
--- src/texts.rt:79:9
-meet-requires : tie.Need-meet-requires
-meet-requires c κs = search needs
-
--- src/texts.rt:82:9
-named-in-requires : tie.Need-named-in-requires
-named-in-requires c κs = search needs
-
--- src/texts.rt:83:9
 lay-said-requires : tie.Need-lay-said-requires
 lay-said-requires c κs =
     let q = c .before .before .before .before .before .before .before in
     let m = c .before .before .before .before .meet .ensures in
     (m .read .modifiers .before-inside, q .pre .2 .told .small, room-lead (q .pre .0) (q .pre .1) (q .pre .2) (q .pre .3) m)
 
--- src/texts.rt:84:9
 lay-run-requires : tie.Need-lay-run-requires
 lay-run-requires c κs =
     let q = c .before .before .before .before .before .before .before .before .before .before .before in
@@ -42,7 +25,6 @@ lay-run-requires c κs =
     let a = c .before .before .before .lay-said .ensures in
     (m .read .pattern-placed, q .pre .2 .told .small, room-lines (q .pre .0) (q .pre .1) (q .pre .2) (q .pre .3) m (a .0) (a .1))
 
--- src/texts.rt:85:9
 lay-said-requires-2 : tie.Need-lay-said-requires-2
 lay-said-requires-2 c κs =
     let q = c .before .before .before .before .before .before .before .before .before .before .before .before .before .before .before in
@@ -51,23 +33,6 @@ lay-said-requires-2 c κs =
     let b = c .before .before .before .lay-run .ensures in
     (m .read .modifiers .after-inside, q .pre .2 .told .small, room-tail (q .pre .0) (q .pre .1) (q .pre .2) (q .pre .3) m (a .0) (a .1) (b .0) (b .1))
 
--- src/texts.rt:86:9
-plain-text-requires : tie.Need-plain-text-requires
-plain-text-requires c κs = search needs
-
--- src/texts.rt:94:9
-plain-text-requires-2 : tie.Need-plain-text-requires-2
-plain-text-requires-2 c κs = search needs
-
--- src/texts.rt:96:9
-plain-text-requires-3 : tie.Need-plain-text-requires-3
-plain-text-requires-3 c κs = search needs
-
--- src/texts.rt:98:9
-named-text-requires : tie.Need-named-text-requires
-named-text-requires c κs = search needs
-
--- src/texts.rt:74:1
 same-length : tie.Need-same-length
 same-length c =
     let q = c .before .before .before .before .before .before .before .before .before .before .before .before .before .before .before .before .before .before .before .before .before .before .before .before in
@@ -77,7 +42,6 @@ same-length c =
     let d = c .before .before .before .before .before .before .before .before .lay-said2 .ensures in
     words-length (q .pre .0) (q .pre .1) (q .pre .2) (q .pre .3) m (a .0) (a .1) (b .0) (b .1) (d .0) (d .1)
 
--- src/texts.rt:74:1
 returns : tie.Need-returns
 returns c =
     let q = c .before .before .before .before .before .before .before .before .before .before .before .before .before .before .before .before .before .before .before .before .before .before .before .before in
@@ -91,27 +55,25 @@ returns c =
     let n = c .before .before .before .before .before .before .before .before .before .before .before .before .before .before .before .before .before .before .named-in in
     let ready = ready-again (q .pre .0) (q .pre .1) (q .pre .2) (q .pre .3) m (a .0) (a .1) (b .0) (b .1) (d .0) (d .1) in
     let same = words-length (q .pre .0) (q .pre .1) (q .pre .2) (q .pre .3) m (a .0) (a .1) (b .0) (b .1) (d .0) (d .1) in
-    let lead = subst (λ (t : Text). Carries ws (score .definitions) t (sideItems (saidBy beforeSaid (x .modifiers)))) (sym (c .before .before .before .before .plain-text .ensures)) (lead-carries (q .pre .0) (q .pre .1) (q .pre .2) (q .pre .3) m (a .0) (a .1) (b .0) (b .1) (d .0) (d .1)) in
-    let tail = subst (λ (t : Text). Carries ws (score .definitions) t (sideItems (saidBy afterSaid (x .modifiers)))) (sym (c .before .before .plain-text2 .ensures)) (tail-carries (q .pre .0) (q .pre .1) (q .pre .2) (q .pre .3) m (a .0) (a .1) (b .0) (b .1) (d .0) (d .1)) in
+    let lead = subst (λ (t : Text). Carries ws (score .definitions) t (sideItems (saidBy beforeSaid (x .modifiers))))
+    (sym (c .before .before .before .before .plain-text .ensures))
+    (lead-carries (q .pre .0) (q .pre .1) (q .pre .2) (q .pre .3) m (a .0) (a .1) (b .0) (b .1) (d .0) (d .1)) in
+    let tail = subst (λ (t : Text). Carries ws (score .definitions) t (sideItems (saidBy afterSaid (x .modifiers))))
+    (sym (c .before .before .plain-text2 .ensures)) (tail-carries (q .pre .0) (q .pre .1) (q .pre .2) (q .pre .3) m (a .0) (a .1) (b .0)
+    (b .1) (d .0) (d .1)) in
     let pattern =
     ⊎-elim
-    (λ w. subst (λ (t : Text). Carries ws (score .definitions) t (patternItems (songOf (q .args .s .now) .definitions) (x .pattern))) (sym (w .3 ∙ w .2 .ensures)) (items-pattern (q .pre .0) (q .pre .1) (q .pre .2) (q .pre .3) m (a .0) (a .1) (b .0) (b .1) (d .0) (d .1) (n .ensures) (w .0 .taken)))
-    (λ w. subst (λ (t : Text). Carries ws (score .definitions) t (patternItems (songOf (q .args .s .now) .definitions) (x .pattern))) (sym (w .2 ∙ w .1 .ensures)) (named-pattern (q .pre .0) (q .pre .1) (q .pre .2) (q .pre .3) m (a .0) (a .1) (b .0) (b .1) (d .0) (d .1) (n .ensures) (w .0 .left)))
+    (λ w. subst (λ (t : Text). Carries ws (score .definitions) t (patternItems (songOf (q .args .s .now) .definitions) (x .pattern)))
+    (sym (w .3 ∙ w .2 .ensures)) (items-pattern (q .pre .0) (q .pre .1) (q .pre .2) (q .pre .3) m (a .0) (a .1) (b .0) (b .1) (d .0) (d .1)
+    (n .ensures) (w .0 .taken)))
+    (λ w. subst (λ (t : Text). Carries ws (score .definitions) t (patternItems (songOf (q .args .s .now) .definitions) (x .pattern)))
+    (sym (w .2 ∙ w .1 .ensures)) (named-pattern (q .pre .0) (q .pre .1) (q .pre .2) (q .pre .3) m (a .0) (a .1) (b .0) (b .1) (d .0) (d .1)
+    (n .ensures) (w .0 .left)))
     (c .before .if1 .came) in
     (record { met = m; texts = record { lead = lead; pattern = pattern; tail = tail } }, (ready, same))
 
 pub open-section-spec : {M : Type 1} → statement M
 open-section-spec =
     tie.close
-    (tie.spec
-    meet-requires
-    named-in-requires
-    lay-said-requires
-    lay-run-requires
-    lay-said-requires-2
-    plain-text-requires
-    plain-text-requires-2
-    plain-text-requires-3
-    named-text-requires
-    same-length
-    returns)
+    (tie.spec (λ c κs. search needs) (λ c κs. search needs) lay-said-requires lay-run-requires lay-said-requires-2 (λ c κs. search needs)
+    (λ c κs. search needs) (λ c κs. search needs) (λ c κs. search needs) same-length returns)

@@ -1,3 +1,4 @@
+-- The items of the sections passed are written, those from here on have room and begin at the measure reached.
 use Prim.Native.Nat.{ℕ, _+_, _-_, _<_, _≤_}
 use mathlib.Core.Path.{_≡_, refl, sym, ap, _∙_, subst}
 use mathlib.Core.List.{List, _++_, map}
@@ -19,10 +20,6 @@ use Rattle.packing.proofs.WrittenLaws.{Wrote, wrote-start, wrote-left, wrote-le
 use borrow.Author.Needs.{needs}
 use Rattle.writing.proofs.items.write_items.Statement.{statement}
 use Rattle.writing.proofs.items.write_items.Tie as tie
-use Rattle.writing.proofs.items.write_items.Reads as reads
-use Rattle.writing.proofs.items.write_items.Lts as lts
-use Rattle.writing.proofs.items.write_lyrics.Reads as write-lyrics-reads
-use Rattle.sections.proofs.pass.Reads as pass-reads
 
 abbrev Inv-loop : tie.InvT-loop
 Inv-loop s count items₀ place₀ i₀ measure₀ items place i measure =
@@ -55,14 +52,12 @@ room c =
     let left = wrote-left (a .items .now) (l .i) (l .items) (itemsFrom (l .measure) (sectionsFrom s (l .place))) (tables (songOf s) .items) (l .inv .5) in
     omega arith
 
--- src/items.rt:84:9
 returns : tie.Need-returns Inv-loop μ-loop
 returns c =
     let a = c .before .before .before .args in
     let e = c .before .before .before .pre .2 in
     written-none (a .items .now) (tables (songOf (a .s .now)) .items) (sym e ∙ c .if1 .taken)
 
--- src/items.rt:89:5
 loop-holds : tie.Need-loop-holds Inv-loop μ-loop
 loop-holds c =
     let q = c .before .before .before in
@@ -79,27 +74,15 @@ loop-holds c =
       subst (λ (ws : List ℕ). Wrote (q .args .items .now) 0 (q .args .items .now) ws (tables song .items)) (items-all song none ∙ ap (itemsFrom 0) all) (wrote-start (q .args .items .now) (tables song .items)),
     )
 
--- src/items.rt:90:13
-pass-requires : tie.Need-pass-requires Inv-loop μ-loop
-pass-requires c κs = search needs
-
--- src/items.rt:92:63
 mul-write-lyrics : tie.Need-mul-write-lyrics Inv-loop μ-loop
 mul-write-lyrics c = omega (arith, room c)
 
--- src/items.rt:92:63
 sub-write-lyrics : tie.Need-sub-write-lyrics Inv-loop μ-loop
 sub-write-lyrics c = omega (arith, room c)
 
--- src/items.rt:92:63
 part-write-lyrics-start : tie.Need-part-write-lyrics-start Inv-loop μ-loop
 part-write-lyrics-start c = omega (arith, room c)
 
--- src/items.rt:92:63
-part-write-lyrics-end : tie.Need-part-write-lyrics-end Inv-loop μ-loop
-part-write-lyrics-end c = search needs
-
--- src/items.rt:92:13
 write-lyrics-requires : tie.Need-write-lyrics-requires Inv-loop μ-loop
 write-lyrics-requires c κs =
     let q = c .before .before .before .before .before in
@@ -116,17 +99,11 @@ write-lyrics-requires c κs =
       simp (length-take, length-drop) (omega arith),
     )
 
--- src/items.rt:94:9
 add-i : tie.Need-add-i Inv-loop μ-loop
 add-i c =
     let e = c .before .before .before .write-lyrics .ensures .1 .0 in
     omega (arith, room (c .before .before .before .before .before), small (c .before .before .before .before .before))
 
--- src/items.rt:89:5
-loop-less : tie.Need-loop-less Inv-loop μ-loop
-loop-less c = search needs
-
--- src/items.rt:89:5
 loop-again : tie.Need-loop-again Inv-loop μ-loop
 loop-again c =
     let q = c .before .before .before .before .before .before .before .before .before .before in
@@ -156,11 +133,6 @@ loop-again c =
       now-written,
     )
 
--- src/items.rt:79:1
-same-length : tie.Need-same-length Inv-loop μ-loop
-same-length c = search needs
-
--- src/items.rt:79:1
 returns-2 : tie.Need-returns-2 Inv-loop μ-loop
 unfolding gather promptsFrom
 returns-2 c =
@@ -175,19 +147,5 @@ returns-2 c =
 pub write-items-spec : {M : Type 1} → statement M
 write-items-spec =
     tie.close
-    (tie.spec
-    Inv-loop
-    μ-loop
-    returns
-    loop-holds
-    pass-requires
-    mul-write-lyrics
-    sub-write-lyrics
-    part-write-lyrics-start
-    part-write-lyrics-end
-    write-lyrics-requires
-    add-i
-    loop-less
-    loop-again
-    same-length
-    returns-2)
+    (tie.spec Inv-loop μ-loop returns loop-holds (λ c κs. search needs) mul-write-lyrics sub-write-lyrics part-write-lyrics-start
+    (λ c. search needs) write-lyrics-requires add-i (λ c. search needs) loop-again (λ c. search needs) returns-2)

@@ -1,3 +1,4 @@
+-- The items of the lines passed are written, each at its measure.
 use Prim.Native.Nat.{ℕ, _+_, _-_, _<_, _≤_}
 use mathlib.Core.Path.{_≡_, refl, sym, ap, _∙_, subst}
 use mathlib.Core.List.{List, _∷_, map}
@@ -13,11 +14,6 @@ use Rattle.packing.proofs.WrittenLaws.{Wrote, wrote-start, wrote-put, wrote-len
 use borrow.Author.Needs.{needs}
 use Rattle.writing.proofs.items.write_lyrics.Statement.{statement}
 use Rattle.writing.proofs.items.write_lyrics.Tie as tie
-use Rattle.writing.proofs.items.write_lyrics.Reads as reads
-use Rattle.writing.proofs.items.write_lyrics.Lts as lts
-use Rattle.writing.proofs.items.item_at.Reads as item-at-reads
-use Rattle.settings.proofs.lyric_words.Reads as lyric-words-reads
-use Rattle.text.proofs.line_at.Reads as line-at-reads
 
 abbrev Inv-loop : tie.InvT-loop
 Inv-loop s first items₀ number₀ at₀ left₀ i₀ measure₀ items number at left i measure =
@@ -45,7 +41,6 @@ room c =
     let same = length-map (linesOf (a .s .now) (a .run)) lyricLine in
     (omega arith, omega arith)
 
--- src/items.rt:62:5
 loop-holds : tie.Need-loop-holds Inv-loop μ-loop
 unfolding linesOf
 loop-holds c =
@@ -54,11 +49,6 @@ loop-holds c =
     let same = length-map (linesOf (a .s .now) (a .run)) lyricLine in
     (omega arith, omega arith, omega arith, λ h. p .1 (omega arith), refl, omega arith, omega arith, wrote-start _ _)
 
--- src/items.rt:64:13
-same-length : tie.Need-same-length Inv-loop μ-loop
-same-length c = search needs
-
--- src/items.rt:64:13
 returns : tie.Need-returns Inv-loop μ-loop
 unfolding linesOf promptsFrom counted
 returns c =
@@ -72,15 +62,6 @@ returns c =
     let all = map itemWord (promptsFrom (a .first) (lyricsAt (a .s .now) (a .run .number) (a .run .at) (a .run .lines))) in
     (wrote-end (a .items .now) (l .i) (l .items) all (subst (λ (ls : List LyricLine). Wrote (a .items .now) (l .i) (l .items) (map itemWord (promptsFrom (l .measure) ls)) all) none (l .inv .7)), (omega arith, omega arith))
 
--- src/items.rt:66:13
-line-at-requires : tie.Need-line-at-requires Inv-loop μ-loop
-line-at-requires c κs = search needs
-
--- src/items.rt:67:13
-lyric-words-requires : tie.Need-lyric-words-requires Inv-loop μ-loop
-lyric-words-requires c κs = search needs
-
--- src/items.rt:68:20
 item-at-requires : tie.Need-item-at-requires Inv-loop μ-loop
 unfolding linesOf
 item-at-requires c κs =
@@ -88,36 +69,19 @@ item-at-requires c κs =
     let second = l .inv .3 (room (c .before) .0) in
     (omega arith, omega arith, omega arith, omega arith, omega arith, omega arith)
 
--- src/items.rt:68:9
 mul-items : tie.Need-mul-items Inv-loop μ-loop
 mul-items c = omega (arith, room (c .before .before) .1)
 
--- src/items.rt:68:9
 slice-write-items : tie.Need-slice-write-items Inv-loop μ-loop
 slice-write-items c = omega (arith, room (c .before .before) .1)
 
--- src/items.rt:69:9
 add-measure : tie.Need-add-measure Inv-loop μ-loop
 unfolding linesOf
 add-measure c = omega arith
 
--- src/items.rt:70:9
-add-number : tie.Need-add-number Inv-loop μ-loop
-add-number c = search needs
-
--- src/items.rt:72:9
-sub-left : tie.Need-sub-left Inv-loop μ-loop
-sub-left c = search needs
-
--- src/items.rt:73:9
 add-i : tie.Need-add-i Inv-loop μ-loop
 add-i c = omega (arith, room (c .before .before .before) .1)
 
--- src/items.rt:62:5
-loop-less : tie.Need-loop-less Inv-loop μ-loop
-loop-less c = search needs
-
--- src/items.rt:62:5
 loop-again : tie.Need-loop-again Inv-loop μ-loop
 loop-again c =
     let q = c .before .before .before .before .before .before in
@@ -139,11 +103,6 @@ loop-again c =
     let put = wrote-put (a .items .now) (l .i) (l .items) rest all (c .before .item-at .result) (fits .1) (subst (λ (ws : List ℕ). Wrote (a .items .now) (l .i) (l .items) ws all) item (l .inv .7)) in
     (omega arith, omega arith, omega arith, (λ z. omega arith), wrote-length (a .items .now) (l .i + 1) _ rest all (omega arith) put, omega arith, omega arith, put)
 
--- src/items.rt:52:1
-same-length-2 : tie.Need-same-length-2 Inv-loop μ-loop
-same-length-2 c = search needs
-
--- src/items.rt:52:1
 returns-2 : tie.Need-returns-2 Inv-loop μ-loop
 unfolding linesOf promptsFrom counted
 returns-2 c =
@@ -160,22 +119,6 @@ returns-2 c =
 pub write-lyrics-spec : {M : Type 1} → statement M
 write-lyrics-spec =
     tie.close
-    (tie.spec
-    Inv-loop
-    μ-loop
-    loop-holds
-    same-length
-    returns
-    line-at-requires
-    lyric-words-requires
-    item-at-requires
-    mul-items
-    slice-write-items
-    add-measure
-    add-number
-    sub-left
-    add-i
-    loop-less
-    loop-again
-    same-length-2
+    (tie.spec Inv-loop μ-loop loop-holds (λ c. search needs) returns (λ c κs. search needs) (λ c κs. search needs) item-at-requires
+    mul-items slice-write-items add-measure (λ c. search needs) (λ c. search needs) add-i (λ c. search needs) loop-again (λ c. search needs)
     returns-2)

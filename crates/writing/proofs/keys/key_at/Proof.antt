@@ -5,10 +5,6 @@ use Rattle.writing.proofs.KeyLaws.{absent-word, key-fits, key-word-is}
 use borrow.Author.Needs.{needs}
 use Rattle.writing.proofs.keys.key_at.Statement.{statement}
 use Rattle.writing.proofs.keys.key_at.Tie as tie
-use Rattle.writing.proofs.keys.key_at.Reads as reads
-use Rattle.writing.proofs.keys.key_at.Lts as lts
-use Rattle.packing.proofs.key_word.Reads as key-word-reads
-use Rattle.sections.proofs.find.Reads as find-reads
 
 -- The setting that is found fits its word.
 fits : (c : tie.Else1) → (c .before .before .find .result .start < c .before .before .find .result .stop) × (c .before .before .find .result .start < 65536) × (c .before .before .find .result .stop - c .before .before .find .result .start < 512)
@@ -17,26 +13,15 @@ fits c =
     let q = c .before .before .before .before in
     key-fits (q .args .s .now) (found .result) (c .if1 .left) (found .ensures .2) (q .pre .4) (subst ShortSetting (sym (found .ensures .0)) (q .pre .5))
 
--- src/keys.rt:23:9
-find-requires : tie.Need-find-requires
-find-requires c κs = search needs
-
--- src/keys.rt:25:9
 returns : tie.Need-returns
 returns c =
     let found = c .before .before .find in
     let s = c .before .before .before .before .args .s .now in
     sym (absent-word s (found .result) (c .if1 .taken)) ∙ ap wordOfSetting (found .ensures .0)
 
--- src/keys.rt:27:26
-sub-key-word : tie.Need-sub-key-word
-sub-key-word c = search needs
-
--- src/keys.rt:27:5
 key-word-requires : tie.Need-key-word-requires
 key-word-requires c κs = let f = fits (c .before) in (f .1, f .2)
 
--- src/keys.rt:19:1
 returns-2 : tie.Need-returns-2
 returns-2 c =
     let f = fits (c .before .before) in
@@ -45,4 +30,4 @@ returns-2 c =
     c .key-word .ensures ∙ key-word-is s (found .result) (c .before .before .if1 .left) (f .0) (found .ensures .2) ∙ ap wordOfSetting (found .ensures .0)
 
 pub key-at-spec : {M : Type 1} → statement M
-key-at-spec = tie.close (tie.spec find-requires returns sub-key-word key-word-requires returns-2)
+key-at-spec = tie.close (tie.spec (λ c κs. search needs) returns (λ c. search needs) key-word-requires returns-2)

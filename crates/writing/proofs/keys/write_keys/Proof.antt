@@ -1,3 +1,4 @@
+-- The words of the keys passed are written, those from here on are what is left of the table.
 use Prim.Native.Nat.{ℕ, _+_, _-_, _<_, _≤_}
 use mathlib.Core.Path.{_≡_, refl, sym, ap, _∙_, subst}
 use mathlib.Core.List.{List, [], _∷_}
@@ -17,10 +18,6 @@ use Rattle.packing.proofs.WrittenLaws.{Wrote, wrote-start, wrote-put, wrote-len
 use borrow.Author.Needs.{needs}
 use Rattle.writing.proofs.keys.write_keys.Statement.{statement}
 use Rattle.writing.proofs.keys.write_keys.Tie as tie
-use Rattle.writing.proofs.keys.write_keys.Reads as reads
-use Rattle.writing.proofs.keys.write_keys.Lts as lts
-use Rattle.writing.proofs.keys.key_at.Reads as key-at-reads
-use Rattle.scores.proofs.lines_before.Reads as lines-before-reads
 
 abbrev Inv-loop : tie.InvT-loop
 Inv-loop s keys₀ metadata k₀ keys k =
@@ -31,16 +28,10 @@ Inv-loop s keys₀ metadata k₀ keys k =
 abbrev μ-loop : tie.MeasureT-loop
 μ-loop s keys₀ metadata k₀ keys k = 8 - k
 
--- src/keys.rt:35:9
-lines-before-requires : tie.Need-lines-before-requires Inv-loop μ-loop
-lines-before-requires c κs = search needs
-
--- src/keys.rt:37:5
 loop-holds : tie.Need-loop-holds Inv-loop μ-loop
 unfolding tables keyWords songOf songIn
 loop-holds c = (omega arith, refl, wrote-start _ _)
 
--- src/keys.rt:38:19
 key-at-requires : tie.Need-key-at-requires Inv-loop μ-loop
 unfolding linesBefore
 key-at-requires c κs =
@@ -53,23 +44,6 @@ key-at-requires c κs =
     subst (λ (r : Run). (1 ≤ r .number) × (r .number ≤ r .at + 1) × (r .at ≤ length s) × (k < 8) × (inputFaults s ≡ []) × ShortSetting (settingAmong k (linesOf s r))) run
     (omega arith, omega arith, omega arith, c .loop-test .taken, q .pre .0, short)
 
--- src/keys.rt:38:9
-mul-keys : tie.Need-mul-keys Inv-loop μ-loop
-mul-keys c = search needs
-
--- src/keys.rt:38:9
-slice-write-keys : tie.Need-slice-write-keys Inv-loop μ-loop
-slice-write-keys c = search needs
-
--- src/keys.rt:39:9
-add-k : tie.Need-add-k Inv-loop μ-loop
-add-k c = search needs
-
--- src/keys.rt:37:5
-loop-less : tie.Need-loop-less Inv-loop μ-loop
-loop-less c = search needs
-
--- src/keys.rt:37:5
 loop-again : tie.Need-loop-again Inv-loop μ-loop
 loop-again c =
     let q = c .before .before .before .before .before .before in
@@ -85,11 +59,6 @@ loop-again c =
     let put = wrote-put (q .args .keys .now) (l .k) (l .keys) rest all (c .key-at .result) (omega arith) (subst (λ (ws : List ℕ). Wrote (q .args .keys .now) (l .k) (l .keys) ws all) next (l .inv .2)) in
     (omega arith, wrote-length (q .args .keys .now) (l .k + 1) _ rest all (omega arith) put, put)
 
--- src/keys.rt:31:1
-same-length : tie.Need-same-length Inv-loop μ-loop
-same-length c = search needs
-
--- src/keys.rt:31:1
 returns : tie.Need-returns Inv-loop μ-loop
 returns c =
     let l = c .before .loop in
@@ -102,16 +71,5 @@ returns c =
 pub write-keys-spec : {M : Type 1} → statement M
 write-keys-spec =
     tie.close
-    (tie.spec
-    Inv-loop
-    μ-loop
-    lines-before-requires
-    loop-holds
-    key-at-requires
-    mul-keys
-    slice-write-keys
-    add-k
-    loop-less
-    loop-again
-    same-length
-    returns)
+    (tie.spec Inv-loop μ-loop (λ c κs. search needs) loop-holds key-at-requires (λ c. search needs) (λ c. search needs) (λ c. search needs)
+    (λ c. search needs) loop-again (λ c. search needs) returns)

@@ -3,15 +3,11 @@ use Rattle.songcode.specs.Lists.{if_then_else_}
 use Rattle.writing.specs.Words.{tempoOf}
 use Rattle.writing.proofs.songs.tempo_of.Statement.{statement}
 use Rattle.writing.proofs.songs.tempo_of.Tie as tie
-use Rattle.writing.proofs.songs.tempo_of.Reads as reads
-use Rattle.writing.proofs.songs.tempo_of.Lts as lts
 
--- src/songs.rt:22:1
 returns : tie.Need-returns
 unfolding tempoOf if_then_else_
 returns c = simp (eq-eqb _ _ (c .if1 .taken))
 
--- src/songs.rt:22:1
 returns-2 : tie.Need-returns-2
 unfolding tempoOf if_then_else_
 returns-2 c = simp (ne-eqb _ _ (c .if1 .left))

@@ -1,3 +1,4 @@
+-- The words of the sections passed are written in all three tables, those from here on have room behind them.
 use Prim.Native.Nat.{_-_, _<_, _≤_}
 use mathlib.Core.Path.{_≡_, refl, _∙_}
 use mathlib.Core.List.{map}
@@ -16,13 +17,6 @@ use Rattle.sections.proofs.MeetLaws.{sections-over}
 use Rattle.writing.proofs.SongLaws.{tempo-is, tempo-few, sections-start, measures-start, beats-start, sections-left, sections-next, measures-next, beats-next, sections-end, measures-end, beats-end}
 use Rattle.writing.proofs.songs.write_song.Statement.{statement}
 use Rattle.writing.proofs.songs.write_song.Tie as tie
-use Rattle.writing.proofs.songs.write_song.Reads as reads
-use Rattle.writing.proofs.songs.write_song.Lts as lts
-use Rattle.packing.proofs.section_word.Reads as section-word-reads
-use Rattle.judging.proofs.meter_of.Reads as meter-of-reads
-use Rattle.writing.proofs.songs.tempo_of.Reads as tempo-of-reads
-use Rattle.judging.proofs.play.Reads as play-reads
-use Rattle.scores.proofs.open_section.Reads as open-section-reads
 
 abbrev Inv-loop : tie.InvT-loop
 Inv-loop s score song words₀ sections₀ measures₀ beats₀ place₀ k₀ m₀ b₀ words sections measures beats place k m b =
@@ -50,7 +44,6 @@ room : (c : tie.After-meter-of Inv-loop μ-loop) → c .before .before .before .
 room c = let l = c .before .before .before .before .before .before .before .before .before .loop in let s = c .before .before .before .before .before .before .before .before .before .before .before .before .before .before .before .args .s .now in
     sections-left s (l .place) _ (l .m) (c .before .before .before .before .before .before .before .before .before .before .before .before .before .before .before .args .sections .now) (l .k) (l .sections) (c .before .before .before .before .before .open-section .ensures .0 .met .first) (c .before .before .before .before .before .before .before .before .before .before .before .before .before .before .before .pre .1 .1 .1 .0) (l .inv .8)
 
--- src/songs.rt:50:5
 loop-holds : tie.Need-loop-holds Inv-loop μ-loop
 loop-holds c = let q = c .before .before .before .before .before in
     let a = q .args in
@@ -70,57 +63,14 @@ loop-holds c = let q = c .before .before .before .before .before in
       beats-start s (a .first) (a .beats .now) e,
     )
 
--- src/songs.rt:51:13
 open-section-requires : tie.Need-open-section-requires Inv-loop μ-loop
 open-section-requires c κs = let i = c .before .before .before .loop .inv .0 in (i .onward, c .before .if1 .taken, i .ready, i .filled)
 
--- src/songs.rt:54:13
-meter-of-requires : tie.Need-meter-of-requires Inv-loop μ-loop
-meter-of-requires c κs = search needs
-
--- src/songs.rt:62:13
-mul-play : tie.Need-mul-play Inv-loop μ-loop
-mul-play c = search needs
-
--- src/songs.rt:62:13
-sub-play : tie.Need-sub-play Inv-loop μ-loop
-sub-play c = search needs
-
--- src/songs.rt:62:13
-part-play-start : tie.Need-part-play-start Inv-loop μ-loop
-part-play-start c = search needs
-
--- src/songs.rt:62:13
-part-play-end : tie.Need-part-play-end Inv-loop μ-loop
-part-play-end c = search needs
-
--- src/songs.rt:63:13
-mul-play-2 : tie.Need-mul-play-2 Inv-loop μ-loop
-mul-play-2 c = search needs
-
--- src/songs.rt:63:13
-sub-play-2 : tie.Need-sub-play-2 Inv-loop μ-loop
-sub-play-2 c = search needs
-
--- src/songs.rt:63:13
-part-play-start-2 : tie.Need-part-play-start-2 Inv-loop μ-loop
-part-play-start-2 c = search needs
-
--- src/songs.rt:63:13
-part-play-end-2 : tie.Need-part-play-end-2 Inv-loop μ-loop
-part-play-end-2 c = search needs
-
--- src/songs.rt:55:13
 play-requires : tie.Need-play-requires Inv-loop μ-loop
 play-requires c κs = let y = c .before .before .before in
     let o = y .before .before .before .before .before .open-section in
     along-within (y .before .before .before .before .before .before .before .before .before .loop .inv .0) (o .result) (o .ensures .0) (o .ensures .1 .0) (y .meter-of .result) (meter y) (y .before .before .before .before .before .before .before .before .before .loop .b) (omega arith)
 
--- src/songs.rt:70:13
-tempo-of-requires : tie.Need-tempo-of-requires Inv-loop μ-loop
-tempo-of-requires c κs = search needs
-
--- src/songs.rt:65:23
 section-word-requires : tie.Need-section-word-requires Inv-loop μ-loop
 section-word-requires c κs = let y = c .before .before .before .before .before .before .before .before .before in
     let l = y .before .before .before .before .before .before .before .before .before .loop in
@@ -139,19 +89,15 @@ section-word-requires c κs = let y = c .before .before .before .before .before 
     let tempo = tempo-few (x .section .keys .bpm) (y .before .before .before .before .before .before .before .before .before .before .before .before .before .before .before .args .song .bpm) (i .met .read .keys .bpm-fits) (y .before .before .before .before .before .before .before .before .before .before .before .before .before .before .before .pre .1 .0 .3) in
     (omega (arith, onward .counted, y .before .before .before .before .before .before .before .if1 .taken), omega (arith, a .measures, a .few), omega (arith, a .measures, a .few), omega (arith, meter y), omega (arith, c .tempo-of .ensures))
 
--- src/songs.rt:65:9
 mul-sections : tie.Need-mul-sections Inv-loop μ-loop
 mul-sections c = let l = c .before .before .before .before .before .before .before .before .before .before .before .before .before .before .before .before .before .before .before .loop in omega (arith, l .inv .5, l .inv .0 .onward .inside, l .inv .0 .ready .told .small)
 
--- src/songs.rt:65:9
 slice-write-sections : tie.Need-slice-write-sections Inv-loop μ-loop
 slice-write-sections c = let y = c .before .before .before .before .before .before .before .before .before .before in omega (arith, room y, y .before .before .before .before .before .before .before .before .before .loop .inv .2)
 
--- src/songs.rt:72:9
 add-k : tie.Need-add-k Inv-loop μ-loop
 add-k c = let l = c .before .before .before .before .before .before .before .before .before .before .before .before .before .before .before .before .before .before .before .loop in omega (arith, l .inv .5, l .inv .0 .onward .inside, l .inv .0 .ready .told .small)
 
--- src/songs.rt:73:9
 add-m : tie.Need-add-m Inv-loop μ-loop
 add-m c = let y = c .before .before .before .before .before .before .before .before .before .before .before in
     let l = y .before .before .before .before .before .before .before .before .before .loop in
@@ -165,7 +111,6 @@ add-m c = let y = c .before .before .before .before .before .before .before .bef
     let b = along-beats (l .inv .0) x i (o .ensures .1 .0) n (meter y) (counts .result .beats) (counts .ensures .0 .1) in
     omega (arith, a .measures, a .few)
 
--- src/songs.rt:74:9
 add-b : tie.Need-add-b Inv-loop μ-loop
 add-b c = let y = c .before .before .before .before .before .before .before .before .before .before .before .before in
     let l = y .before .before .before .before .before .before .before .before .before .loop in
@@ -179,11 +124,9 @@ add-b c = let y = c .before .before .before .before .before .before .before .bef
     let b = along-beats (l .inv .0) x i (o .ensures .1 .0) n (meter y) (counts .result .beats) (counts .ensures .0 .1) in
     omega (arith, a .beats, a .few)
 
--- src/songs.rt:50:5
 loop-less : tie.Need-loop-less Inv-loop μ-loop
 loop-less c = omega (arith, c .before .before .before .before .before .before .before .before .before .before .before .before .before .before .before .before .before .before .open-section .ensures .0 .met .further, c .before .before .before .before .before .before .before .before .before .before .before .before .before .before .before .before .before .before .before .before .if1 .taken)
 
--- src/songs.rt:50:5
 loop-again : tie.Need-loop-again Inv-loop μ-loop
 loop-again c = let y = c .before .before .before .before .before .before .before .before .before .before .before .before .before in
     let l = y .before .before .before .before .before .before .before .before .before .loop in
@@ -219,23 +162,6 @@ loop-again c = let y = c .before .before .before .before .before .before .before
       wb,
     )
 
--- src/songs.rt:28:1
-same-length : tie.Need-same-length Inv-loop μ-loop
-same-length c = search needs
-
--- src/songs.rt:28:1
-same-length-2 : tie.Need-same-length-2 Inv-loop μ-loop
-same-length-2 c = search needs
-
--- src/songs.rt:28:1
-same-length-3 : tie.Need-same-length-3 Inv-loop μ-loop
-same-length-3 c = search needs
-
--- src/songs.rt:28:1
-same-length-4 : tie.Need-same-length-4 Inv-loop μ-loop
-same-length-4 c = search needs
-
--- src/songs.rt:28:1
 returns : tie.Need-returns Inv-loop μ-loop
 returns c = let l = c .before .before .loop in
     let q = c .before .before .before .before .before .before .before .before in
@@ -246,32 +172,7 @@ returns c = let l = c .before .before .loop in
 pub write-song-spec : {M : Type 1} → statement M
 write-song-spec =
     tie.close
-    (tie.spec
-    Inv-loop
-    μ-loop
-    loop-holds
-    open-section-requires
-    meter-of-requires
-    mul-play
-    sub-play
-    part-play-start
-    part-play-end
-    mul-play-2
-    sub-play-2
-    part-play-start-2
-    part-play-end-2
-    play-requires
-    tempo-of-requires
-    section-word-requires
-    mul-sections
-    slice-write-sections
-    add-k
-    add-m
-    add-b
-    loop-less
-    loop-again
-    same-length
-    same-length-2
-    same-length-3
-    same-length-4
-    returns)
+    (tie.spec Inv-loop μ-loop loop-holds open-section-requires (λ c κs. search needs) (λ c. search needs) (λ c. search needs)
+    (λ c. search needs) (λ c. search needs) (λ c. search needs) (λ c. search needs) (λ c. search needs) (λ c. search needs) play-requires
+    (λ c κs. search needs) section-word-requires mul-sections slice-write-sections add-k add-m add-b loop-less loop-again
+    (λ c. search needs) (λ c. search needs) (λ c. search needs) (λ c. search needs) returns)
