@@ -136,6 +136,9 @@ unfolding own
 own-room t = record { keys = omega arith; sections = omega arith; measures = omega arith; beats = omega arith; items = omega arith }
 
 -- The counting.
+own-described : (text : List ℕ) (t : Tables) → songAnswer text ≡ accepted t → Described (own t) text t
+own-described text t e = accepted-exactly (own t) text t .0 (accepted-with-room (own t) text t .1 (e, own-room t))
+
 song-described : (text : List ℕ) (room : Room) (t : Tables) → Described room text t → songAnswer text ≡ accepted t
 song-described text room t d = accepted-with-room room text t .0 (accepted-exactly room text t .1 d) .0
 
@@ -146,7 +149,7 @@ module _ (text : List ℕ) (q : Answer) (c : Counted text q) where
       let m = refusal-numbers none text n l (refused-with-tables none text n l e) .0 in
       let k = number-is q n l (c .answer ∙ ap answerOf e) in
       absurd (omega arith)
-  counts (accepted t) e zero = (own t, t, accepted-exactly (own t) text t .0 (accepted-with-room (own t) text t .1 (e, own-room t)))
+  counts (accepted t) e zero = (own t, t, own-described text t e)
 
   of-described : (room : Room) (t : Tables) → Described room text t → Counts t q
   of-described room t d = counts-of q t (c .answer ∙ ap answerOf (song-described text room t d))
@@ -173,7 +176,7 @@ demanded =
           (answerOf (answer (roomOf before) text), stored (answer (roomOf before) text) before, record { answer = refl; tables = refl });
       one-count = one-count;
       counted-with-room = λ text before after r q p c has.
-          counted-with-room text before after r q p c (λ t e. has (own t) t (accepted-exactly (own t) text t .0 (accepted-with-room (own t) text t .1 (e, own-room t))));
+          counted-with-room text before after r q p c (λ t e. has (own t) t (own-described text t e));
       counted-when-refused = λ text before after r q p c some other.
           counted-when-refused text before after r q p c (λ z. absurd (omega arith)) other;
     }

@@ -65,5 +65,7 @@ pub record Demands : Type 0 where
   pub an-outcome : (text : List ℕ) (before : Lent) → (r : Answer) × (after : Lent) × Promised text before r after
   pub one-count : (text : List ℕ) (r q : Answer) → Counted text r → Counted text q → r ≡ q
   -- The count is the answer of the reading wherever the tables have room, and wherever the reading refuses with anything but 18.
-  pub counted-with-room : (text : List ℕ) (before after : Lent) (r q : Answer) → Promised text before r after → Counted text q → ((room : Room) (t : Tables) → Described room text t → HasRoom (roomOf before) t) → q ≡ r
-  pub counted-when-refused : (text : List ℕ) (before after : Lent) (r q : Answer) → Promised text before r after → Counted text q → 1 ≤ r .refusal → (r .refusal ≡ 18 → ⊥) → q ≡ r
+  pub counted-with-room : (text : List ℕ) (before after : Lent) (r q : Answer) → Promised text before r after → Counted text q
+      → ((room : Room) (t : Tables) → Described room text t → HasRoom (roomOf before) t) → q ≡ r
+  pub counted-when-refused : (text : List ℕ) (before after : Lent) (r q : Answer) → Promised text before r after → Counted text q
+      → 1 ≤ r .refusal → (r .refusal ≡ 18 → ⊥) → q ≡ r
