@@ -1,1 +1,3 @@
+-- What the exported calls promise, and that each promise has one outcome.
 pub mod Answers
+pub mod OneOutcome
