@@ -2,20 +2,11 @@
    stack than the header asks for. Prints nothing and ends with 0 where all is as promised. */
 #include <limits.h>
 #include <pthread.h>
-#include <stdio.h>
 #include <string.h>
+#include "expect.h"
 #include "turnipcart.h"
 
 static const unsigned char chart[] = "@time 3/4\n\nV\nC;G\n--\nla _2\n";
-static int faults;
-
-static void expect(const char *what, size_t found, size_t wanted)
-{
-    if (found != wanted) {
-        fprintf(stderr, "%s: found %zu, wanted %zu\n", what, found, wanted);
-        faults++;
-    }
-}
 
 static void try_null(void)
 {

@@ -7,7 +7,10 @@ use Rattle.reader.specs.declared.answers.Answer.{Answer}
 use Rattle.reader.specs.Answers.{Lent, Promised, Counted}
 use Rattle.reader.proofs.AnswerLaws.{one-outcome, one-count}
 use Rattle.concert.specs.Promises.{Moves}
-use Rattle.turnipcart.specs.Answers.{answerIn, ReadsChart, CountsChart}
+use Rattle.concert.proofs.Demanded.{demanded}
+use Rattle.seek.specs.declared.Found.{Found}
+use Rattle.turnipcart.specs.Answers.{answerIn, foundIn, explainedIn, ReadsChart, CountsChart, FindsBeat, ExplainsChart}
+use Rattle.turnipcart.specs.OneOutcome.{OneOutcome}
 
 -- What the code lays down is promised.
 abbrev pub laid : Answer → List ℕ
@@ -35,3 +38,18 @@ pub one-counted : (text : List ℕ) (r q : ℕ) (x y : List ℕ) → CountsChart
 one-counted text r q x y f g =
     let same = one-count text (answerIn x) (answerIn y) (f .counted) (g .counted) in
     (f .given ∙ ap (λ (z : Answer). z .refusal) same ∙ sym (g .given), same)
+
+one-found : (measures : List ℕ) (beat r q : ℕ) (x y : List ℕ) → FindsBeat measures beat r x → FindsBeat measures beat q y
+    → (r ≡ q) × (foundIn x ≡ foundIn y)
+one-found measures beat r q x y f g =
+    let same = f .halved ∙ sym (g .halved) in (f .refused ∙ ap (λ (z : Found). z .refusal) same ∙ sym (g .refused), same)
+
+one-explained : (text : List ℕ) (r q : ℕ) (x y : List ℕ) → ExplainsChart text r x → ExplainsChart text q y
+    → (r ≡ q) × (explainedIn x .refusal ≡ explainedIn y .refusal) × (explainedIn x .line ≡ explainedIn y .line)
+one-explained text r q x y f g =
+    let same = f .explained .refusal ∙ sym (g .explained .refusal) in
+    (f .told ∙ same ∙ sym (g .told), same, f .explained .line ∙ sym (g .explained .line))
+
+pub outcomes : OneOutcome
+outcomes =
+    record { read = one-read; counted = one-counted; found = one-found; moved = demanded .one-outcome; explained = one-explained }

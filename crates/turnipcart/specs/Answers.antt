@@ -1,13 +1,15 @@
--- The answers of the calls as numbers in a row; and what the calls that read a chart promise.
+-- The answers of the calls as numbers in a row; and what the calls promise.
 use Prim.Native.Nat.{ℕ}
 use mathlib.Core.Path.{_≡_}
 use mathlib.Core.List.{List}
 use lib.ListN.{getD}
+use Rattle.songcode.specs.Finding.{jumpTo}
 use Rattle.reader.specs.declared.answers.Answer.{Answer}
 use Rattle.reader.specs.Answers.{Lent, Promised, Counted}
 use Rattle.explain.specs.declared.Explained.{Explained}
 use Rattle.explain.specs.Explained.{Explains}
 use Rattle.seek.specs.declared.Found.{Found}
+use Rattle.seek.specs.Answers.{foundOf}
 
 -- Refusal, line, and the counts of sections, measures, beats and items.
 unfoldable pub answerIn : List ℕ → Answer
@@ -27,6 +29,11 @@ pub record ReadsChart (text : List ℕ) (before : Lent) (refusal : ℕ) (answer 
 pub record CountsChart (text : List ℕ) (refusal : ℕ) (answer : List ℕ) : Type 0 where
   pub given : refusal ≡ answerIn answer .refusal
   pub counted : Counted text (answerIn answer)
+
+-- A beat found: the refusal is returned, and the three numbers are those of the halving rule.
+pub record FindsBeat (measures : List ℕ) (beat : ℕ) (refusal : ℕ) (found : List ℕ) : Type 0 where
+  pub refused : refusal ≡ foundIn found .refusal
+  pub halved : foundIn found ≡ foundOf (jumpTo beat measures)
 
 -- Refusal, line and cause; the line, the first byte and the length of the place; one more line; three numbers.
 unfoldable pub explainedIn : List ℕ → Explained

@@ -1,2 +1,3 @@
--- What the contracts of the exported calls say.
+-- What the exported calls promise, and that each promise has one outcome.
 pub mod Answers
+pub mod OneOutcome

@@ -7,4 +7,4 @@ use Rattle.turnipcart.proofs.find.turnipcart_find.Tie as tie
 
 pub turnipcart-find-spec : {M : Type 1} → statement M
 unfolding foundIn
-turnipcart-find-spec = tie.close (tie.spec (λ c κs. search needs) (λ c. (refl, c .before .find-measure .ensures)))
+turnipcart-find-spec = tie.close (tie.spec (λ c κs. search needs) (λ c. record { refused = refl; halved = c .before .find-measure .ensures }))
