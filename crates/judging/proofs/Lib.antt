@@ -20,3 +20,4 @@ pub mod TallyLaws
 pub mod NumberLaws
 pub mod TakenLaws
 pub mod SoonerLaws
+pub mod VerdictLaws

@@ -1,81 +1,27 @@
--- The answer from the verdicts of its stages: the first two, the next five, and the room in the tables.
+-- The answer of a song that stages 1 to 7 have judged, by the room in the tables.
 use Prim.Native.Nat.{ℕ, _≤_}
 use mathlib.Core.Path.{_≡_, refl, sym, ap, _∙_}
 use mathlib.Core.List.{List, [], _∷_}
 use mathlib.Core.Bool.{true, false, _||_}
-use mathlib.Core.Option.{Option, none, some}
 use borrow.Author.Tests.{ltb-false}
 use lib.Dec.{ltb}
 use lib.ListN.{length}
 use Rattle.songcode.specs.Lists.{when}
-use Rattle.songcode.specs.Complaints.{Complaint, complaint, complainIf, earlier, earliest, stageOr, verdict}
+use Rattle.songcode.specs.Complaints.{complaint, complainIf, earlier, earliest}
 use Rattle.songcode.specs.Song.{Song}
-use Rattle.songcode.specs.SongText.{textFaults}
 use Rattle.songcode.specs.Tables.{Tables, tables, keyWords, keyOrder}
 use Rattle.songcode.specs.Answer as songcode
-use Rattle.songcode.specs.Answer.{Room, inputFaults, blocksOf, songOf, roomFaults, songStages, refused, accepted, answerBy, answer, songAnswer}
+use Rattle.songcode.specs.Answer.{Room, songOf, roomFaults, refused, accepted, answerBy, answer, songAnswer}
 use Rattle.songcode.specs.Described.{HasRoom}
 use Rattle.songcode.proofs.ListLaws.{none-passes}
-use Rattle.songcode.proofs.VerdictAgree.{verdict-append, last-stage}
 use Rattle.songcode.proofs.SongAlone.{refused-with-tables, refused-without-tables, judged-by-room, accepted-with-room}
-use Rattle.text.specs.declared.Refusal.{Refusal}
-use Rattle.text.specs.Refusals.{refusalOf}
-use Rattle.stage2.proofs.SmallLines.{stage-clear}
 use Rattle.judging.specs.Sums.{Holds}
-use Rattle.judging.specs.Charts.{Clear, Roomy}
+use Rattle.judging.specs.Charts.{Roomy}
 use Rattle.judging.specs.declared.sums.Totals.{Totals}
 use Rattle.reader.specs.declared.answers.Answer.{Answer}
 use Rattle.packing.specs.Written.{written}
 use Rattle.reader.specs.Answers.{answerOf, Lent, roomOf, stored, Promised, Counted}
 use Rattle.reader.specs.Room.{isShort}
-use Rattle.judging.specs.Stages.{lyricFaults, playingFaults, laterFaults}
-use Rattle.judging.proofs.ClearLaws.{verdict-clear}
-use Rattle.judging.proofs.StageLaws.{numbered-input, input-small}
-
--- The stages of the song alone.
-module _ (bs : List ℕ) where
-  firsts : List (List Complaint)
-  firsts = inputFaults bs ∷ textFaults (blocksOf bs) ∷ []
-
-  stages-are : verdict (songStages bs) ≡ stageOr (verdict firsts) (verdict (laterFaults (songOf bs)))
-  unfolding songStages firsts laterFaults playingFaults lyricFaults
-  stages-are = verdict-append firsts (laterFaults (songOf bs))
-
-  -- A refusal that is given is a complaint.
-  given : (o : Option Complaint) (r : Refusal) → r ≡ refusalOf o → (r .number ≡ 0 → ⊥) → o ≡ some (complaint (r .number) (r .line))
-  unfolding refusalOf
-  given none r e n = absurd (n (ap (λ (q : Refusal). q .number) e))
-  given (some c) r e n = rw e refl
-
-  refuses : (c : Complaint) → verdict (songStages bs) ≡ some c → songAnswer bs ≡ refused (c .number) (c .line)
-  unfolding songAnswer answerBy
-  refuses c e = rw e refl
-
-  -- Stages 1 and 2 refuse.
-  pub early-refused : (r : Refusal) → r ≡ refusalOf (verdict (inputFaults bs ∷ textFaults (blocksOf bs) ∷ [])) → (r .number ≡ 0 → ⊥) → songAnswer bs ≡ refused (r .number) (r .line)
-  unfolding firsts stageOr
-  early-refused r e n = refuses (complaint (r .number) (r .line)) (stages-are ∙ ap (λ o. stageOr o (verdict (laterFaults (songOf bs)))) (given (verdict firsts) r e n))
-
-  -- They do not.
-  module _ (input : inputFaults bs ≡ []) (texts : textFaults (blocksOf bs) ≡ []) where
-    firsts-none : verdict firsts ≡ none
-    unfolding firsts verdict earliest stageOr
-    firsts-none = rw (input, texts) refl
-
-    later-are : verdict (songStages bs) ≡ verdict (laterFaults (songOf bs))
-    unfolding stageOr
-    later-are = stages-are ∙ ap (λ o. stageOr o (verdict (laterFaults (songOf bs)))) firsts-none
-
-    pub late-refused : (r : Refusal) → r ≡ refusalOf (verdict (laterFaults (songOf bs))) → (r .number ≡ 0 → ⊥) → songAnswer bs ≡ refused (r .number) (r .line)
-    late-refused r e n = refuses (complaint (r .number) (r .line)) (later-are ∙ given (verdict (laterFaults (songOf bs))) r e n)
-
-    later-none : Clear (songOf bs) → verdict (laterFaults (songOf bs)) ≡ none
-    unfolding laterFaults playingFaults lyricFaults verdict earliest stageOr
-    later-none clear = rw (clear .references, clear .meters, clear .lengths, clear .counts, clear .sums) refl
-
-    pub song-accepted : Clear (songOf bs) → songAnswer bs ≡ accepted (tables (songOf bs))
-    unfolding songAnswer answerBy
-    song-accepted clear = rw (later-are ∙ later-none clear) refl
 
 -- Stage 8, for a song that the others accept.
 module _ (room : Room) (bs : List ℕ) (is : songAnswer bs ≡ accepted (tables (songOf bs))) where
@@ -120,12 +66,6 @@ tables-room song t k s m b i h e =
       beats = rw (← h .beats) (ltb-false _ _ (q .1));
       items = rw (← h .items) (ltb-false _ _ (p .1));
     }
-
--- Where stages 1 and 2 refuse nothing they complain of nothing.
-pub first-clear : (s : List ℕ) (r : Refusal) → r ≡ refusalOf (verdict (inputFaults s ∷ textFaults (blocksOf s) ∷ [])) → r .number ≡ 0 → (inputFaults s ≡ []) × (textFaults (blocksOf s) ≡ [])
-first-clear s r e z =
-    let a = verdict-clear (inputFaults s) (textFaults (blocksOf s) ∷ []) (numbered-input s) (ap (λ (q : Refusal). q .number) (sym e) ∙ z) in
-    (a .0, stage-clear s (input-small s (a .0)) (ap (λ (o : Option Complaint). refusalOf o .number) (sym (last-stage (textFaults (blocksOf s)))) ∙ a .1))
 
 -- A refusal is promised where no table was written.
 pub promised-refused : (text : List ℕ) (lent : Lent) (n l : ℕ) (r : Answer) → answer (roomOf lent) text ≡ refused n l → r ≡ record { refusal = n; line = l; sections = 0; measures = 0; beats = 0; items = 0 } → Promised text lent r lent

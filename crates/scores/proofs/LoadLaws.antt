@@ -369,6 +369,7 @@ module _ (s ws : List ℕ) (score : Score) (p : Place) (w : Loading s ws score p
           opens = l .opens;
           fair = ap (gather sectionFaults) (sym (only .1) ∙ l .sections) ∙ clean (blocksOf s) faultless .sections;
         };
+        all = sym (only .1) ∙ l .sections;
         sections = ap (map sectionIn) (sym (only .1) ∙ l .sections);
       }
 

@@ -8,10 +8,12 @@ use lib.Dec.{leb}
 use lib.ListN.{length, take, set}
 use Rattle.songcode.specs.Lists.{if_then_else_, isSome, andThen}
 use Rattle.songcode.specs.Complaints.{earliest}
+use Rattle.songcode.specs.Lines.{blocks}
 use Rattle.songcode.specs.Song.{Items, named, Definition, Section}
 use Rattle.songcode.specs.References.{definitionOf, patternItems, definitionsReferences, referenceFaults}
 use Rattle.songcode.specs.Playing.{Side, saidBy, beforeSaid, afterSaid, measuresOf}
-use Rattle.songcode.specs.Answer.{songOf}
+use Rattle.songcode.specs.SongText.{sectionBlocks}
+use Rattle.songcode.specs.Answer.{blocksOf, songOf}
 use Rattle.text.specs.Refusals.{refusalOf}
 use Rattle.player.specs.declared.leaves.Definitions.{Definitions}
 use Rattle.player.specs.declared.leaves.Stretch.{Stretch}
@@ -20,6 +22,7 @@ use Rattle.player.specs.Texts.{rowWords}
 use Rattle.outlines.specs.Tables.{vacant, lookUp, isMissing}
 use Rattle.outlines.specs.Told.{Tells}
 use Rattle.sections.specs.declared.blocks.Place.{Place}
+use Rattle.sections.specs.Runs.{textLines}
 use Rattle.sections.specs.Onward.{sectionsFrom, Onward, sectionAt, Meets}
 use Rattle.scores.specs.declared.definitions.Score.{Score}
 use Rattle.scores.specs.declared.definitions.Loaded.{Loaded}
@@ -59,6 +62,7 @@ pub record Ready (s : List ℕ) (ws : List ℕ) (score : Score) : Type 0 where
 -- All sections of the song stand from the place on.
 pub record Begins (s : List ℕ) (p : Place) : Type 0 where
   pub onward : Onward s p
+  pub all : blocks (textLines s (p .number) (p .at)) ≡ sectionBlocks (blocksOf s)
   pub sections : sectionsFrom s p ≡ songOf s .sections
 
 -- The definitions are loaded: what stage 3 refuses of them; where it refuses nothing, they are ready and the sections follow.

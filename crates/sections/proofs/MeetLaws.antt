@@ -140,6 +140,7 @@ module _ (s : List ℕ) (p : Place) (x : Parts) (q : Place) (o : Onward s p) (in
         read = w;
         says = parts-say s (p .number) (p .at) x w;
         written = has-pattern;
+        opened = opened;
         first = ap (map sectionIn) opened;
         onward = next-onward;
         further = omega arith;
@@ -159,6 +160,7 @@ section-meets s p x r o inside w e =
       read = at;
       says = section-says s (p .number) (p .at) r at clean;
       written = ap (λ (k : Run). patternIn (linesOf s k)) (e .pattern) ∙ w .written;
+      opened = w .opened;
       first = w .first;
       onward = w .onward;
       further = w .further;

@@ -40,6 +40,7 @@ pub record Passes (s : List ℕ) (p : Place) (r : Passed) : Type 0 where
   pub read : PartsAt s (p .number) (p .at) (r .section)
   pub says : PartsSay s (sectionAt s p) (r .section)
   pub written : patternIn (linesOf s (r .section .pattern)) ≡ some (sectionAt s p .pattern)
+  pub opened : blocks (textLines s (p .number) (p .at)) ≡ blockAt s (p .number) (p .at) ∷ blocks (textLines s (r .next .number) (r .next .at))
   pub first : sectionsFrom s p ≡ sectionAt s p ∷ sectionsFrom s (r .next)
   pub onward : Onward s (r .next)
   pub further : p .at < r .next .at
@@ -50,6 +51,7 @@ pub record Meets (s : List ℕ) (p : Place) (r : Met) : Type 0 where
   pub read : SectionAt s (p .number) (p .at) (r .section)
   pub says : SectionSays s (sectionAt s p) (r .section)
   pub written : patternIn (linesOf s (r .section .pattern)) ≡ some (sectionAt s p .pattern)
+  pub opened : blocks (textLines s (p .number) (p .at)) ≡ blockAt s (p .number) (p .at) ∷ blocks (textLines s (r .next .number) (r .next .at))
   pub first : sectionsFrom s p ≡ sectionAt s p ∷ sectionsFrom s (r .next)
   pub onward : Onward s (r .next)
   pub further : p .at < r .next .at

@@ -1,4 +1,5 @@
-use Rattle.reader.proofs.AnswerLaws.{early-refused, first-clear, counted-refused}
+use Rattle.judging.proofs.VerdictLaws.{early-refused, first-clear}
+use Rattle.reader.proofs.AnswerLaws.{counted-refused}
 use Rattle.judging.proofs.StageLaws.{input-small}
 use borrow.Author.Needs.{needs}
 use Rattle.reader.proofs.counting.count.Statement.{statement}

@@ -1,4 +1,5 @@
-use Rattle.reader.proofs.AnswerLaws.{late-refused, song-accepted, counted-refused, counted-accepted}
+use Rattle.judging.proofs.VerdictLaws.{late-refused, song-accepted}
+use Rattle.reader.proofs.AnswerLaws.{counted-refused, counted-accepted}
 use Rattle.songcode.specs.Answer.{songOf}
 use Rattle.songcode.specs.Tables.{tables}
 use borrow.Author.Needs.{needs}

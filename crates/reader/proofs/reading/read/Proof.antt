@@ -1,5 +1,6 @@
 use Rattle.songcode.proofs.SongAlone.{refused-with-tables}
-use Rattle.reader.proofs.AnswerLaws.{early-refused, first-clear, promised-refused}
+use Rattle.judging.proofs.VerdictLaws.{early-refused, first-clear}
+use Rattle.reader.proofs.AnswerLaws.{promised-refused}
 use Rattle.judging.proofs.StageLaws.{input-small}
 use Rattle.reader.specs.Answers.{Lent, roomOf}
 use borrow.Author.Needs.{needs}

@@ -1,5 +1,6 @@
 use Rattle.songcode.proofs.SongAlone.{refused-with-tables}
-use Rattle.reader.proofs.AnswerLaws.{late-refused, song-accepted, short-refused, roomy-accepted, short-is, long-is, keys-room, tables-room, promised-refused, promised-accepted}
+use Rattle.judging.proofs.VerdictLaws.{late-refused, song-accepted}
+use Rattle.reader.proofs.AnswerLaws.{short-refused, roomy-accepted, short-is, long-is, keys-room, tables-room, promised-refused, promised-accepted}
 use Rattle.reader.specs.Answers.{Lent, roomOf}
 use Rattle.songcode.specs.Answer.{songOf}
 use Rattle.songcode.specs.Tables.{tables}

@@ -1,0 +1,176 @@
+-- Lines of the text, taken over into the copy one by one: those of a run, the key lines of a section, and the lines from its `--` on.
+use Prim.Native.Nat.{ℕ, zero, suc, _+_, _-_, _<_, _≤_}
+use Prim.Native.Char.{code}
+use mathlib.Core.Path.{_≡_, refl, sym, ap, _∙_}
+use mathlib.Core.List.{List, [], _∷_}
+use mathlib.Core.Bool.{Bool, true, false, not}
+use native.Mathlib.Omega.{arith}
+use lib.ListN.{length, take}
+use borrow.Author.Tests.{eqb-true}
+use Rattle.songcode.specs.Lists.{if_then_else_, isEmpty, gather, taken, left}
+use Rattle.songcode.specs.Bytes.{Byte, placed, values, ascii, same, is, isByte}
+use Rattle.songcode.specs.Lines as songcode
+use Rattle.songcode.specs.Sections.{Kind, keyLine, modifierLine, patternLine, kindOf, kindOfLine, notDashes, body, ending}
+use Rattle.songcode.specs.WrittenSong.{BeginsWith}
+use Rattle.songcode.specs.Flat.{textOf, ended, isKeyLine}
+use Rattle.songcode.proofs.ListLaws.{by-cases, true-is-not-false}
+use Rattle.songcode.proofs.ByteLaws.{values-placed}
+use Rattle.songcode.proofs.LineAgree.{key-at}
+use Rattle.songcode.proofs.ChoiceLaws.{zero-is-not-one}
+use Rattle.settings.specs.declared.kinds.Kind as settings
+use Rattle.settings.specs.declared.kinds.Kind.the-variants.{Key, Modifier, Pattern}
+use Rattle.settings.specs.Kinds.{kindIs}
+use Rattle.settings.proofs.ValueLaws.{kindOf-placeless}
+use Rattle.text.specs.declared.lines.Line.{Line}
+use Rattle.text.specs.Spans.{part, lineAt, lineText, Found}
+use Rattle.sections.specs.declared.runs.Test.the-variants.{Full, Body}
+use Rattle.sections.specs.Runs.{textLines, passing, passes}
+use Rattle.sections.specs.BlockParts.{blockAt}
+use Rattle.sections.proofs.RunLaws.{lines-found, lines-over}
+use Rattle.sections.proofs.PartLaws.{ending-is}
+use Rattle.flat.specs.Sheets.{Sheet, puts}
+use Rattle.flat.specs.Taken.{lineBytes}
+use Rattle.flat.proofs.SheetLaws.{puts-append}
+
+-- A line and those behind it.
+pub line-first : (s : List ℕ) (l : Line) (ls : List songcode.Line) (x : Sheet)
+    → puts (lineBytes (lineText s l ∷ ls)) x ≡ puts (lineBytes ls) (puts (ended (part (l .start) (l .stop) s)) x)
+unfolding lineBytes gather textOf
+line-first s l ls x =
+    puts-append (ended (values (placed (l .start) (part (l .start) (l .stop) s)))) (lineBytes ls) x
+    ∙ ap (λ (t : List ℕ). puts (lineBytes ls) (puts (ended t) x)) (values-placed (l .start) (part (l .start) (l .stop) s))
+
+-- So many lines from a place on.
+module _ (s : List ℕ) (n at left : ℕ) (x : Sheet) where
+  pub lines-none : left ≡ 0 → puts (lineBytes (take left (textLines s n at))) x ≡ x
+  unfolding lineBytes gather puts
+  lines-none e = rw e
+
+  pub none-over : length s ≤ at → puts (lineBytes (take left (textLines s n at))) x ≡ x
+  unfolding lineBytes gather puts
+  none-over h = rw (lines-over s n at h) (nil left)
+    where
+      nil : (k : ℕ) → puts (lineBytes (take k [])) x ≡ x
+      nil zero = refl
+      nil (suc k) = refl
+
+  lines-more : {l : Line} → Found s n at l → at < length s → (left ≡ 0 → ⊥)
+      → puts (lineBytes (take left (textLines s n at))) x
+      ≡ puts (lineBytes (take (left - 1) (textLines s (n + 1) (l .next)))) (puts (ended (part (l .start) (l .stop) s)) x)
+  lines-more {l} f h some-left =
+      let e : left ≡ suc (left - 1) = omega arith in
+      ap (λ (k : ℕ). puts (lineBytes (take k (textLines s n at))) x) e
+      ∙ rw (lines-found f h) (line-first s l (take (left - 1) (textLines s (n + 1) (l .next))) x)
+
+  pub lines-step : (y goal : Sheet) {l : Line} → Found s n at l → at < length s → (left ≡ 0 → ⊥) → y ≡ puts (ended (part (l .start) (l .stop) s)) x
+      → puts (lineBytes (take left (textLines s n at))) x ≡ goal → puts (lineBytes (take (left - 1) (textLines s (n + 1) (l .next)))) y ≡ goal
+  lines-step y goal {l} f h some-left e g = ap (puts (lineBytes (take (left - 1) (textLines s (n + 1) (l .next))))) e ∙ sym (lines-more f h some-left) ∙ g
+
+-- A key line is neither blank nor `--`.
+key-kind : (l : songcode.Line) → isKeyLine l ≡ true → kindOf (l .text) ≡ keyLine
+unfolding isKeyLine kindOfLine
+key-kind l e = go (kindOf (l .text)) e
+  where
+    go : (k : Kind) → elim k [ keyLine ↦ true | modifierLine ↦ false | patternLine ↦ false ] ≡ true → k ≡ keyLine
+    go keyLine e = refl
+    go modifierLine e = true-is-not-false e refl
+    go patternLine e = true-is-not-false e refl
+
+key-text : (bs : List Byte) → kindOf bs ≡ keyLine → (not (isEmpty bs) ≡ true) × (not (is "--" bs) ≡ true)
+unfolding BeginsWith isByte isEmpty is same ascii values
+key-text bs e = go bs (key-at bs e)
+  where
+    go : (bs : List Byte) → BeginsWith (code "@") bs → (not (isEmpty bs) ≡ true) × (not (is "--" bs) ≡ true)
+    go [] h = absurd h
+    go (b ∷ bs) h = let v : b .value ≡ 64 = eqb-true (b .value) 64 h in (refl, rw v)
+
+key-body : (l : songcode.Line) → isKeyLine l ≡ true → (passing Full l ≡ true) × (notDashes l ≡ true)
+unfolding passing passes notDashes
+key-body l e = key-text (l .text) (key-kind l e)
+
+module _ {A : Type 0} (p q : A → Bool) (h : (x : A) → p x ≡ true → q x ≡ true) where
+  taken-within : (xs : List A) → taken p (taken q xs) ≡ taken p xs
+  unfolding taken if_then_else_
+  taken-within [] = refl
+  taken-within (x ∷ xs) =
+      by-cases (p x)
+      (λ e. rw (h x e) (rw e (ap (λ ys. x ∷ ys) (taken-within xs))))
+      (λ e. by-cases (q x) (λ f. rw f (rw e)) (λ f. rw (f, e)))
+
+-- The key lines of a section's block, and its lines from the `--` on, where its header is found.
+module _ (s : List ℕ) (n at : ℕ) {h : Line} (f : Found s n at h) where
+  pub keys-taken : taken isKeyLine (body (blockAt s n at)) ≡ taken isKeyLine (textLines s (n + 1) (h .next))
+  unfolding body blockAt
+  keys-taken =
+      let ls = textLines s (n + 1) (lineAt s n at .next) in
+      taken-within isKeyLine notDashes (λ l e. key-body l e .1) (taken (passing Full) ls)
+      ∙ taken-within isKeyLine (passing Full) (λ l e. key-body l e .0) ls
+      ∙ ap (λ (l : Line). taken isKeyLine (textLines s (n + 1) (l .next))) (sym (f .is))
+
+  pub ending-taken : ending (blockAt s n at) ≡ taken (passing Full) (left (passing Body) (textLines s (n + 1) (h .next)))
+  unfolding ending blockAt
+  ending-taken =
+      ending-is (textLines s (n + 1) (lineAt s n at .next))
+      ∙ ap (λ (l : Line). taken (passing Full) (left (passing Body) (textLines s (n + 1) (l .next)))) (sym (f .is))
+
+  pub next-places : n ≤ at + 1 → at < length s → (1 ≤ n + 1) × (n + 1 ≤ h .next + 1) × (h .next ≤ length s)
+  next-places few inside =
+      let a = f .onward in
+      let b = f .over in
+      (omega arith, omega arith, omega arith)
+
+  pub header-text : textOf (blockAt s n at .first) ≡ part (h .start) (h .stop) s
+  unfolding textOf blockAt
+  header-text = rw (← (f .is)) (values-placed (h .start) (part (h .start) (h .stop) s))
+
+-- A line by the kind that the code finds.
+is-key : (l : songcode.Line) → Key ≡ kindIs (kindOfLine l) → isKeyLine l ≡ true
+unfolding isKeyLine kindIs
+is-key l e = go (kindOfLine l) e
+  where
+    go : (k : Kind) → Key ≡ kindIs k → elim k [ keyLine ↦ true | modifierLine ↦ false | patternLine ↦ false ] ≡ true
+    go keyLine h = refl
+    go modifierLine h = zero-is-not-one cc
+    go patternLine h = zero-is-not-one cc
+
+not-key : (l : songcode.Line) (c : settings.Kind) → (c ≡ Key → ⊥) → c ≡ kindIs (kindOfLine l) → isKeyLine l ≡ false
+unfolding isKeyLine kindIs
+not-key l c n e = go (kindOfLine l) e
+  where
+    go : (k : Kind) → c ≡ kindIs k → elim k [ keyLine ↦ true | modifierLine ↦ false | patternLine ↦ false ] ≡ false
+    go keyLine h = absurd (n h)
+    go modifierLine h = refl
+    go patternLine h = refl
+
+pub no-key : (Modifier ≡ Key → ⊥) × (Pattern ≡ Key → ⊥)
+no-key = ((λ (z : Modifier ≡ Key). zero-is-not-one cc), (λ (z : Pattern ≡ Key). zero-is-not-one cc))
+
+-- The key lines from a line on.
+module _ (s : List ℕ) (n at : ℕ) (x : Sheet) where
+  pub keys-over : length s ≤ at → puts (lineBytes (taken isKeyLine (textLines s n at))) x ≡ x
+  unfolding lineBytes gather puts taken
+  keys-over h = rw (lines-over s n at h)
+
+  module _ {l : Line} (f : Found s n at l) (h : at < length s) where
+    kind-here : {k : settings.Kind} → k ≡ kindIs (kindOf (placed 0 (part (l .start) (l .stop) s))) → k ≡ kindIs (kindOfLine (lineText s l))
+    unfolding kindOfLine
+    kind-here e = e ∙ ap kindIs (sym (kindOf-placeless (l .start) (part (l .start) (l .stop) s)))
+
+    keys-more : Key ≡ kindIs (kindOf (placed 0 (part (l .start) (l .stop) s)))
+        → puts (lineBytes (taken isKeyLine (textLines s n at))) x
+        ≡ puts (lineBytes (taken isKeyLine (textLines s (n + 1) (l .next)))) (puts (ended (part (l .start) (l .stop) s)) x)
+    unfolding taken if_then_else_
+    keys-more e =
+        let k : isKeyLine (lineText s l) ≡ true = is-key (lineText s l) (kind-here e) in
+        rw (lines-found f h) (rw k (line-first s l (taken isKeyLine (textLines s (n + 1) (l .next))) x))
+
+    pub keys-step : (y goal : Sheet) → Key ≡ kindIs (kindOf (placed 0 (part (l .start) (l .stop) s))) → y ≡ puts (ended (part (l .start) (l .stop) s)) x
+        → puts (lineBytes (taken isKeyLine (textLines s n at))) x ≡ goal → puts (lineBytes (taken isKeyLine (textLines s (n + 1) (l .next)))) y ≡ goal
+    keys-step y goal k e g = ap (puts (lineBytes (taken isKeyLine (textLines s (n + 1) (l .next))))) e ∙ sym (keys-more k) ∙ g
+
+    pub keys-end : (k : settings.Kind) → (k ≡ Key → ⊥) → k ≡ kindIs (kindOf (placed 0 (part (l .start) (l .stop) s)))
+        → puts (lineBytes (taken isKeyLine (textLines s n at))) x ≡ x
+    unfolding taken if_then_else_ lineBytes gather puts
+    keys-end k m e =
+        let z : isKeyLine (lineText s l) ≡ false = not-key (lineText s l) k m (kind-here e) in
+        rw (lines-found f h) (rw z)

@@ -1,0 +1,18 @@
+-- A section played a part at a time: the beats from one on that a table has room for.
+use Prim.Native.Nat.{ℕ}
+use mathlib.Core.Path.{_≡_}
+use mathlib.Core.List.{List}
+use lib.ListN.{length}
+use Rattle.songcode.specs.Performance.{total}
+use Rattle.player.specs.declared.playing.Counts.{Counts}
+use Rattle.player.specs.Windows.{window}
+use Rattle.sections.specs.declared.values.Modifiers.{Modifiers}
+use Rattle.scores.specs.declared.definitions.Score.{Score}
+use Rattle.scores.specs.declared.texts.Texts.{Texts}
+use Rattle.judging.specs.Sums.{rowOfTexts}
+
+abbrev pub partOfTexts : List ℕ → Score → ℕ → Texts → Modifiers → ℕ → ℕ → List (List ℕ)
+partOfTexts ws score n t m from room = window from room (rowOfTexts ws score n t m)
+
+abbrev pub Counted : Counts → List (List ℕ) → Type 0
+Counted c row = (c .measures ≡ length row) × (c .beats ≡ total row)

@@ -1,0 +1,82 @@
+// The call: one refusal and nothing stored, or the whole copy.
+use super::answers::Copied;
+use super::answers::refused;
+use super::songs::put_copy;
+use judging::Chart;
+use judging::first_stages;
+use judging::judge;
+ghost use mathlib.Core.Path.{_≡_};
+ghost use mathlib.Core.List.{[]};
+ghost use Prim.Native.Nat.{_≤_};
+ghost use lib.ListN.{length};
+ghost use Rattle.songcode.specs.SongText.{textFaults};
+ghost use Rattle.songcode.specs.Answer.{inputFaults, blocksOf};
+ghost use Rattle.judging.specs.Charts.{Writable};
+ghost use Rattle.flat.specs.Answers.{Flattened};
+
+// A song that nothing is wrong with: its copy is counted before the lent buffer is touched, and written where it has room.
+fn copy_chart(text: &[u8], chart: Chart, words: &mut [u32], copy: &mut [u8]) -> Copied
+    requires { ⌜ (inputFaults (now text) ≡ []) × (textFaults (blocksOf (now text)) ≡ []) × Writable (now text) (now words) chart ⌝ }
+    ensures { λ r. ⌜ Flattened (now (text .entry)) (now (copy .entry)) r (now (copy .exit)) ⌝ }
+{
+    let mut first = [0u8; 1];
+    let length = put_copy(text, chart, words, &mut first);
+    if 65536 < length {
+        return refused(20, 0);
+    }
+    if copy.len() < length {
+        return refused(20, 0);
+    }
+    put_copy(text, chart, words, copy);
+    Copied {
+        refusal: 0,
+        line: 0,
+        length,
+    }
+}
+
+// A chart that stages 1 and 2 have passed; `words` holds its pattern text as token words, at most one for each byte.
+fn copy_song(text: &[u8], words: &mut [u32], copy: &mut [u8]) -> Copied
+    requires { ⌜ (inputFaults (now text) ≡ []) × (textFaults (blocksOf (now text)) ≡ []) × (length (now text) ≤ length (now words)) ⌝ }
+    ensures { λ r. ⌜ Flattened (now (text .entry)) (now (copy .entry)) r (now (copy .exit)) ⌝ }
+{
+    let chart = judge(text, words);
+    let totals = chart.totals;
+    let late = totals.refusal;
+    if late.number != 0 {
+        return refused(late.number, late.line);
+    }
+    copy_chart(text, chart, words, copy)
+}
+
+// The same for a chart of at most 2,048 bytes, as nearly all are: a small buffer is soon cleared.
+fn copy_short(text: &[u8], copy: &mut [u8]) -> Copied
+    requires { ⌜ (inputFaults (now text) ≡ []) × (textFaults (blocksOf (now text)) ≡ []) × (length (now text) ≤ 2048) ⌝ }
+    ensures { λ r. ⌜ Flattened (now (text .entry)) (now (copy .entry)) r (now (copy .exit)) ⌝ }
+{
+    let mut words = [0u32; 2048];
+    copy_song(text, &mut words, copy)
+}
+
+// The same for any chart that stage 1 has passed.
+fn copy_long(text: &[u8], copy: &mut [u8]) -> Copied
+    requires { ⌜ (inputFaults (now text) ≡ []) × (textFaults (blocksOf (now text)) ≡ []) × (length (now text) ≤ 65536) ⌝ }
+    ensures { λ r. ⌜ Flattened (now (text .entry)) (now (copy .entry)) r (now (copy .exit)) ⌝ }
+{
+    let mut words = [0u32; 65536];
+    copy_song(text, &mut words, copy)
+}
+
+// Every text of every length and every buffer is answered.
+pub fn flat_copy(text: &[u8], copy: &mut [u8]) -> Copied
+    ensures { λ r. ⌜ Flattened (now (text .entry)) (now (copy .entry)) r (now (copy .exit)) ⌝ }
+{
+    let early = first_stages(text);
+    if early.number != 0 {
+        return refused(early.number, early.line);
+    }
+    if text.len() <= 2048 {
+        return copy_short(text, copy);
+    }
+    copy_long(text, copy)
+}

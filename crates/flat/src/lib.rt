@@ -1,0 +1,12 @@
+// A flat copy for paper: a song written out measure by measure as it is played, in a lent buffer.
+mod answers;
+mod copying;
+mod lines;
+mod measures;
+mod parts;
+mod patterns;
+mod sheets;
+mod songs;
+
+pub use answers::Copied;
+pub use copying::flat_copy;

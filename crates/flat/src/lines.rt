@@ -1,0 +1,75 @@
+// Lines of the text, taken over into the copy.
+use super::sheets::put_line;
+use sections::Run;
+use sections::Test;
+use sections::run_of;
+use settings::Kind;
+use settings::kind_of;
+use text::line_at;
+ghost use Prim.Native.Nat.{_+_, _≤_};
+ghost use lib.ListN.{length};
+ghost use Rattle.sections.specs.Runs.{linesOf};
+ghost use Rattle.sections.specs.BlockParts.{Placed};
+ghost use Rattle.flat.specs.Sheets.{Adds};
+ghost use Rattle.flat.specs.Taken.{lineBytes, keysFrom, endingFrom};
+
+// The lines of a run.
+pub fn put_lines(s: &[u8], run: Run, copy: &mut [u8], at: usize) -> usize
+    requires { ⌜ Placed (now s) run ⌝ }
+    ensures { λ r. ⌜ Adds (lineBytes (linesOf (now (s .entry)) run)) (now (copy .entry)) at (now (copy .exit)) r ⌝ }
+{
+    let mut number = run.number;
+    let mut from = run.at;
+    let mut left = run.lines;
+    let mut out = at;
+    while from < s.len() {
+        if left == 0 {
+            return out;
+        }
+        let line = line_at(s, number, from);
+        out = put_line(s, line.start, line.stop, copy, out);
+        number += 1;
+        from = line.next;
+        left -= 1;
+    }
+    out
+}
+
+// The key lines from a line on.
+pub fn put_keys(s: &[u8], number: usize, from: usize, copy: &mut [u8], at: usize) -> usize
+    requires { ⌜ (1 ≤ number) × (number ≤ from + 1) × (from ≤ length (now s)) ⌝ }
+    ensures { λ r. ⌜ Adds (lineBytes (keysFrom (now (s .entry)) number from)) (now (copy .entry)) at (now (copy .exit)) r ⌝ }
+{
+    let mut k = number;
+    let mut next = from;
+    let mut out = at;
+    while next < s.len() {
+        let line = line_at(s, k, next);
+        let a = line.start;
+        let e = line.stop;
+        match kind_of(&s[a..e]) {
+            Kind::Key => {
+                out = put_line(s, a, e, copy, out);
+            }
+            Kind::Modifier => {
+                return out;
+            }
+            Kind::Pattern => {
+                return out;
+            }
+        }
+        k += 1;
+        next = line.next;
+    }
+    out
+}
+
+// The lines of a block from its `--` on, where the line behind its header stands at a place.
+pub fn put_ending(s: &[u8], number: usize, from: usize, copy: &mut [u8], at: usize) -> usize
+    requires { ⌜ (1 ≤ number) × (number ≤ from + 1) × (from ≤ length (now s)) ⌝ }
+    ensures { λ r. ⌜ Adds (lineBytes (endingFrom (now (s .entry)) number from)) (now (copy .entry)) at (now (copy .exit)) r ⌝ }
+{
+    let body = run_of(s, Test::Body, number, from);
+    let ending = run_of(s, Test::Full, body.number + body.lines, body.next);
+    put_lines(s, ending, copy, at)
+}

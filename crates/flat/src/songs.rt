@@ -1,0 +1,192 @@
+// The blocks of a copy: the key lines, an empty definition where one is needed, and the sections.
+use super::lines::put_ending;
+use super::lines::put_keys;
+use super::lines::put_lines;
+use super::patterns::put_pattern;
+use super::sheets::put;
+use super::sheets::put_line;
+use super::sheets::put_part;
+use judging::Chart;
+use judging::meter_of;
+use scores::Opened;
+use scores::Score;
+use scores::is_played;
+use scores::open_section;
+use sections::Place;
+use sections::Test;
+use sections::kind_at;
+use sections::next_block;
+use sections::pass;
+use sections::run_of;
+use settings::BlockKind;
+use text::line_at;
+ghost use mathlib.Core.Path.{_≡_};
+ghost use mathlib.Core.List.{[]};
+ghost use Prim.Native.Nat.{_<_};
+ghost use lib.ListN.{length};
+ghost use Rattle.songcode.specs.Lists.{any};
+ghost use Rattle.songcode.specs.SongText.{textFaults, metadataLines};
+ghost use Rattle.songcode.specs.Playing.{timeOf, played};
+ghost use Rattle.songcode.specs.Meter.{lengthFaults};
+ghost use Rattle.songcode.specs.Flat.{emptyBlock, playsNothing, flatCopy};
+ghost use Rattle.songcode.specs.Answer.{inputFaults, blocksOf, songOf};
+ghost use Rattle.player.specs.Texts.{rowWords};
+ghost use Rattle.sections.specs.Onward.{Onward, sectionAt};
+ghost use Rattle.scores.specs.Scores.{Told, Begins};
+ghost use Rattle.judging.specs.Sums.{rowOfTexts, PlaysWithin};
+ghost use Rattle.judging.specs.Charts.{Writable};
+ghost use Rattle.flat.specs.Sheets.{Adds};
+ghost use Rattle.flat.specs.Measures.{Heard, Lent};
+ghost use Rattle.flat.specs.Taken.{lineBytes};
+ghost use Rattle.flat.specs.Blocks.{parting, blockBytes, flatAt, flatFrom, AddsBlocks};
+
+// "one blank line parts blocks"
+fn begin_block(copy: &mut [u8], at: usize) -> usize
+    ensures { λ r. ⌜ Adds (parting at) (now (copy .entry)) at (now (copy .exit)) r ⌝ }
+{
+    if at == 0 {
+        return at;
+    }
+    put(b'\n', copy, at)
+}
+
+// "key lines make one block": those of all metadata.
+fn put_metadata(s: &[u8], copy: &mut [u8]) -> usize
+    requires { ⌜ textFaults (blocksOf (now s)) ≡ [] ⌝ }
+    ensures { λ r. ⌜ Adds (lineBytes (metadataLines (blocksOf (now (s .entry))))) (now (copy .entry)) 0 (now (copy .exit)) r ⌝ }
+{
+    let mut place = next_block(s, 1, 0);
+    let mut out = 0;
+    while place.at < s.len() {
+        match kind_at(s, place.number, place.at) {
+            BlockKind::Metadata => {
+                let block = run_of(s, Test::Full, place.number, place.at);
+                out = put_lines(s, block, copy, out);
+                place = next_block(s, place.number + block.lines, block.next);
+            }
+            BlockKind::Definition => {
+                return out;
+            }
+            BlockKind::Section => {
+                return out;
+            }
+        }
+    }
+    out
+}
+
+// Whether a section plays nothing.
+fn has_empty(s: &[u8], first: Place, score: Score) -> bool
+    requires { ⌜ Begins (now s) first × Told (now s) score × (lengthFaults (songOf (now s)) 0 (songOf (now s) .sections) ≡ []) ⌝ }
+    ensures { λ r. ⌜ r ≡ any (playsNothing (songOf (now (s .entry)))) (songOf (now (s .entry)) .sections) ⌝ }
+{
+    let mut place = first;
+    while place.at < s.len() {
+        let x = pass(s, place);
+        let section = x.section;
+        if !is_played(s, section.pattern, score) {
+            return true;
+        }
+        place = x.next;
+    }
+    false
+}
+
+// "An empty pattern stays one, by naming an empty definition `$1` .. written only if needed".
+fn put_empty(needed: bool, copy: &mut [u8], at: usize) -> usize
+    ensures { λ r. ⌜ AddsBlocks (emptyBlock needed) (now (copy .entry)) at (now (copy .exit)) r ⌝ }
+{
+    if !needed {
+        return at;
+    }
+    let begun = begin_block(copy, at);
+    put_part(b"$1\n", 0, 3, copy, begun)
+}
+
+// A section's block: header, keys, measures as played, lyrics behind their `--`.
+fn put_section(
+    s: &[u8],
+    p: Place,
+    words: &[u32],
+    score: Score,
+    n: usize,
+    x: Opened,
+    measures: &mut [u32],
+    beats: &mut [u32],
+    copy: &mut [u8],
+    at: usize,
+) -> usize
+    requires place { ⌜ Onward (now s) p × (p .at < length (now s)) ⌝ }
+    requires meter { ⌜ n ≡ timeOf (songOf (now s)) (sectionAt (now s) p) ⌝ }
+    requires plays { ⌜ PlaysWithin (now words) score n (x .texts) (x .section .modifiers) 0 ⌝ }
+    requires row { ⌜ rowOfTexts (now words) score n (x .texts) (x .section .modifiers) ≡ rowWords (played (songOf (now s)) (sectionAt (now s) p)) ⌝ }
+    requires heard { ⌜ Heard (now s) (played (songOf (now s)) (sectionAt (now s) p)) ⌝ }
+    requires lent { ⌜ Lent (now measures) (now beats) ⌝ }
+    ensures copy { λ r. ⌜ Adds (blockBytes at (flatAt (now (s .entry)) p)) (now (copy .entry)) at (now (copy .exit)) r ⌝ }
+    ensures lent { λ r. ⌜ Lent (now (measures .exit)) (now (beats .exit)) ⌝ }
+{
+    let section = x.section;
+    let header = line_at(s, p.number, p.at);
+    let second = p.number + 1;
+    let begun = begin_block(copy, at);
+    let titled = put_line(s, header.start, header.stop, copy, begun);
+    let keyed = put_keys(s, second, header.next, copy, titled);
+    let played = put_pattern(
+        s,
+        words,
+        score,
+        n,
+        x.texts,
+        section.modifiers,
+        measures,
+        beats,
+        copy,
+        keyed,
+    );
+    put_ending(s, second, header.next, copy, played)
+}
+
+// The blocks of all sections, one behind the other.
+fn put_sections(
+    s: &[u8],
+    chart: Chart,
+    words: &mut [u32],
+    measures: &mut [u32],
+    beats: &mut [u32],
+    copy: &mut [u8],
+    at: usize,
+) -> usize
+    requires chart { ⌜ (inputFaults (now s) ≡ []) × (textFaults (blocksOf (now s)) ≡ []) × Writable (now s) (now words) chart ⌝ }
+    requires lent { ⌜ Lent (now measures) (now beats) ⌝ }
+    ensures copy { λ r. ⌜ AddsBlocks (flatFrom (now (s .entry)) (chart .first)) (now (copy .entry)) at (now (copy .exit)) r ⌝ }
+    ensures words { λ r. ⌜ Writable (now (s .entry)) (now (words .exit)) chart ⌝ }
+    ensures lent { λ r. ⌜ Lent (now (measures .exit)) (now (beats .exit)) ⌝ }
+{
+    let song = chart.song;
+    let score = chart.score;
+    let mut place = chart.first;
+    let mut out = at;
+    while place.at < s.len() {
+        let x = open_section(s, place, score, words);
+        let section = x.section;
+        let keys = section.keys;
+        let n = meter_of(keys.time, song.time);
+        out = put_section(s, place, words, score, n, x, measures, beats, copy, out);
+        place = x.next;
+    }
+    out
+}
+
+// The copy of a song that nothing is wrong with, and its length; 65,537 where it has more than 65,536 bytes.
+pub fn put_copy(s: &[u8], chart: Chart, words: &mut [u32], copy: &mut [u8]) -> usize
+    requires { ⌜ (inputFaults (now s) ≡ []) × (textFaults (blocksOf (now s)) ≡ []) × Writable (now s) (now words) chart ⌝ }
+    ensures copy { λ r. ⌜ Adds (flatCopy (now (s .entry))) (now (copy .entry)) 0 (now (copy .exit)) r ⌝ }
+    ensures words { λ r. ⌜ Writable (now (s .entry)) (now (words .exit)) chart ⌝ }
+{
+    let mut measures = [0u32; 4096];
+    let mut beats = [0u32; 4096];
+    let keyed = put_metadata(s, copy);
+    let empty = has_empty(s, chart.first, chart.score);
+    let begun = put_empty(empty, copy, keyed);
+    put_sections(s, chart, words, &mut measures, &mut beats, copy, begun)
+}
