@@ -73,6 +73,11 @@ def largest():
     return f"@time {POSITIONS}/4\n\nAll\n[{row}]9999\n_repeat 6\n\nRest\n[{row}]5541\n"
 
 
+def looped():
+    """A loop whose copy, 36 bytes a pass, has nearly the 65,536 bytes that one may have."""
+    return "Looped\n[A D;G;Em A7;D]1820\n"
+
+
 def main():
     folder = pathlib.Path(sys.argv[1])
     shutil.copy(CHARTS / "trial-listing.sc", folder / "ordinary-trial.sc")
@@ -81,6 +86,7 @@ def main():
         for label, size in SIZES.items():
             (folder / f"{name}-{label}.sc").write_text(make(size))
     (folder / "largest.sc").write_text(largest())
+    (folder / "looped.sc").write_text(looped())
 
 
 main()

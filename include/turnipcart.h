@@ -3,7 +3,7 @@
    The calls come to an end on every input, take every text and tables of every length, use no heap, keep nothing between calls, call
    nothing but memcpy and memset, and may be called from several threads at once with memory of their own. They write nothing but
    the memory lent to them, and only what is said below. turnipcart_read and turnipcart_count take about 280 KB of stack,
-   turnipcart_explain about 340 KB.
+   turnipcart_flat about 320 KB, turnipcart_explain about 340 KB.
 
    Read one byte more than TURNIPCART_TEXT_LIMIT of a file (if it has them), and give all of them to the call: a file that is too long is
    then refused as such, and never taken for a shorter chart. Read to the file's end, and take a failed read for no chart at all.
@@ -25,9 +25,9 @@
 
 /* This version, which the program and the installed files carry too. */
 #define TURNIPCART_VERSION_MAJOR 1
-#define TURNIPCART_VERSION_MINOR 0
+#define TURNIPCART_VERSION_MINOR 1
 #define TURNIPCART_VERSION_PATCH 0
-#define TURNIPCART_VERSION "1.0.0"
+#define TURNIPCART_VERSION "1.1.0"
 
 /* Bytes of stack that every call is content with: what a thread that calls must have, beside its own. */
 #define TURNIPCART_STACK 393216
@@ -63,6 +63,7 @@ enum turnipcart_refusal {
     TURNIPCART_COUNT_SUM = 17,           /* stage 7: a section's counts don't sum to its measures; the header's line */
     TURNIPCART_TABLE_TOO_SHORT = 18,     /* stage 8: the keys table under 8 words, or another table too short; line 0 */
     TURNIPCART_BEAT_NOT_FOUND = 19,      /* second call: no record that holds the beat was found, or over 65,535 records were lent */
+    TURNIPCART_COPY_TOO_LONG = 20,       /* turnipcart_flat: the copy is longer than the lent buffer or than 65,536 bytes; line 0 */
     TURNIPCART_MOVE = 21,                /* turnipcart_concert: a move below -11 or above 20 */
     TURNIPCART_BEAT_WORD = 22,           /* turnipcart_concert: a word with base 34 to 62 or a set spare bit */
     TURNIPCART_NOT_JOINED = 25,          /* turnipcart_cues: tables that don't join up */
@@ -70,14 +71,15 @@ enum turnipcart_refusal {
 };
 
 /* Lengths, in words, of tables that no song is too long for. A section takes at least five bytes of the text (the last one three),
-   and so does an item; a song has at most 65,535 measures of at most 32 beats. */
+   and so does an item; a song has at most 65,535 measures of at most 32 beats. And of a buffer, in bytes, for every flat copy. */
 enum {
     TURNIPCART_TEXT_LIMIT = 65536, /* bytes of the longest text that is read */
     TURNIPCART_KEYS = 8,
     TURNIPCART_SECTIONS_ENOUGH = 13107,
     TURNIPCART_MEASURES_ENOUGH = 65535,
     TURNIPCART_BEATS_ENOUGH = 65535 * 32,
-    TURNIPCART_ITEMS_ENOUGH = 13107
+    TURNIPCART_ITEMS_ENOUGH = 13107,
+    TURNIPCART_COPY_ENOUGH = 65536
 };
 
 /* The answer of turnipcart_read and turnipcart_count, six numbers in this order: refusal 0, line 0 and the song's counts, or a refusal with its line
@@ -151,6 +153,30 @@ size_t turnipcart_cues(const uint64_t *sections, size_t sections_length, const u
    A moved table keeps the offsets of its extensions into the text, but it is never read again as text: C with the extension #m, whose
    letters are C#m, stays a C. */
 size_t turnipcart_concert(const uint32_t *beats, size_t beats_length, int32_t move, uint32_t *second, size_t second_length);
+
+/* What turnipcart_flat gives, three numbers in this order: refusal 0, line 0 and the bytes of the copy, or a refusal with its line (0 where
+   the refusal has none) and length 0. */
+struct turnipcart_copied {
+    size_t refusal;
+    size_t line;
+    size_t length;
+};
+
+/* Copies the song of text_length bytes at text, for paper, as a chart with nothing folded, and returns the refusal. The copy is SongCode:
+   the song's key lines as one block; then each section's header, keys and lyrics as they were, and between them its measures as they
+   are played, lead-in, repeats, loops, cuts and tail in: a line for each measure, with N positions, one a beat, chords by the letters
+   that they have in the text, `_` for silence, and `=` for the beats that a shortened measure lacks. A section that plays nothing has the
+   line `$1`, and then an empty definition `$1` stands before the sections. Lines have no blanks at their ends and end in LF, and one blank
+   line parts blocks. Read again, the copy gives the song's tables but for heads (all 1), header lines and offsets; the copy of a copy is
+   that copy.
+   Lent for reading: text. Lent for writing: copy, a buffer of copy_length bytes, and copied, which is written in every case.
+   - Copied: returns 0. Written are the first copied->length bytes of copy; every byte behind keeps what it held.
+   - Refused: returns one of 1 to 17 with its line, as turnipcart_count gives it, or else 20 (the copy is longer than copy_length or than
+     65,536 bytes), and no byte of copy changes.
+   TURNIPCART_COPY_ENOUGH bytes are enough for every copy; with that many 20 says that the song has none, since a chart of more
+   than 65,536 bytes would not be read again. */
+size_t turnipcart_flat(const unsigned char *text, size_t text_length, unsigned char *copy, size_t copy_length,
+                       struct turnipcart_copied *copied);
 
 /* Why a chart is refused, and where.
 
@@ -519,7 +545,7 @@ static inline const char *turnipcart_refusal_text(size_t refusal)
         "counts that do not sum",
         "a table is too short",
         "no measure holds the beat",
-        "",
+        "the copy is too long",
         "a move out of range",
         "a word that is no beat",
         "",

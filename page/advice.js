@@ -24,6 +24,12 @@ function adviceOn(reader, bytes, tables) {
     return adviceIn(reader);
 }
 
+// For a song whose copy is too long.
+function adviceOnCopy(reader, bytes) {
+    reader.module.page_advise_copy(reader.lend(bytes));
+    return adviceIn(reader);
+}
+
 // For a chart that is accepted: at most so many, since a wrong habit repeats itself.
 const MOST_WARNINGS = 20;
 

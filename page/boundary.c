@@ -5,6 +5,7 @@
 enum {
     TEXT_ROOM = TURNIPCART_TEXT_LIMIT + 1, /* one byte more than the limit, so that a longer text is seen to be longer */
     ANSWER_NUMBERS = 6,
+    COPIED_NUMBERS = 3,
     CAUSE_NUMBERS = 10
 };
 
@@ -14,6 +15,8 @@ uint64_t proved_read(const unsigned char *text, uint64_t text_length, uint32_t *
                      uint64_t *items, uint64_t items_length, uint64_t answer[ANSWER_NUMBERS]) __asm__("turnipcart_read");
 uint64_t proved_concert(const uint32_t *beats, uint64_t beats_length, int32_t move, uint32_t *second, uint64_t second_length)
     __asm__("turnipcart_concert");
+uint64_t proved_flat(const unsigned char *text, uint64_t text_length, unsigned char *copy, uint64_t copy_length,
+                     uint64_t copied[COPIED_NUMBERS]) __asm__("turnipcart_flat");
 uint64_t proved_explain(const unsigned char *text, uint64_t text_length, uint64_t cause[CAUSE_NUMBERS]) __asm__("turnipcart_explain");
 
 static unsigned char chart[TEXT_ROOM];
@@ -24,6 +27,8 @@ static uint32_t beats[TURNIPCART_BEATS_ENOUGH];
 static uint32_t moved[TURNIPCART_BEATS_ENOUGH];
 static uint64_t items[TURNIPCART_ITEMS_ENOUGH];
 static uint64_t answer[ANSWER_NUMBERS];
+static unsigned char copy[TURNIPCART_COPY_ENOUGH];
+static uint64_t copied[COPIED_NUMBERS];
 static struct advice advice;
 static char words[ADVICE_ROOM];
 static struct warning_search search;
@@ -31,7 +36,7 @@ static struct warning_search search;
 /* Where a script finds each piece of memory, by number, in this order. */
 void *page_memory(unsigned which)
 {
-    void *places[] = {chart, keys, sections, measures, beats, items, answer, &advice, moved};
+    void *places[] = {chart, keys, sections, measures, beats, items, answer, &advice, moved, copy, copied};
     return which < sizeof places / sizeof *places ? places[which] : 0;
 }
 
@@ -46,6 +51,18 @@ void page_read(unsigned length)
 unsigned page_concert(unsigned count, int move)
 {
     return (unsigned)proved_concert(beats, count, move, moved, TURNIPCART_BEATS_ENOUGH);
+}
+
+/* Copies the chart of so many bytes for paper, with nothing folded: the copy and its three numbers stand in their memories. */
+void page_flat(unsigned length)
+{
+    proved_flat(chart, length, copy, TURNIPCART_COPY_ENOUGH, copied);
+}
+
+/* What is to be said of a song whose copy is too long. */
+void page_advise_copy(unsigned length)
+{
+    advise_copy((struct text){chart, length}, words, &advice);
 }
 
 /* What is to be said of a chart that was refused, of which so many bytes are lent and which has so many in all: the advice stands in its

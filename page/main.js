@@ -54,6 +54,15 @@ function showGrid(most) {
     showSong(songOf(bytes, shown, most), Math.min(most, all), all);
 }
 
+// The copy is made while it is shown, and not before.
+function showPaper() {
+    const { bytes, tables } = latest;
+    if (!byId("paper").open || tables.refusal !== 0) return;
+    const { refusal, copy } = reader.flat(bytes);
+    latest.copy = letters(copy, 0, copy.length);
+    showCopy(latest.copy, refusal === 0 ? null : adviceOnCopy(reader, bytes));
+}
+
 // Every move that concert pitch allows, beside "as written" and the capo.
 function offerMoves() {
     for (let move = LEAST_MOVE; move <= MOST_MOVE; move++) {
@@ -75,6 +84,7 @@ function judge() {
     showVerdict(tables, advice, goToPlace);
     showWarnings(tables.refusal === 0 ? warningsOn(reader, bytes, tables) : []);
     showGrid(FIRST_MEASURES);
+    showPaper();
     keep(KEPT, text);
 }
 
@@ -108,18 +118,26 @@ async function openFile(file) {
     chart.scrollTop = 0;
 }
 
-function fileName() {
+function songName() {
     const named = /^[ \t]*@name[ \t]+(.+?)[ \t]*$/m.exec(chart.value);
     const name = named ? named[1].replace(/[^\p{L}\p{N} _-]/gu, "").trim().slice(0, 60) : "";
-    return (name || "chart") + ".sc";
+    return name || "chart";
 }
 
-function save() {
+function save(text, name) {
     const link = element("a");
-    link.href = URL.createObjectURL(new Blob([chart.value], { type: "text/plain;charset=utf-8" }));
-    link.download = fileName();
+    link.href = URL.createObjectURL(new Blob([text], { type: "text/plain;charset=utf-8" }));
+    link.download = `${name}.sc`;
     link.click();
     setTimeout(() => URL.revokeObjectURL(link.href), 1000);
+}
+
+// What is printed is the grid, or between these two the copy.
+const printsCopy = () => document.documentElement.classList.contains("on-paper");
+
+function printCopy() {
+    document.documentElement.classList.add("on-paper");
+    window.print();
 }
 
 function setLight(light) {
@@ -136,12 +154,16 @@ function listen() {
         openFile(byId("file").files[0]);
         byId("file").value = "";
     });
-    byId("save").addEventListener("click", save);
+    byId("save").addEventListener("click", () => save(chart.value, songName()));
+    byId("paper").addEventListener("toggle", showPaper);
+    byId("print-copy").addEventListener("click", printCopy);
+    byId("save-copy").addEventListener("click", () => save(latest.copy, `${songName()} copy`));
     byId("print").addEventListener("click", () => window.print());
     byId("more").addEventListener("click", () => showGrid(Infinity));
     byId("move").addEventListener("change", () => showGrid(FIRST_MEASURES));
     byId("light").addEventListener("click", () => setLight(byId("light").getAttribute("aria-pressed") === "false"));
-    window.addEventListener("beforeprint", () => showGrid(Infinity));
+    window.addEventListener("beforeprint", () => printsCopy() || showGrid(Infinity));
+    window.addEventListener("afterprint", () => document.documentElement.classList.remove("on-paper"));
     const desk = byId("desk");
     desk.addEventListener("dragover", (event) => {
         event.preventDefault();

@@ -38,7 +38,7 @@ const NO_BPM = 511;
 async function openReader(moduleBytes) {
     const { instance } = await WebAssembly.instantiate(moduleBytes, {});
     const module = instance.exports;
-    const places = Array.from({ length: 9 }, (_, which) => module.page_memory(which));
+    const places = Array.from({ length: 11 }, (_, which) => module.page_memory(which));
     const view = (Kind, which, count) => new Kind(module.memory.buffer, places[which], count);
 
     // Lends the text; a longer one is cut behind the limit, where one byte more tells that it is too long.
@@ -69,5 +69,12 @@ async function openReader(moduleBytes) {
         return { ...tables, beats: view(Uint32Array, 8, count).slice() };
     }
 
-    return { read, atConcertPitch, lend, module, view };
+    // The song with nothing folded, for paper: its refusal and line, and the bytes of the copy.
+    function flat(bytes) {
+        module.page_flat(lend(bytes));
+        const [refusal, line, length] = Array.from(view(BigUint64Array, 10, 3), Number);
+        return { refusal, line, copy: view(Uint8Array, 9, length).slice() };
+    }
+
+    return { read, atConcertPitch, flat, lend, module, view };
 }

@@ -66,6 +66,14 @@ function showWarnings(warnings) {
     }));
 }
 
+// The copy for paper, a piece for each block, so that pages break between them; where it is too long, what is said of that.
+function showCopy(copy, advice) {
+    const parts = advice ? adviceParts(advice, `refused 20: ${advice.sentence}`) : copy.slice(0, -1).split("\n\n").map((block) => element("pre", "", block));
+    byId("copy").replaceChildren(...parts);
+    byId("print-copy").disabled = Boolean(advice);
+    byId("save-copy").disabled = Boolean(advice);
+}
+
 const STYLES = ["plain", "info", "crew"];
 
 function promptRow(prompt) {

@@ -6,6 +6,7 @@ static const struct {
     enum option option;
 } known[] = {
     {"--help", OPTION_HELP}, {"--json", OPTION_JSON}, {"--brief", OPTION_BRIEF}, {"--strict", OPTION_STRICT}, {"--capo", OPTION_CAPO},
+    {"-o", OPTION_OUTPUT},   {"--output", OPTION_OUTPUT},
 };
 
 static unsigned option_named(const char *word)
@@ -39,6 +40,25 @@ static bool fits(const struct subcommand *subcommand, const struct words *words)
     return words->count >= subcommand->least && words->count <= subcommand->most;
 }
 
+/* Takes an option, and the word behind it where it needs one; the last word taken, or null, with a message. */
+static char **take_option(const struct subcommand *subcommand, char **word, struct words *words)
+{
+    unsigned option = option_named(*word);
+    if ((option & (subcommand->options | OPTION_HELP)) == 0) {
+        misuse("there is no such option of this subcommand", *word);
+        return NULL;
+    }
+    words->options |= option;
+    if (option != OPTION_OUTPUT)
+        return word;
+    if (word[1] == NULL) {
+        misuse("a file's name is missing behind", *word);
+        return NULL;
+    }
+    words->output = word[1];
+    return word + 1;
+}
+
 bool sort_words(const struct subcommand *subcommand, char **given, struct words *words)
 {
     bool options_end = false;
@@ -52,12 +72,9 @@ bool sort_words(const struct subcommand *subcommand, char **given, struct words 
             words->operands[words->count++] = *word;
             continue;
         }
-        unsigned option = option_named(*word);
-        if ((option & (subcommand->options | OPTION_HELP)) == 0) {
-            misuse("there is no such option of this subcommand", *word);
+        word = take_option(subcommand, word, words);
+        if (word == NULL)
             return false;
-        }
-        words->options |= option;
     }
     return fits(subcommand, words);
 }

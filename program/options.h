@@ -12,11 +12,13 @@ enum option {
     OPTION_JSON = 2,
     OPTION_BRIEF = 4,
     OPTION_STRICT = 8,
-    OPTION_CAPO = 16
+    OPTION_CAPO = 16,
+    OPTION_OUTPUT = 32 /* with a word behind it */
 };
 
 struct words {
     unsigned options; /* a sum of enum option */
+    const char *output; /* the word behind OPTION_OUTPUT, null where it is not given */
     char **operands;
     size_t count;
 };

@@ -1,5 +1,6 @@
 #include "output.h"
 #include <errno.h>
+#include <fcntl.h>
 #include <stdlib.h>
 #include <string.h>
 #include <sys/ioctl.h>
@@ -12,17 +13,59 @@ enum { USUAL_WIDTH = 120, LEAST_WIDTH = 40, DIGITS = 20 };
 static char gathered[1 << 16];
 static size_t gathered_length;
 static int failure; /* errno of the first write that failed */
+static const char *output_name; /* of a file that is still to be opened */
+static int output = STDOUT_FILENO;
+static bool is_aside;
 
-static void write_gathered(void)
+/* Opens the named file before the first byte goes there. */
+static void open_output(void)
 {
-    for (size_t done = 0; done < gathered_length && failure == 0;) {
-        ssize_t written = write(STDOUT_FILENO, gathered + done, gathered_length - done);
+    enum { FOR_ALL = 0666 };
+    output = open(output_name, O_WRONLY | O_CREAT | O_TRUNC | O_CLOEXEC, FOR_ALL);
+    failure = output < 0 ? errno : 0;
+    output_name = NULL;
+}
+
+/* Writes what is gathered into an open file. 0, or errno. */
+static int write_into(int file)
+{
+    for (size_t done = 0; done < gathered_length;) {
+        ssize_t written = write(file, gathered + done, gathered_length - done);
         if (written >= 0)
             done += (size_t)written;
         else if (errno != EINTR)
-            failure = errno;
+            return errno;
     }
+    return 0;
+}
+
+/* Where standard error cannot be written, the status alone speaks. */
+static void write_gathered(void)
+{
+    if (is_aside)
+        write_into(STDERR_FILENO);
+    else if (output_name != NULL && gathered_length > 0 && failure == 0)
+        open_output();
+    if (!is_aside && failure == 0)
+        failure = write_into(output);
     gathered_length = 0;
+}
+
+void output_to(const char *name)
+{
+    output_name = name != NULL && strcmp(name, "-") != 0 ? name : NULL;
+}
+
+void begin_aside(void)
+{
+    write_gathered();
+    is_aside = true;
+}
+
+void end_aside(void)
+{
+    write_gathered();
+    is_aside = false;
 }
 
 void put_bytes(const void *bytes, size_t length)
@@ -127,6 +170,8 @@ void put_json(const void *bytes, size_t length)
 bool finish_output(void)
 {
     write_gathered();
+    if (output != STDOUT_FILENO && output >= 0 && close(output) != 0 && failure == 0)
+        failure = errno;
     if (failure == 0)
         return true;
     complain("the output is not written", strerror(failure));

@@ -23,6 +23,13 @@ void put_name(const char *name);
 /* A string of JSON with its quotes. */
 void put_json(const void *bytes, size_t length);
 
+/* The output goes into this file, made or made anew when the first byte is written; null, or `-`, for standard output. */
+void output_to(const char *name);
+
+/* What is put between the two goes to standard error. */
+void begin_aside(void);
+void end_aside(void);
+
 /* Writes what is gathered. False, with a message, where it or an earlier write failed; then the status is that of a failed output. */
 bool finish_output(void);
 

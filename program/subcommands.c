@@ -7,6 +7,7 @@ const struct subcommand *const subcommands[] = {
     &find_subcommand,
     &concert_subcommand,
     &cues_subcommand,
+    &flat_subcommand,
     &explain_subcommand,
     NULL,
 };

@@ -10,6 +10,7 @@ extern const struct subcommand grid_subcommand;
 extern const struct subcommand find_subcommand;
 extern const struct subcommand concert_subcommand;
 extern const struct subcommand cues_subcommand;
+extern const struct subcommand flat_subcommand;
 extern const struct subcommand explain_subcommand;
 
 /* All of them, null at the end. */

@@ -28,6 +28,9 @@ struct advice {
 /* Advice for a refused chart. */
 void advise(struct text text, const struct turnipcart_cause *cause, char *room, struct advice *advice);
 
+/* Advice for a song whose flat copy is too long (20). */
+void advise_copy(struct text text, char *room, struct advice *advice);
+
 /* Warnings for an accepted chart, one after another: true, and the next one, until none is left. `items` is the song's count of items. */
 struct warning_search {
     struct text text;

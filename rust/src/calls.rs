@@ -1,6 +1,6 @@
 //! The archive's calls, each in a safe function; nothing outside this file is unsafe.
 #![allow(unsafe_code)]
-use crate::{Cause, Refusal, KEYS};
+use crate::{Cause, Refusal, COPY_ENOUGH, KEYS};
 
 /// Six numbers in this order, as the archive lays them down.
 #[repr(C)]
@@ -21,6 +21,15 @@ struct Search {
     refusal: usize,
     place: usize,
     probes: usize,
+}
+
+/// Three numbers in this order.
+#[repr(C)]
+#[derive(Default)]
+struct Copied {
+    refusal: usize,
+    line: usize,
+    length: usize,
 }
 
 extern "C" {
@@ -54,6 +63,8 @@ extern "C" {
     ) -> usize;
 
     fn turnipcart_concert(beats: *const u32, beats_length: usize, shift: i32, second: *mut u32, second_length: usize) -> usize;
+
+    fn turnipcart_flat(text: *const u8, text_length: usize, copy: *mut u8, copy_length: usize, copied: *mut Copied) -> usize;
 
     fn turnipcart_explain(text: *const u8, text_length: usize, cause: *mut Cause) -> usize;
 }
@@ -174,6 +185,26 @@ pub fn concert(beats: &[u32], semitones: i32, second: &mut [u32]) -> Result<(), 
         0 => Ok(()),
         number => Err(Refusal { number, line: 0 }),
     }
+}
+
+/// Copies the song, for paper, into the beginning of the lent buffer, with nothing folded: a chart that reads the same, each measure as it is
+/// played on a line of its own. Gives the copy's length; where it is refused (1 to 17 as [`count`] has it, then 20) no byte changes.
+/// [`COPY_ENOUGH`](crate::COPY_ENOUGH) bytes are enough for every copy.
+pub fn flat_into(text: &[u8], copy: &mut [u8]) -> Result<usize, Refusal> {
+    let mut copied = Copied::default();
+    // SAFETY: each pointer comes from a slice with its own length, the mutable one is apart from the other, and `copied` is this function's own.
+    match unsafe { turnipcart_flat(text.as_ptr(), text.len(), copy.as_mut_ptr(), copy.len(), &mut copied) } {
+        0 => Ok(copied.length),
+        number => Err(Refusal { number, line: copied.line }),
+    }
+}
+
+/// The flat copy of the song, as [`flat_into`] writes it. Refusal 20 says that it would have more than 65,536 bytes.
+pub fn flat(text: &[u8]) -> Result<String, Refusal> {
+    let mut copy = vec![0; COPY_ENOUGH];
+    let length = flat_into(text, &mut copy)?;
+    copy.truncate(length);
+    Ok(String::from_utf8(copy).expect("a copy is UTF-8, as its song is"))
 }
 
 /// The keys table of a song that has not been read.

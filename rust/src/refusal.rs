@@ -2,7 +2,7 @@
 use std::error::Error;
 use std::fmt;
 
-/// The number, for a chart from 1 to 18, and the line, 0 where there is none.
+/// The number, for a chart from 1 to 18 and for its flat copy also 20, and the line, 0 where there is none.
 #[derive(Clone, Copy, Debug, PartialEq, Eq)]
 pub struct Refusal {
     /// As document 01 and docs/REFUSALS.md number them.
@@ -11,7 +11,7 @@ pub struct Refusal {
     pub line: usize,
 }
 
-const TEXTS: [&str; 20] = [
+const TEXTS: [&str; 21] = [
     "accepted",
     "the file is too long",
     "a broken character",
@@ -32,6 +32,7 @@ const TEXTS: [&str; 20] = [
     "counts that do not sum",
     "a table is too short",
     "no measure holds the beat",
+    "the copy is too long",
 ];
 
 impl Refusal {
@@ -40,6 +41,8 @@ impl Refusal {
         match self.number {
             21 => "a move out of range",
             22 => "a word that is no beat",
+            25 => "tables that do not join up",
+            26 => "a section without a bpm from 1 to 400",
             number => TEXTS.get(number).copied().unwrap_or("refused"),
         }
     }

@@ -1,7 +1,7 @@
 //! A song with tables of its own, and its parts as iterators.
 use crate::calls::NO_KEYS;
 use crate::words::{self, Key, SILENCE};
-use crate::{concert, count, find, read_into, Found, Refusal, Tables, KEYS};
+use crate::{concert, count, find, flat, read_into, Found, Refusal, Tables, KEYS};
 use std::ops::Range;
 
 /// An accepted chart: its text, and every word of its tables.
@@ -135,6 +135,11 @@ impl<'a> Song<'a> {
         let mut moved = self.clone();
         concert(&self.beats, semitones, &mut moved.beats)?;
         Ok(moved)
+    }
+
+    /// The song with nothing folded, for paper: a chart that reads the same. Refusal 20 where it would have more than 65,536 bytes.
+    pub fn flat_copy(&self) -> Result<String, Refusal> {
+        flat(self.text)
     }
 
     fn measure(&self, place: usize) -> Measure<'_> {

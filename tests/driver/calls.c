@@ -73,7 +73,7 @@ struct call calls[] = {
     {"count", make_count, true, AN_ANSWER(6), {GIVEN_WORDS("text", BYTE)}},
 #endif
 #ifdef HAS_FLAT
-    {"flat", make_flat, true, AN_ANSWER(3), {GIVEN_WORDS("text", BYTE), WRITTEN_WORDS("copy", BYTE, TURNIPCART_TEXT_LIMIT)}},
+    {"flat", make_flat, true, AN_ANSWER(3), {GIVEN_WORDS("text", BYTE), WRITTEN_WORDS("copy", BYTE, TURNIPCART_COPY_ENOUGH)}},
 #endif
 #ifdef HAS_CONCERT
     {"concert", make_concert, false, AN_ANSWER(0),

@@ -41,9 +41,36 @@ static void try_cause(void)
     expect("its cause", cause.cause, TURNIPCART_CAUSE_COUNT_SUM);
 }
 
+/* A copy that just fits; one byte less is too few, and then nothing is written. */
+static void try_copy(void)
+{
+    static const unsigned char wanted[] = "@time 3/4\n\nV\nC C C\nG G G\n--\nla _2\n";
+    unsigned char copy[sizeof wanted] = {0};
+    struct turnipcart_copied copied;
+    expect("too little room", turnipcart_flat(chart, sizeof chart - 1, copy, sizeof wanted - 2, &copied), TURNIPCART_COPY_TOO_LONG);
+    expect("nothing is written", copy[0] + copied.line + copied.length, 0);
+    expect("room enough", turnipcart_flat(chart, sizeof chart - 1, copy, sizeof wanted - 1, &copied), TURNIPCART_ACCEPTED);
+    expect("its length", copied.length, sizeof wanted - 1);
+    expect("the copy", (size_t)memcmp(copy, wanted, sizeof wanted), 0);
+}
+
+/* A chart of the longest kind: the buffer for its words is the large one. */
+static void try_long_copy(void)
+{
+    static unsigned char dense[TURNIPCART_TEXT_LIMIT - 16], copy[TURNIPCART_COPY_ENOUGH];
+    struct turnipcart_copied copied;
+    for (size_t at = 0; at < sizeof dense; at++)
+        dense[at] = (unsigned char)"C D E F;"[at % 8];
+    memcpy(dense, "Verse\nC\n", 8);
+    expect("a long copy", turnipcart_flat(dense, sizeof dense - 1, copy, sizeof copy, &copied), TURNIPCART_ACCEPTED);
+    expect("its length, the first measure written out", copied.length, sizeof dense + 6);
+}
+
 static void *read_in_thread(void *nothing)
 {
     try_short();
+    try_copy();
+    try_long_copy();
     try_cause();
     return nothing;
 }
@@ -66,7 +93,7 @@ int main(void)
     try_null();
     try_short();
     try_thread();
-    expect("the version", (size_t)strcmp(TURNIPCART_VERSION, "1.0.0"), 0);
+    expect("the version", (size_t)strcmp(TURNIPCART_VERSION, "1.1.0"), 0);
     expect("a text", (size_t)strcmp(turnipcart_refusal_text(TURNIPCART_COUNT_SUM), "counts that do not sum"), 0);
     expect("no text for no refusal", strlen(turnipcart_refusal_text(1000)), 0);
     return faults > 0;

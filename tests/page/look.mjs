@@ -76,7 +76,7 @@ async function opened(browser) {
 
 // Every control is reached by the keyboard, and has a name that a screen reader speaks.
 async function reached(browser) {
-    const controls = `[...document.querySelectorAll("button, select, textarea")].filter((one) => one.offsetParent !== null)`;
+    const controls = `[...document.querySelectorAll("button, select, textarea, summary")].filter((one) => one.offsetParent !== null)`;
     assert(await valueOf(browser, `${controls}.every((one) => one.tabIndex === 0)`), "each control is reached by the keyboard");
     assert(await valueOf(browser, `${controls}.every((one) => (one.labels?.[0] ?? one).textContent.trim() !== "")`), "each control has a name");
 }
@@ -88,22 +88,62 @@ async function markup(browser) {
     assert.equal(await valueOf(browser, `document.querySelectorAll("#grid img, #grid b").length`), 0);
 }
 
-async function printed(browser) {
+async function printed(browser, name) {
     const { data } = await browser.inPage("Page.printToPDF", { paperWidth: 8.27, paperHeight: 11.69 });
     const pdf = Buffer.from(data, "base64");
-    fs.writeFileSync(path.join(folder, "print.pdf"), pdf);
+    fs.writeFileSync(path.join(folder, name), pdf);
     return (pdf.toString("latin1").match(/\/Type\s*\/Page[^s]/g) ?? []).length;
+}
+
+// What a button that saves leaves in the folder.
+async function savedBy(browser, button, name) {
+    await browser.call("Browser.setDownloadBehavior", { behavior: "allow", downloadPath: folder });
+    await valueOf(browser, `document.getElementById(${JSON.stringify(button)}).click()`);
+    const file = path.join(folder, name);
+    for (let tries = 0; tries < 100 && !fs.existsSync(file); tries++) await new Promise((resolve) => setTimeout(resolve, 50));
+    return fs.readFileSync(file, "utf8");
 }
 
 // The saved file is what was typed.
 async function saved(browser) {
     await typeChart(browser, RIGHT);
     await until(browser, `${text("verdict")}.startsWith("Fine")`);
-    await browser.call("Browser.setDownloadBehavior", { behavior: "allow", downloadPath: folder });
-    await valueOf(browser, `document.getElementById("save").click()`);
-    const file = path.join(folder, "Blue Moon.sc");
-    for (let tries = 0; tries < 100 && !fs.existsSync(file); tries++) await new Promise((resolve) => setTimeout(resolve, 50));
-    assert.equal(fs.readFileSync(file, "utf8"), RIGHT);
+    assert.equal(await savedBy(browser, "save", "Blue Moon.sc"), RIGHT);
+}
+
+// Which parts of the page are on paper.
+async function onPaper(browser, id) {
+    await browser.inPage("Emulation.setEmulatedMedia", { media: "print" });
+    const shown = await valueOf(browser, `document.getElementById(${JSON.stringify(id)}).checkVisibility()`);
+    await browser.inPage("Emulation.setEmulatedMedia", { media: "" });
+    return shown;
+}
+
+// The paper copy: every measure written out, shown when it is opened, kept up while typing, printed in place of the grid, and saved.
+async function paperCopy(browser) {
+    const blocks = `[...document.querySelectorAll("#copy pre")].map((block) => block.textContent).join("\\n\\n") + "\\n"`;
+    const folded = RIGHT.replace("C;Am;F;G", "[C;Am]2\n_cutEnd -1").replace("@bpm 92", "@bpm 92\n@time 3/4");
+    const copy = "@name Blue Moon\n@bpm 92\n@time 3/4\n\nVerse\nC C C\nAm Am Am\nC C C\nAm Am =\n--\nBlue moon _2\nyou saw me _2\n";
+    await typeChart(browser, folded);
+    await until(browser, `${text("verdict")}.startsWith("Fine")`);
+    assert.equal(await valueOf(browser, text("copy")), "", "nothing is copied before it is asked for");
+    await valueOf(browser, `document.querySelector("#paper summary").click()`);
+    await until(browser, `${blocks} === ${JSON.stringify(copy)}`);
+    await screen(browser, 360, 800, "copy-360.png");
+    await screen(browser, 1200, 800, "copy-1200.png");
+    assert(!(await onPaper(browser, "copy")) && (await onPaper(browser, "grid")), "the grid is printed");
+    await valueOf(browser, `window.print = () => {}, document.getElementById("print-copy").click()`);
+    assert((await onPaper(browser, "copy")) && !(await onPaper(browser, "grid")), "the copy is printed");
+    assert((await printed(browser, "copy.pdf")) >= 1, "printing the copy gives pages");
+    await valueOf(browser, `window.dispatchEvent(new Event("afterprint"))`);
+    assert(!(await onPaper(browser, "copy")), "then the grid again");
+    assert.equal(await savedBy(browser, "save-copy", "Blue Moon copy.sc"), copy);
+    await typeChart(browser, "Song\n[C]8192\n");
+    await until(browser, `${text("copy")}.includes("refused 20") && ${text("copy")}.includes("split the song")`);
+    assert(await valueOf(browser, `document.getElementById("save-copy").disabled`), "what is not there is not saved");
+    await typeChart(browser, copy);
+    await until(browser, `${blocks} === ${JSON.stringify(copy)}`);
+    await valueOf(browser, `document.querySelector("#paper summary").click()`);
 }
 
 // The longest chart: a letter typed into it is on the screen, and judged, at once.
@@ -126,7 +166,8 @@ try {
     await reached(browser);
     await concertPitch(browser);
     await markup(browser);
-    assert((await printed(browser)) >= 1, "printing gives pages");
+    assert((await printed(browser, "print.pdf")) >= 1, "printing gives pages");
+    await paperCopy(browser);
     await saved(browser);
     await open(browser);
     assert.equal(await valueOf(browser, "chart.value"), RIGHT, "what was typed last is there again");

@@ -11,7 +11,7 @@ export async function openPage(file) {
     const context = vm.createContext({ TextDecoder, TextEncoder, WebAssembly });
     // What stands before the first line about the screen needs no document.
     const quiet = script.slice(0, script.indexOf("// The screen: what is shown"));
-    vm.runInContext(`${quiet}\nthis.page = { openReader, adviceOn, warningsOn, songOf };`, context);
+    vm.runInContext(`${quiet}\nthis.page = { openReader, adviceOn, adviceOnCopy, warningsOn, songOf };`, context);
     const reader = await context.page.openReader(zlib.gunzipSync(Buffer.from(module.trim(), "base64")));
     return { reader, ...context.page };
 }

@@ -37,9 +37,9 @@ def sanitized(tests, folder):
     emulator = [] if NATIVE else subprocess.run(["bash", "-c", '. "$0"; echo "${emulator[0]}"', ROOT / "tools/machine"], stdout=subprocess.PIPE,
                                                 text=True).stdout.split()
     charts = sorted(ROOT.glob("tests/slips/*/*.sc")) + sorted(ROOT.glob("tests/charts/*.sc"))
-    for option in ("--brief", "--json"):
-        done = subprocess.run([*emulator, f"{folder}/turnipcart", "check", option, *charts], stdout=subprocess.PIPE, stderr=subprocess.PIPE)
-        tests.expect(f"check {option}, sanitized", (done.returncode, done.stdout, done.stderr), run("check", option, *charts))
+    for asked in (["check", "--brief"], ["check", "--json"], ["flat"]):
+        done = subprocess.run([*emulator, f"{folder}/turnipcart", *asked, *charts], stdout=subprocess.PIPE, stderr=subprocess.PIPE)
+        tests.expect(f"{' '.join(asked)}, sanitized", (done.returncode, done.stdout, done.stderr), run(*asked, *charts))
 
 
 ALL = [freestanding, texts, sanitized]

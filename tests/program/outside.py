@@ -14,7 +14,7 @@ LIMIT = 65536
 SMALL_STACK = 512 * 1024
 MANY = 3000
 SECONDS = 1.0 if platform.machine() == "x86_64" else 15.0  # of processor time; an emulator takes more
-SUBCOMMANDS = ["check", "grid", "list", "find", "concert", "cues", "explain"]
+SUBCOMMANDS = ["check", "grid", "list", "find", "concert", "cues", "flat", "explain"]
 
 
 def usage(tests, folder):
@@ -25,6 +25,8 @@ def usage(tests, folder):
     tests.expect("an unknown option", status("check", "--brif", chart), USAGE)
     tests.expect("no file", status("check"), USAGE)
     tests.expect("two files for one", status("grid", chart, chart), USAGE)
+    tests.expect("no name behind an option", status("flat", chart, "-o"), USAGE)
+    tests.expect("an option of another subcommand", status("grid", chart, "-o", chart), USAGE)
     tests.expect("no number", status("find", chart, "two"), USAGE)
     tests.expect("a number that is too large", status("find", chart, "4294967296"), USAGE)
     version = (PROGRAM.parents[1] / "include/turnipcart.h").read_text().split('TURNIPCART_VERSION "')[1].split('"')[0]
@@ -86,10 +88,12 @@ def outputs(tests, folder):
     """Every write is checked."""
     chart = write(folder, "output.sc", CHART)
     for words in (["check", chart], ["check", "--json", chart], ["grid", chart], ["list", chart], ["find", chart, "0"], ["explain", "7"],
-                  ["concert", "2", chart], ["cues", chart], ["--help"], ["--version"], ["check", "--help"]):
+                  ["concert", "2", chart], ["cues", chart], ["flat", chart], ["--help"], ["--version"], ["check", "--help"]):
         with open("/dev/full", "wb") as full:
             done = subprocess.run([PROGRAM, *words], stdout=full, stderr=subprocess.PIPE)
         tests.expect(f"a full disk, {words[0]}", (done.returncode, b"not written" in done.stderr), (NOT_READ, True))
+    written = run("flat", chart, "-o", "/dev/full")
+    tests.expect("a full disk, flat -o", (written[0], b"not written" in written[2]), (NOT_READ, True))
     many = [chart] * 5000
     with open("/dev/full", "wb") as full:
         tests.expect("a full disk, long output", subprocess.run([PROGRAM, "check", *many], stdout=full, stderr=subprocess.PIPE).returncode,
@@ -114,6 +118,7 @@ def safe_bytes(tests, folder):
         for words in (["check", name], ["check", "--brief", name], ["check", "--json", name], ["grid", name], ["find", name, "0"]):
             _status, out, error = run(*words)
             tests.expect(f"raw bytes of chart {place}, {words[:-1]}", (raw_bytes(out), raw_bytes(error)), ([], []))
+        tests.expect(f"raw bytes of chart {place}, told by flat", raw_bytes(run("flat", name)[2]), [])
     missing = run("check", folder + "/\x1b[31mnone")
     tests.expect("raw bytes of a missing name", raw_bytes(missing[2]), [])
     tests.expect("raw bytes are noticed", len(raw_bytes(b"a\x1b[31m\xff")), 2)
@@ -126,6 +131,10 @@ def stacks(tests, folder):
     for words in (["check", large], ["list", large], ["grid", large], ["find", large, "1919807"]):
         found = status(*words, env=environment, preexec_fn=lambda: resource.setrlimit(resource.RLIMIT_STACK, (SMALL_STACK, SMALL_STACK)))
         tests.expect(f"a small stack, {words[0]}", found, FINE)
+    small = {"env": environment, "preexec_fn": lambda: resource.setrlimit(resource.RLIMIT_STACK, (SMALL_STACK, SMALL_STACK))}
+    tests.expect("a small stack, a copy too long", status("flat", large, **small), REFUSAL)
+    dense = write(folder, "dense.sc", b"Dense\n" + b"A Bm C D7;" * 6500 + b"A\n")
+    tests.expect("a small stack, flat", status("flat", dense, **small), FINE)
     uneven = write(folder, "uneven.sc", b"Verse\n" + b"A;" * 20000 + b"A\n--\nx _3\n")
     found = status("check", uneven, env=environment, preexec_fn=lambda: resource.setrlimit(resource.RLIMIT_STACK, (SMALL_STACK, SMALL_STACK)))
     tests.expect("a small stack, refused late", found, REFUSAL)

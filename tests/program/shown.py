@@ -4,10 +4,10 @@ import os
 import re
 import subprocess
 
-from program import CHART, FINE, PROGRAM, REFUSAL, REFUSED, ROOT, run, status, write
+from program import CHART, FINE, NOT_READ, PROGRAM, REFUSAL, REFUSED, ROOT, run, status, write
 
 HERE = ROOT / "tests/program"
-LAST_REFUSAL = 19
+LAST_REFUSAL = 20
 TOO_LONG = b"refused 18 line 0\n"
 
 
@@ -27,7 +27,7 @@ def listings(tests, _folder):
 
 
 def grids(tests, _folder):
-    """`grid` and `find` print what stands beside their charts, written by hand."""
+    """`grid`, `find`, `flat` and the others print what stands beside their charts, written by hand."""
     for chart in sorted(HERE.glob("*.sc")):
         for command in re.findall(r"^\$ (.*)\n", chart.with_suffix(".expected").read_text(), re.M):
             wanted = chart.with_suffix(".expected").read_text().split(f"$ {command}\n")[1].split("$ ")[0]
@@ -44,6 +44,31 @@ def entries(tests, _folder):
         tests.expect(f"explain {number}", run("explain", number), (FINE, ("Refusal " + part.rstrip().replace("**", "", 1) + "\n").encode(), b""))
     tests.expect("entries are there", [int(part.split(":")[0]) for part in found][:LAST_REFUSAL], list(range(1, LAST_REFUSAL + 1)))
     tests.expect("explain 999", status("explain", "999"), REFUSAL)
+
+
+def copies(tests, folder):
+    """`flat` prints the copy of a song and nothing else; what is refused is told on standard error, in the words of `check`."""
+    cuts = (HERE / "cuts.sc").read_bytes()
+    copy = run("flat", "-", given=cuts)[1]
+    tests.expect("the copy of a copy", run("flat", "-", given=copy), (FINE, copy, b""))
+    refused = write(folder, "refused.sc", REFUSED)
+    tests.expect("a refused chart", run("flat", refused), (REFUSAL, b"", run("check", refused)[1]))
+    name, long = write(folder, "most.sc", b"Song\n[C]8191\n"), write(folder, "long.sc", b"Song\n[C]8192\n")
+    tests.expect("the longest copy", run("flat", name), (FINE, b"Song\n" + b"C C C C\n" * 8191, b""))
+    found, out, said = run("flat", long)
+    tests.expect("a copy too long", (found, out, said.startswith(long.encode() + b": refused 20: ")), (REFUSAL, b"", True))
+    tests.expect("it is a song", status("check", long), FINE)
+    short = write(folder, "short.sc", b"V\nC")
+    tests.expect("several copies", run("flat", short, refused, long, short, folder)[:2], (NOT_READ, b"V\nC C C C\n\f\nV\nC C C C\n"))
+    written = folder + "/written.sc"
+    for option in ("-o", "--output"):
+        tests.expect(f"{option}: nothing is printed", run("flat", option, written, short), (FINE, b"", b""))
+        tests.expect(f"{option}: what is written", open(written, "rb").read(), b"V\nC C C C\n")
+    for other in (refused, long):
+        tests.expect("an output beside a refusal", (status("flat", other, "-o", written), open(written, "rb").read()), (REFUSAL, b"V\nC C C C\n"))
+    tests.expect("the output is the chart", (status("flat", name, "-o", name), open(name, "rb").read()), (FINE, b"Song\n" + b"C C C C\n" * 8191))
+    tests.expect("an output that is a folder", status("flat", short, "-o", folder), NOT_READ)
+    tests.expect("`-` as output", run("flat", short, "-o", "-")[1], b"V\nC C C C\n")
 
 
 def objects(tests, folder):
@@ -90,4 +115,4 @@ def installed(tests, folder):
     tests.expect("nothing is left", [names for _path, _folders, names in os.walk(folder + "/root") if names], [])
 
 
-ALL = [listings, grids, entries, objects, warnings, installed]
+ALL = [listings, grids, entries, copies, objects, warnings, installed]

@@ -11,6 +11,7 @@ use Rattle.concert.proofs.Demanded.{demanded}
 use Rattle.seek.specs.declared.Found.{Found}
 use Rattle.turnipcart.specs.Answers.{answerIn, foundIn, explainedIn, ReadsChart, CountsChart, FindsBeat, ExplainsChart}
 use Rattle.turnipcart.specs.OneOutcome.{OneOutcome}
+use Rattle.turnipcart.proofs.PaperLaws.{one-copy}
 
 -- What the code lays down is promised.
 abbrev pub laid : Answer → List ℕ
@@ -52,4 +53,4 @@ one-explained text r q x y f g =
 
 pub outcomes : OneOutcome
 outcomes =
-    record { read = one-read; counted = one-counted; found = one-found; moved = demanded .one-outcome; explained = one-explained }
+    record { read = one-read; counted = one-counted; found = one-found; moved = demanded .one-outcome; copied = one-copy; explained = one-explained }

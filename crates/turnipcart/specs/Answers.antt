@@ -10,6 +10,8 @@ use Rattle.explain.specs.declared.Explained.{Explained}
 use Rattle.explain.specs.Explained.{Explains}
 use Rattle.seek.specs.declared.Found.{Found}
 use Rattle.seek.specs.Answers.{foundOf}
+use Rattle.flat.specs.declared.answers.Copied.{Copied}
+use Rattle.flat.specs.Answers.{Flattened}
 
 -- Refusal, line, and the counts of sections, measures, beats and items.
 unfoldable pub answerIn : List ℕ → Answer
@@ -53,3 +55,12 @@ explainedIn xs =
 pub record ExplainsChart (text : List ℕ) (refusal : ℕ) (cause : List ℕ) : Type 0 where
   pub told : refusal ≡ explainedIn cause .refusal
   pub explained : Explains text (explainedIn cause)
+
+-- Refusal, line, and the length of the copy.
+unfoldable pub copiedIn : List ℕ → Copied
+copiedIn xs = record { refusal = getD xs 0 0; line = getD xs 1 0; length = getD xs 2 0 }
+
+-- A chart copied flat: the refusal is returned, and the three numbers and the buffer are as promised.
+pub record CopiesChart (text before : List ℕ) (refusal : ℕ) (copied after : List ℕ) : Type 0 where
+  pub handed : refusal ≡ copiedIn copied .refusal
+  pub flattened : Flattened text before (copiedIn copied) after

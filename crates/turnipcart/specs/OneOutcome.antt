@@ -6,7 +6,7 @@ use mathlib.Core.List.{List}
 use lib.IntN.{ℤ}
 use Rattle.reader.specs.Answers.{Lent}
 use Rattle.concert.specs.Promises.{Moves}
-use Rattle.turnipcart.specs.Answers.{answerIn, foundIn, explainedIn, ReadsChart, CountsChart, FindsBeat, ExplainsChart}
+use Rattle.turnipcart.specs.Answers.{answerIn, foundIn, explainedIn, copiedIn, ReadsChart, CountsChart, FindsBeat, ExplainsChart, CopiesChart}
 
 pub record OneOutcome : Type 0 where
   pub read : (text : List ℕ) (before : Lent) (r q : ℕ) (x y : List ℕ) (a b : Lent) → ReadsChart text before r x a → ReadsChart text before q y b
@@ -15,5 +15,7 @@ pub record OneOutcome : Type 0 where
   pub found : (measures : List ℕ) (beat r q : ℕ) (x y : List ℕ) → FindsBeat measures beat r x → FindsBeat measures beat q y
       → (r ≡ q) × (foundIn x ≡ foundIn y)
   pub moved : (move : ℤ) (beats before : List ℕ) (r q : ℕ) (x y : List ℕ) → Moves move beats before r x → Moves move beats before q y → (r ≡ q) × (x ≡ y)
+  pub copied : (text before : List ℕ) (r q : ℕ) (x y a b : List ℕ) → CopiesChart text before r x a → CopiesChart text before q y b
+      → (r ≡ q) × (copiedIn x ≡ copiedIn y) × (a ≡ b)
   pub explained : (text : List ℕ) (r q : ℕ) (x y : List ℕ) → ExplainsChart text r x → ExplainsChart text q y
       → (r ≡ q) × (explainedIn x .refusal ≡ explainedIn y .refusal) × (explainedIn x .line ≡ explainedIn y .line)

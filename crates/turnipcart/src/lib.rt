@@ -4,5 +4,6 @@ mod cause;
 mod count;
 mod find;
 mod lights;
+mod paper;
 mod pitch;
 mod read;

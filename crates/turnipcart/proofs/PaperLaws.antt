@@ -1,0 +1,23 @@
+-- What the call that copies flat lays down is promised, and nothing else is.
+use Prim.Native.Nat.{ℕ}
+use mathlib.Core.Path.{_≡_, refl, sym, ap, _∙_}
+use mathlib.Core.List.{List, [], _∷_}
+use Rattle.flat.specs.declared.answers.Copied.{Copied}
+use Rattle.flat.specs.Answers.{Flattened}
+use Rattle.turnipcart.specs.Answers.{copiedIn, CopiesChart}
+
+abbrev pub laid : Copied → List ℕ
+laid c = c .refusal ∷ c .line ∷ c .length ∷ []
+
+pub copied-laid : (text before : List ℕ) (c : Copied) (after : List ℕ) → Flattened text before c after → CopiesChart text before (c .refusal) (laid c) after
+unfolding copiedIn
+copied-laid text before c after f = record { handed = refl; flattened = f }
+
+one-flat : (text before : List ℕ) (c d : Copied) (a b : List ℕ) → Flattened text before c a → Flattened text before d b → (c ≡ d) × (a ≡ b)
+one-flat text before c d a b f g = (f .answer ∙ sym (g .answer), f .copy ∙ sym (g .copy))
+
+pub one-copy : (s old : List ℕ) (r q : ℕ) (x y a b : List ℕ) → CopiesChart s old r x a → CopiesChart s old q y b
+    → (r ≡ q) × (copiedIn x ≡ copiedIn y) × (a ≡ b)
+one-copy s old r q x y a b f g =
+    let same = one-flat s old (copiedIn x) (copiedIn y) a b (f .flattened) (g .flattened) in
+    (f .handed ∙ ap (λ (z : Copied). z .refusal) (same .0) ∙ sym (g .handed), same .0, same .1)
