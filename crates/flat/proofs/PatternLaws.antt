@@ -1,6 +1,6 @@
 -- The loop over the parts of a section: what the two tables hold of a part, and where the loop stands.
 use Prim.Native.Nat.{ℕ, zero, suc, _+_, _-_, _<_, _≤_}
-use mathlib.Core.Path.{_≡_, refl, sym, ap, subst, _∙_}
+use mathlib.Core.Path.{_≡_, refl, sym, ap, _∙_}
 use mathlib.Core.List.{List, [], _∷_, _++_, map, map-append}
 use native.Mathlib.Omega.{arith}
 use native.Mathlib.Nat.{zero-add}
@@ -197,9 +197,6 @@ module _ (s : List ℕ) (n : ℕ) (row : List (List ℕ)) (filled : Filled row) 
     -- A full part: all its measures but the last are written, and the next part begins with the last.
     module _ (x y goal : Sheet) (k : ℕ) (h : Stands s n row from x goal) (e : k ≡ length (part from)) (full : room ≤ total (part from))
         (d : y ≡ puts (measureLines s n (map (beatsIn bs') (take (k - 1) ms'))) x) where
-      before-last : length (part from) - 1 ≡ k - 1
-      before-last = omega arith
-
       two : 2 ≤ length (part from)
       two = part-goes-on from room row short (omega arith) full
 
@@ -213,7 +210,7 @@ module _ (s : List ℕ) (n : ℕ) (row : List (List ℕ)) (filled : Filled row) 
           let l = later in
           let w : ℕ = k - 1 in
           let rest = drop (h .measure) row in
-          let front : take w (part from) ≡ take w rest = subst (λ (j : ℕ). take j (part from) ≡ take j rest) before-last (p .front) in
+          let front : take w (part from) ≡ take w rest = p .front w (omega arith) in
           let a : map (beatsIn bs') (take w ms') ≡ take w rest = held x goal h w (omega arith) ∙ front in
           let g : y ≡ puts (measureLines s n (take w rest)) x = d ∙ ap (λ (r : List (List ℕ)). puts (measureLines s n r) x) a in
           ap (λ (z : Sheet). puts (restLines s n (h .measure + w) row) z) g
@@ -230,8 +227,7 @@ module _ (s : List ℕ) (n : ℕ) (row : List (List ℕ)) (filled : Filled row) 
           let l = later in
           let w : ℕ = k - 1 in
           let b : m .first ≡ total (take w (part from)) = first-is x goal h m w (omega arith) holds in
-          let next : total (take (h .measure) row) + total (take w (part from)) ≡ total (take (h .measure + w) row) =
-          subst (λ (j : ℕ). total (take (h .measure) row) + total (take j (part from)) ≡ total (take (h .measure + j) row)) before-last (p .next) in
+          let next : total (take (h .measure) row) + total (take w (part from)) ≡ total (take (h .measure + w) row) = p .next w (omega arith) in
           let z : 1 ≤ total (take w (part from)) = some-beats w (part from) (filled-window from room row) (omega arith) (omega arith) in (
             record { measure = h .measure + w; before = omega (arith, h .before); inside = omega arith; rest = rest-next },
             omega arith,
