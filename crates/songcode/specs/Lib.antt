@@ -52,6 +52,8 @@ pub mod Edges
 pub mod EitherOrder
 pub mod EachSection
 pub mod Apart
+pub mod WholeCharacters
+pub mod FieldsFit
 pub mod Shown
 pub mod Clauses
 pub mod Demands
