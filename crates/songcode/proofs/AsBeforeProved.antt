@@ -1,5 +1,5 @@
 -- Requests 2 and 4: a line without `maj` behind a base, or without slips in extensions, has the tokens of before.
-use Prim.Native.Nat.{ℕ, zero, suc}
+use Prim.Native.Nat.{ℕ, suc}
 use Prim.Native.Char.{code}
 use mathlib.Core.Path.{_≡_, refl, ap, sym, _∙_}
 use mathlib.Core.List.{List, [], _∷_, _++_, append-assoc}
@@ -13,9 +13,9 @@ use Rattle.songcode.specs.Song.{again, silence}
 use Rattle.songcode.specs.Chords.{bases, Base, endsInM, isPassedOver, isTaken, longestFrom, longestBase, Chord, chordBy, isSlip, withoutSlip, chordIn}
 use Rattle.songcode.specs.Tokens.{Token, sound, remover, Class, blank, semi, double, bracket, closing, plain, class}
 use Rattle.songcode.specs.Tokens.{chordToken, referenceToken, dollarOr, wordToken, Lexed, word, lexedBy, lexed, tokens}
-use Rattle.songcode.specs.WrittenPattern.{PassedOver, Plain}
+use Rattle.songcode.specs.WrittenPattern.{Plain}
 use Rattle.songcode.specs.AsBefore.{byLongest, unchecked, wordAs, stepAs, lexedAs, tokensAs, NoMaj, NoSlips, AsBefore}
-use Rattle.songcode.proofs.ListLaws.{by-cases, true-is-not-false, both-pass}
+use Rattle.songcode.proofs.ListLaws.{by-cases, both-pass}
 use Rattle.songcode.proofs.PatternLaws.{every-at, any-where}
 use Rattle.songcode.proofs.Spellings.{same-true}
 use Rattle.songcode.proofs.TakenBases.{passed-sound}

@@ -82,7 +82,7 @@ inherits-most k meaning most default f d s x n i = rw (i .chosen) (either (i .ow
 pub meter-most : (s : Song) (x : Section) (p : Parts) → PlaysSection s x p → p .meter ≤ 32
 meter-most s x p h = inherits-most time TimeText 32 4 (λ text n t. t .number .atMost) (omega arith) s x (p .meter) (h .meter)
 
-tempo-most : (s : Song) (x : Section) (p : Parts) → PlaysSection s x p → p .tempo ≤ 511
+pub tempo-most : (s : Song) (x : Section) (p : Parts) → PlaysSection s x p → p .tempo ≤ 511
 tempo-most s x p h = inherits-most bpm (Number 0 400) 511 511 (λ text n t. let m = t .atMost in omega arith) (omega arith) s x (p .tempo) (h .tempo)
 
 -- The measures of sections, and that the song has few.

@@ -96,11 +96,11 @@ chart-keys {bs} w =
     keys-stand bs (w .characters) (w .song .keys) (block-lines (placed 0 bs) (w .song .metadata) (chart-fine w .metadata))
 
 -- What a key says stands there too.
-unfoldable SaidStands : List ℕ → Option (List Byte) → Type 0
+unfoldable pub SaidStands : List ℕ → Option (List Byte) → Type 0
 SaidStands bs none = Unit {0}
 SaidStands bs (some text) = Stands (placed 0 bs) text × (length text < 512)
 
-said-stands : (bs : List ℕ) (k : KeyName) (ks : List Key) → Each (KeyStands bs) ks → SaidStands bs (settingOf k ks)
+pub said-stands : (bs : List ℕ) (k : KeyName) (ks : List Key) → Each (KeyStands bs) ks → SaidStands bs (settingOf k ks)
 unfolding settingOf Each SaidStands if_then_else_
 said-stands bs k [] f = tt
 said-stands bs k (j ∷ ks) f =

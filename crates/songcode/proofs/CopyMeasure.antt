@@ -56,7 +56,9 @@ spelled-again at c w s =
       base = placed at (getD bases (c .base) []);
       joined = placed-append at (getD bases (c .base) []) (values (c .extension));
       numbered = rw (values-placed at (getD bases (c .base) []), g) (s .numbered);
-      taken = λ p. s .taken (subst (λ x. PassedOver x (values w)) (values-placed at _ ∙ g) (subst (λ x. PassedOver (values (placed at (getD bases (c .base) []))) x) v p));
+      taken = λ p.
+          let q = subst (λ x. PassedOver (values (placed at (getD bases (c .base) []))) x) v p in
+          s .taken (subst (λ x. PassedOver x (values w)) (values-placed at _ ∙ g) q);
       longest = λ n t e b p. rw l (s .longest n t e (subst (λ x. Begins t x) v b) (λ q. p (subst (λ x. PassedOver t x) (sym v) q)));
       short = rw (length-placed, length-values) (s .short);
       clean = rw (values-placed) (s .clean);

@@ -125,6 +125,8 @@ pub mod EitherOrderProved
 pub mod EachSectionProved
 pub mod ShownProved
 pub mod ClausesProved
+pub mod WholeCharactersProved
+pub mod FieldsFitProved
 pub mod Demanded
 -- The second call.
 pub mod FollowLaws

@@ -3,9 +3,8 @@ use Prim.Native.Nat.{ℕ}
 use Prim.Native.Char.{code}
 use mathlib.Core.Path.{_≡_, refl, ap, sym, _∙_}
 use mathlib.Core.List.{List, [], _∷_, _++_, append-assoc, List·Memᴰ, List·Memᴰ·head, List·Memᴰ·tail}
-use mathlib.Core.Bool.{Bool, true, false, _&&_, _||_, not}
+use mathlib.Core.Bool.{true, false, not}
 use borrow.Author.Tests.{eqb-true, eq-eqb, not-true}
-use lib.Dec.{eqb}
 use Rattle.songcode.specs.Lists.{if_then_else_, isEmpty, any}
 use Rattle.songcode.specs.Bytes.{Byte, values, ascii, begins, isByte}
 use Rattle.songcode.specs.Chords.{endsInM, isPassedOver, isTaken, isSlip}

@@ -53,6 +53,8 @@ pub mod EitherOrder
 pub mod EachSection
 pub mod Apart
 pub mod AsBefore
+pub mod WholeCharacters
+pub mod FieldsFit
 pub mod Shown
 pub mod Clauses
 pub mod Demands

@@ -1,16 +1,16 @@
 -- The longest base of a word: what is known of it, and a word that is a base exactly.
-use Prim.Native.Nat.{ℕ, zero, suc, _+_, _<_, _≤_}
+use Prim.Native.Nat.{ℕ, zero, suc, _<_, _≤_}
 use mathlib.Core.Path.{_≡_, refl, sym, ap, _∙_}
 use mathlib.Core.List.{List, [], _∷_, _++_, append-nil}
 use mathlib.Core.Bool.{Bool, true, false, _&&_}
 use mathlib.Core.Option.{Option, none, some}
 use native.Mathlib.Omega.{arith}
 use native.Mathlib.Nat.{zero-add}
-use borrow.Author.Tests.{leb-true, eqb-true, eq-eqb, ltb-true}
-use lib.Dec.{leb, ltb, eqb}
+use borrow.Author.Tests.{leb-true, eqb-true, eq-eqb}
+use lib.Dec.{leb, eqb}
 use lib.ListN.{length, getElem?, length-append}
 use Rattle.songcode.specs.Lists.{every}
-use Rattle.songcode.specs.Bytes.{placed, values, ascii, begins}
+use Rattle.songcode.specs.Bytes.{placed, ascii, begins}
 use Rattle.songcode.specs.Chords.{bases, isTaken, longestFrom, isBase}
 use Rattle.songcode.specs.Chords as songcode
 use Rattle.songcode.proofs.ByteLaws.{values-placed}

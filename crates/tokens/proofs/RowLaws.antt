@@ -11,7 +11,7 @@ use borrow.Author.Tests.{leb-true, leb-false, ltb-true, lt-ltb, le-ltb, ne-eqb}
 use lib.Dec.{leb, ltb}
 use lib.ListN.{length, getD, drop, drop-of-length-le, List·getD-map, List·getD-eq-default}
 use lib.Seq.{drop-cons}
-use Rattle.songcode.specs.Lists.{if_then_else_, every, gather}
+use Rattle.songcode.specs.Lists.{if_then_else_, every}
 use Rattle.songcode.specs.Bytes.{begins, ascii}
 use Rattle.songcode.specs.Chords.{rows, spellings, bases, endsInM, isPassedOver, isTaken, longer, longestFrom}
 use Rattle.songcode.specs.Chords as songcode

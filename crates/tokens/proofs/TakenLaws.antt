@@ -1,15 +1,15 @@
 -- A base that fits is passed over exactly where its last byte is the `m` of a `maj`; the bytes that no extension holds, one after another.
-use Prim.Native.Nat.{ℕ, zero, suc, _+_, _-_, _<_, _≤_}
+use Prim.Native.Nat.{ℕ, suc, _+_, _-_, _<_, _≤_}
 use mathlib.Core.Path.{_≡_, refl, sym, ap, _∙_}
-use mathlib.Core.List.{List, [], _∷_, _++_}
-use mathlib.Core.Bool.{Bool, true, false, _&&_, _||_, not}
+use mathlib.Core.List.{List, [], _∷_}
+use mathlib.Core.Bool.{true, false}
 use native.Mathlib.Omega.{arith}
 use native.Mathlib.Numerals.{add-one}
-use native.Mathlib.Nat.{zero-add}
+use native.Mathlib.Nat.{add-zero}
 use borrow.Author.Tests.{eqb-true, eq-eqb, ne-eqb}
 use lib.Dec.{eqb}
 use lib.ListN.{length, getD, drop, drop-of-length-le}
-use lib.Seq.{drop-cons}
+use lib.Seq.{drop-cons, getD-drop}
 use Rattle.songcode.specs.Lists.{if_then_else_, isEmpty, any}
 use Rattle.songcode.specs.Bytes.{placed, ascii, begins, isByte}
 use Rattle.songcode.specs.Chords.{endsInM, isPassedOver, isTaken, isSlip}
@@ -83,6 +83,21 @@ module _ (s w : List ℕ) where
       where
         three : begins (ascii "maj") last ≡ true → fitted 0 (ascii "maj") last ≡ 3
         three t = rw t
+
+    -- The last byte alone can tell.
+    pub last-other : (getD w (fitted 0 s w - 1) 0 ≡ 109 → ⊥) → fitted 0 s w ≡ takenLength s w
+    unfolding fitted if_then_else_ ascii begins
+    last-other f =
+        maj-absent
+        (λ e.
+        by-cases
+        (begins (ascii "maj") last)
+        (λ t. f (sym (getD-drop (fitted 0 s w - 1) w 0 0 ∙ ap (λ k. getD w k 0) (add-zero (fitted 0 s w - 1))) ∙ first last t))
+        (λ t. let z : 0 ≡ 3 = rw t at e in absurd (omega arith)))
+      where
+        first : (xs : List ℕ) → begins (ascii "maj") xs ≡ true → getD xs 0 0 ≡ 109
+        first [] t = true-is-not-false t refl
+        first (x ∷ xs) t = sym (eqb-true 109 x (both-pass (eqb 109 x) (begins (97 ∷ 106 ∷ []) xs) t .0))
 
 -- The bytes of an extension, one after another.
 module _ (w : List ℕ) (i : ℕ) where

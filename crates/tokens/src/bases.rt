@@ -58,6 +58,9 @@ fn taken(name: [u8; 3], w: &[u8]) -> usize
     if n == 0 {
         return 0;
     }
+    if byte_at(w, n - 1) != b'm' {
+        return n;
+    }
     if fit(MAJ, &w[n - 1..w.len()]) == 3 {
         return 0;
     }

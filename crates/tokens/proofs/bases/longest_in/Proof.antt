@@ -1,6 +1,6 @@
 use Rattle.songcode.specs.Chords.{rows, spellings}
 use Rattle.songcode.specs.Bytes.{ascii}
-use Rattle.tokens.proofs.RowLaws.{table, table-at, first-fits, better, found, found-more, found-all}
+use Rattle.tokens.proofs.RowLaws.{table-at, first-fits, better, found, found-more, found-all}
 use Rattle.tokens.specs.Bases.{baseOf, takenLength, firstOf, rowOf}
 use Rattle.songcode.specs.Lists.{if_then_else_}
 use Rattle.songcode.specs.Chords.{isTaken, longestFrom}
@@ -17,9 +17,6 @@ use Prim.Native.Nat.{_≤_, _+_, _-_}
 use borrow.Author.Needs.{needs}
 use Rattle.tokens.proofs.bases.longest_in.Statement.{statement}
 use Rattle.tokens.proofs.bases.longest_in.Tie as tie
-use Rattle.tokens.proofs.bases.longest_in.Reads as reads
-use Rattle.tokens.proofs.bases.longest_in.Lts as lts
-use Rattle.tokens.proofs.bases.taken.Reads as taken-reads
 
 abbrev Inv-loop : tie.InvT-loop
 Inv-loop row w names first best₀ j₀ best j = (j ≤ 6) × ((o : Option songcode.Base) × (best ≡ baseOf o) × (found row j w o ≡ longestFrom isTaken (firstOf row) (rowOf row) w none))

@@ -1,3 +1,4 @@
+-- The word of a chord: by its base, unless that is missing, or the extension is too long or holds one of four signs.
 use Rattle.tokens.proofs.WordLaws.{base-inside, chord-none, chord-long, chord-slip, chord-bare, chord-extended}
 use Rattle.tokens.proofs.PartLaws.{part-drop}
 use Rattle.tokens.specs.Lexing.{isSlipByte}
@@ -12,8 +13,10 @@ use Rattle.tokens.proofs.words.chord_token.Statement.{statement}
 use Rattle.tokens.proofs.words.chord_token.Tie as tie
 
 -- The base is one of the 34 and lies in the word.
-inside : (c : tie.After-struct-known2) → (c .before .before .before .longest-base .result .number ≤ 33)
-    × (c .before .before .before .longest-base .result .length ≤ c .before .before .before .before .before .before .args .e - c .before .before .before .before .before .before .args .a)
+inside : (c : tie.After-struct-known2)
+    → let a = c .before .before .before .before .before .before .args in
+    let b = c .before .before .before .longest-base .result in
+    (b .number ≤ 33) × (b .length ≤ a .e - a .a)
 inside c =
     let a = c .before .before .before .before .before .before .args in
     base-inside (a .s .now) (a .a) (a .e) (c .before .before .before .longest-base .result) (c .before .before .before .longest-base .ensures)
@@ -56,7 +59,8 @@ returns-4 c =
     let b = c .before .before .before .before .before .before .before .before .before .longest-base in
     let l = part-length (a .s .now) (a .a) (a .e) (omega arith) in
     let t = ap (any isSlipByte) (part-drop (a .s .now) (a .a) (a .e) (b .result .length)) ∙ sym (c .before .has-slip .ensures) ∙ c .if4 .taken in
-    chord-slip (a .a) (part (a .a) (a .e) (a .s .now)) (b .result) (b .ensures) (c .before .before .before .before .before .before .before .if1 .left) (omega arith) t
+    chord-slip (a .a) (part (a .a) (a .e) (a .s .now)) (b .result) (b .ensures)
+    (c .before .before .before .before .before .before .before .if1 .left) (omega arith) t
 
 add-result : tie.Need-add-result
 add-result c = let k = inside (c .before .before .before .before .before .before) in omega arith

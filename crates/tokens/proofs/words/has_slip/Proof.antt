@@ -1,9 +1,10 @@
+-- The bytes are looked through from the first on.
 use Rattle.tokens.proofs.TakenLaws.{slip-over, slip-here, slip-more}
 use Rattle.tokens.specs.Lexing.{isSlipByte}
 use Rattle.songcode.specs.Lists.{any}
 use lib.ListN.{length, drop}
 use native.Mathlib.Omega.{arith}
-use mathlib.Core.Path.{_≡_, refl, sym, _∙_}
+use mathlib.Core.Path.{_≡_, sym, _∙_}
 use Prim.Native.Nat.{_≤_, _-_}
 use borrow.Author.Needs.{needs}
 use Rattle.tokens.proofs.words.has_slip.Statement.{statement}
@@ -23,7 +24,8 @@ returns c =
 loop-again : tie.Need-loop-again Inv-loop μ-loop
 loop-again c =
     let q = c .before .before .before .before in
-    (omega arith, sym (slip-more (q .before .before .args .w .now) (q .loop .i) (omega arith) (sym (c .before .is-slip .ensures) ∙ c .if1 .left)) ∙ q .loop .inv .1)
+    let w = q .before .before .args .w .now in
+    (omega arith, sym (slip-more w (q .loop .i) (omega arith) (sym (c .before .is-slip .ensures) ∙ c .if1 .left)) ∙ q .loop .inv .1)
 
 returns-2 : tie.Need-returns-2 Inv-loop μ-loop
 returns-2 c =

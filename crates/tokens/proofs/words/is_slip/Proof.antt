@@ -1,3 +1,4 @@
+-- A byte is one of the four, or none of them.
 use Rattle.tokens.proofs.TakenLaws.{slip-is, slip-last}
 use Rattle.tokens.specs.Lexing.{isSlipByte}
 use mathlib.Core.Path.{refl, sym}
