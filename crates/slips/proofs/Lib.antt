@@ -3,3 +3,4 @@ pub mod PlaceLaws
 pub mod TokenLaws
 pub mod LineLaws
 pub mod FindLaws
+pub mod StartLaws
