@@ -39,10 +39,10 @@ module _ (text : List ℕ) (a : Answer) (h : a ≡ answerOf (songAnswer text)) w
           ap (λ (i : ℕ). refused i l) x ∙ ap (λ (i : ℕ). refused n i) y
       go (accepted t) f = let x : 0 ≡ n = ap (λ (y : Answer). y .refusal) f ∙ e in absurd (nz (sym x))
 
-  module _ (x : Slip) (finds : length text ≤ 65536 → Finds text (a .refusal) (a .line) x) (p : Place) (on : OnLine text p) (covers : Covers text (x .from) (x .to) p)
-    (cause : ℕ) (told : a .refusal ≤ 17 → x .clause ≤ 99 → x .clause ≤ getD clauses (a .refusal) 0 → clauseOfCause cause ≡ x .clause)
-    (r : Explained) (e : (r .refusal ≡ a .refusal) × (r .line ≡ a .line) × (r .cause ≡ cause) × (r .place ≡ p)) where
-
+  module _ (x : Slip) (finds : length text ≤ 65536 → Finds text (a .refusal) (a .line) x)
+      (p : Place) (on : OnLine text p) (covers : Covers text (x .from) (x .to) p)
+      (cause : ℕ) (told : a .refusal ≤ 17 → x .clause ≤ 99 → x .clause ≤ getD clauses (a .refusal) 0 → clauseOfCause cause ≡ x .clause)
+      (r : Explained) (e : (r .refusal ≡ a .refusal) × (r .line ≡ a .line) × (r .cause ≡ cause) × (r .place ≡ p)) where
     -- What is found in the text of the verdict's line is the place, and this names the line.
     here : (l : Line) → LineOf text (a .line) l → l .start ≤ x .from → x .from ≤ x .to → x .to ≤ l .stop
         → (r .place .offset ≡ x .from) × (r .place .offset + r .place .length ≡ x .to) × (r .place .line ≡ r .line)
@@ -52,7 +52,8 @@ module _ (text : List ℕ) (a : Answer) (h : a ≡ answerOf (songAnswer text)) w
         let c = covers j (omega arith) (λ n s t. w .1 n (omega arith) (omega arith)) in
         let o = c .0 in
         let s = sym (on .begins) ∙ line-holds text l (k .listed) (p .offset) (omega arith) (omega arith) ∙ k .number in
-        (ap (λ (q : Place). q .offset) (e .3) ∙ c .0, ap (λ (q : Place). q .offset + q .length) (e .3) ∙ c .1, ap (λ (q : Place). q .line) (e .3) ∙ s ∙ sym (e .1))
+        let d = e .3 in
+        (ap (λ (q : Place). q .offset) d ∙ c .0, ap (λ (q : Place). q .offset + q .length) d ∙ c .1, ap (λ (q : Place). q .line) d ∙ s ∙ sym (e .1))
 
     pub uncounted-first : a .refusal ≡ 16 → OnVerdict text r (λ l clause from to. BareOn text l clause from to)
     uncounted-first f =
@@ -65,11 +66,15 @@ module _ (text : List ℕ) (a : Answer) (h : a ≡ answerOf (songAnswer text)) w
         let c : clauseOfCause (r .cause) ≡ x .clause = rw (e .2) (told (rw f (omega arith)) (omega (arith, b .named .1)) few) in
         record { verdict = l; listed = rw (e .1) k; same = q .2; found = rw (q .1, q .0, c) b }
 
-    pub summed-first : a .refusal ≡ 17 → OnVerdict text r (λ l clause from to. NameOn text l from to)
+    pub summed-first : a .refusal ≡ 17 → OnVerdict text r (λ l clause from to. (clause ≡ 1) × NameOn text l from to)
     summed-first f =
         let v = header-listed text (a .line) (as-refused 17 f (λ z. let y : ⊥ = omega arith in y)) in
         let l = v .1 .0 in
         let k = v .1 .1 in
         let b = finds (v .0) .summed f l k in
-        let q = here l k (rw (b .begins) (omega arith)) (b .onward) (b .inside) in
-        record { verdict = l; listed = rw (e .1) k; same = q .2; found = rw (q .1, q .0) b }
+        let one = b .0 in
+        let n = b .1 in
+        let q = here l k (rw (n .begins) (omega arith)) (n .onward) (n .inside) in
+        let few : x .clause ≤ getD clauses (a .refusal) 0 = rw (f, one) (omega arith) in
+        let c : clauseOfCause (r .cause) ≡ x .clause = rw (e .2) (told (rw f (omega arith)) (omega arith) few) in
+        record { verdict = l; listed = rw (e .1) k; same = q .2; found = (c ∙ one, rw (q .1, q .0) n) }

@@ -36,7 +36,8 @@ each-right {R = R} (and-each {x} {y} h hs) m =
     (List·Memᴰ·cases-cons m)
 
 -- A block's lines are lines of the file.
-in-blocks : {ls : List Line} {bs : List Block} → WrittenBlocks ls bs → (b : Block) → List·Memᴰ b bs → (m : Line) → List·Memᴰ m (b .first ∷ b .others) → List·Memᴰ m ls
+in-blocks : {ls : List Line} {bs : List Block} → WrittenBlocks ls bs → (b : Block) → List·Memᴰ b bs
+    → (m : Line) → List·Memᴰ m (b .first ∷ b .others) → List·Memᴰ m ls
 in-blocks no-block b i m j = absurd (List·Memᴰ·not-nil i)
 in-blocks (a-blank e w) b i m j = List·Memᴰ·tail (in-blocks w b i m j)
 in-blocks (a-block {l} {w} {ls} {zs} e n s z rest) b i m j =
@@ -62,7 +63,8 @@ lyric-line (with-lyrics {dashes} {l} {ls} e) i =
 
 module _ (bs : List ℕ) where
   -- A line of one of the text's blocks, by its number.
-  of-block : (b : Block) → List·Memᴰ b (blocksOf bs) → (m : Line) → List·Memᴰ m (b .first ∷ b .others) → (n : ℕ) → m .number ≡ n → (l : text.Line) × LineOf bs n l
+  of-block : (b : Block) → List·Memᴰ b (blocksOf bs) → (m : Line) → List·Memᴰ m (b .first ∷ b .others)
+      → (n : ℕ) → m .number ≡ n → (l : text.Line) × LineOf bs n l
   of-block b i m j n e =
       let w : WrittenBlocks (map (lineText bs) (spans bs)) (blocksOf bs) = rw (blocks-spans bs) (blocks-sound (map (lineText bs) (spans bs))) in
       let r = in-map (lineText bs) (spans bs) (in-blocks w b i m j) in

@@ -28,4 +28,4 @@ pub record Explains (text : List ℕ) (r : Explained) : Type 0 where
   -- "and for ... 16 and 17 the place is the first at which the definition fails": on the first taken lyric line without a count, from where its count
   -- should stand; on the first header of a section whose counts do not sum, its name.
   pub uncounted : r .refusal ≡ 16 → OnVerdict text r (λ l clause from to. BareOn text l clause from to)
-  pub summed : r .refusal ≡ 17 → OnVerdict text r (λ l clause from to. NameOn text l from to)
+  pub summed : r .refusal ≡ 17 → OnVerdict text r (λ l clause from to. (clause ≡ 1) × NameOn text l from to)

@@ -24,10 +24,12 @@ use Rattle.slips.proofs.PlaceLaws.{same-line}
 use Rattle.slips.proofs.FindLaws.{no-lf, no-cr}
 use Rattle.slips.proofs.LineLaws.{each-line}
 
-front-le : (bs : List ℕ) → frontBlanks bs ≤ length bs
+-- As many blanks as there are bytes, at most.
+front-among : (n : ℕ) (bs : List ℕ) → frontBlanks (take n bs) ≤ n
 unfolding frontBlanks if_then_else_
-front-le [] = omega arith
-front-le (b ∷ bs) = let h = front-le bs in by-cases (blank b) (λ t. rw t (omega arith)) (λ t. rw t (omega arith))
+front-among zero bs = omega arith
+front-among (suc n) [] = omega arith
+front-among (suc n) (b ∷ bs) = let h = front-among n bs in by-cases (blank b) (λ t. rw t (omega arith)) (λ t. rw t (omega arith))
 
 line-le : (bs : List ℕ) → lineLength bs ≤ length bs
 unfolding lineLength longer
@@ -101,8 +103,7 @@ module _ (s : List ℕ) where
       let bs = drop at s in
       let len = lineLength bs in
       let f = frontBlanks (take len bs) in
-      let a = front-le (take len bs) in
-      let b = length-take len bs in
+      let a = front-among len bs in
       let d = solid-le (take (len - f) (drop f bs)) in
       let g = length-take (len - f) (drop f bs) in
       omega arith
@@ -111,9 +112,7 @@ module _ (s : List ℕ) where
   unfolding lineOf
   text-starts n at =
       let bs = drop at s in
-      let len = lineLength bs in
-      let a = front-le (take len bs) in
-      let b = length-take len bs in
+      let a = front-among (lineLength bs) bs in
       (omega arith, omega arith)
 
   -- No line ends in the text of a line, which lies in the file.
@@ -125,8 +124,7 @@ module _ (s : List ℕ) where
       let a = text-ends n at in
       let b = text-starts n at .0 in
       let d = line-le (drop at s) in
-      let g = length-drop at s in
-      (
+      let g = length-drop at s in (
         omega arith,
         λ k p q.
             let j : at + (k - at) ≡ k = omega arith in
@@ -175,7 +173,7 @@ module _ (s : List ℕ) where
           let t = text-starts n at in
           let a = t .0 in
           let j : at + (x - at) ≡ x = omega arith in
-          let e : suc (ends 0 (take x s)) ≡ n + ends at (take (x - at) (drop at s)) = subst (λ (y : ℕ). suc (ends 0 (take y s)) ≡ n + ends at (take (x - at) (drop at s))) j (i h (x - at)) in
+          let e = subst (λ (y : ℕ). suc (ends 0 (take y s)) ≡ n + ends at (take (x - at) (drop at s))) j (i h (x - at)) in
           e ∙ rw (none-ends at (x - at) (drop at s) (t .1)) (add-zero n)
 
   -- So do all places of its text.
@@ -184,7 +182,8 @@ module _ (s : List ℕ) where
   along a (suc d) h u =
       let e : a + suc d ≡ a + d + 1 = omega arith in
       let i = u (a + d) (omega arith) (omega arith) in
-      rw e (same-line s (a + d) (omega arith) (no-lf (getD s (a + d) 0) i) (no-cr (getD s (a + d) 0) i) ∙ along a d (omega arith) (λ k p q. u k p (omega arith)))
+      let b = getD s (a + d) 0 in
+      rw e (same-line s (a + d) (omega arith) (no-lf b i) (no-cr b i) ∙ along a d (omega arith) (λ k p q. u k p (omega arith)))
 
   pub line-holds : (l : Line) → List·Memᴰ l (spans s) → (p : ℕ) → l .start ≤ p → p ≤ l .stop → lineOfPlace p s ≡ l .number
   line-holds l m p a b =

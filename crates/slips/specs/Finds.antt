@@ -39,4 +39,4 @@ pub record BareOn (s : List ℕ) (l : Line) (clause from to : ℕ) : Type 0 wher
 -- What is promised of a slip, by its refusal, if the text has a line of that number.
 pub record Finds (s : List ℕ) (refusal line : ℕ) (x : Slip) : Type 0 where
   pub uncounted : refusal ≡ 16 → (l : Line) → LineOf s line l → BareOn s l (x .clause) (x .from) (x .to)
-  pub summed : refusal ≡ 17 → (l : Line) → LineOf s line l → NameOn s l (x .from) (x .to)
+  pub summed : refusal ≡ 17 → (l : Line) → LineOf s line l → (x .clause ≡ 1) × NameOn s l (x .from) (x .to)

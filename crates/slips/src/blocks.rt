@@ -80,7 +80,7 @@ pub fn head_slip(s: &[u8], l: Line) -> Slip
     if 0 < before && before < l.number {
         return counted(beside(whole_line(HEAD_TWICE, l), before), n, 0, 0);
     }
-    counted(whole_line(HEAD_TOO_MANY, l), n, 0, 0)
+    whole_line(HEAD_TOO_MANY, l)
 }
 
 // Where a header's name ends: at its first `!`, or with the line.

@@ -56,7 +56,7 @@ const COUNT_ALONE: usize = 4;
 // The name in a header.
 pub fn header_name(clause: usize, s: &[u8], l: Line) -> Slip
     requires { ⌜ (l .start ≤ l .stop) × (l .stop ≤ length (now s)) ⌝ }
-    ensures { λ r. ⌜ NameOn (now (s .entry)) l (r .from) (r .to) ⌝ }
+    ensures { λ r. ⌜ (r .clause ≡ clause) × NameOn (now (s .entry)) l (r .from) (r .to) ⌝ }
 {
     at_place(clause, l.start, name_stop(s, l.start, l.stop))
 }
@@ -217,10 +217,7 @@ pub fn count_slip(s: &[u8], l: Line) -> Slip
     requires { ⌜ (l .start ≤ l .stop) × (l .stop ≤ length (now s)) × (length (now s) ≤ 65536) ⌝ }
     ensures { λ r. ⌜ BareOn (now (s .entry)) l (r .clause) (r .from) (r .to) ⌝ }
 {
-    beside(
-        bare_line(s, l),
-        counted_in_song(s, survey_of(s)),
-    )
+    beside(bare_line(s, l), counted_in_song(s, survey_of(s)))
 }
 
 // The sum of the counts of some lyric lines.
@@ -286,7 +283,7 @@ fn played_in(s: &[u8], v: Survey, parts: Parts) -> usize
 // Refusal 17.
 pub fn sum_slip(s: &[u8], p: Spot) -> Slip
     requires { ⌜ (p .line .start ≤ p .line .stop) × (p .line .stop ≤ length (now s)) × (1 ≤ p .block .number) × (p .block .number ≤ p .block .at + 1) × (length (now s) ≤ 65536) ⌝ }
-    ensures { λ r. ⌜ NameOn (now (s .entry)) (p .line) (r .from) (r .to) ⌝ }
+    ensures { λ r. ⌜ (r .clause ≡ 1) × NameOn (now (s .entry)) (p .line) (r .from) (r .to) ⌝ }
 {
     let l = p.line;
     let block = p.block;

@@ -39,7 +39,8 @@ fn byte_slip(s: &[u8]) -> Slip {
 
 // The slip of every refusal but 16 and 17.
 fn slip_on(s: &[u8], p: Spot, refusal: usize) -> Slip
-    requires { ⌜ (p .line .start ≤ p .line .stop) × (p .line .stop ≤ length (now s)) × (p .line .number ≤ p .line .start + 1) × (1 ≤ p .line .number) × (length (now s) ≤ 65536) ⌝ }
+    requires { ⌜ (p .line .start ≤ p .line .stop) × (p .line .stop ≤ length (now s)) × (length (now s) ≤ 65536) ⌝ }
+    requires { ⌜ (p .line .number ≤ p .line .start + 1) × (1 ≤ p .line .number) ⌝ }
     requires { ⌜ (1 ≤ p .block .number) × (p .block .number ≤ p .block .at + 1) × (p .block .at ≤ length (now s)) ⌝ }
 {
     let l = p.line;

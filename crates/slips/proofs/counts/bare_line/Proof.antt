@@ -1,3 +1,4 @@
+-- Where a lyric line has no count, by the clause that is told.
 use Prim.Native.Nat.{_<_}
 use mathlib.Core.Path.{refl}
 use native.Mathlib.Omega.{arith}

@@ -7,7 +7,8 @@ use Rattle.slips.proofs.counts.header_name.Tie as tie
 returns : tie.Need-returns
 returns c =
     let n = c .before .name-stop .ensures in
-    name-told (c .at-place .result) (c .at-place .ensures) (record { begins = refl; onward = n .0; inside = n .1; plain = n .2; ends = n .3 })
+    let p = c .at-place .ensures in
+    (p .0, name-told (c .at-place .result) p (record { begins = refl; onward = n .0; inside = n .1; plain = n .2; ends = n .3 }))
 
 pub header-name-spec : {M : Type 1} → statement M
 header-name-spec = tie.close (tie.spec (λ c κs. search needs) (λ c κs. search needs) returns)

@@ -1,3 +1,4 @@
+use mathlib.Core.Path.{_∙_}
 use borrow.Author.Needs.{needs}
 use Rattle.slips.proofs.FindLaws.{name-told}
 use Rattle.slips.proofs.counts.sum_slip.Statement.{statement}
@@ -13,7 +14,8 @@ returns-2 : tie.Need-returns-2
 returns-2 c =
     let b = c .before .before .before .beside in
     let q = c .before .before .before .before .before .before .before .before .before .before .before in
-    name-told (c .counted .result) (c .counted .ensures) (name-told (b .result) (b .ensures) (q .header-name .ensures))
+    let h = q .header-name .ensures in
+    (c .counted .ensures .0 ∙ (b .ensures .0 ∙ h .0), name-told (c .counted .result) (c .counted .ensures) (name-told (b .result) (b .ensures) (h .1)))
 
 pub sum-slip-spec : {M : Type 1} → statement M
 sum-slip-spec =

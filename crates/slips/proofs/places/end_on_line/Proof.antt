@@ -1,3 +1,4 @@
+-- The end of a place on its line: no line end is passed over, and where none stands before it, nothing is cut off.
 use Prim.Native.Nat.{_-_, _≤_}
 use mathlib.Core.Path.{_≡_, refl, _∙_}
 use Rattle.songcode.specs.Answer.{lineOfPlace}
@@ -27,13 +28,17 @@ returns-2 : tie.Need-returns-2 Inv-loop μ-loop
 returns-2 c =
     let q = c .before .before .before .before .before .args in
     let l = c .before .before .before .before .loop in
-    ((l .inv .0, l .inv .1, l .inv .2), λ h k u. absurd (no-lf (getD (q .s .now) (l .i) 0) (u (l .i) (l .inv .0) (c .before .before .if1 .left)) (c .if2 .taken)))
+    let v = l .inv in
+    let b = c .before .before .if1 .left in
+    ((v .0, v .1, v .2), λ h k u. absurd (no-lf (getD (q .s .now) (l .i) 0) (u (l .i) (v .0) b) (c .if2 .taken)))
 
 returns-3 : tie.Need-returns-3 Inv-loop μ-loop
 returns-3 c =
     let q = c .before .before .before .before .before .before .before .args in
     let l = c .before .before .before .before .before .before .loop in
-    ((l .inv .0, l .inv .1, l .inv .2), λ h k u. absurd (no-cr (getD (q .s .now) (l .i) 0) (u (l .i) (l .inv .0) (c .before .before .before .before .if1 .left)) (c .if3 .taken)))
+    let v = l .inv in
+    let b = c .before .before .before .before .if1 .left in
+    ((v .0, v .1, v .2), λ h k u. absurd (no-cr (getD (q .s .now) (l .i) 0) (u (l .i) (v .0) b) (c .if3 .taken)))
 
 loop-again : tie.Need-loop-again Inv-loop μ-loop
 loop-again c =

@@ -12,8 +12,7 @@ returns c =
     let e = c .before .end-on-line .ensures .0 in
     let a = e .0 in
     let b = e .1 in
-    let back : offset + (end - offset) ≡ end = omega arith in
-    (
+    let back : offset + (end - offset) ≡ end = omega arith in (
       record { inside = omega arith; begins = sym (c .line-of .ensures); ends = rw back (e .2 ∙ sym (c .line-of .ensures)) },
       λ h k u.
           let o = c .before .before .within .ensures .1 (omega arith) in

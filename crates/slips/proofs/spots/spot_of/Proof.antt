@@ -1,3 +1,4 @@
+-- The line of a number: every line before it has another, so it is still to come or the one at hand.
 use Prim.Native.Nat.{_+_, _-_, _≤_}
 use mathlib.Core.Path.{_≡_, sym, _∙_}
 use mathlib.Core.List.{List·Memᴰ}
@@ -27,7 +28,9 @@ returns : tie.Need-returns Inv-loop μ-loop
 returns c =
     let q = c .before .before .before .before in
     let s = q .before .before .args .s .now in
-    (search needs, (search needs, λ l h. met s (c .before .before .line-at .ensures) (c .before .before .before .loop-test .taken) l (q .loop .inv .6 l h) (h .number ∙ sym (c .if1 .taken))))
+    let f = c .before .before .line-at .ensures in
+    let t = c .before .before .before .loop-test .taken in
+    (search needs, (search needs, λ l h. met s f t l (q .loop .inv .6 l h) (h .number ∙ sym (c .if1 .taken))))
 
 loop-again : tie.Need-loop-again Inv-loop μ-loop
 loop-again c =

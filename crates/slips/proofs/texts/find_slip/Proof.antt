@@ -24,7 +24,7 @@ returns-2 c =
     let k = c .before .if2 .taken in
     record {
       uncounted = λ e. let z : ⊥ = omega arith in absurd z;
-      summed = λ e l h. subst (λ y. NameOn s y (x .from) (x .to)) (q .spot-of .ensures .1 .1 l h) (c .sum-slip .ensures);
+      summed = λ e l h. (c .sum-slip .ensures .0, subst (λ y. NameOn s y (x .from) (x .to)) (q .spot-of .ensures .1 .1 l h) (c .sum-slip .ensures .1));
     }
 
 returns-3 : tie.Need-returns-3
