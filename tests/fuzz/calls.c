@@ -42,47 +42,6 @@ static void try_count(struct numbers *numbers, const struct source *source, stru
 #ifdef HAS_EXPLAIN
 static const char *const cause_names[] = {"verdict", "line", "cause", "place_line", "offset", "length", "other_line", "first", "second", "third"};
 
-/* Whether a byte of pattern text stands in a lead-in or tail: its line begins with `_` and a letter, as no right measure does. */
-static bool is_beside(const unsigned char *text, size_t at)
-{
-    while (at > 0 && text[at - 1] != '\n' && text[at - 1] != '\r')
-        at--;
-    while (text[at] == ' ' || text[at] == '\t')
-        at++;
-    unsigned char small = text[at + 1] | ('a' ^ 'A');
-    return text[at] == '_' && 'a' <= small && small <= 'z';
-}
-
-/* The places where what is told is not what the header says, as docs/PROMISES.md lists them among the gaps; all else is compared.
-   - Of NO_SECTION, HEAD_TOO_MANY and MODIFIER_EARLY the header names no number; the bytes of the text, n and the modifier's number are told.
-   - Where a word of pattern text is wrong, `first` is its first byte, or the `]` before it, and not the byte where it goes wrong.
-   - What stands behind a `]` in a lead-in or tail, and has a `$` in it, is told as a reference, with its `]`. */
-static void except_gaps(struct reader_cause *cause, const struct turnipcart_cause *told, const unsigned char *text)
-{
-    bool no_loop = cause->second == cause->first;
-    bool in_word = cause->first > cause->offset && cause->first < cause->offset + cause->length;
-    switch (cause->cause) {
-    case TURNIPCART_CAUSE_NO_SECTION:
-    case TURNIPCART_CAUSE_HEAD_TOO_MANY:
-    case TURNIPCART_CAUSE_MODIFIER_EARLY: cause->first = told->first; break;
-    case TURNIPCART_CAUSE_NO_CHORD:
-    case TURNIPCART_CAUSE_EXTENSION_LONG:
-    case TURNIPCART_CAUSE_EXTENSION_SIGN:
-    case TURNIPCART_CAUSE_REFERENCE_MALFORMED:
-    case TURNIPCART_CAUSE_LOOP_COUNT_MISSING: cause->first = cause->offset; break;
-    case TURNIPCART_CAUSE_REFERENCE_NOT_HERE: cause->first = in_word ? cause->offset : cause->first; break;
-    case TURNIPCART_CAUSE_LOOP_COUNT_WRONG:
-        cause->first = cause->offset - 1;
-        if (is_beside(text, cause->offset) && memchr(text + cause->offset, '$', cause->length) != NULL) {
-            cause->cause = TURNIPCART_CAUSE_REFERENCE_NOT_HERE;
-            cause->offset--;
-            cause->length++;
-        }
-    }
-    if (no_loop && cause->refusal == TURNIPCART_PATTERN)
-        cause->second = cause->first;
-}
-
 static void explain(const struct chart *chart, struct exchange *exchange)
 {
     give(&exchange->given[0], chart->bytes, chart->length);
@@ -90,7 +49,6 @@ static void explain(const struct chart *chart, struct exchange *exchange)
     lend_answer(exchange, sizeof(struct turnipcart_cause) / WIDE);
     exchange->refusal = turnipcart_explain(LENT(exchange->given[0]), words_of(&exchange->answer));
     struct reader_cause cause = reader_explain(LENT(exchange->kept[0]));
-    except_gaps(&cause, words_of(&exchange->answer), words_of(&exchange->kept[0]));
     exchange->names = cause_names;
     expect(exchange, cause.refusal, (const size_t *)(const void *)&cause);
 }

@@ -1,19 +1,32 @@
 -- What is found keeps the promise: where the verdict names no line, and where it names one.
 use Prim.Native.Nat.{ℕ, _≤_}
-use mathlib.Core.Path.{_≡_, sym, ap, _∙_}
+use mathlib.Core.Path.{_≡_, sym, ap, subst, _∙_}
 use mathlib.Core.List.{List}
-use Rattle.songcode.specs.Answer.{songAnswer}
+use Rattle.songcode.specs.Answer.{refused, songAnswer}
 use Rattle.reader.specs.declared.answers.Answer.{Answer}
 use Rattle.reader.specs.Answers.{answerOf}
 use Rattle.slips.specs.declared.places.Place.{Place}
-use Rattle.slips.specs.Places.{OnLine}
+use lib.ListN.{length, getD}
+use Rattle.slips.specs.declared.slip.Slip.{Slip}
+use Rattle.slips.specs.Places.{OnLine, Covers}
+use Rattle.text.specs.declared.lines.Line.{Line}
+use Rattle.slips.specs.Finds.{LineOf, Finds}
 use Rattle.explain.specs.declared.Explained.{Explained}
-use Rattle.explain.specs.Causes.{Belongs}
+use Rattle.explain.specs.Causes.{Belongs, clauses, clauseOfCause}
 use Rattle.explain.specs.Explained.{Explains}
+use Rattle.explain.proofs.FirstLaws.{not-line-0, as-refused, uncounted-first, summed-first}
+use Rattle.explain.proofs.VerdictLines.{lyric-listed, header-listed}
+use native.Mathlib.Omega.{arith}
 
 module _ (text : List ℕ) (a : Answer) (h : a ≡ answerOf (songAnswer text)) (cause : ℕ) (b : a .refusal ≤ 17 → Belongs (a .refusal) cause) (r : Explained) where
   same : r .refusal ≡ a .refusal → r .cause ≡ cause → r .refusal ≤ 17 → Belongs (r .refusal) (r .cause)
   same e f k = let l : a .refusal ≤ 17 = rw e at k in rw (e, f) (b l)
+
+  -- A verdict of lines names one.
+  unlined : (n : ℕ) → (songAnswer text ≡ refused n 0 → (l : Line) × LineOf text 0 l) → (n ≡ 0 → ⊥) → a .refusal ≡ n → a .line ≡ 0 → ⊥
+  unlined n listed nz f z =
+      let v = listed (as-refused text a h n f nz ∙ ap (λ (i : ℕ). refused n i) z) in
+      not-line-0 text (v .0) (v .1)
 
   pub found-nowhere : a .line ≡ 0
       → (r .refusal ≡ a .refusal) × (r .line ≡ 0) × (r .cause ≡ cause) × (r .place .line ≡ 0) × (r .place .offset ≡ 0) × (r .place .length ≡ 0)
@@ -25,15 +38,21 @@ module _ (text : List ℕ) (a : Answer) (h : a ≡ answerOf (songAnswer text)) (
         belongs = same (e .0) (e .2);
         nowhere = λ _. (e .3, e .4, e .5);
         placed = λ n. absurd (n (e .1));
+        uncounted = λ f. absurd (unlined 16 (λ w. lyric-listed text 0 w .1) (λ y. let x : ⊥ = omega arith in x) (sym (e .0) ∙ f) z);
+        summed = λ f. absurd (unlined 17 (λ w. header-listed text 0 w .1) (λ y. let x : ⊥ = omega arith in x) (sym (e .0) ∙ f) z);
       }
 
-  pub found-at : (p : Place) → OnLine text p → (a .line ≡ 0 → ⊥) → (r .refusal ≡ a .refusal) × (r .line ≡ a .line) × (r .cause ≡ cause) × (r .place ≡ p)
+  pub found-at : (x : Slip) → (length text ≤ 65536 → Finds text (a .refusal) (a .line) x) → (p : Place) → OnLine text p → Covers text (x .from) (x .to) p
+      → (a .refusal ≤ 17 → x .clause ≤ 99 → x .clause ≤ getD clauses (a .refusal) 0 → clauseOfCause cause ≡ x .clause) → (a .line ≡ 0 → ⊥)
+      → (r .refusal ≡ a .refusal) × (r .line ≡ a .line) × (r .cause ≡ cause) × (r .place ≡ p)
       → Explains text r
-  found-at p o n e =
+  found-at x finds p o covers told n e =
       record {
         refusal = e .0 ∙ ap (λ (x : Answer). x .refusal) h;
         line = e .1 ∙ ap (λ (x : Answer). x .line) h;
         belongs = same (e .0) (e .2);
         nowhere = λ z. absurd (n (sym (e .1) ∙ z));
         placed = λ _. rw (e .3) o;
+        uncounted = λ f. uncounted-first text a h x finds p o covers cause told r e (sym (e .0) ∙ f);
+        summed = λ f. summed-first text a h x finds p o covers cause told r e (sym (e .0) ∙ f);
       }

@@ -1,2 +1,5 @@
 -- The laws that the proof of the call cites.
 pub mod ExplainLaws
+pub mod StageLaws
+pub mod VerdictLines
+pub mod FirstLaws

@@ -8,10 +8,16 @@ use slips::Slip;
 use slips::find_slip;
 use slips::place_at;
 ghost use mathlib.Core.Path.{_≡_};
+ghost use Prim.Native.Nat.{_≤_};
+ghost use lib.ListN.{length};
+ghost use Rattle.slips.specs.Finds.{Finds};
 ghost use Rattle.explain.specs.Explained.{Explains};
 
 // Texts of more bytes are not looked into: they are refused on no line.
 const TEXT_MOST: usize = 65536;
+
+// The refusal of a chart without a section: no number belongs to it.
+const NO_SECTION: usize = 9;
 
 // Refusal and line, both 0 where the chart is accepted; the cause, 100 times the refusal and the number of its clause; the place, all 0 where the
 // refusal names no line; one more line worth showing, 0 where there is none; three numbers.
@@ -35,13 +41,14 @@ fn nowhere(refusal: usize, cause: usize, bytes: usize) -> Explained
         offset: 0,
         length: 0,
     };
+    let first = if refusal == NO_SECTION { 0 } else { bytes };
     Explained {
         refusal,
         line: 0,
         cause,
         place,
         other: 0,
-        first: bytes,
+        first,
         second: 0,
         third: 0,
     }
@@ -64,7 +71,9 @@ fn at_place(refusal: usize, line: usize, cause: usize, x: Slip, p: Place) -> Exp
 }
 
 // The slip of a text of any length.
-fn slip_in(text: &[u8], refusal: usize, line: usize) -> Slip {
+fn slip_in(text: &[u8], refusal: usize, line: usize) -> Slip
+    ensures { λ r. ⌜ (length (now (text .entry)) ≤ 65536 → Finds (now (text .entry)) refusal line r) ⌝ }
+{
     if TEXT_MOST < text.len() {
         return slips::no_slip();
     }

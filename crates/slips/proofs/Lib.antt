@@ -1,3 +1,6 @@
 -- Laws that the proofs of the finders cite.
 pub mod PlaceLaws
 pub mod TokenLaws
+pub mod LineLaws
+pub mod FindLaws
+pub mod StartLaws

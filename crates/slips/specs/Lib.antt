@@ -1,2 +1,3 @@
 -- What the finders promise.
 pub mod Places
+pub mod Finds

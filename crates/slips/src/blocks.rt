@@ -23,7 +23,9 @@ use text::is_tail;
 use text::line_at;
 use tokens::Number;
 ghost use Prim.Native.Nat.{_+_, _≤_, _<_};
-ghost use lib.ListN.{length};
+ghost use mathlib.Core.Path.{_≡_};
+ghost use lib.ListN.{length, getD};
+ghost use Rattle.slips.specs.Finds.{Without};
 
 // The clauses of refusal 3.
 const METADATA_LATE: usize = 1;
@@ -78,13 +80,13 @@ pub fn head_slip(s: &[u8], l: Line) -> Slip
     if 0 < before && before < l.number {
         return counted(beside(whole_line(HEAD_TWICE, l), before), n, 0, 0);
     }
-    counted(whole_line(HEAD_TOO_MANY, l), n, 0, 0)
+    whole_line(HEAD_TOO_MANY, l)
 }
 
 // Where a header's name ends: at its first `!`, or with the line.
 pub fn name_stop(s: &[u8], from: usize, to: usize) -> usize
     requires { ⌜ (from ≤ to) × (to ≤ length (now s)) ⌝ }
-    ensures { λ r. ⌜ (from ≤ r) × (r ≤ to) ⌝ }
+    ensures { λ r. ⌜ (from ≤ r) × (r ≤ to) × Without 33 (now (s .entry)) from r × (r < to → getD (now (s .entry)) r 0 ≡ 33) ⌝ }
 {
     let mut i = from;
     while i < to {

@@ -35,7 +35,9 @@ use text::line_at;
 use tokens::Number;
 use tokens::number_in;
 ghost use Prim.Native.Nat.{_+_, _≤_, _<_};
-ghost use lib.ListN.{length};
+ghost use mathlib.Core.Path.{_≡_};
+ghost use lib.ListN.{length, getD};
+ghost use Rattle.slips.specs.Finds.{NameOn, BareOn};
 
 // The clauses of refusal 15.
 const CUTS_TAKE_ALL: usize = 1;
@@ -54,6 +56,7 @@ const COUNT_ALONE: usize = 4;
 // The name in a header.
 pub fn header_name(clause: usize, s: &[u8], l: Line) -> Slip
     requires { ⌜ (l .start ≤ l .stop) × (l .stop ≤ length (now s)) ⌝ }
+    ensures { λ r. ⌜ (r .clause ≡ clause) × NameOn (now (s .entry)) l (r .from) (r .to) ⌝ }
 {
     at_place(clause, l.start, name_stop(s, l.start, l.stop))
 }
@@ -117,7 +120,7 @@ fn last_word(s: &[u8], a: usize, e: usize) -> usize
 // Where the last `_` stands, or the end.
 fn last_underscore(s: &[u8], a: usize, e: usize) -> usize
     requires { ⌜ (a ≤ e) × (e ≤ length (now s)) ⌝ }
-    ensures { λ r. ⌜ (a ≤ r) × (r ≤ e) ⌝ }
+    ensures { λ r. ⌜ (a ≤ r) × (r ≤ e) × (r < e → getD (now (s .entry)) r 0 ≡ 95) ⌝ }
 {
     let mut z = e;
     while a < z {
@@ -130,26 +133,27 @@ fn last_underscore(s: &[u8], a: usize, e: usize) -> usize
 }
 
 // Why a lyric line has no count.
-fn bare_line(s: &[u8], a: usize, e: usize) -> Slip
-    requires { ⌜ (a ≤ e) × (e ≤ length (now s)) ⌝ }
+fn bare_line(s: &[u8], l: Line) -> Slip
+    requires { ⌜ (l .start ≤ l .stop) × (l .stop ≤ length (now s)) ⌝ }
+    ensures { λ r. ⌜ BareOn (now (s .entry)) l (r .clause) (r .from) (r .to) ⌝ }
 {
+    let a = l.start;
+    let e = l.stop;
     let k = last_word(s, a, e);
     let u = last_underscore(s, k, e);
     if u == e {
         return at_place(COUNT_MISSING, e, e);
     }
     if !is_count(&s[u + 1..e]) {
-        return if s[k] == b'_' {
-            at_place(COUNT_WRONG, k, e)
-        } else {
-            at_place(COUNT_MISSING, e, e)
-        };
+        if s[k] == b'_' {
+            return at_place(COUNT_WRONG, k, e);
+        }
+        return at_place(COUNT_MISSING, e, e);
     }
     if u == a {
-        at_place(COUNT_ALONE, a, e)
-    } else {
-        at_place(COUNT_TIGHT, u, e)
+        return at_place(COUNT_ALONE, a, e);
     }
+    at_place(COUNT_TIGHT, u, e)
 }
 
 // The number of the first line with a count, 0 where there is none.
@@ -211,11 +215,9 @@ fn counted_in_song(s: &[u8], v: Survey) -> usize
 // Refusal 16.
 pub fn count_slip(s: &[u8], l: Line) -> Slip
     requires { ⌜ (l .start ≤ l .stop) × (l .stop ≤ length (now s)) × (length (now s) ≤ 65536) ⌝ }
+    ensures { λ r. ⌜ BareOn (now (s .entry)) l (r .clause) (r .from) (r .to) ⌝ }
 {
-    beside(
-        bare_line(s, l.start, l.stop),
-        counted_in_song(s, survey_of(s)),
-    )
+    beside(bare_line(s, l), counted_in_song(s, survey_of(s)))
 }
 
 // The sum of the counts of some lyric lines.
@@ -281,13 +283,14 @@ fn played_in(s: &[u8], v: Survey, parts: Parts) -> usize
 // Refusal 17.
 pub fn sum_slip(s: &[u8], p: Spot) -> Slip
     requires { ⌜ (p .line .start ≤ p .line .stop) × (p .line .stop ≤ length (now s)) × (1 ≤ p .block .number) × (p .block .number ≤ p .block .at + 1) × (length (now s) ≤ 65536) ⌝ }
+    ensures { λ r. ⌜ (r .clause ≡ 1) × NameOn (now (s .entry)) (p .line) (r .from) (r .to) ⌝ }
 {
     let l = p.line;
     let block = p.block;
-    if s.len() <= block.at {
-        return at_place(0, 0, 0);
-    }
     let name = header_name(1, s, l);
+    if s.len() <= block.at {
+        return name;
+    }
     let v = survey_of(s);
     let parts = parts_at(s, block);
     let lyrics = parts.lyrics;

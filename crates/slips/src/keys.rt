@@ -152,10 +152,5 @@ pub fn modifier_slip(s: &[u8], p: Spot) -> Slip
     if before != 0 {
         return counted(beside(name_of(MODIFIER_TWICE, s, l), before), slot, 0, 0);
     }
-    counted(
-        beside(whole_line(MODIFIER_EARLY, l), block.number),
-        slot,
-        0,
-        0,
-    )
+    beside(whole_line(MODIFIER_EARLY, l), block.number)
 }

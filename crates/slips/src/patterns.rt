@@ -1,4 +1,7 @@
 // Slips in pattern text, refusal 7: the text is read up to where it first stops being the beginning of a right one.
+use super::beginnings::bytes_begun;
+use super::beginnings::dollar_at;
+use super::beginnings::kind_begun;
 use super::faults::COLON_NOT_HERE;
 use super::faults::LOOP_COUNT_WRONG;
 use super::faults::LOOP_OPEN;
@@ -9,10 +12,13 @@ use super::faults::end_clause;
 use super::faults::line_end_clause;
 use super::faults::stands_alone;
 use super::faults::token_clause;
+use super::signs::CLOSES;
 use super::signs::COLON;
 use super::signs::OPENS;
 use super::signs::REFERENCE;
+use super::signs::WRONG;
 use super::signs::capped;
+use super::signs::is_sound;
 use super::signs::sign_of;
 use super::signs::token_from;
 use super::slip::Slip;
@@ -25,6 +31,7 @@ use grammar::Place;
 use grammar::line_between;
 use grammar::start;
 use grammar::step_check;
+use grammar::step_kind;
 use sections::Run;
 use sections::Test;
 use sections::kind_at;
@@ -33,6 +40,7 @@ use settings::BlockKind;
 use settings::Kind;
 use settings::kind_of;
 use settings::setting_start;
+use text::byte_at;
 use text::line_at;
 ghost use Prim.Native.Nat.{_+_, _≤_, _<_};
 ghost use lib.ListN.{length};
@@ -128,23 +136,40 @@ fn is_side(whose: Whose) -> bool {
     }
 }
 
-fn has_dollar(w: &[u8]) -> bool {
-    let mut i = 0;
-    while i < w.len() {
-        if w[i] == b'$' {
-            return true;
-        }
-        i += 1;
-    }
-    false
-}
-
-// "without `:` and `$`"
+// "without `:` and `$`"; what stands directly behind a `]` is a wrong count, whatever it is.
 fn is_barred(whose: Whose, sign: u32, w: &[u8]) -> bool {
     if !is_side(whose) {
         return false;
     }
-    sign == COLON || has_dollar(w)
+    if sign == COLON {
+        return true;
+    }
+    byte_at(w, 0) != b']' && dollar_at(w) < w.len()
+}
+
+// Where in a word that begins at a place the text stops being the beginning of a right one.
+fn stop_in_word(whose: Whose, c: Check, w: &[u8], from: usize) -> usize {
+    if is_stuck(whose, step_kind(c, kind_begun(byte_at(w, 0)))) {
+        return from;
+    }
+    let end = if is_side(whose) {
+        dollar_at(w)
+    } else {
+        w.len()
+    };
+    let begun = bytes_begun(w);
+    if begun < end {
+        return capped(from, begun);
+    }
+    capped(from, end)
+}
+
+// The same for any token.
+fn stop_of(whose: Whose, c: Check, sign: u32, w: &[u8], from: usize) -> usize {
+    if sign == WRONG || sign == CLOSES || is_sound(sign) || sign == REFERENCE {
+        return stop_in_word(whose, c, w, from);
+    }
+    from
 }
 
 fn barred_clause(sign: u32) -> usize {
@@ -156,14 +181,14 @@ fn barred_clause(sign: u32) -> usize {
 }
 
 // The place that is to change where a token is behind a right beginning: the token, what stands in it behind its `]`, or the token before it.
-fn blame_token(r: Reading, clause: usize, from: usize, to: usize) -> Reading {
+fn blame_token(r: Reading, clause: usize, from: usize, to: usize, stop: usize) -> Reading {
     if clause == REMOVER_INSIDE || clause == SEPARATOR_LAST {
-        return blamed(r, clause, r.from, r.to, from);
+        return blamed(r, clause, r.from, r.to, stop);
     }
     if clause == LOOP_COUNT_WRONG {
-        return blamed(r, clause, capped(from, 1), to, from);
+        return blamed(r, clause, capped(from, 1), to, stop);
     }
-    blamed(r, clause, from, to, from)
+    blamed(r, clause, from, to, stop)
 }
 
 // A `$n` where it may not stand: this token, or the one before it.
@@ -197,10 +222,11 @@ fn read_token(s: &[u8], whose: Whose, r: Reading, word: u32, from: usize, to: us
         return r;
     }
     let sign = sign_of(word);
-    if is_barred(whose, sign, &s[from..to]) {
-        return blamed(r, barred_clause(sign), from, to, from);
-    }
     let before = r.check;
+    if is_barred(whose, sign, &s[from..to]) {
+        let stop = stop_of(whose, before, sign, &s[from..to], from);
+        return blamed(r, barred_clause(sign), from, to, stop);
+    }
     let check = step_check(before, word);
     if !is_stuck(whose, check) {
         return passed(r, check, sign, from, to);
@@ -208,11 +234,13 @@ fn read_token(s: &[u8], whose: Whose, r: Reading, word: u32, from: usize, to: us
     if is_misnamed(whose, check) || is_misplaced(whose, before) {
         return blame_reference(r, sign, from, to);
     }
+    let stop = stop_of(whose, before, sign, &s[from..to], from);
     blame_token(
         r,
         token_clause(before, r.last, sign, &s[from..to]),
         from,
         to,
+        stop,
     )
 }
 

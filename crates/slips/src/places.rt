@@ -4,7 +4,7 @@ ghost use mathlib.Core.Path.{_≡_};
 ghost use Prim.Native.Nat.{_≤_};
 ghost use lib.ListN.{length};
 ghost use Rattle.songcode.specs.Answer.{lineOfPlace};
-ghost use Rattle.slips.specs.Places.{OnLine};
+ghost use Rattle.slips.specs.Places.{OnLine, Unended, Covers};
 
 // The number of the line, the first byte, and how many bytes.
 pub struct Place {
@@ -17,6 +17,7 @@ pub struct Place {
 fn end_on_line(s: &[u8], from: usize, to: usize) -> usize
     requires { ⌜ from ≤ length (now s) ⌝ }
     ensures { λ r. ⌜ (from ≤ r) × (r ≤ length (now (s .entry))) × (lineOfPlace r (now (s .entry)) ≡ lineOfPlace from (now (s .entry))) ⌝ }
+    ensures { λ r. ⌜ (from ≤ to → to ≤ length (now (s .entry)) → Unended (now (s .entry)) from to → r ≡ to) ⌝ }
 {
     let mut i = from;
     while i < s.len() {
@@ -36,14 +37,14 @@ fn end_on_line(s: &[u8], from: usize, to: usize) -> usize
 
 // A place, or the end of the text where it stands past that.
 fn within(s: &[u8], place: usize) -> usize
-    ensures { λ r. ⌜ r ≤ length (now (s .entry)) ⌝ }
+    ensures { λ r. ⌜ (r ≤ length (now (s .entry))) × (place ≤ length (now (s .entry)) → r ≡ place) ⌝ }
 {
     if s.len() < place { s.len() } else { place }
 }
 
 // The bytes from one place up to another, as far as they stand on the line of the first.
 pub fn place_at(s: &[u8], from: usize, to: usize) -> Place
-    ensures { λ r. ⌜ OnLine (now (s .entry)) r ⌝ }
+    ensures { λ r. ⌜ OnLine (now (s .entry)) r × Covers (now (s .entry)) from to r ⌝ }
 {
     let offset = within(s, from);
     let end = end_on_line(s, offset, to);

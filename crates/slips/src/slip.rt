@@ -1,4 +1,5 @@
 // What is to change, and what a sentence about it needs.
+ghost use mathlib.Core.Path.{_≡_};
 
 // The number of the refusal's clause; the places of the first byte that is to change and behind the last; one more line worth showing, or 0;
 // three numbers, 0 where the clause has none.
@@ -13,7 +14,9 @@ pub struct Slip {
 }
 
 // A clause and its place.
-pub fn at_place(clause: usize, from: usize, to: usize) -> Slip {
+pub fn at_place(clause: usize, from: usize, to: usize) -> Slip
+    ensures { λ r. ⌜ (r .clause ≡ clause) × (r .from ≡ from) × (r .to ≡ to) ⌝ }
+{
     Slip {
         clause,
         from,
@@ -26,7 +29,9 @@ pub fn at_place(clause: usize, from: usize, to: usize) -> Slip {
 }
 
 // The same with one more line.
-pub fn beside(x: Slip, other: usize) -> Slip {
+pub fn beside(x: Slip, other: usize) -> Slip
+    ensures { λ r. ⌜ (r .clause ≡ x .clause) × (r .from ≡ x .from) × (r .to ≡ x .to) ⌝ }
+{
     Slip {
         clause: x.clause,
         from: x.from,
@@ -39,7 +44,9 @@ pub fn beside(x: Slip, other: usize) -> Slip {
 }
 
 // The same with its numbers.
-pub fn counted(x: Slip, first: usize, second: usize, third: usize) -> Slip {
+pub fn counted(x: Slip, first: usize, second: usize, third: usize) -> Slip
+    ensures { λ r. ⌜ (r .clause ≡ x .clause) × (r .from ≡ x .from) × (r .to ≡ x .to) ⌝ }
+{
     Slip {
         clause: x.clause,
         from: x.from,

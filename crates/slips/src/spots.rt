@@ -3,7 +3,10 @@ use sections::Place;
 use text::Line;
 use text::line_at;
 ghost use Prim.Native.Nat.{_+_, _≤_};
+ghost use mathlib.Core.Path.{_≡_};
 ghost use lib.ListN.{length};
+ghost use Rattle.text.specs.declared.lines.Line.{Line};
+ghost use Rattle.slips.specs.Finds.{LineOf};
 
 // The line, and where the first line of its block begins.
 pub struct Spot {
@@ -44,6 +47,7 @@ fn block_after(b: Open, l: Line, at: usize) -> Open
 pub fn spot_of(s: &[u8], wanted: usize) -> Spot
     ensures { λ r. ⌜ (r .line .start ≤ r .line .stop) × (r .line .stop ≤ length (now (s .entry))) × (r .line .number ≤ r .line .start + 1) × (1 ≤ r .line .number) ⌝ }
     ensures { λ r. ⌜ (1 ≤ r .block .number) × (r .block .number ≤ r .block .at + 1) × (r .block .at ≤ length (now (s .entry))) ⌝ }
+    ensures { λ r. ⌜ ((l : Line) → LineOf (now (s .entry)) wanted l → r .line ≡ l) ⌝ }
 {
     let mut number = 1;
     let mut at = 0;

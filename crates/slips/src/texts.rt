@@ -15,10 +15,12 @@ use super::signs::wide;
 use super::slip::Slip;
 use super::slip::at_place;
 use super::slip::counted;
+use super::spots::Spot;
 use super::spots::spot_of;
 use text::good_bytes;
-ghost use Prim.Native.Nat.{_≤_};
+ghost use Prim.Native.Nat.{_+_, _≤_};
 ghost use lib.ListN.{length};
+ghost use Rattle.slips.specs.Finds.{Finds};
 
 // The clauses of refusal 2.
 const ZERO_BYTE: usize = 1;
@@ -35,11 +37,12 @@ fn byte_slip(s: &[u8]) -> Slip {
     counted(at_place(clause, at, at + 1), wide(s[at]), 0, 0)
 }
 
-// The slip of a text that is refused with this number and line.
-pub fn find_slip(s: &[u8], refusal: usize, line: usize) -> Slip
-    requires { ⌜ length (now s) ≤ 65536 ⌝ }
+// The slip of every refusal but 16 and 17.
+fn slip_on(s: &[u8], p: Spot, refusal: usize) -> Slip
+    requires { ⌜ (p .line .start ≤ p .line .stop) × (p .line .stop ≤ length (now s)) × (length (now s) ≤ 65536) ⌝ }
+    requires { ⌜ (p .line .number ≤ p .line .start + 1) × (1 ≤ p .line .number) ⌝ }
+    requires { ⌜ (1 ≤ p .block .number) × (p .block .number ≤ p .block .at + 1) × (p .block .at ≤ length (now s)) ⌝ }
 {
-    let p = spot_of(s, line);
     let l = p.line;
     match refusal {
         2 => byte_slip(s),
@@ -55,8 +58,21 @@ pub fn find_slip(s: &[u8], refusal: usize, line: usize) -> Slip
         13 => meter_slip(s, p, refusal),
         14 => header_name(1, s, l),
         15 => cut_slip(s, p),
-        16 => count_slip(s, l),
-        17 => sum_slip(s, p),
         _ => at_place(1, 0, 0),
     }
+}
+
+// The slip of a text that is refused with this number and line.
+pub fn find_slip(s: &[u8], refusal: usize, line: usize) -> Slip
+    requires { ⌜ length (now s) ≤ 65536 ⌝ }
+    ensures { λ r. ⌜ Finds (now (s .entry)) refusal line r ⌝ }
+{
+    let p = spot_of(s, line);
+    if refusal == 16 {
+        return count_slip(s, p.line);
+    }
+    if refusal == 17 {
+        return sum_slip(s, p);
+    }
+    slip_on(s, p, refusal)
 }

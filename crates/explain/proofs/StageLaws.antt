@@ -1,0 +1,163 @@
+-- The stages of the verdicts 16 and 17: what the first five stages state has a lower number, and what these state is said of the song's lines.
+use Prim.Native.Nat.{ℕ, _≤_}
+use mathlib.Core.Path.{_≡_, refl}
+use mathlib.Core.List.{List, List·Memᴰ}
+use native.Mathlib.Omega.{arith}
+use Rattle.songcode.specs.Lines.{Line, Block}
+use Rattle.songcode.specs.Complaints.{Complaint, complaint}
+use Rattle.songcode.specs.Song.{KeyName, Items, LyricLine, Section, Song}
+use Rattle.songcode.specs.Answer.{Room, refused, songAnswer}
+use Rattle.songcode.specs.Performance.{Parts}
+use Rattle.songcode.specs.WrittenSong.{WrittenChart}
+use Rattle.songcode.specs.StoppedText.{KeyStops, key-unknown, key-not-allowed, key-setting, KeyDoubled, key-twice, ModifierStops, modifier-unknown}
+use Rattle.songcode.specs.StoppedText.{repeat-setting, cut-start-setting, cut-end-setting, lead-in-text, tail-text, ModifierDoubled, modifier-twice}
+use Rattle.songcode.specs.StoppedText.{PlaceStops, key-after, modifier-before, pattern-past, SectionStops, name-wrong, out-of-place, key-doubled}
+use Rattle.songcode.specs.StoppedText.{modifier-doubled, key-stops, modifier-stops, pattern-text, no-pattern, no-lyrics, MetadataStops, of-key, of-keys}
+use Rattle.songcode.specs.StoppedText.{no-key, DefinitionStops, head-malformed, head-twice, head-27th, definition-text, TextStops, kind-late}
+use Rattle.songcode.specs.StoppedText.{in-metadata, in-definition, in-section, Stops2, stated, no-section}
+use Rattle.songcode.specs.StoppedSong.{Stops1, over-long, bad-bytes, Stops3, undefined, undefined-named, too-deep, loop-in-loop, to-empty, RowStops}
+use Rattle.songcode.specs.StoppedSong.{undivided, again-first, Stops4, of-pattern, of-lead-in, of-tail, Stops5, too-long, no-beat, empty-modified}
+use Rattle.songcode.specs.StoppedSong.{Taken, Stops6, uncounted, Stops7, sums-not, Stops8, keys-short, sections-short, measures-short, beats-short}
+use Rattle.songcode.specs.StoppedSong.{items-short}
+use Rattle.songcode.specs.Refusals.{Stage, stage1, stage2, stage3, stage4, stage5, stage6, stage7, stage8, Stated}
+use Rattle.songcode.proofs.RefusalsAgree.{refused-as-stated}
+use Rattle.songcode.proofs.SongAlone.{refused-with-tables}
+
+abbrev Early : Complaint → Type 0
+Early c = c .number ≤ 15
+
+of-key-stops : {allowed : KeyName → Type 0} {l : Line} {c : Complaint} → KeyStops allowed l c → Early c
+of-key-stops (key-unknown s h) = omega arith
+of-key-stops (key-not-allowed k t w h) = omega arith
+of-key-stops (key-setting k t w h) = omega arith
+
+of-key-doubled : {before : List Line} {l : Line} {c : Complaint} → KeyDoubled before l c → Early c
+of-key-doubled (key-twice k o t e m w v) = omega arith
+
+of-modifier-stops : {l : Line} {c : Complaint} → ModifierStops l c → Early c
+of-modifier-stops (modifier-unknown s h) = omega arith
+of-modifier-stops (repeat-setting t w h) = omega arith
+of-modifier-stops (cut-start-setting t w h) = omega arith
+of-modifier-stops (cut-end-setting t w h) = omega arith
+of-modifier-stops (lead-in-text t w h) = omega arith
+of-modifier-stops (tail-text t w h) = omega arith
+
+of-modifier-doubled : {before : List Line} {l : Line} {c : Complaint} → ModifierDoubled before l c → Early c
+of-modifier-doubled (modifier-twice k o t e m w v) = omega arith
+
+of-place : {before : List Line} {l : Line} {c : Complaint} → PlaceStops before l c → Early c
+of-place (key-after e s m n) = omega arith
+of-place (modifier-before s h) = omega arith
+of-place (pattern-past s h) = omega arith
+
+of-section : {b : Block} {c : Complaint} → SectionStops b c → Early c
+of-section (name-wrong n) = omega arith
+of-section (out-of-place x y before rest l w e h) = of-place h
+of-section (key-doubled x y before rest l w e h) = of-key-doubled h
+of-section (modifier-doubled x y before rest l w e h) = of-modifier-doubled h
+of-section (key-stops x y l w m h) = of-key-stops h
+of-section (modifier-stops x y l w m h) = of-modifier-stops h
+of-section (pattern-text x y run l w r n) = omega arith
+of-section (no-pattern x y w n) = omega arith
+of-section (no-lyrics x d w) = omega arith
+
+of-metadata : {before : List Line} {l : Line} {c : Complaint} → MetadataStops before l c → Early c
+of-metadata (of-key h) = of-key-stops h
+of-metadata (of-keys h) = of-key-doubled h
+of-metadata (no-key n) = omega arith
+
+of-definition : {before : List Block} {b : Block} {c : Complaint} → DefinitionStops before b c → Early c
+of-definition (head-malformed n) = omega arith
+of-definition (head-twice n e m w v) = omega arith
+of-definition (head-27th n) = omega arith
+of-definition (definition-text l ls e n) = omega arith
+
+of-text : {bs : List Block} {c : Complaint} → TextStops bs c → Early c
+of-text (kind-late before behind a b e m h) = omega arith
+of-text (in-metadata ms before behind l k e h) = of-metadata h
+of-text (in-definition ds before behind b k e h) = of-definition h
+of-text (in-section ss b k m h) = of-section h
+
+of-1 : {bs : List ℕ} {c : Complaint} → Stops1 bs c → Early c
+of-1 (over-long h) = omega arith
+of-1 (bad-bytes place w lines h k cuts) = omega arith
+
+of-2 : {bs : List Block} {c : Complaint} → Stops2 bs c → Early c
+of-2 (stated h) = of-text h
+of-2 (no-section k n) = omega arith
+
+of-3 : {s : Song} {c : Complaint} → Stops3 s c → Early c
+of-3 (undefined d r xs n v i h) = omega arith
+of-3 (undefined-named x n i t h) = omega arith
+of-3 (too-deep d e r q xs n v i m h j) = omega arith
+of-3 (loop-in-loop d e r q xs v i m h l) = omega arith
+of-3 (to-empty d e r xs v i m h) = omega arith
+
+of-row : {n line : ℕ} {r : Items} {c : Complaint} → RowStops n line r c → Early c
+of-row (undivided m h u) = omega arith
+of-row (again-first a) = omega arith
+
+of-4 : {s : Song} {c : Complaint} → Stops4 s c → Early c
+of-4 (of-pattern x n r i h e t) = of-row t
+of-4 (of-lead-in x n l r i h m t) = of-row t
+of-4 (of-tail x n l r i h m t) = of-row t
+
+of-5 : {s : Song} {c : Complaint} → Stops5 s c → Early c
+of-5 (too-long front behind x counts k w us u h j) = omega arith
+of-5 (no-beat x n r pass i h e w g) = omega arith
+of-5 (empty-modified x m i e j) = omega arith
+
+of-6 : {s : Song} {c : Complaint} → Stops6 s c → (c .number ≡ 16) × ((l : LyricLine) × Taken s l × (l .number ≡ c .line))
+of-6 (uncounted l o w n v k) = (refl, (l, w, refl))
+
+of-7 : {s : Song} {c : Complaint} → Stops7 s c → (c .number ≡ 17) × ((x : Section) × List·Memᴰ x (s .sections) × (x .header ≡ c .line))
+of-7 (sums-not l w total p has sums pl differ) = (refl, (w .section, w .listed, refl))
+
+of-8 : {room : Room} {s : Song} {ps : List Parts} {c : Complaint} → Stops8 room s ps c → c .number ≡ 18
+of-8 (keys-short h) = refl
+of-8 (sections-short t w h) = refl
+of-8 (measures-short t w h) = refl
+of-8 (beats-short t w h) = refl
+of-8 (items-short t w h) = refl
+
+module _ (bs : List ℕ) (line : ℕ) where
+  abbrev room : Room
+  room = record { keys = 0; sections = 0; measures = 0; beats = 0; items = 0 }
+
+  -- 16: a taken lyric line of the chart.
+  abbrev LyricRefused : Type 0
+  LyricRefused = (s : Song) × WrittenChart bs s × ((l : LyricLine) × Taken s l × (l .number ≡ line))
+
+  in-stage-6 : (k : Stage) → Stated room bs k (complaint 16 line) → LyricRefused
+  unfolding Stated
+  in-stage-6 stage1 h = let e = of-1 h in let z : ⊥ = omega arith in absurd z
+  in-stage-6 stage2 h = let e = of-2 (h .4) in let z : ⊥ = omega arith in absurd z
+  in-stage-6 stage3 h = let e = of-3 (h .2) in let z : ⊥ = omega arith in absurd z
+  in-stage-6 stage4 h = let e = of-4 (h .2) in let z : ⊥ = omega arith in absurd z
+  in-stage-6 stage5 h = let e = of-5 (h .2) in let z : ⊥ = omega arith in absurd z
+  in-stage-6 stage6 h = (h .0, h .1, of-6 (h .2) .1)
+  in-stage-6 stage7 h = let e = of-7 (h .2) .0 in let z : ⊥ = omega arith in absurd z
+  in-stage-6 stage8 h = let e = of-8 (h .4) in let z : ⊥ = omega arith in absurd z
+
+  pub lyric-refused : songAnswer bs ≡ refused 16 line → LyricRefused
+  lyric-refused e =
+      let r = refused-as-stated room bs 16 line .0 (refused-with-tables room bs 16 line e) in in-stage-6 (r .stage) (r .stated)
+
+  -- 17: the header of a section of the chart.
+  abbrev HeaderRefused : Type 0
+  HeaderRefused = (s : Song) × WrittenChart bs s × ((x : Section) × List·Memᴰ x (s .sections) × (x .header ≡ line))
+
+  in-stage-7 : (k : Stage) → Stated room bs k (complaint 17 line) → HeaderRefused
+  unfolding Stated
+  in-stage-7 stage1 h = let e = of-1 h in let z : ⊥ = omega arith in absurd z
+  in-stage-7 stage2 h = let e = of-2 (h .4) in let z : ⊥ = omega arith in absurd z
+  in-stage-7 stage3 h = let e = of-3 (h .2) in let z : ⊥ = omega arith in absurd z
+  in-stage-7 stage4 h = let e = of-4 (h .2) in let z : ⊥ = omega arith in absurd z
+  in-stage-7 stage5 h = let e = of-5 (h .2) in let z : ⊥ = omega arith in absurd z
+  in-stage-7 stage6 h = let e = of-6 (h .2) .0 in let z : ⊥ = omega arith in absurd z
+  in-stage-7 stage7 h = (h .0, h .1, of-7 (h .2) .1)
+  in-stage-7 stage8 h = let e = of-8 (h .4) in let z : ⊥ = omega arith in absurd z
+
+  pub header-refused : songAnswer bs ≡ refused 17 line → HeaderRefused
+  header-refused e =
+      let r = refused-as-stated room bs 17 line .0 (refused-with-tables room bs 17 line e) in in-stage-7 (r .stage) (r .stated)

@@ -1,0 +1,17 @@
+use Prim.Native.Nat.{_-_, _≤_}
+use lib.ListN.{length}
+use borrow.Author.Needs.{needs}
+use Rattle.slips.proofs.beginnings.dollar_at.Statement.{statement}
+use Rattle.slips.proofs.beginnings.dollar_at.Tie as tie
+
+abbrev Inv-loop : tie.InvT-loop
+Inv-loop w i₀ i = i ≤ length w
+
+abbrev μ-loop : tie.MeasureT-loop
+μ-loop w i₀ i = length w - i
+
+pub dollar-at-spec : {M : Type 1} → statement M
+dollar-at-spec =
+    tie.close
+    (tie.spec Inv-loop μ-loop (λ c. search needs) (λ c. search needs) (λ c. search needs) (λ c. search needs) (λ c. search needs)
+    (λ c. search needs) (λ c. search needs))
