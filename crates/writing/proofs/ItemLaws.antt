@@ -32,6 +32,7 @@ module _ (s : List ℕ) (a e style first count : ℕ) {x : songcode.Styled} (is 
   unfolding itemWord offset
   item-of-none h = rw (is, nothing-part s a e h)
 
-  pub item-of : a < e → e ≤ length s → a * 2 ^ 48 + (e - a) * 2 ^ 32 + first * 2 ^ 16 + count * 2 ^ 2 + style ≡ itemWord (record { words = x; first = first; measures = count })
+  pub item-of : a < e → e ≤ length s → a * 2 ^ 48 + (e - a) * 2 ^ 32 + first * 2 ^ 16 + count * 2 ^ 2 + style
+      ≡ itemWord (record { words = x; first = first; measures = count })
   unfolding itemWord
   item-of h f = rw (is, offset-part s a e h f, length-part s a e f)

@@ -40,7 +40,8 @@ module _ (s : List ℕ) (r : Said) where
     is-there = rw (ne-eqb (r .line) 0 there)
 
     -- The setting's place and length fit the fields of its word.
-    pub key-fits : r .stop ≤ length s → inputFaults s ≡ [] → ShortSetting (settingAt s r) → (r .start < r .stop) × (r .start < 65536) × (r .stop - r .start < 512)
+    pub key-fits : r .stop ≤ length s → inputFaults s ≡ [] → ShortSetting (settingAt s r)
+        → (r .start < r .stop) × (r .start < 65536) × (r .stop - r .start < 512)
     unfolding ShortSetting
     key-fits inside good short =
         let h : (0 < length text) × ((length text < 512) ⊎ (characters text ≤ 100)) = subst ShortSetting is-there short in

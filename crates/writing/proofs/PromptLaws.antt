@@ -12,7 +12,8 @@ use Rattle.songcode.specs.Song.{LyricLine, Section, Song}
 use Rattle.songcode.specs.Sections.{lyricLine}
 use Rattle.songcode.specs.Playing.{played}
 use Rattle.songcode.specs.Meter.{sectionCount, lengthFaults}
-use Rattle.songcode.specs.Lyrics.{countOf, isCounted, isPlayed, linesTaken, hasCounts, counted, sumFault, sumFaults, hasItems, promptsFrom, prompts, styled, wordsOf}
+use Rattle.songcode.specs.Lyrics.{countOf, isCounted, isPlayed, linesTaken, hasCounts, counted, sumFault, sumFaults, hasItems, promptsFrom}
+use Rattle.songcode.specs.Lyrics.{prompts, styled, wordsOf}
 use Rattle.songcode.specs.Tables.{itemWord, tables}
 use Rattle.songcode.specs.WrittenTables.{lyricsOf}
 use Rattle.songcode.proofs.ListLaws.{by-cases, both-pass, pass-both, every-append, gather-nil, Each, complainIf-nil}
@@ -28,7 +29,8 @@ use Rattle.judging.proofs.SumLaws.{isPrompted, prompted-parts, all-taken, all-p
 abbrev pub itemsFrom : ℕ → List Section → List ℕ
 itemsFrom m xs = map itemWord (promptsFrom m (gather lyricsOf xs))
 
-prompts-append : (m : ℕ) (a b : List LyricLine) → map itemWord (promptsFrom m (a ++ b)) ≡ map itemWord (promptsFrom m a) ++ map itemWord (promptsFrom (m + counted a) b)
+prompts-append : (m : ℕ) (a b : List LyricLine) → map itemWord (promptsFrom m (a ++ b))
+    ≡ map itemWord (promptsFrom m a) ++ map itemWord (promptsFrom (m + counted a) b)
 unfolding promptsFrom counted
 prompts-append m [] b = let e : m + 0 ≡ m = omega arith in rw e
 prompts-append m (l ∷ a) b =
@@ -77,7 +79,8 @@ pub record RoomLeft (s : Song) (measure : ℕ) (xs : List Section) : Type 0 wher
   pub lengths : lengthFaults s sofar xs ≡ []
   pub sums : Each (Summed s) xs
 
-pub room-step : (s : Song) (m : ℕ) (x : Section) (xs : List Section) → RoomLeft s m (x ∷ xs) → (m + counted (x .lyrics) ≤ 65535) × RoomLeft s (m + counted (x .lyrics)) xs
+pub room-step : (s : Song) (m : ℕ) (x : Section) (xs : List Section) → RoomLeft s m (x ∷ xs)
+    → (m + counted (x .lyrics) ≤ 65535) × RoomLeft s (m + counted (x .lyrics)) xs
 unfolding Each
 room-step s m x xs a =
     let h = lengths-step s (a .sofar) x xs (a .lengths) (a .few) in
@@ -128,6 +131,7 @@ module _ {s : List ℕ} {p : Place} {r : Passed} (w : Passes s p r) (m : ℕ) wh
       ∙ prompts-append m (sectionAt s p .lyrics) (gather lyricsOf (sectionsFrom s (r .next)))
       ∙ rw (w .says .lyrics)
 
-  pub room-here : {song : Song} → RoomLeft song m (sectionsFrom s p) → (m + counted lyricsHere ≤ 65535) × RoomLeft song (m + counted lyricsHere) (sectionsFrom s (r .next))
+  pub room-here : {song : Song} → RoomLeft song m (sectionsFrom s p)
+      → (m + counted lyricsHere ≤ 65535) × RoomLeft song (m + counted lyricsHere) (sectionsFrom s (r .next))
   room-here {song} a =
       rw (w .says .lyrics) (room-step song m (sectionAt s p) (sectionsFrom s (r .next)) (subst (λ (xs : List Section). RoomLeft song m xs) (w .first) a))

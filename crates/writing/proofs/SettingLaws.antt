@@ -20,14 +20,15 @@ use Rattle.songcode.specs.Complaints.{Complaint, complaint, complainIf}
 use Rattle.songcode.specs.Song.{KeyName, name, artist, original, capo, bpm, time, warning, end}
 use Rattle.songcode.specs.Keys.{isPhrase, bpmIn, timeIn, isSetting, ofMetadata}
 use Rattle.songcode.specs.Sections.{kindOfLine, keyNameOf, settingOf, keyFaultsBy, keyFaults, twice, keySaid}
-use Rattle.songcode.specs.SongText.{blockOrder, metadataLines, metadataFault, metadataFaults, definitionsFaults, definitionBlocks, sectionBlocks, orNoSection, textFaults}
+use Rattle.songcode.specs.SongText.{blockOrder, metadataLines, metadataFault, metadataFaults, definitionsFaults, definitionBlocks}
+use Rattle.songcode.specs.SongText.{sectionBlocks, orNoSection, textFaults}
 use Rattle.songcode.specs.Sections.{sectionFaults}
 use Rattle.songcode.proofs.ByteLaws.{length-values}
 use Rattle.songcode.proofs.NumbersAgree.{decimal-short}
 use Rattle.songcode.proofs.ListLaws.{by-cases, true-is-not-false, nil-is-not-cons, both-pass, append-is-nil, complainIf-nil, taken-left}
 use Rattle.settings.proofs.PartLaws.{same-lengths}
 use Rattle.sections.specs.Slots.{slotOf, settingAmong}
-use Rattle.sections.proofs.SaidLaws.{by-kind}
+use Rattle.songcode.proofs.LineAgree.{by-kind}
 use Rattle.writing.specs.Words.{ShortSetting}
 use Rattle.writing.proofs.GoodLaws.{characters-le}
 
@@ -76,7 +77,8 @@ bases-short : every (λ s. leb 1 (length s) && leb (length s) 3) bases ≡ true
 unfolding every bases gather spellings rows ascii
 bases-short = refl
 
-among-short : (ss : List (List ℕ)) (w : List ℕ) → every (λ s. leb 1 (length s) && leb (length s) 3) ss ≡ true → any (λ s. same s w) ss ≡ true → (1 ≤ length w) × (length w ≤ 3)
+among-short : (ss : List (List ℕ)) (w : List ℕ) → every (λ s. leb 1 (length s) && leb (length s) 3) ss ≡ true
+    → any (λ s. same s w) ss ≡ true → (1 ≤ length w) × (length w ≤ 3)
 unfolding every any
 among-short [] w e f = true-is-not-false f refl
 among-short (s ∷ ss) w e f =

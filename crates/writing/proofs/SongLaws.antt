@@ -44,7 +44,8 @@ bpm-few ks n e = go (settingOf bpm ks) e
     go (some bs) h = numberIn-range 0 400 bs h .1
 
 -- "bpm (section's, else song's, else 511)"
-pub tempo-is : (s : Song) (x : Section) {own song : ℕ} → own ≡ orElse (bpmAmong (x .keys)) 511 → song ≡ orElse (bpmAmong (s .keys)) 511 → tempoOf own song ≡ bpmOf s x
+pub tempo-is : (s : Song) (x : Section) {own song : ℕ} → own ≡ orElse (bpmAmong (x .keys)) 511 → song ≡ orElse (bpmAmong (s .keys)) 511
+    → tempoOf own song ≡ bpmOf s x
 unfolding tempoOf bpmOf orElse if_then_else_
 tempo-is s x e f = rw (e, f) (go (bpmAmong (x .keys)) (orElse (bpmAmong (s .keys)) 511) (bpm-few (x .keys)))
   where
@@ -62,7 +63,8 @@ unfolding measureWords total
 measure-words-append f [] b = let z : f ≡ f + 0 = omega arith in ap (λ (k : ℕ). measureWords k b) z
 measure-words-append f (m ∷ a) b =
     let z : f + length m + total a ≡ f + (length m + total a) = omega arith in
-    ap (λ (ws : List ℕ). measureWord f (length m) ∷ ws) (measure-words-append (f + length m) a b ∙ ap (λ (k : ℕ). measureWords (f + length m) a ++ measureWords k b) z)
+    ap (λ (ws : List ℕ). measureWord f (length m) ∷ ws)
+    (measure-words-append (f + length m) a b ∙ ap (λ (k : ℕ). measureWords (f + length m) a ++ measureWords k b) z)
 
 -- Words stored one by one from the front.
 sets-written : (xs l : List ℕ) → length xs ≤ length l → sets l 0 xs ≡ written xs l
@@ -84,7 +86,9 @@ module _ (s : List ℕ) (p : Place) where
   module _ (old : List ℕ) (e : sectionsFrom s p ≡ songOf s .sections) where
     pub sections-start : Wrote old 0 old (sectionWords (songOf s) 0 (sectionsFrom s p)) (tables (songOf s) .sections)
     unfolding tables
-    sections-start = subst (λ xs. Wrote old 0 old (sectionWords (songOf s) 0 xs) (sectionWords (songOf s) 0 (songOf s .sections))) (sym e) (wrote-start old (sectionWords (songOf s) 0 (songOf s .sections)))
+    sections-start =
+        subst (λ xs. Wrote old 0 old (sectionWords (songOf s) 0 xs) (sectionWords (songOf s) 0 (songOf s .sections))) (sym e)
+        (wrote-start old (sectionWords (songOf s) 0 (songOf s .sections)))
 
     pub measures-start : Wrote old 0 old (measureWords 0 (gather (played (songOf s)) (sectionsFrom s p))) (tables (songOf s) .measures)
     unfolding tables allMeasures
@@ -98,30 +102,47 @@ module _ (s : List ℕ) (p : Place) where
         let all = gather (map beatWord) (gather (played (songOf s)) (songOf s .sections)) in
         subst (λ xs. Wrote old 0 old (gather (map beatWord) (gather (played (songOf s)) xs)) all) (sym e) (wrote-start old all)
 
-  pub sections-left : (q : Place) (m : ℕ) (old : List ℕ) (k : ℕ) (new : List ℕ) → sectionsFrom s p ≡ sectionAt s p ∷ sectionsFrom s q → length (tables (songOf s) .sections) ≤ length old
+  pub sections-left : (q : Place) (m : ℕ) (old : List ℕ) (k : ℕ) (new : List ℕ) → sectionsFrom s p ≡ sectionAt s p ∷ sectionsFrom s q
+      → length (tables (songOf s) .sections) ≤ length old
       → Wrote old k new (sectionWords (songOf s) m (sectionsFrom s p)) (tables (songOf s) .sections) → k < length old
   sections-left q m old k new e h w =
       let a = wrote-left old k new (sectionWords (songOf s) m (sectionsFrom s p)) (tables (songOf s) .sections) w in
-      let b : length (sectionWords (songOf s) m (sectionsFrom s p)) ≡ suc (length (sectionsFrom s q)) = section-words-length (songOf s) m (sectionsFrom s p) ∙ ap length e in
+      let b : length (sectionWords (songOf s) m (sectionsFrom s p)) ≡ suc (length (sectionsFrom s q)) = section-words-length (songOf s) m
+      (sectionsFrom s p) ∙ ap length e in
       omega arith
 
-  pub sections-end : (m : ℕ) (old : List ℕ) (k : ℕ) (new : List ℕ) → sectionsFrom s p ≡ [] → Wrote old k new (sectionWords (songOf s) m (sectionsFrom s p)) (tables (songOf s) .sections) → new ≡ written (tables (songOf s) .sections) old
+  pub sections-end : (m : ℕ) (old : List ℕ) (k : ℕ) (new : List ℕ) → sectionsFrom s p ≡ []
+      → Wrote old k new (sectionWords (songOf s) m (sectionsFrom s p)) (tables (songOf s) .sections)
+      → new ≡ written (tables (songOf s) .sections) old
   unfolding sectionWords
-  sections-end m old k new e w = wrote-end old k new (tables (songOf s) .sections) (subst (λ xs. Wrote old k new (sectionWords (songOf s) m xs) (tables (songOf s) .sections)) e w)
+  sections-end m old k new e w =
+      wrote-end old k new (tables (songOf s) .sections) (subst
+      (λ xs. Wrote old k new (sectionWords (songOf s) m xs) (tables (songOf s) .sections)) e w)
 
-  pub measures-end : (b : ℕ) (old : List ℕ) (m : ℕ) (new : List ℕ) → sectionsFrom s p ≡ [] → Wrote old m new (measureWords b (gather (played (songOf s)) (sectionsFrom s p))) (tables (songOf s) .measures) → new ≡ written (tables (songOf s) .measures) old
+  pub measures-end : (b : ℕ) (old : List ℕ) (m : ℕ) (new : List ℕ) → sectionsFrom s p ≡ []
+      → Wrote old m new (measureWords b (gather (played (songOf s)) (sectionsFrom s p))) (tables (songOf s) .measures)
+      → new ≡ written (tables (songOf s) .measures) old
   unfolding gather measureWords
-  measures-end b old m new e w = wrote-end old m new (tables (songOf s) .measures) (subst (λ xs. Wrote old m new (measureWords b (gather (played (songOf s)) xs)) (tables (songOf s) .measures)) e w)
+  measures-end b old m new e w =
+      wrote-end old m new (tables (songOf s) .measures) (subst
+      (λ xs. Wrote old m new (measureWords b (gather (played (songOf s)) xs)) (tables (songOf s) .measures)) e w)
 
-  pub beats-end : (old : List ℕ) (b : ℕ) (new : List ℕ) → sectionsFrom s p ≡ [] → Wrote old b new (gather (map beatWord) (gather (played (songOf s)) (sectionsFrom s p))) (tables (songOf s) .beats) → new ≡ written (tables (songOf s) .beats) old
+  pub beats-end : (old : List ℕ) (b : ℕ) (new : List ℕ) → sectionsFrom s p ≡ []
+      → Wrote old b new (gather (map beatWord) (gather (played (songOf s)) (sectionsFrom s p))) (tables (songOf s) .beats)
+      → new ≡ written (tables (songOf s) .beats) old
   unfolding gather
-  beats-end old b new e w = wrote-end old b new (tables (songOf s) .beats) (subst (λ xs. Wrote old b new (gather (map beatWord) (gather (played (songOf s)) xs)) (tables (songOf s) .beats)) e w)
+  beats-end old b new e w =
+      wrote-end old b new (tables (songOf s) .beats) (subst
+      (λ xs. Wrote old b new (gather (map beatWord) (gather (played (songOf s)) xs)) (tables (songOf s) .beats)) e w)
 
 -- The section that is opened behind m measures and b beats.
-module _ {s ws vs : List ℕ} {score : Score} {p : Place} {m b : ℕ} (a : Along s ws score p m b) (x : Opened) (o : Opens s p vs score x) (ready : Ready s vs score) (n : ℕ) (e : n ≡ timeOf (songOf s) (sectionAt s p))
+module _ {s ws vs : List ℕ} {score : Score} {p : Place} {m b : ℕ} (a : Along s ws score p m b) (x : Opened) (o : Opens s p vs score x)
+    (ready : Ready s vs score) (n : ℕ) (e : n ≡ timeOf (songOf s) (sectionAt s p))
     (c d : ℕ) (measures : c ≡ length (played (songOf s) (sectionAt s p))) (beats : d ≡ total (played (songOf s) (sectionAt s p))) where
-  pub sections-next : (old new all : List ℕ) (k w tempo : ℕ) → k < length old → w ≡ sectionWord (x .section .header) m c n tempo → tempo ≡ bpmOf (songOf s) (sectionAt s p)
-      → Wrote old k new (sectionWords (songOf s) m (sectionsFrom s p)) all → Wrote old (k + 1) (set new k w) (sectionWords (songOf s) (m + c) (sectionsFrom s (x .next))) all
+  pub sections-next : (old new all : List ℕ) (k w tempo : ℕ) → k < length old → w ≡ sectionWord (x .section .header) m c n tempo
+      → tempo ≡ bpmOf (songOf s) (sectionAt s p)
+      → Wrote old k new (sectionWords (songOf s) m (sectionsFrom s p)) all → Wrote old (k + 1) (set new k w)
+      (sectionWords (songOf s) (m + c) (sectionsFrom s (x .next))) all
   unfolding sectionWords
   sections-next old new all k w tempo h f g t =
       let q : w ≡ sectionWord (sectionAt s p .header) m (length (played (songOf s) (sectionAt s p))) (timeOf (songOf s) (sectionAt s p)) (bpmOf (songOf s) (sectionAt s p)) = f ∙ rw (o .met .says .header, measures, e, g) in
@@ -137,9 +158,11 @@ module _ {s ws vs : List ℕ} {score : Score} {p : Place} {m b : ℕ} (a : Along
   measures-next old new all ys h l room y t =
       let row = played (songOf s) (sectionAt s p) in
       let rest = gather (played (songOf s)) (sectionsFrom s (x .next)) in
-      let f : heads b (rowOfTexts vs score n (x .texts) (x .section .modifiers)) ≡ measureWords b row = ap (λ (r : List (List ℕ)). heads b r) (along-row a x o ready n e) ∙ heads-words b row in
+      let f : heads b (rowOfTexts vs score n (x .texts) (x .section .modifiers)) ≡ measureWords b row = ap
+      (λ (r : List (List ℕ)). heads b r) (along-row a x o ready n e) ∙ heads-words b row in
       let r : measureWords b (gather (played (songOf s)) (sectionsFrom s p)) ≡ measureWords b row ++ measureWords (b + d) rest =
-      ap (λ (xs : List Section). measureWords b (gather (played (songOf s)) xs)) (o .met .first) ∙ measure-words-append b row rest ∙ ap (λ (k : ℕ). measureWords b row ++ measureWords (b + k) rest) (sym beats) in
+      ap (λ (xs : List Section). measureWords b (gather (played (songOf s)) xs)) (o .met .first) ∙ measure-words-append b row rest
+      ∙ ap (λ (k : ℕ). measureWords b row ++ measureWords (b + k) rest) (sym beats) in
       stored-lent old new (measureWords b row) (measureWords (b + d) rest) all ys m c (measure-words-length b row ∙ sym measures) h l room
       (y ∙ ap (λ (xs : List ℕ). sets (take (length new - m) (drop m new)) 0 xs) f)
       (subst (λ xs. Wrote old m new xs all) r t)
@@ -152,7 +175,8 @@ module _ {s ws vs : List ℕ} {score : Score} {p : Place} {m b : ℕ} (a : Along
   beats-next old new all ys h l room y t =
       let row = played (songOf s) (sectionAt s p) in
       let rest = gather (played (songOf s)) (sectionsFrom s (x .next)) in
-      let f : flat (rowOfTexts vs score n (x .texts) (x .section .modifiers)) ≡ gather (map beatWord) row = ap flat (along-row a x o ready n e) ∙ flat-words row in
+      let f : flat (rowOfTexts vs score n (x .texts) (x .section .modifiers)) ≡ gather (map beatWord) row = ap flat
+      (along-row a x o ready n e) ∙ flat-words row in
       let r : gather (map beatWord) (gather (played (songOf s)) (sectionsFrom s p)) ≡ gather (map beatWord) row ++ gather (map beatWord) rest =
       ap (λ (xs : List Section). gather (map beatWord) (gather (played (songOf s)) xs)) (o .met .first) ∙ gather-append (map beatWord) row rest in
       stored-lent old new (gather (map beatWord) row) (gather (map beatWord) rest) all ys b d (beat-words-length row ∙ sym beats) h l room

@@ -8,8 +8,13 @@ write-song-requires : tie.Need-write-song-requires
 write-song-requires c κs =
     let pre = c .before .before .before .before .before .before .before .before .before .before .before .before .before .before .before .before .before .before .before .before .pre in
     let w = pre .0 .2 in
-    let room = pre .1 .1 in
-    ((w .begins, w .ready, w .filled), ((w .keys .time, w .keys .time-fits, w .keys .bpm, w .keys .bpm-fits), ((w .clear .meters, w .clear .lengths), (room .sections, room .measures, room .beats))))
+    let room = pre .1 .1 in (
+      (w .begins, w .ready, w .filled),
+      (
+        (w .keys .time, w .keys .time-fits, w .keys .bpm, w .keys .bpm-fits),
+        ((w .clear .meters, w .clear .lengths), (room .sections, room .measures, room .beats)),
+      ),
+    )
 
 write-items-requires : tie.Need-write-items-requires
 write-items-requires c κs =

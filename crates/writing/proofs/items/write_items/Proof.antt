@@ -38,7 +38,9 @@ small : (c : tie.After-section Inv-loop μ-loop) → length (c .before .before .
 small c = omega arith
 
 -- The section's items have room.
-room : (c : tie.After-section Inv-loop μ-loop) → c .before .before .before .before .loop .i + length (linesOf (c .before .before .before .before .before .before .before .before .args .s .now) (c .before .pass .result .section .lyrics)) ≤ length (c .before .before .before .before .loop .items)
+room : (c : tie.After-section Inv-loop μ-loop) → c .before .before .before .before .loop .i + length
+    (linesOf (c .before .before .before .before .before .before .before .before .args .s .now) (c .before .pass .result .section .lyrics))
+    ≤ length (c .before .before .before .before .loop .items)
 room c =
     let q = c .before .before .before .before in
     let l = q .loop in
@@ -47,7 +49,8 @@ room c =
     let met = c .before .pass in
     let run = met .result .section .lyrics in
     let rest = itemsFrom (l .measure + counted (map lyricLine (linesOf s run))) (sectionsFrom s (met .result .next)) in
-    let split = ap (λ (ws : List ℕ). length ws) (items-split (met .ensures) (l .measure)) ∙ length-append (map itemWord (promptsFrom (l .measure) (map lyricLine (linesOf s run)))) rest in
+    let split = ap (λ (ws : List ℕ). length ws) (items-split (met .ensures) (l .measure)) ∙ length-append
+    (map itemWord (promptsFrom (l .measure) (map lyricLine (linesOf s run)))) rest in
     let here = prompts-length (l .measure) (map lyricLine (linesOf s run)) ∙ length-map (linesOf s run) lyricLine in
     let left = wrote-left (a .items .now) (l .i) (l .items) (itemsFrom (l .measure) (sectionsFrom s (l .place))) (tables (songOf s) .items) (l .inv .5) in
     omega arith
@@ -71,7 +74,8 @@ loop-holds c =
       q .pre .2,
       q .pre .3,
       subst (λ (xs : List Section). RoomLeft song 0 xs) all (room-start song none (q .pre .4) (q .pre .5)),
-      subst (λ (ws : List ℕ). Wrote (q .args .items .now) 0 (q .args .items .now) ws (tables song .items)) (items-all song none ∙ ap (itemsFrom 0) all) (wrote-start (q .args .items .now) (tables song .items)),
+      subst (λ (ws : List ℕ). Wrote (q .args .items .now) 0 (q .args .items .now) ws (tables song .items))
+          (items-all song none ∙ ap (itemsFrom 0) all) (wrote-start (q .args .items .now) (tables song .items)),
     )
 
 mul-write-lyrics : tie.Need-mul-write-lyrics Inv-loop μ-loop
@@ -123,8 +127,11 @@ loop-again c =
     let fits = room (c .before .before .before .before .before .before) in
     let same = l .inv .1 in
     let size = prompts-length (l .measure) (map lyricLine (linesOf s run)) ∙ length-map (linesOf s run) lyricLine ∙ sym items-are in
-    let before = subst (λ (ws : List ℕ). Wrote (a .items .now) (l .i) (l .items) ws all) (items-split (met .ensures) (l .measure) ∙ ap (λ (n : ℕ). here ++ itemsFrom n (sectionsFrom s (met .result .next))) measure-is) (l .inv .5) in
-    let now-written = wrote-lent (a .items .now) (l .i) (l .items) here rest all (wrote .last .1 .1 .1 .0) k size (omega arith) (omega arith) before (wrote .ensures .0) in (
+    let before = subst (λ (ws : List ℕ). Wrote (a .items .now) (l .i) (l .items) ws all)
+    (items-split (met .ensures) (l .measure) ∙ ap (λ (n : ℕ). here ++ itemsFrom n (sectionsFrom s (met .result .next))) measure-is)
+    (l .inv .5) in
+    let now-written = wrote-lent (a .items .now) (l .i) (l .items) here rest all (wrote .last .1 .1 .1 .0) k size (omega arith)
+    (omega arith) before (wrote .ensures .0) in (
       met .ensures .onward,
       wrote-length (a .items .now) (l .i + k) _ rest all (omega arith) now-written,
       l .inv .2,
@@ -142,7 +149,8 @@ returns-2 c =
     let s = a .s .now in
     let all = tables (songOf s) .items in
     let over = sections-over s (l .place) (c .if2 .left) in
-    wrote-end (a .items .now) (l .i) (l .items) all (subst (λ (xs : List Section). Wrote (a .items .now) (l .i) (l .items) (itemsFrom (l .measure) xs) all) over (l .inv .5))
+    wrote-end (a .items .now) (l .i) (l .items) all (subst
+    (λ (xs : List Section). Wrote (a .items .now) (l .i) (l .items) (itemsFrom (l .measure) xs) all) over (l .inv .5))
 
 pub write-items-spec : {M : Type 1} → statement M
 write-items-spec =

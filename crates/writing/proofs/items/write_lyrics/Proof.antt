@@ -30,14 +30,18 @@ abbrev μ-loop : tie.MeasureT-loop
 μ-loop s first items₀ number₀ at₀ left₀ i₀ measure₀ items number at left i measure = length s - at
 
 -- A line is left, and its item has room.
-room : (c : tie.After-line-at Inv-loop μ-loop) → (0 < length (lyricsAt (c .before .before .before .before .before .before .args .s .now) (c .before .before .before .loop .number) (c .before .before .before .loop .at) (c .before .before .before .loop .left)))
+room : (c : tie.After-line-at Inv-loop μ-loop) → (0 < length
+    (lyricsAt (c .before .before .before .before .before .before .args .s .now) (c .before .before .before .loop .number)
+    (c .before .before .before .loop .at) (c .before .before .before .loop .left)))
     × (c .before .before .before .loop .i < length (c .before .before .before .before .before .before .args .items .now))
 unfolding linesOf
 room c =
     let q = c .before .before .before in
     let l = q .loop in
     let a = q .before .before .before .args in
-    let more = ap (λ (ls : List LyricLine). length ls) (lyrics-more (a .s .now) (l .number) (l .at) (l .left) (c .line-at .ensures) (c .before .before .loop-test .taken) (c .before .if1 .left)) in
+    let more = ap (λ (ls : List LyricLine). length ls)
+    (lyrics-more (a .s .now) (l .number) (l .at) (l .left) (c .line-at .ensures) (c .before .before .loop-test .taken)
+    (c .before .if1 .left)) in
     let same = length-map (linesOf (a .s .now) (a .run)) lyricLine in
     (omega arith, omega arith)
 
@@ -59,8 +63,11 @@ returns c =
     let none-left = ap (λ (ls : List LyricLine). length ls) none in
     let none-counted = ap (λ (ls : List LyricLine). counted ls) none in
     let same = length-map (linesOf (a .s .now) (a .run)) lyricLine in
-    let all = map itemWord (promptsFrom (a .first) (lyricsAt (a .s .now) (a .run .number) (a .run .at) (a .run .lines))) in
-    (wrote-end (a .items .now) (l .i) (l .items) all (subst (λ (ls : List LyricLine). Wrote (a .items .now) (l .i) (l .items) (map itemWord (promptsFrom (l .measure) ls)) all) none (l .inv .7)), (omega arith, omega arith))
+    let all = map itemWord (promptsFrom (a .first) (lyricsAt (a .s .now) (a .run .number) (a .run .at) (a .run .lines))) in (
+      wrote-end (a .items .now) (l .i) (l .items) all (subst
+          (λ (ls : List LyricLine). Wrote (a .items .now) (l .i) (l .items) (map itemWord (promptsFrom (l .measure) ls)) all) none (l .inv .7)),
+      (omega arith, omega arith),
+    )
 
 item-at-requires : tie.Need-item-at-requires Inv-loop μ-loop
 unfolding linesOf
@@ -99,9 +106,19 @@ loop-again c =
     let all = map itemWord (promptsFrom (a .first) (lyricsAt s (a .run .number) (a .run .at) (a .run .lines))) in
     let fewer = ap (λ (ls : List LyricLine). length ls) (lyrics-more s (l .number) (l .at) (l .left) found inside some-left) in
     let more = counted-more s (l .number) (l .at) (l .left) found inside some-left w words in
-    let item = prompts-more s (l .number) (l .at) (l .left) found inside some-left w words (l .measure) ∙ ap (λ (v : ℕ). v ∷ rest) (sym (c .before .item-at .ensures)) in
-    let put = wrote-put (a .items .now) (l .i) (l .items) rest all (c .before .item-at .result) (fits .1) (subst (λ (ws : List ℕ). Wrote (a .items .now) (l .i) (l .items) ws all) item (l .inv .7)) in
-    (omega arith, omega arith, omega arith, (λ z. omega arith), wrote-length (a .items .now) (l .i + 1) _ rest all (omega arith) put, omega arith, omega arith, put)
+    let item = prompts-more s (l .number) (l .at) (l .left) found inside some-left w words (l .measure) ∙ ap (λ (v : ℕ). v ∷ rest)
+    (sym (c .before .item-at .ensures)) in
+    let put = wrote-put (a .items .now) (l .i) (l .items) rest all (c .before .item-at .result) (fits .1)
+    (subst (λ (ws : List ℕ). Wrote (a .items .now) (l .i) (l .items) ws all) item (l .inv .7)) in (
+      omega arith,
+      omega arith,
+      omega arith,
+      (λ z. omega arith),
+      wrote-length (a .items .now) (l .i + 1) _ rest all (omega arith) put,
+      omega arith,
+      omega arith,
+      put,
+    )
 
 returns-2 : tie.Need-returns-2 Inv-loop μ-loop
 unfolding linesOf promptsFrom counted
@@ -113,8 +130,11 @@ returns-2 c =
     let none-left = ap (λ (ls : List LyricLine). length ls) none in
     let none-counted = ap (λ (ls : List LyricLine). counted ls) none in
     let same = length-map (linesOf (a .s .now) (a .run)) lyricLine in
-    let all = map itemWord (promptsFrom (a .first) (lyricsAt (a .s .now) (a .run .number) (a .run .at) (a .run .lines))) in
-    (wrote-end (a .items .now) (l .i) (l .items) all (subst (λ (ls : List LyricLine). Wrote (a .items .now) (l .i) (l .items) (map itemWord (promptsFrom (l .measure) ls)) all) none (l .inv .7)), (omega arith, omega arith))
+    let all = map itemWord (promptsFrom (a .first) (lyricsAt (a .s .now) (a .run .number) (a .run .at) (a .run .lines))) in (
+      wrote-end (a .items .now) (l .i) (l .items) all (subst
+          (λ (ls : List LyricLine). Wrote (a .items .now) (l .i) (l .items) (map itemWord (promptsFrom (l .measure) ls)) all) none (l .inv .7)),
+      (omega arith, omega arith),
+    )
 
 pub write-lyrics-spec : {M : Type 1} → statement M
 write-lyrics-spec =

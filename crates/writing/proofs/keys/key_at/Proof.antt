@@ -7,7 +7,9 @@ use Rattle.writing.proofs.keys.key_at.Statement.{statement}
 use Rattle.writing.proofs.keys.key_at.Tie as tie
 
 -- The setting that is found fits its word.
-fits : (c : tie.Else1) → (c .before .before .find .result .start < c .before .before .find .result .stop) × (c .before .before .find .result .start < 65536) × (c .before .before .find .result .stop - c .before .before .find .result .start < 512)
+fits : (c : tie.Else1) → (c .before .before .find .result .start < c .before .before .find .result .stop)
+    × (c .before .before .find .result .start < 65536)
+    × (c .before .before .find .result .stop - c .before .before .find .result .start < 512)
 fits c =
     let found = c .before .before .find in
     let q = c .before .before .before .before in

@@ -41,7 +41,8 @@ key-at-requires c κs =
     let ends = q .pre .2 in
     let run = sym (c .before .before .lines-before .ensures) in
     let short = subst ShortSetting (sym (ends .keys k (c .loop-test .taken))) (metadata-short k (blocksOf s) (q .pre .1)) in
-    subst (λ (r : Run). (1 ≤ r .number) × (r .number ≤ r .at + 1) × (r .at ≤ length s) × (k < 8) × (inputFaults s ≡ []) × ShortSetting (settingAmong k (linesOf s r))) run
+    subst (λ (r : Run). (1 ≤ r .number) × (r .number ≤ r .at + 1) × (r .at ≤ length s) × (k < 8) × (inputFaults s ≡ []) × ShortSetting
+    (settingAmong k (linesOf s r))) run
     (omega arith, omega arith, omega arith, c .loop-test .taken, q .pre .0, short)
 
 loop-again : tie.Need-loop-again Inv-loop μ-loop
@@ -51,12 +52,14 @@ loop-again c =
     let s = q .args .s .now in
     let lines = metadataLines (blocksOf s) in
     let below = c .before .loop-test .taken in
-    let word = c .key-at .ensures ∙ ap (λ (r : Run). wordOfSetting (settingAmong (l .k) (linesOf s r))) (c .before .before .before .lines-before .ensures) ∙ ap wordOfSetting (q .pre .2 .keys (l .k) below) in
+    let word = c .key-at .ensures ∙ ap (λ (r : Run). wordOfSetting (settingAmong (l .k) (linesOf s r)))
+    (c .before .before .before .lines-before .ensures) ∙ ap wordOfSetting (q .pre .2 .keys (l .k) below) in
     let rest = wordsFrom lines (l .k + 1) in
     let all = tables (songOf s) .keys in
     let next = words-more lines (l .k) below ∙ ap (λ (w : ℕ). w ∷ rest) (sym word) in
     let room = q .pre .3 in
-    let put = wrote-put (q .args .keys .now) (l .k) (l .keys) rest all (c .key-at .result) (omega arith) (subst (λ (ws : List ℕ). Wrote (q .args .keys .now) (l .k) (l .keys) ws all) next (l .inv .2)) in
+    let put = wrote-put (q .args .keys .now) (l .k) (l .keys) rest all (c .key-at .result) (omega arith)
+    (subst (λ (ws : List ℕ). Wrote (q .args .keys .now) (l .k) (l .keys) ws all) next (l .inv .2)) in
     (omega arith, wrote-length (q .args .keys .now) (l .k + 1) _ rest all (omega arith) put, put)
 
 returns : tie.Need-returns Inv-loop μ-loop
