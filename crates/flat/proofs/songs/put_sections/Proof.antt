@@ -40,7 +40,9 @@ meter : (c : tie.After-meter-of Inv-loop μ-loop)
     c .meter-of .result ≡ timeOf (songOf s) (sectionAt s (l .loop .place)))
 meter c =
     let l = c .before .before .before .before .before .before .before .before .before in
-    c .meter-of .ensures ∙ meter-is _ _ (c .before .before .before .before .before .open-section .ensures .0 .met .says .time) (l .before .before .before .before .before .before .before .before .before .pre .0 .2 .keys .time)
+    c .meter-of .ensures
+    ∙ meter-is _ _ (c .before .before .before .before .before .open-section .ensures .0 .met .says .time)
+    (l .before .before .before .before .before .before .before .before .before .pre .0 .2 .keys .time)
 
 loop-holds : tie.Need-loop-holds Inv-loop μ-loop
 loop-holds c =
