@@ -12,6 +12,7 @@ use Rattle.songcode.specs.Meter.{sectionMeter, meterFaults, sectionCount, lengt
 use Rattle.songcode.specs.Answer.{songOf}
 use Rattle.songcode.proofs.ListLaws.{append-is-nil}
 use Rattle.player.specs.Texts.{rowWords}
+use Rattle.player.proofs.SectionMeaning.{rows-length, rows-total}
 use Rattle.sections.specs.declared.blocks.Place.{Place}
 use Rattle.sections.specs.Onward.{Onward, sectionsFrom, sectionAt}
 use Rattle.scores.specs.declared.definitions.Score.{Score}
@@ -20,7 +21,7 @@ use Rattle.scores.specs.Scores.{Ready, Begins, Opens}
 use Rattle.judging.specs.Sums.{rowOfTexts, PlaysWithin}
 use Rattle.judging.proofs.MeterLaws.{meter-range}
 use Rattle.judging.proofs.PlayedLaws.{played-short, lengths-step}
-use Rattle.judging.proofs.PlayLaws.{texts-play, texts-within, texts-beats, words-length, words-total}
+use Rattle.judging.proofs.PlayLaws.{texts-play, texts-within, texts-beats}
 
 -- Only sections are left from the place on, behind so many measures and beats.
 pub record Along (s ws : List ℕ) (score : Score) (p : Place) (m b : ℕ) : Type 0 where
@@ -97,10 +98,10 @@ module _ {s ws vs : List ℕ} {score : Score} {p : Place} {m b : ℕ} (a : Along
 
   -- The counts of the row that the code plays.
   pub along-measures : (k : ℕ) → k ≡ length (rowOfTexts vs score n (x .texts) (x .section .modifiers)) → k ≡ length (played (songOf s) (sectionAt s p))
-  along-measures k h = h ∙ ap length along-row ∙ words-length (played (songOf s) (sectionAt s p))
+  along-measures k h = h ∙ ap length along-row ∙ rows-length (played (songOf s) (sectionAt s p))
 
   pub along-beats : (k : ℕ) → k ≡ total (rowOfTexts vs score n (x .texts) (x .section .modifiers)) → k ≡ total (played (songOf s) (sectionAt s p))
-  along-beats k h = h ∙ ap total along-row ∙ words-total (played (songOf s) (sectionAt s p))
+  along-beats k h = h ∙ ap total along-row ∙ rows-total (played (songOf s) (sectionAt s p))
 
   pub along-next : Along s vs score (x .next) (m + length (played (songOf s) (sectionAt s p))) (b + total (played (songOf s) (sectionAt s p)))
   along-next =

@@ -1,17 +1,16 @@
 -- The texts of an opened section play what the definitions say of the section, and few enough measures for the tables.
 use Prim.Native.Nat.{ℕ, _+_, _*_, _≤_}
 use mathlib.Core.Path.{_≡_, refl, _∙_}
-use mathlib.Core.List.{List, [], _∷_, _++_, map}
+use mathlib.Core.List.{List, [], _∷_, _++_}
 use mathlib.Core.Option.{Option, none, some}
 use native.Mathlib.Omega.{arith}
-use lib.ListN.{length, length-map}
+use lib.ListN.{length}
 use Rattle.songcode.specs.Lists.{times, andThen}
 use Rattle.songcode.specs.Song.{Items, Modifier, Section, Song}
 use Rattle.songcode.specs.References.{patternItems}
 use Rattle.songcode.specs.Playing.{Beat, Side, cutStartSaid, cutEndSaid, saidBy, beforeSaid, afterSaid, repeats, cutRow, measuresOf}
 use Rattle.songcode.specs.Playing.{sideMeasures, keptMeasures, timeOf, played}
 use Rattle.songcode.specs.Performance.{total}
-use Rattle.songcode.specs.Tables.{beatWord}
 use Rattle.songcode.specs.Meter.{rowFaults, playedFaults, sideFaults, sectionMeter, countOf, sideCount, sectionCount}
 use Rattle.songcode.proofs.ListLaws.{append-is-nil, times-length}
 use Rattle.songcode.specs.EitherOrder.{Filled}
@@ -22,7 +21,7 @@ use Rattle.player.specs.declared.leaves.Definitions.{Definitions}
 use Rattle.player.specs.Texts.{rowWords}
 use Rattle.player.specs.Walks.{rowOf}
 use Rattle.player.proofs.SectionLaws.{section-beats}
-use Rattle.player.proofs.SectionMeaning.{section-words}
+use Rattle.player.proofs.SectionMeaning.{rows-length, section-words}
 use Rattle.player.proofs.ShortLaws.{short-row}
 use Rattle.sections.specs.declared.values.Modifiers.{Modifiers}
 use Rattle.scores.specs.declared.definitions.Score.{Score}
@@ -36,16 +35,6 @@ use Rattle.judging.proofs.CutLaws.{cut-said}
 use Rattle.judging.proofs.OpenedLaws.{row-fits}
 use Rattle.songcode.proofs.MeterAgree.{length-side}
 use Rattle.judging.proofs.PlayedLaws.{cut-short}
-
--- The words of a row: as many measures and beats as the row has.
-pub words-length : (row : List (List Beat)) → length (rowWords row) ≡ length row
-unfolding rowWords
-words-length row = length-map row (map beatWord)
-
-pub words-total : (row : List (List Beat)) → total (rowWords row) ≡ total row
-unfolding rowWords total
-words-total [] = refl
-words-total (m ∷ row) = rw (length-map m beatWord, words-total row)
 
 -- The row of a text in the buffer.
 module _ (ws : List ℕ) (d : Definitions) (n : ℕ) where
@@ -121,12 +110,12 @@ module _ (s : Song) (x : Section) (ws : List ℕ) (score : Score) (t : Texts) (m
   lead-length : (n : ℕ) → length (rowOf (score .definitions) n ws (t .lead .at)) ≡ sideCount (saidBy beforeSaid (x .modifiers))
   lead-length n =
       rw (carried-side ws (score .definitions) n (t .lead) (saidBy beforeSaid (x .modifiers)) (h .lead))
-      (words-length _ ∙ length-side n (saidBy beforeSaid (x .modifiers)))
+      (rows-length _ ∙ length-side n (saidBy beforeSaid (x .modifiers)))
 
   tail-length : (n : ℕ) → length (rowOf (score .definitions) n ws (t .tail .at)) ≡ sideCount (saidBy afterSaid (x .modifiers))
   tail-length n =
       rw (carried-side ws (score .definitions) n (t .tail) (saidBy afterSaid (x .modifiers)) (h .tail))
-      (words-length _ ∙ length-side n (saidBy afterSaid (x .modifiers)))
+      (rows-length _ ∙ length-side n (saidBy afterSaid (x .modifiers)))
 
   pattern-length : (n : ℕ) → length (times (m .repeat) (rowOf (score .definitions) n ws (t .pattern .at)))
       ≡ repeats (x .modifiers) * countOf (patternItems (s .definitions) (x .pattern))

@@ -73,11 +73,11 @@ module _ {A B : Type 0} (f : A → B) where
   window-words s n (x ∷ row) =
       rw (length-words x, drop-words s x, take-words n (drop s x), window-words (s - length x) (n - (length x - s)) row) (keep-words (take n (drop s x)) (window (s - length x) (n - (length x - s)) row))
 
-rows-length : (row : List (List Beat)) → length (rowWords row) ≡ length row
+pub rows-length : (row : List (List Beat)) → length (rowWords row) ≡ length row
 unfolding rowWords
 rows-length row = length-words (map beatWord) row
 
-rows-total : (row : List (List Beat)) → total (rowWords row) ≡ total row
+pub rows-total : (row : List (List Beat)) → total (rowWords row) ≡ total row
 unfolding rowWords
 rows-total row = total-words beatWord row
 

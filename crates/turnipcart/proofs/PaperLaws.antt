@@ -4,6 +4,7 @@ use mathlib.Core.Path.{_≡_, refl, sym, ap, _∙_}
 use mathlib.Core.List.{List, [], _∷_}
 use Rattle.flat.specs.declared.answers.Copied.{Copied}
 use Rattle.flat.specs.Answers.{Flattened}
+use Rattle.flat.proofs.AnswerLaws as flat
 use Rattle.turnipcart.specs.Answers.{copiedIn, CopiesChart}
 
 abbrev pub laid : Copied → List ℕ
@@ -13,11 +14,8 @@ pub copied-laid : (text before : List ℕ) (c : Copied) (after : List ℕ) → F
 unfolding copiedIn
 copied-laid text before c after f = record { handed = refl; flattened = f }
 
-one-flat : (text before : List ℕ) (c d : Copied) (a b : List ℕ) → Flattened text before c a → Flattened text before d b → (c ≡ d) × (a ≡ b)
-one-flat text before c d a b f g = (f .answer ∙ sym (g .answer), f .copy ∙ sym (g .copy))
-
 pub one-copy : (s old : List ℕ) (r q : ℕ) (x y a b : List ℕ) → CopiesChart s old r x a → CopiesChart s old q y b
     → (r ≡ q) × (copiedIn x ≡ copiedIn y) × (a ≡ b)
 one-copy s old r q x y a b f g =
-    let same = one-flat s old (copiedIn x) (copiedIn y) a b (f .flattened) (g .flattened) in
+    let same = flat.one-copy s old (copiedIn x) (copiedIn y) a b (f .flattened) (g .flattened) in
     (f .handed ∙ ap (λ (z : Copied). z .refusal) (same .0) ∙ sym (g .handed), same .0, same .1)
