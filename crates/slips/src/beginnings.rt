@@ -24,13 +24,18 @@ pub fn dollar_at(w: &[u8]) -> usize
     i
 }
 
-// Where the first of the signs stands that no extension holds, or the word's end.
+// A sign that no extension holds.
+fn is_sign(b: u8) -> bool {
+    b == b'%' || b == b'_' || b == b'=' || b == b'$'
+}
+
+// Where the first such sign of a word stands, or its end.
 fn sign_at(w: &[u8]) -> usize
     ensures { λ r. ⌜ r ≤ length (now (w .entry)) ⌝ }
 {
     let mut i = 0;
     while i < w.len() {
-        if w[i] == b'%' || w[i] == b'_' || w[i] == b'=' || w[i] == b'$' {
+        if is_sign(w[i]) {
             return i;
         }
         i += 1;
