@@ -22,6 +22,9 @@ read-short-requires c κs =
     let clear = first-clear (c .before .before .before .before .before .before .before .before .before .before .before .before .before .before .before .args .text .now) (early .result) (early .ensures) (c .before .before .before .before .before .before .if1 .left) in
     (clear .0, clear .1, c .before .before .before .before .before .if2 .taken)
 
+returns-2 : tie.Need-returns-2
+returns-2 c = search needs
+
 read-long-requires : tie.Need-read-long-requires
 read-long-requires c κs =
     let s = c .before .before .before .before .before .before .before .before .before .before .before .before .before .before .before .args .text .now in
@@ -33,5 +36,5 @@ pub read-spec : {M : Type 1} → statement M
 read-spec =
     tie.close
     (tie.spec (λ c κs. search needs) (λ c κs. search needs) returns read-short-requires (λ c. search needs) (λ c. search needs)
-    (λ c. search needs) (λ c. search needs) (λ c. search needs) (λ c. search needs) read-long-requires (λ c. search needs)
+    (λ c. search needs) (λ c. search needs) (λ c. search needs) returns-2 read-long-requires (λ c. search needs)
     (λ c. search needs) (λ c. search needs) (λ c. search needs) (λ c. search needs) (λ c. search needs))
