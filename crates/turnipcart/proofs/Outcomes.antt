@@ -8,8 +8,9 @@ use Rattle.reader.specs.Answers.{Lent, Promised, Counted}
 use Rattle.reader.proofs.AnswerLaws.{one-outcome, one-count}
 use Rattle.concert.specs.Promises.{Moves}
 use Rattle.concert.proofs.Demanded.{demanded}
+use Rattle.cues.specs.declared.Lit.{Lit}
 use Rattle.seek.specs.declared.Found.{Found}
-use Rattle.turnipcart.specs.Answers.{answerIn, foundIn, explainedIn, ReadsChart, CountsChart, FindsBeat, ExplainsChart}
+use Rattle.turnipcart.specs.Answers.{answerIn, foundIn, explainedIn, ReadsChart, CountsChart, FindsBeat, LightsCues, ExplainsChart}
 use Rattle.turnipcart.specs.OneOutcome.{OneOutcome}
 use Rattle.turnipcart.proofs.PaperLaws.{one-copy}
 
@@ -45,6 +46,11 @@ one-found : (measures : List ℕ) (beat r q : ℕ) (x y : List ℕ) → FindsBea
 one-found measures beat r q x y f g =
     let same = f .halved ∙ sym (g .halved) in (f .refused ∙ ap (λ (z : Found). z .refusal) same ∙ sym (g .refused), same)
 
+one-lit : (sections measures before : List ℕ) (r q d e : ℕ) (x y : List ℕ) → LightsCues sections measures before r d x
+    → LightsCues sections measures before q e y → (r ≡ q) × (d ≡ e) × (x ≡ y)
+one-lit sections measures before r q d e x y f g =
+    let same = f .lit ∙ sym (g .lit) in (ap (λ (z : Lit). z .refusal) same, ap (λ (z : Lit). z .end) same, f .cues ∙ sym (g .cues))
+
 one-explained : (text : List ℕ) (r q : ℕ) (x y : List ℕ) → ExplainsChart text r x → ExplainsChart text q y
     → (r ≡ q) × (explainedIn x .refusal ≡ explainedIn y .refusal) × (explainedIn x .line ≡ explainedIn y .line)
 one-explained text r q x y f g =
@@ -53,4 +59,4 @@ one-explained text r q x y f g =
 
 pub outcomes : OneOutcome
 outcomes =
-    record { read = one-read; counted = one-counted; found = one-found; moved = demanded .one-outcome; copied = one-copy; explained = one-explained }
+    record { read = one-read; counted = one-counted; found = one-found; lit = one-lit; moved = demanded .one-outcome; copied = one-copy; explained = one-explained }

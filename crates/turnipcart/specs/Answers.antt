@@ -2,7 +2,7 @@
 use Prim.Native.Nat.{ℕ}
 use mathlib.Core.Path.{_≡_}
 use mathlib.Core.List.{List}
-use lib.ListN.{getD}
+use lib.ListN.{length, getD}
 use Rattle.songcode.specs.Finding.{jumpTo}
 use Rattle.reader.specs.declared.answers.Answer.{Answer}
 use Rattle.reader.specs.Answers.{Lent, Promised, Counted}
@@ -12,6 +12,9 @@ use Rattle.seek.specs.declared.Found.{Found}
 use Rattle.seek.specs.Answers.{foundOf}
 use Rattle.flat.specs.declared.answers.Copied.{Copied}
 use Rattle.flat.specs.Answers.{Flattened}
+use Rattle.cues.specs.declared.Lit.{Lit}
+use Rattle.cues.specs.Cues.{refusalOf}
+use Rattle.cues.specs.Answers.{litBy, cuesBy}
 
 -- Refusal, line, and the counts of sections, measures, beats and items.
 unfoldable pub answerIn : List ℕ → Answer
@@ -36,6 +39,11 @@ pub record CountsChart (text : List ℕ) (refusal : ℕ) (answer : List ℕ) : T
 pub record FindsBeat (measures : List ℕ) (beat : ℕ) (refusal : ℕ) (found : List ℕ) : Type 0 where
   pub refused : refusal ≡ foundIn found .refusal
   pub halved : foundIn found ≡ foundOf (jumpTo beat measures)
+
+-- The cues of three tables: the refusal that is returned, the song's end, and every word of the cue table.
+pub record LightsCues (sections measures before : List ℕ) (refusal end : ℕ) (after : List ℕ) : Type 0 where
+  pub lit : _≡_ {A = Lit} (record { refusal = refusal; end = end }) (litBy (refusalOf sections measures (length before)) sections measures)
+  pub cues : after ≡ cuesBy (refusalOf sections measures (length before)) sections measures before
 
 -- Refusal, line and cause; the line, the first byte and the length of the place; one more line; three numbers.
 unfoldable pub explainedIn : List ℕ → Explained

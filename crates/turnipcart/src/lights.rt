@@ -1,8 +1,5 @@
 // The light cues: when each measure starts.
-ghost use mathlib.Core.Path.{_≡_};
-ghost use lib.ListN.{length};
-ghost use Rattle.cues.specs.Cues.{refusalOf};
-ghost use Rattle.cues.specs.Answers.{litBy, cuesBy};
+ghost use Rattle.turnipcart.specs.Answers.{LightsCues};
 
 // For any three tables. The refusal is returned; `end` gets the song's end, or 0.
 #[no_mangle]
@@ -12,8 +9,7 @@ pub extern "C" fn turnipcart_cues(
     starts: &mut [u64],
     end: &mut u64,
 ) -> usize
-    ensures { λ r. ⌜ record { refusal = r; end = now (end .exit) } ≡ litBy (refusalOf (now (sections .entry)) (now (measures .entry)) (length (now (starts .entry)))) (now (sections .entry)) (now (measures .entry)) ⌝ }
-    ensures { λ _. ⌜ now (starts .exit) ≡ cuesBy (refusalOf (now (sections .entry)) (now (measures .entry)) (length (now (starts .entry)))) (now (sections .entry)) (now (measures .entry)) (now (starts .entry)) ⌝ }
+    ensures { λ r. ⌜ LightsCues (now (sections .entry)) (now (measures .entry)) (now (starts .entry)) r (now (end .exit)) (now (starts .exit)) ⌝ }
 {
     let lit = cues::light_cues(sections, measures, starts);
     *end = lit.end;
