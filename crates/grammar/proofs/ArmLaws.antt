@@ -1,23 +1,13 @@
--- The arms of a match: what a function gives for the case at hand, it gives for what was matched.
-use mathlib.Core.Path.{_≡_, sym, ap, _∙_}
+-- Steps of the check: one that leads nowhere, one that leads on, and those of a check that is spoiled.
+use mathlib.Core.Path.{_≡_, refl, sym, ap, _∙_}
 use mathlib.Core.Bool.{Bool, true, false}
 use Rattle.songcode.specs.Lists.{if_then_else_}
 use Rattle.grammar.specs.declared.kinds.Kind.{Kind}
+use Rattle.grammar.specs.declared.kinds.Kind.the-variants.{Sound, Remover, Reference, Semicolon, Colon, LineEnd, Opens, Closes, Wrong}
 use Rattle.grammar.specs.declared.checks.Place.{Place}
 use Rattle.grammar.specs.declared.checks.Check.{Check}
 use Rattle.grammar.specs.Places.{nextPlace}
 use Rattle.grammar.specs.Checks.{spoiled, isBad, arrived, checkStep}
-
-module _ {A : Type 0} where
-  pub by-kind : (f : Kind → A) {k d : Kind} {r : A} → k ≡ d → r ≡ f d → r ≡ f k
-  by-kind f e h = rw e h
-
-  pub by-place : (f : Place → A) {p q : Place} {r : A} → p ≡ q → r ≡ f q → r ≡ f p
-  by-place f e h = rw e h
-
-  -- The same where another function was called, which agrees with it in this case.
-  pub by-other : (f g : Kind → A) {k d : Kind} {r : A} → k ≡ d → r ≡ g k → g d ≡ f d → r ≡ f k
-  by-other f g e h a = rw e (rw e at h ∙ a)
 
 -- A step that leads nowhere, and one that leads on.
 module _ (c : Check) (k : Kind) {r : Check} {p : Place} {b : Bool} (is : b ≡ isBad p) (next : p ≡ nextPlace (c .place) k) where
@@ -30,3 +20,20 @@ module _ (c : Check) (k : Kind) {r : Check} {p : Place} {b : Bool} (is : b ≡ i
   step-on t h =
       let e : isBad (nextPlace (c .place) k) ≡ false = ap isBad (sym next) ∙ (sym is ∙ t) in
       rw e (h ∙ ap (λ (q : Place). arrived c q k) next)
+
+-- What holds of each kind.
+pub of-kind : (P : Kind → Type 0) → P Sound → P Remover → P Reference → P Semicolon → P Colon → P LineEnd → P Opens → P Closes → P Wrong → (k : Kind) → P k
+of-kind P s r n c d e o z w Sound = s
+of-kind P s r n c d e o z w Remover = r
+of-kind P s r n c d e o z w Reference = n
+of-kind P s r n c d e o z w Semicolon = c
+of-kind P s r n c d e o z w Colon = d
+of-kind P s r n c d e o z w LineEnd = e
+of-kind P s r n c d e o z w Opens = o
+of-kind P s r n c d e o z w Closes = z
+of-kind P s r n c d e o z w Wrong = w
+
+-- A check that is spoiled stays so.
+pub stays-spoiled : (k : Kind) → spoiled ≡ checkStep spoiled k
+unfolding checkStep
+stays-spoiled = of-kind (λ k. spoiled ≡ checkStep spoiled k) refl refl refl refl refl refl refl refl refl

@@ -10,14 +10,14 @@ use Rattle.songcode.specs.Tokens.{Token, sound, remover, reference, semicolon, 
 use Rattle.songcode.specs.PatternText.{wholeReference, loopsDeep}
 use Rattle.text.proofs.TestLaws.{by-cases}
 use Rattle.grammar.specs.declared.kinds.Kind.{Kind}
-use Rattle.grammar.specs.declared.kinds.Kind.the-variants.{Sound, Remover, Reference, Semicolon, Colon, LineEnd, Opens, Closes, Wrong}
 use Rattle.grammar.specs.declared.checks.Place.{Place}
 use Rattle.grammar.specs.declared.checks.Place.the-variants.{Fresh, Wants, Joins, Sounds, Removed, Alone, Full, Ended, Bad}
 use Rattle.grammar.specs.declared.checks.Check.{Check}
 use Rattle.grammar.specs.Kinds.{kindOf, kindsOf}
-use Rattle.grammar.specs.Places.{afterWants, afterJoins, afterEnded, afterFull, afterSounds, afterRemoved, nextPlace}
+use Rattle.grammar.specs.Places.{nextPlace}
 use Rattle.grammar.specs.Checks.{check, first, spoiled, opened, closed, isBad, arrived, checkStep, checkRun}
 use Rattle.grammar.specs.Verdicts.{isAlone}
+use Rattle.grammar.proofs.ArmLaws.{of-kind}
 
 -- Places where something stands before the item at hand, or the item is no `$n`.
 unfoldable isLate : Place → Bool
@@ -33,17 +33,6 @@ isLate Bad = true
 
 abbrev Late : Check → Type 0
 Late c = isLate (c .place) ≡ true
-
-of-kind : (P : Kind → Type 0) → P Sound → P Remover → P Reference → P Semicolon → P Colon → P LineEnd → P Opens → P Closes → P Wrong → (k : Kind) → P k
-of-kind P s r n c d e o z w Sound = s
-of-kind P s r n c d e o z w Remover = r
-of-kind P s r n c d e o z w Reference = n
-of-kind P s r n c d e o z w Semicolon = c
-of-kind P s r n c d e o z w Colon = d
-of-kind P s r n c d e o z w LineEnd = e
-of-kind P s r n c d e o z w Opens = o
-of-kind P s r n c d e o z w Closes = z
-of-kind P s r n c d e o z w Wrong = w
 
 late-opened : (c : Check) → Late (opened c)
 unfolding opened if_then_else_ isLate
@@ -62,19 +51,19 @@ late-step : (c : Check) (k : Kind) → isLate (nextPlace (c .place) k) ≡ true 
 unfolding checkStep if_then_else_ isLate
 late-step c k h = by-cases (isBad (nextPlace (c .place) k)) (λ t. simp t) (λ t. simp t (late-arrived c (nextPlace (c .place) k) h k))
 
-full-late : (k : Kind) → isLate (afterFull k) ≡ true
-unfolding afterFull isLate
-full-late = of-kind (λ k. isLate (afterFull k) ≡ true) refl refl refl refl refl refl refl refl refl
+alone-late : (k : Kind) → isLate (nextPlace Alone k) ≡ true
+unfolding isLate
+alone-late = of-kind (λ k. isLate (nextPlace Alone k) ≡ true) refl refl refl refl refl refl refl refl refl
 
 place-late : (p : Place) → isLate p ≡ true → (k : Kind) → isLate (nextPlace p k) ≡ true
-unfolding nextPlace isLate
-place-late Wants h = of-kind (λ k. isLate (afterWants k) ≡ true) refl refl refl refl refl refl refl refl refl
-place-late Joins h = of-kind (λ k. isLate (afterJoins k) ≡ true) refl refl refl refl refl refl refl refl refl
-place-late Sounds h = of-kind (λ k. isLate (afterSounds k) ≡ true) refl refl refl refl refl refl refl refl refl
-place-late Removed h = of-kind (λ k. isLate (afterRemoved k) ≡ true) refl refl refl refl refl refl refl refl refl
-place-late Full h = full-late
-place-late Ended h = of-kind (λ k. isLate (afterEnded k) ≡ true) refl refl refl refl refl refl refl refl refl
-place-late Bad h = λ k. refl
+unfolding isLate
+place-late Wants h = of-kind (λ k. isLate (nextPlace Wants k) ≡ true) refl refl refl refl refl refl refl refl refl
+place-late Joins h = of-kind (λ k. isLate (nextPlace Joins k) ≡ true) refl refl refl refl refl refl refl refl refl
+place-late Sounds h = of-kind (λ k. isLate (nextPlace Sounds k) ≡ true) refl refl refl refl refl refl refl refl refl
+place-late Removed h = of-kind (λ k. isLate (nextPlace Removed k) ≡ true) refl refl refl refl refl refl refl refl refl
+place-late Full h = of-kind (λ k. isLate (nextPlace Full k) ≡ true) refl refl refl refl refl refl refl refl refl
+place-late Ended h = of-kind (λ k. isLate (nextPlace Ended k) ≡ true) refl refl refl refl refl refl refl refl refl
+place-late Bad h = of-kind (λ k. isLate (nextPlace Bad k) ≡ true) refl refl refl refl refl refl refl refl refl
 place-late Fresh h = let z : _≡_ {A = ℕ} 0 1 = cc in absurd (omega arith)
 place-late Alone h = let z : _≡_ {A = ℕ} 0 1 = cc in absurd (omega arith)
 
@@ -84,7 +73,7 @@ late-run c [] h = h
 late-run c (k ∷ ks) h = late-run (checkStep c k) ks (late-step c k (place-late (c .place) h k))
 
 not-alone : (p : Place) → isLate p ≡ true → isAlone p ≡ false
-unfolding isAlone isLate
+unfolding isLate
 not-alone Wants h = refl
 not-alone Joins h = refl
 not-alone Sounds h = refl
@@ -99,11 +88,11 @@ late-is-not-alone : (c : Check) (ks : List Kind) → Late c → isAlone (checkRu
 late-is-not-alone c ks h = not-alone (checkRun c ks .place) (late-run c ks h)
 
 pub alone-is-whole : (ts : List Token) → isAlone (checkRun first (kindsOf ts) .place) ≡ isSome (wholeReference ts)
-unfolding checkRun checkStep nextPlace kindsOf kindOf wholeReference isSome isAlone isLate
+unfolding checkRun checkStep kindsOf kindOf wholeReference isSome isLate
 alone-is-whole [] = refl
 alone-is-whole (reference n ∷ []) = refl
 alone-is-whole (reference n ∷ t ∷ ts) = late-is-not-alone (checkStep (check Alone 0 true) (kindOf t)) (kindsOf ts)
-    (late-step (check Alone 0 true) (kindOf t) (full-late (kindOf t)))
+    (late-step (check Alone 0 true) (kindOf t) (alone-late (kindOf t)))
 alone-is-whole (sound s ∷ ts) = late-is-not-alone (check Sounds 0 false) (kindsOf ts) refl
 alone-is-whole (opens ∷ ts) = late-is-not-alone (opened first) (kindsOf ts) (late-opened first)
 alone-is-whole (remover ∷ ts) = late-is-not-alone spoiled (kindsOf ts) refl

@@ -19,6 +19,7 @@ use Rattle.grammar.specs.declared.checks.Place.the-variants.{Wants, Full
 use Rattle.grammar.specs.declared.checks.Check.{Check}
 use Rattle.grammar.specs.Checks.{check, spoiled, opened, closed, checkStep}
 use Rattle.grammar.specs.States.{depthBegun, depthRows, referencesBegun, referencesRows, within, checkRows, checkItem}
+use Rattle.grammar.proofs.ArmLaws.{stays-spoiled}
 
 -- Up to the limit a check is itself, and past it spoiled.
 pub within-limit : (d : ℕ) (c : Check) → d ≤ loopsDeep → within d c ≡ c
@@ -48,11 +49,11 @@ closes-one p n b = let e : suc n - 1 ≡ n = omega arith in simp (ne-eqb (suc n)
 module _ (d : ℕ) (c : Check) (k : Kind) where
   pub step-within : (e : Check) → e ≡ checkStep c k → within d e ≡ checkStep (within d c) k
   unfolding checkStep
-  step-within e h = by-limit d (λ l. rw (within-limit d c l, within-limit d e l) h) (λ l. rw (past-limit d c l, past-limit d e l) refl)
+  step-within e h = by-limit d (λ l. rw (within-limit d c l, within-limit d e l) h) (λ l. rw (past-limit d c l, past-limit d e l) (stays-spoiled k))
 
   pub spoiled-within : spoiled ≡ checkStep c k → spoiled ≡ checkStep (within d c) k
   unfolding checkStep
-  spoiled-within h = by-limit d (λ l. rw (within-limit d c l) h) (λ l. rw (past-limit d c l) refl)
+  spoiled-within h = by-limit d (λ l. rw (within-limit d c l) h) (λ l. rw (past-limit d c l) (stays-spoiled k))
 
 -- Two checks that a step leads to the same.
 pub alike-within : (d : ℕ) (c e : Check) (k : Kind) → checkStep c k ≡ checkStep e k → checkStep (within d c) k ≡ checkStep (within d e) k

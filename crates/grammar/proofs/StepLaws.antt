@@ -18,6 +18,7 @@ use Rattle.grammar.specs.Checks.{check, spoiled, opened, closed, checkSt
 use Rattle.grammar.specs.States.{placeBefore, placeBehind, placeInMeasure, checkRows, checkItem, checkOf}
 use Rattle.grammar.proofs.RowLaws.{step-within, spoiled-within, alike-within, separated, with-measure, with-reference, row-opened, row-closed}
 use Rattle.grammar.proofs.RowLaws.{none-closed}
+use Rattle.grammar.proofs.ArmLaws.{stays-spoiled}
 
 -- What holds of the places before an item, and of those behind one.
 pub before : (P : Place → Type 0) (r : Begun) (os : List Begun) → P Fresh → P Wants → P Joins → P (placeBefore r os)
@@ -189,7 +190,7 @@ unfolding step checkOf checkStep
 check-step (wants r os) t = begin-step r os t
 check-step (has r os i) t = has-step r os i t
 check-step (ended r os i) t = ended-step r os i t
-check-step bad t = refl
+check-step bad t = stays-spoiled (kindOf t)
 
 pub check-run : (s : State) (ts : List Token) → checkOf (run s ts) ≡ checkRun (checkOf s) (kindsOf ts)
 unfolding run checkRun kindsOf

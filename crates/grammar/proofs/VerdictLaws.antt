@@ -42,7 +42,7 @@ abbrev fine : (Bool → Bool) → Check → Bool
 fine test c = definitionFine c && test (not (c .named))
 
 unfinished : (test : Bool → Bool) (d : ℕ) (c : Check) → definitionFine c ≡ false → fine test (within d c) ≡ false
-unfolding definitionFine isBehind
+unfolding definitionFine
 unfinished test d c h = by-limit d (λ l. rw (within-limit d c l, h) refl) (λ l. rw (past-limit d c l) refl)
 
 open-loop : (p : Place) (n : ℕ) (b : Bool) → definitionFine (check p (suc n) b) ≡ false
@@ -51,7 +51,7 @@ open-loop p n b = rw (ne-eqb (suc n) 0 (λ z. omega arith)) (and-false (isBehind
 
 module _ (test : Bool → Bool) where
   finished : (d : ℕ) (p : Place) (b : Bool) → isBehind p ≡ true → fine test (within d (check p 0 b)) ≡ (leb d loopsDeep && test (not b))
-  unfolding definitionFine isBehind
+  unfolding definitionFine
   finished d p b h =
       by-limit
       d
@@ -73,7 +73,7 @@ module _ (test : Bool → Bool) where
       ∙ ap (λ (b : Bool). leb (depth (add r i)) loopsDeep && test b) (not-not (isEmpty (references (add r i)))))
 
   pub fine-state : (s : State) → fine test (checkOf s) ≡ isSome (andThen (done s) (kept (λ q. test (isEmpty (references q)))))
-  unfolding checkOf done andThen isSome checkRows checkItem definitionFine isBehind
+  unfolding checkOf done andThen isSome checkRows checkItem definitionFine
   fine-state (wants r os) = unfinished test _ _ (before (λ p. definitionFine (check p (length os) false) ≡ false) r os refl refl refl)
   fine-state (ended r os i) = unfinished test _ _ refl
   fine-state bad = refl

@@ -11,9 +11,9 @@ use Rattle.songcode.specs.PatternText.{loopsDeep}
 use Rattle.grammar.specs.declared.kinds.Kind.{Kind}
 use Rattle.grammar.specs.declared.kinds.Kind.the-variants.{Sound, Remover, Reference, Semicolon, Colon, LineEnd, Opens, Closes, Wrong}
 use Rattle.grammar.specs.declared.checks.Place.{Place}
-use Rattle.grammar.specs.declared.checks.Place.the-variants.{Fresh, Wants, Joins, Sounds, Removed, Alone, Full, Ended, Bad}
+use Rattle.grammar.specs.declared.checks.Place.the-variants.{Fresh, Wants, Full, Bad}
 use Rattle.grammar.specs.declared.checks.Check.{Check}
-use Rattle.grammar.specs.Places.{nextPlace}
+use Rattle.grammar.specs.Places.{row, nextPlace}
 use Rattle.grammar.specs.Kinds.{kindsOf}
 
 abbrev pub check : Place → ℕ → Bool → Check
@@ -41,16 +41,9 @@ unfoldable pub closed : Check → Check
 unfolding if_then_else_
 closed c = if eqb (c .loops) 0 then spoiled else check Full (c .loops - 1) (c .named)
 
+-- The place of the last row.
 abbrev pub isBad : Place → Bool
-isBad Bad = true
-isBad Fresh = false
-isBad Wants = false
-isBad Joins = false
-isBad Sounds = false
-isBad Removed = false
-isBad Alone = false
-isBad Full = false
-isBad Ended = false
+isBad p = eqb (row p) 8
 
 -- The check at its new place, with the loops and the `$n` counted.
 unfoldable pub arrived : Check → Place → Kind → Check
@@ -67,7 +60,7 @@ arrived c p Wrong = moved c p
 
 -- The check behind one more token, and behind several.
 unfoldable pub checkStep : Check → Kind → Check
-unfolding if_then_else_ isBad arrived nextPlace
+unfolding if_then_else_ arrived
 checkStep c k = if isBad (nextPlace (c .place) k) then spoiled else arrived c (nextPlace (c .place) k) k
 
 unfoldable pub checkRun : Check → List Kind → Check

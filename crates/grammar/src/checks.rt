@@ -1,8 +1,9 @@
 // The check of a pattern text: where the reading stands, and one function for each place that says what a token leads to.
 use super::Kind;
 ghost use mathlib.Core.Path.{_≡_};
+ghost use Prim.Native.Nat.{_<_};
 ghost use Rattle.grammar.specs.Checks.{first, spoiled, moved, referred, opened, closed, arrived, isBad, checkStep};
-ghost use Rattle.grammar.specs.Places.{afterWants, afterFresh, afterJoins, afterEnded, afterFull, afterSounds, afterRemoved, nextPlace};
+ghost use Rattle.grammar.specs.Places.{column, row, nextPlace};
 
 // "No loop in a loop": so many loops are open at once.
 pub const LOOPS_DEEP: usize = 1;
@@ -97,156 +98,89 @@ fn close_loop(c: Check) -> Check
     }
 }
 
-// Where an item is to come: a measure, a `$n` or a loop begins.
-fn after_wants(kind: Kind) -> Place
-    ensures { λ r. ⌜ r ≡ afterWants kind ⌝ }
+// The places that a token leads to.
+const WANTS: Place = Place::Wants;
+
+const JOINS: Place = Place::Joins;
+
+const SOUNDS: Place = Place::Sounds;
+
+const REMOVED: Place = Place::Removed;
+
+const ALONE: Place = Place::Alone;
+
+const FULL: Place = Place::Full;
+
+const ENDED: Place = Place::Ended;
+
+const BAD: Place = Place::Bad;
+
+// Where a token leads to: a row for each place, a column for each kind, in the order in which they are declared.
+const NEXT: [[Place; 9]; 9] = [
+    // Where an item is to come: a measure, a `$n` or a loop begins. At the very beginning a `$n` may be the whole text.
+    [SOUNDS, BAD, ALONE, BAD, BAD, BAD, WANTS, BAD, BAD],
+    [SOUNDS, BAD, FULL, BAD, BAD, BAD, WANTS, BAD, BAD],
+    // Behind a `:` one line end counts with it.
+    [SOUNDS, BAD, FULL, BAD, BAD, WANTS, WANTS, BAD, BAD],
+    // Behind an item: a separator, or the end of the loop around it. In a measure, "one or more positions".
+    [SOUNDS, REMOVED, BAD, WANTS, JOINS, ENDED, BAD, FULL, BAD],
+    // The same in a measure with removers, which "stand only at the end".
+    [BAD, REMOVED, BAD, WANTS, JOINS, ENDED, BAD, FULL, BAD],
+    // Nothing may be added to a `$n`, or to a loop.
+    [BAD, BAD, BAD, WANTS, JOINS, ENDED, BAD, FULL, BAD],
+    [BAD, BAD, BAD, WANTS, JOINS, ENDED, BAD, FULL, BAD],
+    // Where an item is to come behind a line end, which counts with a `:` behind it.
+    [SOUNDS, BAD, FULL, BAD, JOINS, BAD, WANTS, BAD, BAD],
+    [BAD, BAD, BAD, BAD, BAD, BAD, BAD, BAD, BAD],
+];
+
+// The number of a kind's column.
+fn column(kind: Kind) -> usize
+    ensures { λ r. ⌜ r ≡ column kind ⌝ }
+    ensures { λ r. ⌜ r < 9 ⌝ }
 {
     match kind {
-        Kind::Sound => Place::Sounds,
-        Kind::Reference => Place::Full,
-        Kind::Opens => Place::Wants,
-        Kind::Remover => Place::Bad,
-        Kind::Semicolon => Place::Bad,
-        Kind::Colon => Place::Bad,
-        Kind::LineEnd => Place::Bad,
-        Kind::Closes => Place::Bad,
-        Kind::Wrong => Place::Bad,
+        Kind::Sound => 0,
+        Kind::Remover => 1,
+        Kind::Reference => 2,
+        Kind::Semicolon => 3,
+        Kind::Colon => 4,
+        Kind::LineEnd => 5,
+        Kind::Opens => 6,
+        Kind::Closes => 7,
+        Kind::Wrong => 8,
     }
 }
 
-// The same at the very beginning, where a `$n` may be the whole text.
-fn after_fresh(kind: Kind) -> Place
-    ensures { λ r. ⌜ r ≡ afterFresh kind ⌝ }
+// The number of a place's row.
+pub fn row(place: Place) -> usize
+    ensures { λ r. ⌜ r ≡ row place ⌝ }
+    ensures { λ r. ⌜ r < 9 ⌝ }
 {
-    match kind {
-        Kind::Reference => Place::Alone,
-        Kind::Sound => after_wants(kind),
-        Kind::Remover => after_wants(kind),
-        Kind::Semicolon => after_wants(kind),
-        Kind::Colon => after_wants(kind),
-        Kind::LineEnd => after_wants(kind),
-        Kind::Opens => after_wants(kind),
-        Kind::Closes => after_wants(kind),
-        Kind::Wrong => after_wants(kind),
+    match place {
+        Place::Fresh => 0,
+        Place::Wants => 1,
+        Place::Joins => 2,
+        Place::Sounds => 3,
+        Place::Removed => 4,
+        Place::Alone => 5,
+        Place::Full => 6,
+        Place::Ended => 7,
+        Place::Bad => 8,
     }
 }
 
-// The same behind a `:`, with which one line end counts.
-fn after_joins(kind: Kind) -> Place
-    ensures { λ r. ⌜ r ≡ afterJoins kind ⌝ }
-{
-    match kind {
-        Kind::LineEnd => Place::Wants,
-        Kind::Sound => after_wants(kind),
-        Kind::Remover => after_wants(kind),
-        Kind::Reference => after_wants(kind),
-        Kind::Semicolon => after_wants(kind),
-        Kind::Colon => after_wants(kind),
-        Kind::Opens => after_wants(kind),
-        Kind::Closes => after_wants(kind),
-        Kind::Wrong => after_wants(kind),
-    }
-}
-
-// The same behind an item and a line end, which counts with a `:` behind it.
-fn after_ended(kind: Kind) -> Place
-    ensures { λ r. ⌜ r ≡ afterEnded kind ⌝ }
-{
-    match kind {
-        Kind::Colon => Place::Joins,
-        Kind::Sound => after_wants(kind),
-        Kind::Remover => after_wants(kind),
-        Kind::Reference => after_wants(kind),
-        Kind::Semicolon => after_wants(kind),
-        Kind::LineEnd => after_wants(kind),
-        Kind::Opens => after_wants(kind),
-        Kind::Closes => after_wants(kind),
-        Kind::Wrong => after_wants(kind),
-    }
-}
-
-// Behind an item that nothing may be added to: a separator, or the end of the loop around it.
-fn after_full(kind: Kind) -> Place
-    ensures { λ r. ⌜ r ≡ afterFull kind ⌝ }
-{
-    match kind {
-        Kind::Semicolon => Place::Wants,
-        Kind::Colon => Place::Joins,
-        Kind::LineEnd => Place::Ended,
-        Kind::Closes => Place::Full,
-        Kind::Sound => Place::Bad,
-        Kind::Remover => Place::Bad,
-        Kind::Reference => Place::Bad,
-        Kind::Opens => Place::Bad,
-        Kind::Wrong => Place::Bad,
-    }
-}
-
-// The same in a measure, "one or more positions".
-fn after_sounds(kind: Kind) -> Place
-    ensures { λ r. ⌜ r ≡ afterSounds kind ⌝ }
-{
-    match kind {
-        Kind::Sound => Place::Sounds,
-        Kind::Remover => Place::Removed,
-        Kind::Reference => after_full(kind),
-        Kind::Semicolon => after_full(kind),
-        Kind::Colon => after_full(kind),
-        Kind::LineEnd => after_full(kind),
-        Kind::Opens => after_full(kind),
-        Kind::Closes => after_full(kind),
-        Kind::Wrong => after_full(kind),
-    }
-}
-
-// The same in a measure with removers, which "stand only at the end".
-fn after_removed(kind: Kind) -> Place
-    ensures { λ r. ⌜ r ≡ afterRemoved kind ⌝ }
-{
-    match kind {
-        Kind::Remover => Place::Removed,
-        Kind::Sound => after_full(kind),
-        Kind::Reference => after_full(kind),
-        Kind::Semicolon => after_full(kind),
-        Kind::Colon => after_full(kind),
-        Kind::LineEnd => after_full(kind),
-        Kind::Opens => after_full(kind),
-        Kind::Closes => after_full(kind),
-        Kind::Wrong => after_full(kind),
-    }
-}
-
-// Where a token leads to.
 fn next_place(place: Place, kind: Kind) -> Place
     ensures { λ r. ⌜ r ≡ nextPlace place kind ⌝ }
 {
-    match place {
-        Place::Fresh => after_fresh(kind),
-        Place::Wants => after_wants(kind),
-        Place::Joins => after_joins(kind),
-        Place::Sounds => after_sounds(kind),
-        Place::Removed => after_removed(kind),
-        Place::Alone => after_full(kind),
-        Place::Full => after_full(kind),
-        Place::Ended => after_ended(kind),
-        Place::Bad => Place::Bad,
-    }
+    NEXT[row(place)][column(kind)]
 }
 
+// The last row's place.
 fn is_bad(place: Place) -> bool
     ensures { λ r. ⌜ r ≡ isBad place ⌝ }
 {
-    match place {
-        Place::Fresh => false,
-        Place::Wants => false,
-        Place::Joins => false,
-        Place::Sounds => false,
-        Place::Removed => false,
-        Place::Alone => false,
-        Place::Full => false,
-        Place::Ended => false,
-        Place::Bad => true,
-    }
+    row(place) == 8
 }
 
 // The check at its new place, with the loops and the `$n` counted.
@@ -257,12 +191,7 @@ fn arrive(c: Check, place: Place, kind: Kind) -> Check
         Kind::Opens => open_loop(c),
         Kind::Closes => close_loop(c),
         Kind::Reference => refer_to(c, place),
-        Kind::Sound => move_to(c, place),
-        Kind::Remover => move_to(c, place),
-        Kind::Semicolon => move_to(c, place),
-        Kind::Colon => move_to(c, place),
-        Kind::LineEnd => move_to(c, place),
-        Kind::Wrong => move_to(c, place),
+        _ => move_to(c, place),
     }
 }
 

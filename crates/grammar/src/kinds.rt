@@ -14,6 +14,19 @@ pub enum Kind {
     Wrong,
 }
 
+// The kinds of the signs from 55 on.
+const SIGNS: [Kind; 9] = [
+    Kind::Reference,
+    Kind::Closes,
+    Kind::Opens,
+    Kind::LineEnd,
+    Kind::Colon,
+    Kind::Semicolon,
+    Kind::Remover,
+    Kind::Sound,
+    Kind::Sound,
+];
+
 // A word that is no token's counts as a wrong one.
 pub fn kind_of(word: u32) -> Kind
     ensures { λ r. ⌜ r ≡ wordKind word ⌝ }
@@ -25,26 +38,5 @@ pub fn kind_of(word: u32) -> Kind
     if sign < 55 {
         return Kind::Wrong;
     }
-    if sign == 55 {
-        return Kind::Reference;
-    }
-    if sign == 56 {
-        return Kind::Closes;
-    }
-    if sign == 57 {
-        return Kind::Opens;
-    }
-    if sign == 58 {
-        return Kind::LineEnd;
-    }
-    if sign == 59 {
-        return Kind::Colon;
-    }
-    if sign == 60 {
-        return Kind::Semicolon;
-    }
-    if sign == 61 {
-        return Kind::Remover;
-    }
-    Kind::Sound
+    SIGNS[(sign - 55) as usize]
 }

@@ -1,41 +1,23 @@
 // What the check at the end of a text says of it.
 use super::Check;
 use super::Place;
+use super::checks::row;
 ghost use mathlib.Core.Path.{_≡_};
 ghost use Rattle.grammar.specs.Verdicts.{isBehind, isAlone, definitionFine, unnamedFine, sectionFine};
 
-// An item stands last.
+// An item stands last: from `Sounds` to `Full`.
 fn is_behind(place: Place) -> bool
     ensures { λ r. ⌜ r ≡ isBehind place ⌝ }
 {
-    match place {
-        Place::Sounds => true,
-        Place::Removed => true,
-        Place::Alone => true,
-        Place::Full => true,
-        Place::Fresh => false,
-        Place::Wants => false,
-        Place::Joins => false,
-        Place::Ended => false,
-        Place::Bad => false,
-    }
+    let number = row(place);
+    3 <= number && number < 7
 }
 
-// "`$n` as its whole text."
+// "`$n` as its whole text": `Alone`.
 fn is_alone(place: Place) -> bool
     ensures { λ r. ⌜ r ≡ isAlone place ⌝ }
 {
-    match place {
-        Place::Alone => true,
-        Place::Sounds => false,
-        Place::Removed => false,
-        Place::Full => false,
-        Place::Fresh => false,
-        Place::Wants => false,
-        Place::Joins => false,
-        Place::Ended => false,
-        Place::Bad => false,
-    }
+    row(place) == 5
 }
 
 // The text of a definition: items, and no loop left open.

@@ -1,59 +1,33 @@
-use Rattle.grammar.specs.declared.kinds.Kind.{Kind}
-use Rattle.grammar.specs.Checks.{arrived}
-use Rattle.grammar.proofs.ArmLaws.{by-kind}
+use Prim.Native.Nat.{ℕ}
+use mathlib.Core.Path.{_≡_, refl, _∙_}
+use mathlib.Core.List.{List, [], _∷_}
+use types.Run.{OneOf, miss}
+use denote.Enum.Declared.{tagOf}
 use borrow.Author.Needs.{needs}
+use Rattle.grammar.specs.declared.kinds.Kind.{Kind}
+use Rattle.grammar.specs.declared.checks.Place.{Place}
+use Rattle.grammar.specs.declared.checks.Check.{Check}
+use Rattle.grammar.specs.Checks.{moved, arrived}
+use Rattle.grammar.proofs.ArmLaws.{of-kind}
+use Rattle.grammar.proofs.kinds.Kind.{the-type}
 use Rattle.grammar.proofs.checks.arrive.Statement.{statement}
 use Rattle.grammar.proofs.checks.arrive.Tie as tie
 
-returns : tie.Need-returns
-unfolding arrived
-returns c = let q = c .before .before .before .args in by-kind (λ (k : Kind). arrived (q .c) (q .place) k) (c .before .enum-told .given .1)
-    (c .open-loop .ensures)
+-- The kinds that neither open nor close a loop, nor refer.
+abbrev plain : List ℕ
+plain = 0 ∷ 1 ∷ 3 ∷ 4 ∷ 5 ∷ 8 ∷ []
 
-returns-2 : tie.Need-returns-2
+only-moved : (c : Check) (p : Place) (k : Kind) → OneOf plain (tagOf the-type k) → moved c p ≡ arrived c p k
 unfolding arrived
-returns-2 c = let q = c .before .before .before .args in by-kind (λ (k : Kind). arrived (q .c) (q .place) k) (c .before .enum-told2 .given .1)
-    (c .close-loop .ensures)
-
-returns-3 : tie.Need-returns-3
-unfolding arrived
-returns-3 c = let q = c .before .before .before .args in by-kind (λ (k : Kind). arrived (q .c) (q .place) k) (c .before .enum-told3 .given .1)
-    (c .refer-to .ensures)
-
-returns-4 : tie.Need-returns-4
-unfolding arrived
-returns-4 c = let q = c .before .before .before .args in by-kind (λ (k : Kind). arrived (q .c) (q .place) k) (c .before .enum-told4 .given .1)
-    (c .move-to .ensures)
-
-returns-5 : tie.Need-returns-5
-unfolding arrived
-returns-5 c = let q = c .before .before .before .args in by-kind (λ (k : Kind). arrived (q .c) (q .place) k) (c .before .enum-told5 .given .1)
-    (c .move-to2 .ensures)
-
-returns-6 : tie.Need-returns-6
-unfolding arrived
-returns-6 c = let q = c .before .before .before .args in by-kind (λ (k : Kind). arrived (q .c) (q .place) k) (c .before .enum-told6 .given .1)
-    (c .move-to3 .ensures)
-
-returns-7 : tie.Need-returns-7
-unfolding arrived
-returns-7 c = let q = c .before .before .before .args in by-kind (λ (k : Kind). arrived (q .c) (q .place) k) (c .before .enum-told7 .given .1)
-    (c .move-to4 .ensures)
-
-returns-8 : tie.Need-returns-8
-unfolding arrived
-returns-8 c = let q = c .before .before .before .args in by-kind (λ (k : Kind). arrived (q .c) (q .place) k) (c .before .enum-told8 .given .1)
-    (c .move-to5 .ensures)
-
-returns-9 : tie.Need-returns-9
-unfolding arrived
-returns-9 c = let q = c .before .before .before .args in by-kind (λ (k : Kind). arrived (q .c) (q .place) k) (c .before .enum-told9 .given .1)
-    (c .move-to6 .ensures)
+only-moved c p =
+    of-kind (λ k. OneOf plain (tagOf the-type k) → moved c p ≡ arrived c p k) (λ h. refl) (λ h. refl) (λ h. absurd (miss plain 2 tt h)) (λ h. refl)
+    (λ h. refl) (λ h. refl) (λ h. absurd (miss plain 6 tt h)) (λ h. absurd (miss plain 7 tt h)) (λ h. refl)
 
 pub arrive-spec : {M : Type 1} → statement M
+unfolding arrived
 arrive-spec =
     tie.close
-    (tie.spec (λ c. search needs) (λ c κs. search needs) (λ c. search needs) (λ c κs. search needs) (λ c. search needs)
-    (λ c κs. search needs) (λ c. search needs) (λ c κs. search needs) (λ c. search needs) (λ c κs. search needs) (λ c. search needs)
-    (λ c κs. search needs) (λ c. search needs) (λ c κs. search needs) (λ c. search needs) (λ c κs. search needs) (λ c. search needs)
-    (λ c κs. search needs) returns returns-2 returns-3 returns-4 returns-5 returns-6 returns-7 returns-8 returns-9)
+    (tie.spec (λ c. search needs) (λ c κs. search needs) (λ c. search needs) (λ c κs. search needs) (λ c. search needs) (λ c κs. search needs)
+    (λ c κs. search needs) (λ c. rw (c .before .enum-told .given .1) (c .open-loop .ensures))
+    (λ c. rw (c .before .enum-told2 .given .1) (c .close-loop .ensures)) (λ c. rw (c .before .enum-told3 .given .1) (c .refer-to .ensures))
+    (λ c. let q = c .before .before .args in c .move-to .ensures ∙ only-moved (q .c) (q .place) (q .kind) (c .before .match .keys4)))

@@ -1,116 +1,14 @@
--- Each branch of the code is a test of the model on the word's sign: the tests are put in one after the other.
-use borrow.Author.Tests.{lt-ltb, le-ltb, eq-eqb, ne-eqb}
+use borrow.Author.Tests.{lt-ltb, le-ltb}
+use borrow.Author.Needs.{needs}
 use Rattle.songcode.specs.Lists.{if_then_else_}
 use Rattle.grammar.specs.Kinds.{wordKind, signKind}
 use Rattle.grammar.proofs.kinds.kind_of.Statement.{statement}
 use Rattle.grammar.proofs.kinds.kind_of.Tie as tie
 
-returns : tie.Need-returns
-unfolding wordKind signKind if_then_else_
-returns c = simp (lt-ltb _ _ (c .if1 .taken))
-
-returns-2 : tie.Need-returns-2
-unfolding wordKind signKind if_then_else_
-returns-2 c = simp (le-ltb _ _ (c .before .if1 .left), lt-ltb _ _ (c .if2 .taken))
-
-returns-3 : tie.Need-returns-3
-unfolding wordKind signKind if_then_else_
-returns-3 c = simp (le-ltb _ _ (c .before .before .if1 .left), le-ltb _ _ (c .before .if2 .left), eq-eqb _ _ (c .if3 .taken))
-
-returns-4 : tie.Need-returns-4
-unfolding wordKind signKind if_then_else_
-returns-4 c = simp (
-  le-ltb _ _ (c .before .before .before .if1 .left),
-  le-ltb _ _ (c .before .before .if2 .left),
-  ne-eqb _ _ (c .before .if3 .left),
-  eq-eqb _ _ (c .if4 .taken),
-)
-
-returns-5 : tie.Need-returns-5
-unfolding wordKind signKind if_then_else_
-returns-5 c = simp (
-  le-ltb _ _ (c .before .before .before .before .if1 .left),
-  le-ltb _ _ (c .before .before .before .if2 .left),
-  ne-eqb _ _
-      (c .before .before .if3 .left),
-  ne-eqb _ _ (c .before .if4 .left),
-  eq-eqb _ _ (c .if5 .taken),
-)
-
-returns-6 : tie.Need-returns-6
-unfolding wordKind signKind if_then_else_
-returns-6 c = simp (
-  le-ltb _ _ (c .before .before .before .before .before .if1 .left),
-  le-ltb _ _ (c .before .before .before .before .if2 .left),
-  ne-eqb _ _ (c .before .before .before .if3 .left),
-  ne-eqb _ _ (c .before .before .if4 .left),
-  ne-eqb _ _ (c .before .if5 .left),
-  eq-eqb _ _
-      (c .if6 .taken),
-)
-
-returns-7 : tie.Need-returns-7
-unfolding wordKind signKind if_then_else_
-returns-7 c = simp (
-  le-ltb _ _ (c .before .before .before .before .before .before .if1 .left),
-  le-ltb _ _
-      (c .before .before .before .before .before .if2 .left),
-  ne-eqb _ _ (c .before .before .before .before .if3 .left),
-  ne-eqb _ _
-      (c .before .before .before .if4 .left),
-  ne-eqb _ _ (c .before .before .if5 .left),
-  ne-eqb _ _ (c .before .if6 .left),
-  eq-eqb _ _ (c .if7 .taken),
-)
-
-returns-8 : tie.Need-returns-8
-unfolding wordKind signKind if_then_else_
-returns-8 c = simp (
-  le-ltb _ _ (c .before .before .before .before .before .before .before .if1 .left),
-  le-ltb _ _
-      (c .before .before .before .before .before .before .if2 .left),
-  ne-eqb _ _ (c .before .before .before .before .before .if3 .left),
-  ne-eqb _ _
-      (c .before .before .before .before .if4 .left),
-  ne-eqb _ _ (c .before .before .before .if5 .left),
-  ne-eqb _ _ (c .before .before .if6 .left),
-  ne-eqb _ _ (c .before .if7 .left),
-  eq-eqb _ _ (c .if8 .taken),
-)
-
-returns-9 : tie.Need-returns-9
-unfolding wordKind signKind if_then_else_
-returns-9 c = simp (
-  le-ltb _ _ (c .before .before .before .before .before .before .before .before .if1 .left),
-  le-ltb _ _
-      (c .before .before .before .before .before .before .before .if2 .left),
-  ne-eqb _ _ (c .before .before .before .before .before .before .if3 .left),
-  ne-eqb _ _ (c .before .before .before .before .before .if4 .left),
-  ne-eqb _ _ (c .before .before .before .before .if5 .left),
-  ne-eqb _ _
-      (c .before .before .before .if6 .left),
-  ne-eqb _ _ (c .before .before .if7 .left),
-  ne-eqb _ _ (c .before .if8 .left),
-  eq-eqb _ _ (c .if9 .taken),
-)
-
-returns-10 : tie.Need-returns-10
-unfolding wordKind signKind if_then_else_
-returns-10 c = simp (
-  le-ltb _ _ (c .before .before .before .before .before .before .before .before .if1 .left),
-  le-ltb _ _
-      (c .before .before .before .before .before .before .before .if2 .left),
-  ne-eqb _ _ (c .before .before .before .before .before .before .if3 .left),
-  ne-eqb _ _ (c .before .before .before .before .before .if4 .left),
-  ne-eqb _ _ (c .before .before .before .before .if5 .left),
-  ne-eqb _ _
-      (c .before .before .before .if6 .left),
-  ne-eqb _ _ (c .before .before .if7 .left),
-  ne-eqb _ _ (c .before .if8 .left),
-  ne-eqb _ _ (c .if9 .left),
-)
-
 pub kind-of-spec : {M : Type 1} → statement M
+unfolding wordKind signKind if_then_else_
 kind-of-spec =
     tie.close
-    (tie.spec returns returns-2 returns-3 returns-4 returns-5 returns-6 returns-7 returns-8 returns-9 returns-10)
+    (tie.spec (λ c. simp (lt-ltb _ _ (c .if1 .taken))) (λ c. simp (le-ltb _ _ (c .before .if1 .left), lt-ltb _ _ (c .if2 .taken)))
+    (λ c. search needs) (λ c. search needs)
+    (λ c. simp (le-ltb _ _ (c .before .before .if1 .left), le-ltb _ _ (c .before .if2 .left))))
