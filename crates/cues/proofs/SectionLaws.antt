@@ -118,7 +118,8 @@ module _ (i first time bpm n m : ℕ) (sections measures : List ℕ) (l : i < le
       let rest = lengths (drop (i + 1) sections) (drop (first + m) measures) in
       let e : lengths (drop i sections) (drop first measures) ≡ xs ++ rest = rw (b, k, j) (lengths-section i sections l first measures) in
       let size : length (starts time xs) ≡ m =
-      length-starts time xs ∙ length-lengthsAt bpm (take n (drop first measures)) ∙ length-take-le n (drop first measures) (simp length-drop (omega arith)) ∙ k ∙ sym j in
+      length-starts time xs ∙ length-lengthsAt bpm (take n (drop first measures))
+      ∙ length-take-le n (drop first measures) (simp length-drop (omega arith)) ∙ k ∙ sym j in
       wrote-lent o first o' (starts time xs) (starts (time + sum xs) rest) all ys m size g h
       (subst (λ zs. Wrote o first o' zs all) (ap (λ zs. starts time zs) e ∙ starts-append time xs rest) w) y
 

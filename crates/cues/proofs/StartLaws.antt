@@ -19,7 +19,8 @@ beat-length-le zero = omega arith
 beat-length-le (suc bpm) = div-le-self 60000000 (suc bpm)
 
 -- The measure at i lasts as its beats do; then come the others.
-pub lengths-next : (bpm i : ℕ) (table : List ℕ) → i < length table → lengthsAt bpm (drop i table) ≡ beatCount (getD table i 0) * beatLength bpm ∷ lengthsAt bpm (drop (i + 1) table)
+pub lengths-next : (bpm i : ℕ) (table : List ℕ) → i < length table
+    → lengthsAt bpm (drop i table) ≡ beatCount (getD table i 0) * beatLength bpm ∷ lengthsAt bpm (drop (i + 1) table)
 unfolding lengthsAt
 lengths-next bpm i table l = rw (add-one i, drop-cons table i 0 l)
 

@@ -1,6 +1,5 @@
 // Whether tables join up, and whether every section with measures has a bpm.
 ghost use mathlib.Core.Path.{_≡_};
-ghost use lib.ListN.{length};
 ghost use Rattle.songcode.specs.Lists.{every};
 ghost use Rattle.songcode.specs.Joined.{covers, measuresJoin, joinUp};
 ghost use Rattle.cues.specs.Cues.{isTimed};

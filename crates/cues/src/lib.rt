@@ -22,8 +22,10 @@ pub struct Lit {
 
 // For any three tables. Lend a song's tables cut to its counts: words behind the song's own do not join up.
 pub fn light_cues(sections: &[u64], measures: &[u32], cues: &mut [u64]) -> Lit
-    ensures { λ r. ⌜ r ≡ litBy (refusalOf (now (sections .entry)) (now (measures .entry)) (length (now (cues .entry)))) (now (sections .entry)) (now (measures .entry)) ⌝ }
-    ensures { λ _. ⌜ now (cues .exit) ≡ cuesBy (refusalOf (now (sections .entry)) (now (measures .entry)) (length (now (cues .entry)))) (now (sections .entry)) (now (measures .entry)) (now (cues .entry)) ⌝ }
+    ensures { λ r. ⌜ r ≡ litBy (refusalOf (now (sections .entry)) (now (measures .entry)) (length (now (cues .entry))))
+        (now (sections .entry)) (now (measures .entry)) ⌝ }
+    ensures { λ _. ⌜ now (cues .exit) ≡ cuesBy (refusalOf (now (sections .entry)) (now (measures .entry)) (length (now (cues .entry))))
+        (now (sections .entry)) (now (measures .entry)) (now (cues .entry)) ⌝ }
 {
     if !joins::join_up(sections, measures) {
         return Lit {

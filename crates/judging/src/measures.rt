@@ -29,7 +29,8 @@ pub fn measure_stages(
     words: &mut [u32],
 ) -> Refusal
     requires { ⌜ Begins (now s) first × Ready (now s) (now words) score × (score .fill ≤ first .at) × (time ≡ orElse (timeAmong (songOf (now s) .keys)) 0) ⌝ }
-    ensures refusal { λ r. ⌜ r ≡ refusalOf (verdict (meterFaults (songOf (now (s .entry))) ∷ lengthFaults (songOf (now (s .entry))) 0 (songOf (now (s .entry)) .sections) ∷ [])) ⌝ }
+    ensures refusal { λ r. ⌜ r ≡ refusalOf (verdict (meterFaults (songOf (now (s .entry)))
+        ∷ lengthFaults (songOf (now (s .entry))) 0 (songOf (now (s .entry)) .sections) ∷ [])) ⌝ }
     ensures ready { λ r. ⌜ Ready (now (s .entry)) (now (words .exit)) score × (length (now (words .exit)) ≡ length (now (words .entry))) ⌝ }
 {
     let mut place = first;

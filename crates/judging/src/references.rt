@@ -22,7 +22,8 @@ ghost use Rattle.scores.specs.Scores.{Told};
 
 fn name_fault(s: &[u8], score: Score, pattern: Run, header: usize) -> Refusal
     requires { ⌜ Placed (now s) pattern × Told (now s) score ⌝ }
-    ensures { λ r. ⌜ ((x : Pattern) → patternIn (linesOf (now (s .entry)) pattern) ≡ some x → r ≡ refusalOf (earliest (sectionReference (songOf (now (s .entry)) .definitions) x header))) ⌝ }
+    ensures { λ r. ⌜ ((x : Pattern) → patternIn (linesOf (now (s .entry)) pattern) ≡ some x
+        → r ≡ refusalOf (earliest (sectionReference (songOf (now (s .entry)) .definitions) x header))) ⌝ }
 {
     let named = named_in(s, pattern);
     if named == 0 {
@@ -39,7 +40,8 @@ fn name_fault(s: &[u8], score: Score, pattern: Run, header: usize) -> Refusal
 
 pub fn stage_three(s: &[u8], score: Score, first: Place) -> Refusal
     requires { ⌜ Onward (now s) first × Told (now s) score ⌝ }
-    ensures { λ r. ⌜ r ≡ refusalOf (earliest (gather (λ (x : Section). sectionReference (songOf (now (s .entry)) .definitions) (x .pattern) (x .header)) (sectionsFrom (now (s .entry)) first))) ⌝ }
+    ensures { λ r. ⌜ r ≡ refusalOf (earliest (gather (λ (x : Section).
+        sectionReference (songOf (now (s .entry)) .definitions) (x .pattern) (x .header)) (sectionsFrom (now (s .entry)) first))) ⌝ }
 {
     let mut place = first;
     while place.at < s.len() {

@@ -50,7 +50,8 @@ fn refused(refusal: Refusal) -> Totals
 
 // Stages 6 and 7, where those before refuse nothing.
 fn lyric_stages(s: &[u8], score: Score, first: Place, time: usize, words: &mut [u32]) -> Totals
-    requires ready { ⌜ Begins (now s) first × Ready (now s) (now words) score × (score .fill ≤ first .at) × (time ≡ orElse (timeAmong (songOf (now s) .keys)) 0) × (time ≤ 32) ⌝ }
+    requires ready { ⌜ Begins (now s) first × Ready (now s) (now words) score × (score .fill ≤ first .at)
+        × (time ≡ orElse (timeAmong (songOf (now s) .keys)) 0) × (time ≤ 32) ⌝ }
     requires clear { ⌜ (meterFaults (songOf (now s)) ≡ []) × (lengthFaults (songOf (now s)) 0 (songOf (now s) .sections) ≡ []) ⌝ }
     ensures refusal { λ r. ⌜ r .refusal ≡ refusalOf (verdict (lyricFaults (songOf (now (s .entry))))) ⌝ }
     ensures holds { λ r. ⌜ (r .refusal .number ≡ 0 → Holds (tables (songOf (now (s .entry)))) r) ⌝ }
@@ -66,7 +67,8 @@ fn lyric_stages(s: &[u8], score: Score, first: Place, time: usize, words: &mut [
 
 // Stages 4 to 7.
 fn playing_stages(s: &[u8], score: Score, first: Place, time: usize, words: &mut [u32]) -> Totals
-    requires { ⌜ Begins (now s) first × Ready (now s) (now words) score × (score .fill ≤ first .at) × (time ≡ orElse (timeAmong (songOf (now s) .keys)) 0) × (time ≤ 32) ⌝ }
+    requires { ⌜ Begins (now s) first × Ready (now s) (now words) score × (score .fill ≤ first .at)
+        × (time ≡ orElse (timeAmong (songOf (now s) .keys)) 0) × (time ≤ 32) ⌝ }
     ensures refusal { λ r. ⌜ r .refusal ≡ refusalOf (verdict (playingFaults (songOf (now (s .entry))))) ⌝ }
     ensures holds { λ r. ⌜ (r .refusal .number ≡ 0 → Holds (tables (songOf (now (s .entry)))) r) ⌝ }
     ensures ready { λ r. ⌜ (r .refusal .number ≡ 0 → Ready (now (s .entry)) (now (words .exit)) score) ⌝ }

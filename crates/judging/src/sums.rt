@@ -60,7 +60,8 @@ pub fn play(
     beats: &mut [u32],
 ) -> Counts
     requires { ⌜ PlaysWithin (now words) score n t m base ⌝ }
-    ensures counts { λ r. ⌜ (r .measures ≡ length (rowOfTexts (now (words .entry)) score n t m)) × (r .beats ≡ total (rowOfTexts (now (words .entry)) score n t m)) ⌝ }
+    ensures counts { λ r. ⌜ (r .measures ≡ length (rowOfTexts (now (words .entry)) score n t m))
+        × (r .beats ≡ total (rowOfTexts (now (words .entry)) score n t m)) ⌝ }
     ensures measures { λ r. ⌜ now (measures .exit) ≡ sets (now (measures .entry)) 0 (heads base (rowOfTexts (now (words .entry)) score n t m)) ⌝ }
     ensures beats { λ r. ⌜ now (beats .exit) ≡ sets (now (beats .entry)) 0 (flat (rowOfTexts (now (words .entry)) score n t m)) ⌝ }
 {
@@ -174,7 +175,9 @@ pub fn stage_seven(
     counted: bool,
     words: &mut [u32],
 ) -> Totals
-    requires { ⌜ Begins (now s) first × Ready (now s) (now words) score × (score .fill ≤ first .at) × (time ≡ orElse (timeAmong (songOf (now s) .keys)) 0) × (time ≤ 32) × (meterFaults (songOf (now s)) ≡ []) × (lengthFaults (songOf (now s)) 0 (songOf (now s) .sections) ≡ []) × (counted ≡ hasCounts (songOf (now s))) ⌝ }
+    requires { ⌜ Begins (now s) first × Ready (now s) (now words) score × (score .fill ≤ first .at)
+        × (time ≡ orElse (timeAmong (songOf (now s) .keys)) 0) × (time ≤ 32) × (meterFaults (songOf (now s)) ≡ [])
+        × (lengthFaults (songOf (now s)) 0 (songOf (now s) .sections) ≡ []) × (counted ≡ hasCounts (songOf (now s))) ⌝ }
     ensures refusal { λ r. ⌜ r .refusal ≡ refusalOf (earliest (sumFaults (songOf (now (s .entry))))) ⌝ }
     ensures holds { λ r. ⌜ (r .refusal .number ≡ 0 → Holds (tables (songOf (now (s .entry)))) r) ⌝ }
     ensures ready { λ r. ⌜ Ready (now (s .entry)) (now (words .exit)) score × (length (now (words .exit)) ≡ length (now (words .entry))) ⌝ }

@@ -1,5 +1,5 @@
 -- A text read word by word into its outline.
-use Prim.Native.Nat.{ℕ, zero, suc, _+_, _*_, min}
+use Prim.Native.Nat.{ℕ, _+_, _*_, min}
 use mathlib.Core.List.{List, [], _∷_}
 use mathlib.Core.Bool.{Bool, true, false, _||_, _&&_, not}
 use lib.Dec.{eqb, ltb}

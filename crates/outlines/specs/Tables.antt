@@ -1,8 +1,8 @@
 -- The outlines of the definitions, found by their numbers.
 use Prim.Native.Nat.{ℕ, zero, suc, _+_, min}
-use mathlib.Core.List.{List, [], _∷_}
-use mathlib.Core.Bool.{Bool, true, false, not}
-use lib.Dec.{eqb, leb, ltb}
+use mathlib.Core.List.{List}
+use mathlib.Core.Bool.{Bool, true, false}
+use lib.Dec.{eqb, leb}
 use lib.ListN.{getD, set}
 use Rattle.songcode.specs.Lists.{if_then_else_}
 use Rattle.player.specs.declared.leaves.Definitions.{Definitions}

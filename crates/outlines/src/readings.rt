@@ -9,7 +9,6 @@ use player::is_position;
 use player::kind;
 use player::number;
 ghost use mathlib.Core.Path.{_≡_};
-ghost use Prim.Native.Nat.{ℕ};
 ghost use Rattle.outlines.specs.Readings.{started, sounded, closed, opened, shut, referred, stepOf, summed};
 
 // What a text says: whether it is empty, has a loop, holds a reference; then with its references put in: the sizes of its measures,

@@ -2,7 +2,7 @@
 use player::least;
 ghost use mathlib.Core.Path.{_≡_};
 ghost use mathlib.Core.Bool.{_||_, _&&_, not};
-ghost use Prim.Native.Nat.{ℕ, _+_, _*_, _<_, min};
+ghost use Prim.Native.Nat.{_+_, _*_, min};
 
 pub fn either(a: bool, b: bool) -> bool
     ensures { λ r. ⌜ r ≡ (a || b) ⌝ }

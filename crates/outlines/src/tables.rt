@@ -3,7 +3,7 @@ use super::readings::Outline;
 use player::Definitions;
 use player::least;
 ghost use mathlib.Core.Path.{_≡_};
-ghost use Prim.Native.Nat.{ℕ, _≤_, min};
+ghost use Prim.Native.Nat.{_≤_, min};
 ghost use Rattle.outlines.specs.Told.{Roomy};
 ghost use Rattle.outlines.specs.Tables.{placeOf, atPlace, lookUp, extended};
 

@@ -59,7 +59,9 @@ one-item {a = a} {b = b} h g =
     λ i. record { offset = offset i; length = length i; first = first i; measures = measures i; style = style i }
 
 -- A section's word gives back what it was made of.
-pub section-read : {header first measures meter tempo : ℕ} → header < 2 ^ 17 → first < 2 ^ 16 → measures < 2 ^ 16 → meter < 2 ^ 6 → tempo < 2 ^ 9 → {s : SectionFields} → HoldsSection (sectionWord header first measures meter tempo) s → s ≡ record { header = header; first = first; measures = measures; meter = meter; tempo = tempo }
+pub section-read : {header first measures meter tempo : ℕ} → header < 2 ^ 17 → first < 2 ^ 16 → measures < 2 ^ 16 → meter < 2 ^ 6
+    → tempo < 2 ^ 9 → {s : SectionFields} → HoldsSection (sectionWord header first measures meter tempo) s
+    → s ≡ record { header = header; first = first; measures = measures; meter = meter; tempo = tempo }
 section-read header first measures meter tempo h =
     one-section
     h
@@ -73,14 +75,16 @@ section-read header first measures meter tempo h =
     })
 
 -- A measure's word gives back what it was made of.
-pub measure-read : {first beats : ℕ} → first < 2 ^ 21 → beats < 2 ^ 6 → {m : MeasureFields} → HoldsMeasure (measureWord first beats) m → m ≡ record { first = first; beats = beats }
+pub measure-read : {first beats : ℕ} → first < 2 ^ 21 → beats < 2 ^ 6 → {m : MeasureFields} → HoldsMeasure (measureWord first beats) m
+    → m ≡ record { first = first; beats = beats }
 measure-read first beats h =
     one-measure
     h
     (record { packed = omega arith; spare = omega arith; first-fits = first; beats-fits = beats })
 
 -- The fields that a section's word holds are those that the definitions take out of it.
-pub section-fields : {word : ℕ} {s : SectionFields} → HoldsSection word s → (s .first ≡ firstMeasure word) × (s .measures ≡ measureCount word) × (s .tempo ≡ sectionBpm word)
+pub section-fields : {word : ℕ} {s : SectionFields} → HoldsSection word s
+    → (s .first ≡ firstMeasure word) × (s .measures ≡ measureCount word) × (s .tempo ≡ sectionBpm word)
 unfolding sectionWord firstMeasure measureCount sectionBpm
 section-fields h = (omega arith, omega arith, omega arith)
 
@@ -90,7 +94,9 @@ unfolding measureWord firstBeat beatCount
 measure-fields h = (omega arith, omega arith)
 
 -- A chord's word gives back its base, the place and length of its extension, and its head.
-pub chord-read : (c : Chord) (head : Bool) → c .base < 2 ^ 6 → offset (c .extension) < 2 ^ 16 → length (c .extension) < 2 ^ 5 → {b : BeatFields} → HoldsBeat (beatBy (some c) head) b → b ≡ record { base = c .base; extension = offset (c .extension); length = length (c .extension); head = head }
+pub chord-read : (c : Chord) (head : Bool) → c .base < 2 ^ 6 → offset (c .extension) < 2 ^ 16 → length (c .extension) < 2 ^ 5
+    → {b : BeatFields} → HoldsBeat (beatBy (some c) head) b
+    → b ≡ record { base = c .base; extension = offset (c .extension); length = length (c .extension); head = head }
 unfolding beatBy packedBeat
 chord-read c head base extension size h =
     one-beat
@@ -118,7 +124,15 @@ silence-read head h =
     })
 
 -- An item's word gives back the place and length of its text, its first measure, its measures and its style.
-pub item-read : (p : Prompt) → offset (p .words .text) < 2 ^ 16 → length (p .words .text) < 2 ^ 16 → p .first < 2 ^ 16 → p .measures < 2 ^ 14 → p .words .style < 2 ^ 2 → {i : ItemFields} → HoldsItem (itemWord p) i → i ≡ record { offset = offset (p .words .text); length = length (p .words .text); first = p .first; measures = p .measures; style = p .words .style }
+pub item-read : (p : Prompt) → offset (p .words .text) < 2 ^ 16 → length (p .words .text) < 2 ^ 16 → p .first < 2 ^ 16
+    → p .measures < 2 ^ 14 → p .words .style < 2 ^ 2 → {i : ItemFields} → HoldsItem (itemWord p) i
+    → i ≡ record {
+      offset = offset (p .words .text);
+      length = length (p .words .text);
+      first = p .first;
+      measures = p .measures;
+      style = p .words .style;
+    }
 unfolding itemWord
 item-read p place size first measures style h =
     one-item

@@ -30,24 +30,29 @@ skips-found p q k m b e f t s h l = record { some-todo = not-none t; some-skip =
 
 pub copies-found : (p q : Pen) (m b : ℕ) → m ≡ p .todo - q .todo → b ≡ q .b - p .b → p .skip ≤ 0 → (q .todo ≡ 0 → ⊥) → (q .left ≡ 0 → ⊥) → m ≤ q .todo
     → b < q .left → Copies p q
-copies-found p q m b e f s t l h i = record { no-skip = omega arith; some-todo = not-none t; some-left = not-none l; measures = omega arith; beats = omega arith }
+copies-found p q m b e f s t l h i =
+    record { no-skip = omega arith; some-todo = not-none t; some-left = not-none l; measures = omega arith; beats = omega arith }
 
 -- Rows of which every beat is passed over.
 window-passed : (s n : ℕ) (row : List (List ℕ)) → total row ≤ s → window s n row ≡ []
 unfolding window total keep
 window-passed s n [] h = refl
-window-passed s n (x ∷ xs) h = rw (drop-of-length-le x {i = s} (omega arith), take-nil {A = ℕ} n) (window-passed (s - length x) (n - (length x - s)) xs (omega arith))
+window-passed s n (x ∷ xs) h =
+    rw (drop-of-length-le x {i = s} (omega arith), take-nil {A = ℕ} n) (window-passed (s - length x) (n - (length x - s)) xs (omega arith))
 
 total-times : (k : ℕ) (row : List (List ℕ)) → total (times k row) ≡ k * total row
 unfolding times total
 total-times zero row = omega arith
 total-times (suc k) row = let h = total-times k row in rw (total-append row (times k row)) (omega arith)
 
-page-equal : (g h : Page) → g .pen .base ≡ h .pen .base → g .pen .todo ≡ h .pen .todo → g .pen .skip ≡ h .pen .skip → g .pen .left ≡ h .pen .left → g .pen .m ≡ h .pen .m → g .pen .b ≡ h .pen .b → g .ms ≡ h .ms → g .bs ≡ h .bs → g ≡ h
+page-equal : (g h : Page) → g .pen .base ≡ h .pen .base → g .pen .todo ≡ h .pen .todo → g .pen .skip ≡ h .pen .skip
+    → g .pen .left ≡ h .pen .left → g .pen .m ≡ h .pen .m → g .pen .b ≡ h .pen .b → g .ms ≡ h .ms → g .bs ≡ h .bs → g ≡ h
 page-equal g h a b c d e f i j = same-fields _ _ _ _ _ _ _ _ _ _ _ _ _ _ _ _ a b c d e f i j
   where
-    same-fields : (base base' todo todo' skip skip' left left' m m' b b' : ℕ) (ms ms' bs bs' : List ℕ) → base ≡ base' → todo ≡ todo' → skip ≡ skip' → left ≡ left' → m ≡ m' → b ≡ b' → ms ≡ ms' → bs ≡ bs'
-        → page (record { base = base; todo = todo; skip = skip; left = left; m = m; b = b }) ms bs ≡ page (record { base = base'; todo = todo'; skip = skip'; left = left'; m = m'; b = b' }) ms' bs'
+    same-fields : (base base' todo todo' skip skip' left left' m m' b b' : ℕ) (ms ms' bs bs' : List ℕ) → base ≡ base' → todo ≡ todo'
+        → skip ≡ skip' → left ≡ left' → m ≡ m' → b ≡ b' → ms ≡ ms' → bs ≡ bs'
+        → page (record { base = base; todo = todo; skip = skip; left = left; m = m; b = b }) ms bs
+        ≡ page (record { base = base'; todo = todo'; skip = skip'; left = left'; m = m'; b = b' }) ms' bs'
     same-fields base base' todo todo' skip skip' left left' m m' b b' ms ms' bs bs' p q r s t u v w = rw (p, q, r, s, t, u, v, w)
 
 -- The pass that took the pen.
@@ -86,7 +91,8 @@ row-passed row q r ms bs h k a b c d e f =
     page-equal (page r ms bs) (play row (page q ms bs)) (a ∙ sym (n .base)) (b ∙ sym (n .todo (omega arith))) (c ∙ sym s) (omega arith) (omega arith)
     (omega arith) (sym x) (sym y)
 
-pub skipped-again : (row : List (List ℕ)) (p q r : Pen) (k : ℕ) (ms bs : List ℕ) → Took row p q ms bs → Skips p q k → r ≡ skippedOf p q k → page r ms bs ≡ play (times k row) (page q ms bs)
+pub skipped-again : (row : List (List ℕ)) (p q r : Pen) (k : ℕ) (ms bs : List ℕ) → Took row p q ms bs → Skips p q k → r ≡ skippedOf p q k
+    → page r ms bs ≡ play (times k row) (page q ms bs)
 unfolding skippedOf
 skipped-again row p q r k ms bs t s e =
     let some = s .some-skip in
@@ -98,7 +104,8 @@ skipped-again row p q r k ms bs t s e =
     let j = s .beats in
     rw e (row-passed (times k row) q (skippedOf p q k) ms bs (omega arith) (omega arith) refl (rw l) (rw m) refl refl refl)
 
-pub skipped-once : (row : List (List ℕ)) (p q r : Pen) (ms bs : List ℕ) → Took row p q ms bs → Skips p q 1 → r ≡ skippedOf p q 1 → page r ms bs ≡ play row (page q ms bs)
+pub skipped-once : (row : List (List ℕ)) (p q r : Pen) (ms bs : List ℕ) → Took row p q ms bs → Skips p q 1 → r ≡ skippedOf p q 1
+    → page r ms bs ≡ play row (page q ms bs)
 unfolding times
 skipped-once row p q r ms bs t s e = rw append-nil at (skipped-again row p q r 1 ms bs t s e)
 

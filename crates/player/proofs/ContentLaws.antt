@@ -31,13 +31,16 @@ pub sets-append : (t : List ℕ) (i : ℕ) (xs ys : List ℕ) → sets t i (xs +
 sets-append t i [] ys = let e : i + 0 ≡ i = omega arith in rw e
 sets-append t i (x ∷ xs) ys = let e : i + suc (length xs) ≡ suc i + length xs = omega arith in rw e (sets-append (set t i x) (suc i) xs ys)
 
-ink-eq : (base todo m : ℕ) (s s' l l' b b' : ℕ) (bs bs' : List ℕ) → s ≡ s' → l ≡ l' → b ≡ b' → bs ≡ bs' → ink-of (pen-of base todo s l m b) bs ≡ ink-of (pen-of base todo s' l' m b') bs'
+ink-eq : (base todo m : ℕ) (s s' l l' b b' : ℕ) (bs bs' : List ℕ) → s ≡ s' → l ≡ l' → b ≡ b' → bs ≡ bs'
+    → ink-of (pen-of base todo s l m b) bs ≡ ink-of (pen-of base todo s' l' m b') bs'
 ink-eq base todo m s s' l l' b b' bs bs' e f g h = rw (e, f, g, h)
 
 inked-is : (x : List ℕ) (base todo s l m b : ℕ) (bs : List ℕ)
-    → inked x (ink-of (pen-of base todo s l m b) bs) ≡ ink-of (pen-of base todo (s - length x) (l - (length x - s)) m (b + length (take l (drop s x)))) (sets bs b (take l (drop s x)))
+    → inked x (ink-of (pen-of base todo s l m b) bs) ≡ ink-of
+    (pen-of base todo (s - length x) (l - (length x - s)) m (b + length (take l (drop s x)))) (sets bs b (take l (drop s x)))
 unfolding inked beatOf beatBy
-inked-is [] base todo s l m b bs = rw (drop-nil {A = ℕ} s, take-nil {A = ℕ} l) (ink-eq base todo m _ _ _ _ _ _ bs bs (omega arith) (omega arith) (omega arith) refl)
+inked-is [] base todo s l m b bs =
+    rw (drop-nil {A = ℕ} s, take-nil {A = ℕ} l) (ink-eq base todo m _ _ _ _ _ _ bs bs (omega arith) (omega arith) (omega arith) refl)
 inked-is (w ∷ x) base todo (suc s) l m b bs =
     inked-is x base todo s l m b bs ∙ ink-eq base todo m _ _ _ _ _ _ _ _ (omega arith) (omega arith) refl refl
 inked-is (w ∷ x) base todo zero zero m b bs =
@@ -52,7 +55,8 @@ Piece base m b ms bs y g =
     × (sets ms m (heads (base + b) (keep y r)) ≡ sets (g .ms) (g .pen .m) (heads (base + g .pen .b) r))
     × (sets bs b (flat (keep y r)) ≡ sets (g .bs) (g .pen .b) (flat r))
 
-piece : (y : List ℕ) (base todo s l m b : ℕ) (ms bs : List ℕ) → Piece base m b ms bs y (closed b (page-of (pen-of base todo s l m (b + length y)) ms (sets bs b y)))
+piece : (y : List ℕ) (base todo s l m b : ℕ) (ms bs : List ℕ)
+    → Piece base m b ms bs y (closed b (page-of (pen-of base todo s l m (b + length y)) ms (sets bs b y)))
 unfolding Piece keep closed closeBy total heads flat
 piece [] base todo s l m b ms bs r =
     let z : b + 0 ≡ b = omega arith in
@@ -91,7 +95,14 @@ stepped x base t s l m b ms bs =
     let h : Page = page-of (pen-of base t (s - length x) (l - (length x - s)) m (b + length y)) ms (sets bs b y) in
     let k = kept-by (eqb b (b + length y)) b h in
     let z : suc t - 1 ≡ t = omega arith in
-    rw (inked-is x base t s l m b bs) (record { base = k .base; todo = k .todo ∙ sym z; skip = k .skip; left = k .left; piece-of = piece y base t (s - length x) (l - (length x - s)) m b ms bs })
+    rw (inked-is x base t s l m b bs) (record {
+      base = k .base;
+      todo = k .todo ∙ sym z;
+      skip = k .skip;
+      left = k .left;
+      piece-of =
+          piece y base t (s - length x) (l - (length x - s)) m b ms bs;
+    })
 
 measure-step : (x : List ℕ) (g : Page) (t : ℕ) → g .pen .todo ≡ suc t → Stepped x g (lookedAt t x g) × (measureOf x g ≡ rested (lookedAt t x g))
 unfolding measureOf measureBy lookedAt

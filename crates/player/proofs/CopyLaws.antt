@@ -38,7 +38,8 @@ copy-start f t from to =
     let k : to - from - 0 ≡ to - from = omega arith in
     rw (a, b, k)
 
-copy-one : (f : ℕ → ℕ) (t : List ℕ) (a b k : ℕ) → a < length t → a + suc k ≤ b → copying f t a b (suc k) ≡ copying f (set t b (f (getD t a 0))) (suc a) (suc b) k
+copy-one : (f : ℕ → ℕ) (t : List ℕ) (a b k : ℕ) → a < length t → a + suc k ≤ b
+    → copying f t a b (suc k) ≡ copying f (set t b (f (getD t a 0))) (suc a) (suc b) k
 unfolding copying
 copy-one f t a b k h l = rw (drop-cons t a 0 h, untouched t (suc a) k b (f (getD t a 0)) (omega arith))
 
@@ -51,7 +52,8 @@ copy-next f t goal from to i v o h l e g =
     let g' : copying f t (from + i) (to + i) (suc (to - from - (i + 1))) ≡ goal = rw k at g in
     rw (a, b, e) (sym (copy-one f t (from + i) (to + i) (to - from - (i + 1)) (omega arith) (omega arith)) ∙ g')
 
-pub copy-over : (f : ℕ → ℕ) (t goal : List ℕ) (from to n i : ℕ) → n ≡ min (to - from) (length t - to) → n ≤ i → copying f t (from + i) (to + i) (to - from - i) ≡ goal → t ≡ goal
+pub copy-over : (f : ℕ → ℕ) (t goal : List ℕ) (from to n i : ℕ) → n ≡ min (to - from) (length t - to) → n ≤ i
+    → copying f t (from + i) (to + i) (to - from - i) ≡ goal → t ≡ goal
 unfolding copying
 copy-over f t goal from to n i e h g =
     by-cases (leb (to - from) i)
@@ -74,7 +76,8 @@ sets-again f t xs from to e =
     (λ q. let h = leb-true (from + length xs) (length t) q in rw (n, stored t xs from h))
     (λ q.
     let h = leb-false (from + length xs) (length t) q in
-    sets-out (sets t from xs) (map f (take (to - from) (drop from (sets t from xs)))) to (omega arith) ∙ sym (sets-out (sets t from xs) (map f xs) to (omega arith)))
+    sets-out (sets t from xs) (map f (take (to - from) (drop from (sets t from xs)))) to (omega arith)
+    ∙ sym (sets-out (sets t from xs) (map f xs) to (omega arith)))
 
 pub map-same : (xs : List ℕ) → map same xs ≡ xs
 map-same [] = refl

@@ -1,56 +1,52 @@
 -- The walk of a stretch that holds written items plays what they play, references put in, and ends behind them.
-use Prim.Native.Nat.{ℕ, zero, suc, _+_, _-_, _*_, _/_, _^_, _<_, _≤_}
-use mathlib.Core.Path.{_≡_, refl, sym, ap, _∙_, subst}
-use mathlib.Core.List.{List, [], _∷_, _++_, map, append-assoc, append-nil}
-use mathlib.Core.Bool.{Bool, true, false}
-use mathlib.Core.Option.{Option, none, some}
+use Prim.Native.Nat.{ℕ, zero, suc, _+_, _-_, _≤_}
+use mathlib.Core.Path.{_≡_, sym, ap, _∙_}
+use mathlib.Core.List.{List, [], _∷_, _++_, append-assoc, append-nil}
+use mathlib.Core.Bool.{true}
+use mathlib.Core.Option.{Option, none}
 use native.Mathlib.Omega.{arith}
-use borrow.Author.Tests.{eq-eqb, ne-eqb, ltb-true, ltb-false, leb-true, le-leb, lt-leb}
-use lib.Dec.{eqb, leb, ltb}
-use lib.ListN.{length, take, drop, getD, length-take, length-drop}
-use lib.Seq.{getD-drop, drop-drop}
-use Rattle.songcode.specs.Lists.{if_then_else_, times, orElse}
+use lib.ListN.{take, drop}
+use Rattle.songcode.specs.Lists.{orElse}
 use Rattle.songcode.specs.Chords.{Chord}
-use Rattle.songcode.specs.Song.{Sound, chord, again, silence, Sounds, only, also, Measure, Beside, nothing, aLineEnd, Separator, bySemicolon, byLineEnd, byColon, Item, measure, loop, refer, Items, one, next}
-use Rattle.songcode.specs.Tokens.{Token, sound, remover, reference, semicolon, colon, lineEnd, opens, closes}
-use Rattle.songcode.specs.PatternText.{references}
-use Rattle.songcode.specs.References.{glue, putInItem, putIn}
-use Rattle.songcode.specs.WrittenPattern.{writeSounds, writeMeasure, writeBeside, writeSeparator, writeItem, writeItems}
-use Rattle.songcode.specs.Playing.{Beat, lastSounds, lastItem, lastItems, beatsOf, positions, measuresItem, measuresOf}
-use Rattle.songcode.specs.Tables.{beatWord}
-use Rattle.tokens.specs.TokenWords.{chordWord, tokenWord, tokenWords}
+use Rattle.songcode.specs.Song.{Item, measure, loop, refer, Items, one, next}
+use Rattle.songcode.specs.Tokens.{Token, opens, closes}
+use Rattle.songcode.specs.References.{putInItem, putIn}
+use Rattle.songcode.specs.WrittenPattern.{writeSeparator, writeItem, writeItems}
+use Rattle.songcode.specs.Playing.{Beat, lastItem, lastItems, measuresItem, measuresOf}
+use Rattle.tokens.specs.TokenWords.{tokenWord, tokenWords}
 use Rattle.player.specs.declared.leaves.Definitions.{Definitions}
 use Rattle.player.specs.declared.leaves.Stretch.{Stretch}
-use Rattle.player.specs.Signs.{kindOf, numberOf, wordOf, isPosition, isSeparator, isStop, chordsOf, partsOf, positionsOf, positionsAt}
-use Rattle.player.specs.Walks.{Read, stop, and-then, oneOf, passesOf, behindOf, looped, loopOf, stretchOf, refOf, itemBy, itemOf, rowsBy, level, rowOf}
-use Rattle.player.specs.Texts.{voiceWord, rowWords, Stands, ChordFits, ChordsFit, Says, WalkableItem, WalkableBy, Walkable}
+use Rattle.player.specs.Signs.{kindOf, wordOf, isStop}
+use Rattle.player.specs.Walks.{Read, stop, and-then, stretchOf, itemOf, rowsBy, level, rowOf}
+use Rattle.player.specs.Texts.{voiceWord, rowWords, Stands, WalkableItem, WalkableBy, Walkable}
 use Rattle.player.proofs.WalkLaws.{rows-stop, rows-more, item-onward, level-onward}
-use Rattle.songcode.proofs.ListLaws.{by-cases}
-use Rattle.songcode.proofs.PlayingAgree.{positions-some}
-use Rattle.player.proofs.SignLaws.{position-inside, position-there}
-use Rattle.player.proofs.SoundLaws.{measure-drop, measure-positions, measure-length, measure-beats, measure-chord}
-use Rattle.player.proofs.PutInLaws.{last-glue, measures-glue, putIn-same, words-append, words-times}
-use Rattle.player.proofs.WrittenWords.{word-here, word-none, behind-here, inside-here, Ends, closes-kind, refers-kind, closes-ends, Apart, ends-apart, Only, position-only, times-one, separator-apart}
+use Rattle.player.proofs.PutInLaws.{last-glue, measures-glue, putIn-same, words-append}
+use Rattle.player.proofs.WrittenWords.{word-here, word-none, behind-here, Ends, closes-ends, Apart, ends-apart, separator-apart}
 use Rattle.player.proofs.WalkedItems.{Walked, Passed, measure-passed, loop-passed, refer-passed, separator-across}
 
 -- Rows, where what stands inside is walked already.
 module _ (ws : List ℕ) (d : Definitions) (f : ℕ → Option Items) (n : ℕ) where
   -- What a level plays of every row that can be walked in it.
   Inside : ℕ → Type 0
-  Inside k = (r : Items) → Walkable ws d f k r → (to at : ℕ) (last : Option Chord) (t : List Token) → Ends t → drop at (take to ws) ≡ tokenWords (writeItems r t)
+  Inside k =
+      (r : Items) → Walkable ws d f k r → (to at : ℕ) (last : Option Chord) (t : List Token) → Ends t
+      → drop at (take to ws) ≡ tokenWords (writeItems r t)
       → Walked ws d n to (level k d n ws to at (voiceWord last)) (measuresOf n last (putIn f r)) (lastItems last (putIn f r)) t
 
   nothing-ends : Ends []
   unfolding Ends
   nothing-ends = tt
 
-  item-passed : (k : ℕ) → Inside k → (i : Item) → WalkableItem ws d f (Walkable ws d f k) i → (to at : ℕ) (last : Option Chord) (t : List Token) → Apart t → drop at (take to ws) ≡ tokenWords (writeItem i t)
+  item-passed : (k : ℕ) → Inside k → (i : Item) → WalkableItem ws d f (Walkable ws d f k) i
+      → (to at : ℕ) (last : Option Chord) (t : List Token) → Apart t → drop at (take to ws) ≡ tokenWords (writeItem i t)
       → Passed ws d n (level k d n ws) to at last (measuresOf n last (putInItem f i)) (lastItems last (putInItem f i)) t
   unfolding Inside WalkableItem writeItem tokenWords putInItem measuresOf lastItems measuresItem lastItem Stands orElse
   item-passed k ih (measure m) h to at last t a e = measure-passed ws d n (level k d n ws) to at last m t h a e
   item-passed k ih (loop r j) h to at last t a e =
-      loop-passed ws d n (level k d n ws) to at last j (measuresOf n last (putIn f r)) (lastItems last (putIn f r)) (tokenWords (writeItems r (closes j ∷ t))) t (h .0) (h .1) e
-      (ih r (h .2) to (at + 1) last (closes j ∷ t) (closes-ends j t (h .1)) (behind-here ws to at (tokenWord opens) (tokenWords (writeItems r (closes j ∷ t))) e))
+      loop-passed ws d n (level k d n ws) to at last j (measuresOf n last (putIn f r)) (lastItems last (putIn f r))
+      (tokenWords (writeItems r (closes j ∷ t))) t (h .0) (h .1) e
+      (ih r (h .2) to (at + 1) last (closes j ∷ t) (closes-ends j t (h .1))
+      (behind-here ws to at (tokenWord opens) (tokenWords (writeItems r (closes j ∷ t))) e))
   item-passed k ih (refer j) h to at last t a e =
       let q = h .1 in
       let y = h .2 in
@@ -66,7 +62,8 @@ module _ (ws : List ℕ) (d : Definitions) (f : ℕ → Option Items) (n : ℕ) 
     enough : to ≤ x .at + fuel
     goes : rowsBy inner d n ws g to at (voiceWord before) ≡ and-then x (rowsBy inner d n ws fuel to)
 
-  passed-come : (k to g at : ℕ) (before : Option Chord) (row : List (List Beat)) (last : Option Chord) (t : List Token) → Passed ws d n (level k d n ws) to at before row last t → to ≤ at + g → Come (level k d n ws) to g at before row last t
+  passed-come : (k to g at : ℕ) (before : Option Chord) (row : List (List Beat)) (last : Option Chord) (t : List Token)
+      → Passed ws d n (level k d n ws) to at before row last t → to ≤ at + g → Come (level k d n ws) to g at before row last t
   passed-come k to g at before row last t p h =
       let i = p .inside in
       let o = item-onward (level k d n ws) d n ws to at (voiceWord before) (level-onward k d n ws) (p .goes-on) in
@@ -78,28 +75,35 @@ module _ (ws : List ℕ) (d : Definitions) (f : ℕ → Option Items) (n : ℕ) 
         goes = rows-more (level k d n ws) d n ws g to at (voiceWord before) (omega arith) (p .goes-on);
       }
 
-  and-then-then : (x y : Read) (k j : ℕ → ℕ → Read) → k (x .at) (x .last) ≡ and-then y j → and-then x k ≡ and-then (record { row = x .row ++ y .row; at = y .at; last = y .last }) j
+  and-then-then : (x y : Read) (k j : ℕ → ℕ → Read) → k (x .at) (x .last) ≡ and-then y j
+      → and-then x k ≡ and-then (record { row = x .row ++ y .row; at = y .at; last = y .last }) j
   unfolding and-then
   and-then-then x y k j e = rw (e, append-assoc)
 
-  items-come : (k : ℕ) → Inside k → (r : Items) → WalkableBy ws d f (Walkable ws d f k) r → (to g at : ℕ) (last : Option Chord) (t : List Token) → Apart t → drop at (take to ws) ≡ tokenWords (writeItems r t) → to ≤ at + g
+  items-come : (k : ℕ) → Inside k → (r : Items) → WalkableBy ws d f (Walkable ws d f k) r
+      → (to g at : ℕ) (last : Option Chord) (t : List Token) → Apart t → drop at (take to ws) ≡ tokenWords (writeItems r t) → to ≤ at + g
       → Come (level k d n ws) to g at last (measuresOf n last (putIn f r)) (lastItems last (putIn f r)) t
   unfolding WalkableBy writeItems putIn
-  items-come k ih (one i) h to g at last t a e q = passed-come k to g at last (measuresOf n last (putInItem f i)) (lastItems last (putInItem f i)) t (item-passed k ih i h to at last t a e) q
+  items-come k ih (one i) h to g at last t a e q =
+      passed-come k to g at last (measuresOf n last (putInItem f i)) (lastItems last (putInItem f i)) t (item-passed k ih i h to at last t a e) q
   items-come k ih (next r s i) h to g at last t a e q =
       let inner = level k d n ws in
       let c = items-come k ih r (h .0) to g at last (writeSeparator s (writeItem i t)) (separator-apart s (writeItem i t)) e q in
       let mid = lastItems last (putIn f r) in
       let w = c .walked in
       let b = separator-across ws d n inner to (voiceWord mid) s (c .fuel) (c .x .at) (writeItem i t) (w .text-is) (c .enough) in
-      let z = passed-come k to (b .fuel) (b .place) mid (measuresOf n mid (putInItem f i)) (lastItems mid (putInItem f i)) t (item-passed k ih i (h .1) to (b .place) mid t a (b .text)) (b .enough) in
+      let z = passed-come k to (b .fuel) (b .place) mid (measuresOf n mid (putInItem f i)) (lastItems mid (putInItem f i)) t
+      (item-passed k ih i (h .1) to (b .place) mid t a (b .text)) (b .enough) in
       let v = z .walked in
-      let step : rowsBy inner d n ws (c .fuel) to (c .x .at) (c .x .last) ≡ and-then (z .x) (rowsBy inner d n ws (z .fuel) to) = ap (rowsBy inner d n ws (c .fuel) to (c .x .at)) (w .last-is) ∙ b .same ∙ z .goes in
+      let step : rowsBy inner d n ws (c .fuel) to (c .x .at) (c .x .last) ≡ and-then (z .x) (rowsBy inner d n ws (z .fuel) to) =
+      ap (rowsBy inner d n ws (c .fuel) to (c .x .at)) (w .last-is) ∙ b .same ∙ z .goes in
       record {
         x = record { row = c .x .row ++ z .x .row; at = z .x .at; last = z .x .last };
         fuel = z .fuel;
         walked = record {
-          row-is = rw (w .row-is, v .row-is, measures-glue n last (putIn f r) s (putInItem f i)) (sym (words-append (measuresOf n last (putIn f r)) (measuresOf n mid (putInItem f i))));
+          row-is =
+              rw (w .row-is, v .row-is, measures-glue n last (putIn f r) s (putInItem f i))
+              (sym (words-append (measuresOf n last (putIn f r)) (measuresOf n mid (putInItem f i))));
           last-is = v .last-is ∙ ap voiceWord (sym (last-glue last (putIn f r) s (putInItem f i)));
           text-is = v .text-is;
         };
@@ -118,7 +122,8 @@ module _ (ws : List ℕ) (d : Definitions) (f : ℕ → Option Items) (n : ℕ) 
       let inner = level k d n ws in
       let c = items-come k ih r h to to at last t (ends-apart t e) p (omega arith) in
       let w = c .walked in
-      let s : rowsBy inner d n ws (c .fuel) to (c .x .at) (c .x .last) ≡ stop (c .x .at) (c .x .last) = rows-stop inner d n ws (c .fuel) to (c .x .at) (c .x .last) (at-end to (c .x .at) t e (w .text-is)) in
+      let s : rowsBy inner d n ws (c .fuel) to (c .x .at) (c .x .last) ≡ stop (c .x .at) (c .x .last) =
+      rows-stop inner d n ws (c .fuel) to (c .x .at) (c .x .last) (at-end to (c .x .at) t e (w .text-is)) in
       rw (c .goes, s, append-nil) (record { row-is = w .row-is; last-is = w .last-is; text-is = w .text-is })
 
   every-level : (k : ℕ) → Inside k

@@ -10,9 +10,15 @@ use lib.ListN.{length, set, replicate}
 use Rattle.songcode.specs.Tables.{measureWord}
 use Rattle.player.specs.Signs.{lastingOf}
 use Rattle.player.specs.declared.pens.Pen.{Pen}
-use Rattle.player.specs.Page.{Page, Ink, Fine, beatBy, beatOf, inked, closeBy, closed, onPage, restBy, restOf, rested, lookedAt, measureBy, measureOf, play}
+use Rattle.player.specs.Page.{Page, Ink, Fine, beatBy, beatOf, inked, closeBy, closed, onPage, restBy, restOf, rested, lookedAt, measureBy}
+use Rattle.player.specs.Page.{measureOf, play}
 
-by-skip : (s l w : ℕ) (g : Ink) → 0 < s → record { pen = record { base = g .pen .base; todo = g .pen .todo; skip = s - 1; left = g .pen .left; m = g .pen .m; b = g .pen .b }; bs = g .bs } ≡ beatBy s l w g
+by-skip : (s l w : ℕ) (g : Ink) → 0 < s → record {
+  pen =
+      record { base = g .pen .base; todo = g .pen .todo; skip = s - 1; left = g .pen .left; m = g .pen .m; b = g .pen .b };
+  bs = g .bs;
+}
+    ≡ beatBy s l w g
 unfolding beatBy
 by-skip zero l w g h = let z : ⊥ = omega arith in absurd z
 by-skip (suc s) l w g h = let e : suc s - 1 ≡ s = omega arith in rw e
@@ -23,21 +29,43 @@ by-over (suc s) l w g h k = let z : ⊥ = omega arith in absurd z
 by-over zero (suc l) w g h k = let z : ⊥ = omega arith in absurd z
 by-over zero zero w g h k = refl
 
-by-write : (s l w : ℕ) (g : Ink) → s ≤ 0 → (l ≡ 0 → ⊥) → record { pen = record { base = g .pen .base; todo = g .pen .todo; skip = g .pen .skip; left = l - 1; m = g .pen .m; b = g .pen .b + 1 }; bs = set (g .bs) (g .pen .b) w } ≡ beatBy s l w g
+by-write : (s l w : ℕ) (g : Ink) → s ≤ 0 → (l ≡ 0 → ⊥)
+    → record {
+      pen = record {
+        base = g .pen .base;
+        todo = g .pen .todo;
+        skip = g .pen .skip;
+        left = l - 1;
+        m = g .pen .m;
+        b =
+            g .pen .b + 1;
+      };
+      bs = set (g .bs) (g .pen .b) w;
+    } ≡ beatBy s l w g
 unfolding beatBy
 by-write (suc s) l w g h k = let z : ⊥ = omega arith in absurd z
 by-write zero zero w g h k = absurd (k refl)
 by-write zero (suc l) w g h k = let e : suc l - 1 ≡ l = omega arith in rw e
 
-pub beat-skip : (w : ℕ) (p : Pen) (bs : List ℕ) → 0 < p .skip → _≡_ {A = Ink} (record { pen = record { base = p .base; todo = p .todo; skip = p .skip - 1; left = p .left; m = p .m; b = p .b }; bs = bs }) (beatOf w (record { pen = p; bs = bs }))
+pub beat-skip : (w : ℕ) (p : Pen) (bs : List ℕ) → 0 < p .skip
+    → _≡_ {A = Ink} (record {
+      pen = record { base = p .base; todo = p .todo; skip = p .skip - 1; left = p .left; m = p .m; b = p .b };
+      bs =
+          bs;
+    }) (beatOf w (record { pen = p; bs = bs }))
 unfolding beatOf
 beat-skip w p bs h = by-skip (p .skip) (p .left) w (record { pen = p; bs = bs }) h
 
-pub beat-over : (w : ℕ) (p : Pen) (bs : List ℕ) → p .skip ≤ 0 → p .left ≡ 0 → _≡_ {A = Ink} (record { pen = p; bs = bs }) (beatOf w (record { pen = p; bs = bs }))
+pub beat-over : (w : ℕ) (p : Pen) (bs : List ℕ) → p .skip ≤ 0 → p .left ≡ 0
+    → _≡_ {A = Ink} (record { pen = p; bs = bs }) (beatOf w (record { pen = p; bs = bs }))
 unfolding beatOf
 beat-over w p bs h k = by-over (p .skip) (p .left) w (record { pen = p; bs = bs }) h k
 
-pub beat-write : (w : ℕ) (p : Pen) (bs bs' : List ℕ) → p .skip ≤ 0 → (p .left ≡ 0 → ⊥) → bs' ≡ set bs (p .b) w → _≡_ {A = Ink} (record { pen = record { base = p .base; todo = p .todo; skip = p .skip; left = p .left - 1; m = p .m; b = p .b + 1 }; bs = bs' }) (beatOf w (record { pen = p; bs = bs }))
+pub beat-write : (w : ℕ) (p : Pen) (bs bs' : List ℕ) → p .skip ≤ 0 → (p .left ≡ 0 → ⊥) → bs' ≡ set bs (p .b) w
+    → _≡_ {A = Ink} (record {
+      pen = record { base = p .base; todo = p .todo; skip = p .skip; left = p .left - 1; m = p .m; b = p .b + 1 };
+      bs = bs';
+    }) (beatOf w (record { pen = p; bs = bs }))
 unfolding beatOf
 beat-write w p bs bs' h k e = rw e (by-write (p .skip) (p .left) w (record { pen = p; bs = bs }) h k)
 
@@ -51,9 +79,18 @@ pub record Moved (p q : Pen) (n : ℕ) : Type 0 where
 
 moved-by : (s l w : ℕ) (g : Ink) → s ≡ g .pen .skip → l ≡ g .pen .left → Fine (g .pen) → Moved (g .pen) (beatBy s l w g .pen) 1
 unfolding beatBy
-moved-by (suc s) l w g e k f = record { fine = record { few = f .few; fits = f .fits }; m-same = refl; base-same = refl; b-up = omega arith; b-near = omega arith }
+moved-by (suc s) l w g e k f =
+    record { fine = record { few = f .few; fits = f .fits }; m-same = refl; base-same = refl; b-up = omega arith; b-near = omega arith }
 moved-by zero zero w g e k f = record { fine = f; m-same = refl; base-same = refl; b-up = omega arith; b-near = omega arith }
-moved-by zero (suc l) w g e k f = record { fine = record { few = omega (arith, f .few); fits = omega (arith, f .fits) }; m-same = refl; base-same = refl; b-up = omega arith; b-near = omega arith }
+moved-by zero (suc l) w g e k f =
+    record {
+      fine = record { few = omega (arith, f .few); fits = omega (arith, f .fits) };
+      m-same = refl;
+      base-same = refl;
+      b-up =
+          omega arith;
+      b-near = omega arith;
+    }
 
 pub moved-beat : (w : ℕ) (g : Ink) → Fine (g .pen) → Moved (g .pen) (beatOf w g .pen) 1
 unfolding beatOf
@@ -65,14 +102,29 @@ moved-inked [] g f = record { fine = f; m-same = refl; base-same = refl; b-up = 
 moved-inked (w ∷ x) g f =
     let h = moved-beat w g f in
     let k = moved-inked x (beatOf w g) (h .fine) in
-    record { fine = k .fine; m-same = k .m-same ∙ h .m-same; base-same = k .base-same ∙ h .base-same; b-up = omega (arith, h .b-up, k .b-up); b-near = omega (arith, h .b-near, k .b-near) }
+    record {
+      fine = k .fine;
+      m-same = k .m-same ∙ h .m-same;
+      base-same = k .base-same ∙ h .base-same;
+      b-up =
+          omega (arith, h .b-up, k .b-up);
+      b-near = omega (arith, h .b-near, k .b-near);
+    }
 
 -- closing
-pub close-none : (from : ℕ) (p : Pen) (ms bs : List ℕ) → from ≡ p .b → _≡_ {A = Page} (record { pen = p; ms = ms; bs = bs }) (closed from (record { pen = p; ms = ms; bs = bs }))
+pub close-none : (from : ℕ) (p : Pen) (ms bs : List ℕ) → from ≡ p .b
+    → _≡_ {A = Page} (record { pen = p; ms = ms; bs = bs }) (closed from (record { pen = p; ms = ms; bs = bs }))
 unfolding closed closeBy
 close-none from p ms bs e = simp (eq-eqb from (p .b) e)
 
-pub close-some : (from : ℕ) (p : Pen) (ms ms' bs : List ℕ) → (from ≡ p .b → ⊥) → ms' ≡ set ms (p .m) (measureWord (p .base + from) (p .b - from)) → _≡_ {A = Page} (record { pen = record { base = p .base; todo = p .todo; skip = p .skip; left = p .left; m = p .m + 1; b = p .b }; ms = ms'; bs = bs }) (closed from (record { pen = p; ms = ms; bs = bs }))
+pub close-some : (from : ℕ) (p : Pen) (ms ms' bs : List ℕ) → (from ≡ p .b → ⊥)
+    → ms' ≡ set ms (p .m) (measureWord (p .base + from) (p .b - from))
+    → _≡_ {A = Page} (record {
+      pen = record { base = p .base; todo = p .todo; skip = p .skip; left = p .left; m = p .m + 1; b = p .b };
+      ms =
+          ms';
+      bs = bs;
+    }) (closed from (record { pen = p; ms = ms; bs = bs }))
 unfolding closed closeBy
 close-some from p ms ms' bs n e = rw e (simp (ne-eqb from (p .b) n))
 
@@ -104,13 +156,15 @@ unfolding lastingOf inked
 lasting-none zero v g e = refl
 lasting-none (suc k) v g e = let z : ⊥ = omega arith in absurd z
 
-pub lasting-some : (share v : ℕ) (g h i : Ink) → (share ≡ 0 → ⊥) → h ≡ beatOf (v + 16) g → i ≡ inked (replicate (share - 1) v) h → i ≡ inked (lastingOf share v) g
+pub lasting-some : (share v : ℕ) (g h i : Ink) → (share ≡ 0 → ⊥) → h ≡ beatOf (v + 16) g → i ≡ inked (replicate (share - 1) v) h
+    → i ≡ inked (lastingOf share v) g
 unfolding lastingOf inked
 lasting-some zero v g h i n e k = absurd (n refl)
 lasting-some (suc s) v g h i n e k = let z : suc s - 1 ≡ s = omega arith in k ∙ rw (z, e)
 
 -- What a measure's beats leave, for its closing.
-pub measured : (x : List ℕ) (p q : Pen) (bs bs' : List ℕ) → Fine p → length x ≤ 32 → _≡_ {A = Ink} (record { pen = q; bs = bs' }) (inked x (record { pen = p; bs = bs }))
+pub measured : (x : List ℕ) (p q : Pen) (bs bs' : List ℕ) → Fine p → length x ≤ 32
+    → _≡_ {A = Ink} (record { pen = q; bs = bs' }) (inked x (record { pen = p; bs = bs }))
     → Fine q × (q .m ≤ p .b) × (p .b ≤ q .b) × (q .b ≤ p .b + 63)
 measured x p q bs bs' f k e =
     let g : Ink = record { pen = p; bs = bs } in
@@ -120,12 +174,14 @@ measured x p q bs bs' f k e =
 
 -- Beats that are all passed over.
 pub inked-pass : (x : List ℕ) (p : Pen) (bs : List ℕ) → length x ≤ p .skip
-    → _≡_ {A = Ink} (inked x (record { pen = p; bs = bs })) (record { pen = record { base = p .base; todo = p .todo; skip = p .skip - length x; left = p .left; m = p .m; b = p .b }; bs = bs })
+    → _≡_ {A = Ink} (inked x (record { pen = p; bs = bs }))
+    (record { pen = record { base = p .base; todo = p .todo; skip = p .skip - length x; left = p .left; m = p .m; b = p .b }; bs = bs })
 unfolding inked
 inked-pass [] p bs h = let e : p .skip - 0 ≡ p .skip = omega arith in rw e
 inked-pass (w ∷ x) p bs h =
     let e : p .skip - 1 - length x ≡ p .skip - suc (length x) = omega arith in
-    rw (← beat-skip w p bs (omega arith)) (inked-pass x (record { base = p .base; todo = p .todo; skip = p .skip - 1; left = p .left; m = p .m; b = p .b }) bs (omega arith) ∙ rw e)
+    rw (← beat-skip w p bs (omega arith)) (inked-pass x
+    (record { base = p .base; todo = p .todo; skip = p .skip - 1; left = p .left; m = p .m; b = p .b }) bs (omega arith) ∙ rw e)
 
 none-by : (t : ℕ) (x : List ℕ) (g : Page) → t ≡ 0 → g ≡ measureBy t x g
 unfolding measureBy
@@ -137,7 +193,8 @@ unfolding measureOf
 measure-none x g e = none-by (g .pen .todo) x g e
 
 some-by : (t : ℕ) (x : List ℕ) (p q r : Pen) (ms ms' bs bs' : List ℕ) → (t ≡ 0 → ⊥)
-    → _≡_ {A = Ink} (record { pen = q; bs = bs' }) (inked x (record { pen = record { base = p .base; todo = t - 1; skip = p .skip; left = p .left; m = p .m; b = p .b }; bs = bs }))
+    → _≡_ {A = Ink} (record { pen = q; bs = bs' }) (inked x
+    (record { pen = record { base = p .base; todo = t - 1; skip = p .skip; left = p .left; m = p .m; b = p .b }; bs = bs }))
     → _≡_ {A = Page} (record { pen = r; ms = ms'; bs = bs' }) (closed (p .b) (record { pen = q; ms = ms; bs = bs' }))
     → _≡_ {A = Page} (record { pen = restOf r; ms = ms'; bs = bs' }) (measureBy t x (record { pen = p; ms = ms; bs = bs }))
 unfolding measureBy rested lookedAt onPage
@@ -147,7 +204,8 @@ some-by (suc t) x p q r ms ms' bs bs' n e k =
     ap (λ (g : Page). rested g) (k ∙ ap (λ (i : Ink). closed (p .b) (onPage i ms)) (rw z at e))
 
 pub measure-some : (x : List ℕ) (p q r : Pen) (ms ms' bs bs' : List ℕ) → (p .todo ≡ 0 → ⊥)
-    → _≡_ {A = Ink} (record { pen = q; bs = bs' }) (inked x (record { pen = record { base = p .base; todo = p .todo - 1; skip = p .skip; left = p .left; m = p .m; b = p .b }; bs = bs }))
+    → _≡_ {A = Ink} (record { pen = q; bs = bs' }) (inked x
+    (record { pen = record { base = p .base; todo = p .todo - 1; skip = p .skip; left = p .left; m = p .m; b = p .b }; bs = bs }))
     → _≡_ {A = Page} (record { pen = r; ms = ms'; bs = bs' }) (closed (p .b) (record { pen = q; ms = ms; bs = bs' }))
     → _≡_ {A = Page} (record { pen = restOf r; ms = ms'; bs = bs' }) (measureOf x (record { pen = p; ms = ms; bs = bs }))
 unfolding measureOf
@@ -236,7 +294,9 @@ not-none {n} h = some n h
 pub fine-begun : (p r : Pen) (todo skip : ℕ) → r ≡ record { base = p .base; todo = todo; skip = skip; left = p .left; m = p .m; b = p .b } → Fine p → Fine r
 fine-begun p r todo skip e f = rw e (record { few = f .few; fits = f .fits })
 
-pub inked-from : (x : List ℕ) (p r q : Pen) (bs bs' : List ℕ) → p ≡ r → _≡_ {A = Ink} (record { pen = q; bs = bs' }) (inked x (record { pen = p; bs = bs })) → _≡_ {A = Ink} (record { pen = q; bs = bs' }) (inked x (record { pen = r; bs = bs }))
+pub inked-from : (x : List ℕ) (p r q : Pen) (bs bs' : List ℕ) → p ≡ r
+    → _≡_ {A = Ink} (record { pen = q; bs = bs' }) (inked x (record { pen = p; bs = bs }))
+    → _≡_ {A = Ink} (record { pen = q; bs = bs' }) (inked x (record { pen = r; bs = bs }))
 inked-from x p r q bs bs' e k = rw e at k
 
 abbrev pub page : Pen → List ℕ → List ℕ → Page

@@ -1,14 +1,14 @@
 -- What a row plays with its references put in: rows glued together, rows that hold no reference.
 use Prim.Native.Nat.{ℕ, zero, suc}
 use mathlib.Core.Path.{_≡_, refl, sym, ap, _∙_}
-use mathlib.Core.List.{List, [], _∷_, _++_, map, map-append, append-assoc, append-nil}
-use mathlib.Core.Option.{Option, none, some}
-use Rattle.songcode.specs.Lists.{times, orElse}
+use mathlib.Core.List.{List, [], _++_, map, map-append, append-assoc}
+use mathlib.Core.Option.{Option}
+use Rattle.songcode.specs.Lists.{times}
 use Rattle.songcode.specs.Chords.{Chord}
 use Rattle.songcode.specs.Song.{Separator, Item, measure, loop, refer, Items, one, next}
 use Rattle.songcode.specs.PatternText.{references, referencesI}
 use Rattle.songcode.specs.References.{glue, putInItem, putIn}
-use Rattle.songcode.specs.Playing.{Beat, lastItem, lastItems, measuresItem, measuresOf}
+use Rattle.songcode.specs.Playing.{Beat, lastItem, lastItems, measuresOf}
 use Rattle.songcode.specs.Tables.{beatWord}
 use Rattle.songcode.proofs.ListLaws.{append-is-nil, nil-is-not-cons}
 use Rattle.player.specs.Texts.{rowWords}
@@ -18,7 +18,8 @@ unfolding glue lastItems
 last-glue last r s (one i) = refl
 last-glue last r s (next q t i) = ap (λ x. lastItem x i) (last-glue last r s q)
 
-pub measures-glue : (n : ℕ) (last : Option Chord) (r : Items) (s : Separator) (q : Items) → measuresOf n last (glue r s q) ≡ measuresOf n last r ++ measuresOf n (lastItems last r) q
+pub measures-glue : (n : ℕ) (last : Option Chord) (r : Items) (s : Separator) (q : Items)
+    → measuresOf n last (glue r s q) ≡ measuresOf n last r ++ measuresOf n (lastItems last r) q
 unfolding glue measuresOf
 measures-glue n last r s (one i) = refl
 measures-glue n last r s (next q t i) = rw (measures-glue n last r s q, last-glue last r s q, append-assoc)

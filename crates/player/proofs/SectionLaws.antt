@@ -26,7 +26,8 @@ use Rattle.player.proofs.PartLaws.{section-part, uncut-window, filled-s
 
 -- Counting.
 pub tallied : (row : List (List ℕ)) (k : ℕ) (q : Pen) (ms ms' bs bs' : List ℕ) → Short row → k ≤ 65536
-    → _≡_ {A = Page} (record { pen = q; ms = ms'; bs = bs' }) (play row (record { pen = record { base = 0; todo = k; skip = 4294967295; left = 0; m = 0; b = 0 }; ms = ms; bs = bs }))
+    → _≡_ {A = Page} (record { pen = q; ms = ms'; bs = bs' })
+    (play row (record { pen = record { base = 0; todo = k; skip = 4294967295; left = 0; m = 0; b = 0 }; ms = ms; bs = bs }))
     → (q .todo ≡ k - length row) × (q .skip ≡ 4294967295 - total (take k row)) × (total (take k row) ≤ 2097152)
 tallied row k q ms ms' bs bs' f h e =
     let g : Page = record { pen = record { base = 0; todo = k; skip = 4294967295; left = 0; m = 0; b = 0 }; ms = ms; bs = bs } in
@@ -40,9 +41,11 @@ take-capped : (m : ℕ) (row : List (List ℕ)) → length row ≤ 65535 → tak
 take-capped m row h =
     by-cases (leb m 65536)
     (λ e. let l = leb-true m 65536 e in let z : min m 65536 ≡ m = omega arith in rw z)
-    (λ e. let l = leb-false m 65536 e in let z : min m 65536 ≡ 65536 = omega arith in rw z (take-all 65536 row (omega arith) ∙ sym (take-all m row (omega arith))))
+    (λ e. let l = leb-false m 65536 e in let z : min m 65536 ≡ 65536 =
+    omega arith in rw z (take-all 65536 row (omega arith) ∙ sym (take-all m row (omega arith))))
 
-pub planned-is : (row : List (List ℕ)) (f k : Cut) (a j x i y u v : ℕ) → length row ≤ 65535 → a ≡ min 65536 (length row) → j ≡ min (f .measures .0) 65536 → x ≡ total (take j row) → i ≡ a - k .measures .0
+pub planned-is : (row : List (List ℕ)) (f k : Cut) (a j x i y u v : ℕ) → length row ≤ 65535 → a ≡ min 65536 (length row)
+    → j ≡ min (f .measures .0) 65536 → x ≡ total (take j row) → i ≡ a - k .measures .0
     → y ≡ total (take i row) → u ≡ y - k .beats .0 → v ≡ u - (x + f .beats .0)
     → (a ≡ length row) × (x + f .beats .0 ≡ firstBeat f row) × (v ≡ lastBeat k row - firstBeat f row)
 unfolding firstBeat lastBeat
@@ -83,7 +86,8 @@ wrote-more base ms bs w row v p o q ms1 bs1 ms2 bs2 h same e k =
     let lb = length-flat w in
     let zm : 0 + length (heads base w) ≡ length w = omega arith in
     let zb : 0 + length (flat w) ≡ total w = omega arith in
-    let am : sets ms 0 (heads base w ++ heads (base + total w) v) ≡ sets (sets ms 0 (heads base w)) (length w) (heads (base + total w) v) = rw zm at (sets-append ms 0 (heads base w) (heads (base + total w) v)) in
+    let am : sets ms 0 (heads base w ++ heads (base + total w) v) ≡ sets (sets ms 0 (heads base w)) (length w) (heads (base + total w) v) =
+    rw zm at (sets-append ms 0 (heads base w) (heads (base + total w) v)) in
     let ab : sets bs 0 (flat w ++ flat v) ≡ sets (sets bs 0 (flat w)) (total w) (flat v) = rw zb at (sets-append bs 0 (flat w) (flat v)) in
     record {
       first = d .base ∙ ob;
@@ -110,7 +114,8 @@ AtPattern plan lead p =
 
 abbrev pub AtTail : Plan → Pen → Pen → Pen → Type 0
 AtTail plan lead pattern p =
-    ((p .base ≡ pattern .base) × (p .m ≡ pattern .m) × (p .b ≡ pattern .b)) × ((p .skip ≡ lead .skip - plan .left) × ((p .left ≡ lead .left - (plan .left - lead .skip)) × ((p .left ≡ 0 → ⊥) → p .todo ≡ 65536)))
+    ((p .base ≡ pattern .base) × (p .m ≡ pattern .m) × (p .b ≡ pattern .b))
+    × ((p .skip ≡ lead .skip - plan .left) × ((p .left ≡ lead .left - (plan .left - lead .skip)) × ((p .left ≡ 0 → ⊥) → p .todo ≡ 65536)))
 
 -- Three texts on one page.
 module _ (f k : Cut) (r : ℕ) (lead row tail : List (List ℕ)) (plan : Plan)
@@ -183,7 +188,8 @@ pub total-whole : (row : List (List ℕ)) → total (wholeOf row) ≤ total row
 unfolding wholeOf
 total-whole row = rw (total-window 0 (total row) row) (omega arith)
 
-pub total-kept : (f k : Cut) (row : List (List ℕ)) → (total (keptOf f k row) ≤ lastBeat k row - firstBeat f row) × (lastBeat k row - firstBeat f row ≤ total row)
+pub total-kept : (f k : Cut) (row : List (List ℕ))
+    → (total (keptOf f k row) ≤ lastBeat k row - firstBeat f row) × (lastBeat k row - firstBeat f row ≤ total row)
 unfolding keptOf lastBeat
 total-kept f k row =
     let t = total-take-le (length row - k .measures .0) row in

@@ -1,14 +1,13 @@
 -- What a section's contract says of its tables, in the words of the definitions: the measures that are played, and their words.
-use Prim.Native.Nat.{ℕ, zero, suc, _+_, _-_, _*_, _<_, _≤_, min}
+use Prim.Native.Nat.{ℕ, zero, suc, _+_, _-_}
 use mathlib.Core.Path.{_≡_, refl, sym, ap, _∙_}
 use mathlib.Core.List.{List, [], _∷_, _++_, map, append-assoc}
 use mathlib.Core.Option.{Option, none, some}
 use native.Mathlib.Omega.{arith}
-use lib.ListN.{length, take, drop, length-take}
-use lib.Seq.{take-nil, drop-nil}
+use lib.ListN.{length, take, drop}
 use Rattle.songcode.specs.Lists.{gather, times}
 use Rattle.songcode.specs.Song.{Cut, Modifier}
-use Rattle.songcode.specs.Playing.{Beat, keep, cutFront, turned, cutBack, cutStartSaid, cutEndSaid, saidBy, applied, cutRow, repeats}
+use Rattle.songcode.specs.Playing.{Beat, keep, cutFront, cutBack, cutStartSaid, cutEndSaid, saidBy, applied, cutRow, repeats}
 use Rattle.songcode.specs.Performance.{total}
 use Rattle.songcode.specs.Tables.{beatWord, measureWords}
 use Rattle.songcode.specs.EitherOrder.{Filled}
@@ -23,7 +22,8 @@ use Rattle.player.proofs.CutLaws.{zeros, kept-cuts, front-none, back-no
 use Rattle.player.proofs.PutInLaws.{words-append, words-times}
 
 -- Cuts that may be absent.
-pub kept-applied : {A : Type 0} (f b : Option Cut) (row : List (List A)) → Filled row → applied cutBack b (applied cutFront f row) ≡ keptOf (cutSaid f) (cutSaid b) row
+pub kept-applied : {A : Type 0} (f b : Option Cut) (row : List (List A)) → Filled row
+    → applied cutBack b (applied cutFront f row) ≡ keptOf (cutSaid f) (cutSaid b) row
 unfolding applied cutSaid cutOf
 kept-applied none none row g = sym (ap (λ r. cutBack zeros r) (front-none row g) ∙ back-none row g) ∙ kept-cuts zeros zeros row g
 kept-applied none (some b) row g = sym (ap (λ r. cutBack b r) (front-none row g)) ∙ kept-cuts zeros b row g
@@ -71,7 +71,8 @@ module _ {A B : Type 0} (f : A → B) where
   unfolding window
   window-words s n [] = refl
   window-words s n (x ∷ row) =
-      rw (length-words x, drop-words s x, take-words n (drop s x), window-words (s - length x) (n - (length x - s)) row) (keep-words (take n (drop s x)) (window (s - length x) (n - (length x - s)) row))
+      rw (length-words x, drop-words s x, take-words n (drop s x), window-words (s - length x) (n - (length x - s)) row)
+      (keep-words (take n (drop s x)) (window (s - length x) (n - (length x - s)) row))
 
 pub rows-length : (row : List (List Beat)) → length (rowWords row) ≡ length row
 unfolding rowWords
@@ -110,7 +111,8 @@ whole-words row f = rw (rows-total row, rows-window 0 (total row) row) (ap rowWo
 
 -- A section: lead-in, the pattern repeated less the cuts, tail.
 pub section-words : (ms : List Modifier) (lead row tail : List (List Beat)) → Filled lead → Filled row → Filled tail
-    → sectionRow (cutSaid (saidBy cutStartSaid ms)) (cutSaid (saidBy cutEndSaid ms)) (repeats ms) (rowWords lead) (rowWords row) (rowWords tail) ≡ rowWords (lead ++ cutRow ms (times (repeats ms) row) ++ tail)
+    → sectionRow (cutSaid (saidBy cutStartSaid ms)) (cutSaid (saidBy cutEndSaid ms)) (repeats ms) (rowWords lead) (rowWords row)
+    (rowWords tail) ≡ rowWords (lead ++ cutRow ms (times (repeats ms) row) ++ tail)
 unfolding sectionRow cutRow
 section-words ms lead row tail f g h =
     let a = saidBy cutStartSaid ms in
@@ -118,7 +120,8 @@ section-words ms lead row tail f g h =
     let all = times (repeats ms) row in
     let k = kept-applied a b all (filled-times (repeats ms) row g) in
     rw (whole-words lead f, whole-words tail h, ← words-times (repeats ms) row, kept-words (cutSaid a) (cutSaid b) all, ← k)
-    (sym (words-append (lead ++ applied cutBack b (applied cutFront a all)) tail ∙ rw (words-append lead (applied cutBack b (applied cutFront a all)), append-assoc)))
+    (sym (words-append (lead ++ applied cutBack b (applied cutFront a all)) tail
+    ∙ rw (words-append lead (applied cutBack b (applied cutFront a all)), append-assoc)))
 
 -- The words of its measures and of its beats.
 pub heads-words : (first : ℕ) (row : List (List Beat)) → heads first (rowWords row) ≡ measureWords first row

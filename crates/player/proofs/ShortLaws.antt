@@ -1,19 +1,17 @@
 -- Every measure that is walked has as many beats as N at most, so that a row's beats can be counted.
-use Prim.Native.Nat.{ℕ, zero, suc, _+_, _-_, _*_, _/_, _<_, _≤_, min}
-use mathlib.Core.Path.{_≡_, refl, sym, ap, _∙_}
+use Prim.Native.Nat.{ℕ, zero, suc, _+_, _*_, _/_, _≤_}
+use mathlib.Core.Path.{refl}
 use mathlib.Core.List.{List, [], _∷_, _++_}
-use mathlib.Core.Bool.{Bool, true, false}
 use native.Mathlib.Omega.{arith}
 use lib.Dec.{eqb}
-use lib.ListN.{length, take, length-take, length-append}
-use lib.Seq.{take-nil}
+use lib.ListN.{length, take, length-take}
 use Rattle.songcode.specs.Lists.{if_then_else_, times}
 use Rattle.songcode.specs.Performance.{total}
 use Rattle.songcode.proofs.ListLaws.{by-cases}
 use Rattle.player.specs.declared.leaves.Definitions.{Definitions}
 use Rattle.player.specs.declared.leaves.Stretch.{Stretch}
-use Rattle.player.specs.Signs.{kindOf, numberOf, wordOf, isSeparator, isStop, soundingOf, partsOf, positionsAt}
-use Rattle.player.specs.Walks.{Read, stop, and-then, oneOf, passesOf, looped, loopOf, stretchOf, refOf, itemBy, itemOf, rowsBy, level, rowOf}
+use Rattle.player.specs.Signs.{kindOf, numberOf, wordOf, isSeparator, isStop, soundingOf, positionsAt}
+use Rattle.player.specs.Walks.{Read, and-then, oneOf, passesOf, looped, loopOf, stretchOf, refOf, itemBy, itemOf, rowsBy, level, rowOf}
 use Rattle.player.proofs.SignLaws.{parts-length}
 use Rattle.player.proofs.LookLaws.{beats-few}
 
@@ -63,7 +61,9 @@ module _ (d : Definitions) (n : ℕ) (ws : List ℕ) (h : n ≤ 32) where
   short-item inner i to at last =
       let w = wordOf ws to at in
       by-cases (eqb (kindOf w) 57)
-      (λ a. rw (a, if_then_else_) (short-append (inner to (at + 1) last .row) (times (passesOf ws to (inner to (at + 1) last .at)) (inner to (at + 1) last .row)) (i to (at + 1) last) (short-times (passesOf ws to (inner to (at + 1) last .at)) (inner to (at + 1) last .row) (i to (at + 1) last))))
+      (λ a. rw (a, if_then_else_) (short-append (inner to (at + 1) last .row)
+      (times (passesOf ws to (inner to (at + 1) last .at)) (inner to (at + 1) last .row)) (i to (at + 1) last)
+      (short-times (passesOf ws to (inner to (at + 1) last .at)) (inner to (at + 1) last .row) (i to (at + 1) last))))
       (λ a.
       by-cases (eqb (kindOf w) 55) (λ b. rw (a, b, if_then_else_) (i (stretchOf d (numberOf w) .to) (stretchOf d (numberOf w) .from) last))
       (λ b. by-cases (isSeparator (kindOf w)) (λ f. rw (a, b, f, if_then_else_) tt) (λ f. rw (a, b, f, if_then_else_) (short-one to at last))))
@@ -75,7 +75,8 @@ module _ (d : Definitions) (n : ℕ) (ws : List ℕ) (h : n ≤ 32) where
       by-cases (isStop (kindOf (wordOf ws to at))) (λ e. rw (e, if_then_else_) tt)
       (λ e.
       let r = itemOf inner d n ws to at last in
-      rw (e, if_then_else_) (short-append (r .row) (rowsBy inner d n ws f to (r .at) (r .last) .row) (short-item inner i to at last) (short-rows inner i f to (r .at) (r .last))))
+      rw (e, if_then_else_) (short-append (r .row) (rowsBy inner d n ws f to (r .at) (r .last) .row) (short-item inner i to at last)
+      (short-rows inner i f to (r .at) (r .last))))
 
   short-level : (k : ℕ) → Shorts (level k d n ws)
   unfolding level Short

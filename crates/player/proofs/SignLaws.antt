@@ -1,18 +1,18 @@
 -- Laws of the token words: what is found in a text, and the positions of a measure one by one.
-use Prim.Native.Nat.{ℕ, zero, suc, _+_, _-_, _*_, _/_, _%_, _<_, _≤_, min}
+use Prim.Native.Nat.{ℕ, zero, suc, _+_, _*_, _<_, _≤_}
 use mathlib.Core.Path.{_≡_, refl, sym, ap, _∙_}
-use mathlib.Core.List.{List, [], _∷_, _++_, head-eq-of-cons-eq}
-use mathlib.Core.Bool.{Bool, true, false, _||_, _&&_}
+use mathlib.Core.List.{List, [], _∷_, head-eq-of-cons-eq}
+use mathlib.Core.Bool.{true, false, _||_, _&&_}
 use native.Mathlib.Omega.{arith}
 use native.Mathlib.Numerals.{add-one}
-use native.Mathlib.Nat.{div-mul-le-self}
-use borrow.Author.Tests.{eq-eqb, ne-eqb, lt-ltb, le-ltb, le-leb, lt-leb, leb-true, leb-false, eqb-true, eqb-false, ltb-true, ltb-false}
+use borrow.Author.Tests.{leb-true, leb-false}
 use lib.Dec.{eqb, leb, ltb}
 use lib.ListN.{length, take, drop, getD, List·getD-eq-default, length-take, length-append, length-replicate, drop-of-length-le}
 use lib.Seq.{drop-cons, getD-take}
 use Rattle.songcode.specs.Lists.{if_then_else_}
 use Rattle.songcode.proofs.ListLaws.{by-cases}
-use Rattle.player.specs.Signs.{kindOf, wordOf, isPosition, isSeparator, isStop, voiceOf, chordOf, chordsOf, lastingOf, partOf, partsOf, soundsAs, soundingOf, positionsOf, positionsAt}
+use Rattle.player.specs.Signs.{kindOf, wordOf, isPosition, isStop, voiceOf, chordOf, lastingOf, partOf, partsOf, soundsAs, soundingOf}
+use Rattle.player.specs.Signs.{positionsOf, positionsAt}
 
 -- The word at a place.
 same-default : (l : List ℕ) (i d e : ℕ) → i < length l → getD l i d ≡ getD l i e
@@ -48,7 +48,8 @@ position-inside ws to at e = word-inside ws to at (λ z. let y : (ltb 54 34 || l
 
 pub stop-inside : (ws : List ℕ) (to at : ℕ) → isStop (kindOf (wordOf ws to at)) ≡ false → at < to
 unfolding isStop
-stop-inside ws to at e = word-inside ws to at (λ z. let y : (eqb 54 56 || (leb 34 54 && leb 54 54)) ≡ false = rw z at e in let x : _≡_ {A = ℕ} 0 1 = cc in omega arith) .0
+stop-inside ws to at e =
+    word-inside ws to at (λ z. let y : (eqb 54 56 || (leb 34 54 && leb 54 54)) ≡ false = rw z at e in let x : _≡_ {A = ℕ} 0 1 = cc in omega arith) .0
 
 -- The positions of a measure: none, or one and those behind it.
 none-of : (w : ℕ) (xs : List ℕ) → isPosition (kindOf w) ≡ false → positionsOf (w ∷ xs) ≡ []
@@ -64,9 +65,11 @@ unfolding positionsAt wordOf positionsOf
 positions-none ws to at e =
     by-cases (leb (length (take to ws)) at)
     (λ f. rw (drop-of-length-le (take to ws) {i = at} (leb-true (length (take to ws)) at f)))
-    (λ f. ap positionsOf (drop-cons (take to ws) at 3623878656 (leb-false (length (take to ws)) at f)) ∙ none-of (getD (take to ws) at 3623878656) (drop (suc at) (take to ws)) e)
+    (λ f. ap positionsOf (drop-cons (take to ws) at 3623878656 (leb-false (length (take to ws)) at f))
+    ∙ none-of (getD (take to ws) at 3623878656) (drop (suc at) (take to ws)) e)
 
-pub positions-more : (ws : List ℕ) (to at : ℕ) → isPosition (kindOf (wordOf ws to at)) ≡ true → positionsAt ws to at ≡ wordOf ws to at ∷ positionsAt ws to (at + 1)
+pub positions-more : (ws : List ℕ) (to at : ℕ) → isPosition (kindOf (wordOf ws to at)) ≡ true
+    → positionsAt ws to at ≡ wordOf ws to at ∷ positionsAt ws to (at + 1)
 unfolding positionsAt wordOf isPosition
 positions-more ws to at e =
     let h = word-inside ws to at (λ z. let y : (ltb 54 34 || leb 61 54) ≡ true = rw z at e in let x : _≡_ {A = ℕ} 0 1 = cc in omega arith) in
@@ -89,7 +92,9 @@ lasting-length (suc k) v = ap suc (length-replicate k v)
 
 part-length : (share last w : ℕ) → length (partOf share last w) ≡ share * soundsAs (kindOf w)
 unfolding partOf soundsAs
-part-length share last w = by-cases (eqb (kindOf w) 61) (λ e. rw (e, if_then_else_) (omega arith)) (λ e. rw (e, if_then_else_) (lasting-length share (voiceOf last w) ∙ omega arith))
+part-length share last w =
+    by-cases (eqb (kindOf w) 61) (λ e. rw (e, if_then_else_) (omega arith))
+    (λ e. rw (e, if_then_else_) (lasting-length share (voiceOf last w) ∙ omega arith))
 
 pub parts-length : (share last : ℕ) (ps : List ℕ) → length (partsOf share last ps) ≡ share * soundingOf ps
 unfolding partsOf soundingOf

@@ -1,12 +1,11 @@
 -- A written measure: its words are positions, and they sound what the definitions say.
-use Prim.Native.Nat.{ℕ, zero, suc, _+_, _-_, _*_, _/_, _^_, _<_, _≤_}
+use Prim.Native.Nat.{ℕ, zero, suc, _+_, _/_, _<_}
 use mathlib.Core.Path.{_≡_, refl, sym, ap, _∙_}
 use mathlib.Core.List.{List, [], _∷_, _++_, map, map-append, append-assoc, append-nil}
-use mathlib.Core.Bool.{Bool, true, false, _||_, _&&_}
+use mathlib.Core.Bool.{true, false}
 use mathlib.Core.Option.{Option, none, some}
 use native.Mathlib.Omega.{arith}
-use borrow.Author.Tests.{eq-eqb, ne-eqb, lt-ltb, le-ltb}
-use lib.Dec.{eqb, leb, ltb}
+use borrow.Author.Tests.{ne-eqb, lt-ltb}
 use lib.ListN.{length, drop, replicate}
 use lib.Seq.{drop-drop}
 use Rattle.songcode.specs.Lists.{if_then_else_, gather}
@@ -14,8 +13,8 @@ use Rattle.songcode.specs.Chords.{Chord}
 use Rattle.songcode.specs.Song.{Sound, chord, again, silence, Sounds, only, also, Measure}
 use Rattle.songcode.specs.Tokens.{Token, sound, remover}
 use Rattle.songcode.specs.WrittenPattern.{writeSounds, writeRemovers, writeMeasure}
-use Rattle.songcode.specs.Playing.{Beat, beat, chordAfter, heard, lastSounds, voices, lasting, soundCount, positions, beatsOf}
-use Rattle.songcode.specs.Tables.{offset, headBit, beatBy, beatWord}
+use Rattle.songcode.specs.Playing.{beat, chordAfter, heard, lastSounds, voices, lasting, soundCount, positions, beatsOf}
+use Rattle.songcode.specs.Tables.{headBit, beatBy, beatWord}
 use Rattle.songcode.proofs.ListLaws.{gather-append}
 use Rattle.tokens.specs.TokenWords.{chordWord, tokenWord, tokenWords}
 use Rattle.player.specs.Signs.{kindOf, isPosition, voiceOf, chordOf, chordsOf, lastingOf, partOf, partsOf, positionsOf}
@@ -77,24 +76,36 @@ sound-position (chord c) h = rw (lt-ltb (kindOf (chordWord c)) 34 (chord-kind (c
 sound-position again h = refl
 sound-position silence h = refl
 
-sound-part : (share : ℕ) (last : Option Chord) (s : Sound) → ChordFits s → partOf share (voiceWord last) (tokenWord (sound s)) ≡ map beatWord (lasting share (heard last s))
+sound-part : (share : ℕ) (last : Option Chord) (s : Sound) → ChordFits s
+    → partOf share (voiceWord last) (tokenWord (sound s)) ≡ map beatWord (lasting share (heard last s))
 unfolding partOf
-sound-part share last s h = rw (ne-eqb (kindOf (tokenWord (sound s))) 61 (sound-stays s h), if_then_else_, sound-voice last s h) (lasting-words share (heard last s))
+sound-part share last s h =
+    rw (ne-eqb (kindOf (tokenWord (sound s))) 61 (sound-stays s h), if_then_else_, sound-voice last s h) (lasting-words share (heard last s))
 
 -- The sounds of a measure, in front of more positions.
 sounds-parts : (share : ℕ) (last : Option Chord) (ss : Sounds) (k : List Token) → ChordsFit ss
-    → partsOf share (voiceWord last) (tokenWords (writeSounds ss k)) ≡ map beatWord (gather (lasting share) (voices last ss)) ++ partsOf share (voiceWord (lastSounds last ss)) (tokenWords k)
+    → partsOf share (voiceWord last) (tokenWords (writeSounds ss k)) ≡ map beatWord (gather (lasting share) (voices last ss))
+    ++ partsOf share (voiceWord (lastSounds last ss)) (tokenWords k)
 unfolding ChordsFit writeSounds tokenWords partsOf voices gather lastSounds
 sounds-parts share last (only s) k h = rw (sound-part share last s h, sound-chord last s h, append-nil)
 sounds-parts share last (also ss s) k h =
     let v = heard (lastSounds last ss) s in
     sounds-parts share last ss (sound s ∷ k) (h .0)
-    ∙ rw (sound-part share (lastSounds last ss) s (h .1), sound-chord (lastSounds last ss) s (h .1), gather-append (lasting share) (voices last ss) (v ∷ []), append-nil, map-append, append-assoc)
+    ∙ rw (
+      sound-part share (lastSounds last ss) s (h .1),
+      sound-chord (lastSounds last ss) s (h .1),
+      gather-append (lasting share) (voices last ss) (v ∷ []),
+      append-nil,
+      map-append,
+      append-assoc,
+    )
 
-sounds-chords : (last : Option Chord) (ss : Sounds) (k : List Token) → ChordsFit ss → chordsOf (voiceWord last) (tokenWords (writeSounds ss k)) ≡ chordsOf (voiceWord (lastSounds last ss)) (tokenWords k)
+sounds-chords : (last : Option Chord) (ss : Sounds) (k : List Token) → ChordsFit ss
+    → chordsOf (voiceWord last) (tokenWords (writeSounds ss k)) ≡ chordsOf (voiceWord (lastSounds last ss)) (tokenWords k)
 unfolding ChordsFit writeSounds tokenWords chordsOf lastSounds
 sounds-chords last (only s) k h = ap (λ l. chordsOf l (tokenWords k)) (sound-chord last s h)
-sounds-chords last (also ss s) k h = sounds-chords last ss (sound s ∷ k) (h .0) ∙ ap (λ l. chordsOf l (tokenWords k)) (sound-chord (lastSounds last ss) s (h .1))
+sounds-chords last (also ss s) k h =
+    sounds-chords last ss (sound s ∷ k) (h .0) ∙ ap (λ l. chordsOf l (tokenWords k)) (sound-chord (lastSounds last ss) s (h .1))
 
 sounds-length : (ss : Sounds) (k : List Token) → length (tokenWords (writeSounds ss k)) ≡ soundCount ss + length (tokenWords k)
 unfolding writeSounds tokenWords soundCount
@@ -105,7 +116,8 @@ one-position : (w : ℕ) (xs : List ℕ) → isPosition (kindOf w) ≡ true → 
 unfolding positionsOf
 one-position w xs e = rw (e, if_then_else_)
 
-sounds-positions : (ss : Sounds) (k j : List Token) → ChordsFit ss → positionsOf (tokenWords k) ≡ tokenWords j → positionsOf (tokenWords (writeSounds ss k)) ≡ tokenWords (writeSounds ss j)
+sounds-positions : (ss : Sounds) (k j : List Token) → ChordsFit ss → positionsOf (tokenWords k) ≡ tokenWords j
+    → positionsOf (tokenWords (writeSounds ss k)) ≡ tokenWords (writeSounds ss j)
 unfolding ChordsFit writeSounds tokenWords
 sounds-positions (only s) k j h e = one-position (tokenWord (sound s)) (tokenWords k) (sound-position s h) ∙ rw e
 sounds-positions (also ss s) k j h e =
@@ -127,7 +139,8 @@ unfolding writeRemovers tokenWords
 removers-length zero k = omega arith
 removers-length (suc n) k = let h = removers-length n (remover ∷ k) in omega arith
 
-removers-positions : (n : ℕ) (k j : List Token) → positionsOf (tokenWords k) ≡ tokenWords j → positionsOf (tokenWords (writeRemovers n k)) ≡ tokenWords (writeRemovers n j)
+removers-positions : (n : ℕ) (k j : List Token) → positionsOf (tokenWords k) ≡ tokenWords j
+    → positionsOf (tokenWords (writeRemovers n k)) ≡ tokenWords (writeRemovers n j)
 unfolding writeRemovers tokenWords tokenWord isPosition
 removers-positions zero k j e = e
 removers-positions (suc n) k j e = removers-positions n (remover ∷ k) (remover ∷ j) (one-position 4093640704 (tokenWords k) refl ∙ rw e)
@@ -154,21 +167,27 @@ measure-drop m k =
     sym (drop-drop (m .removers) (soundCount (m .sounds)) (tokenWords (writeSounds (m .sounds) (writeRemovers (m .removers) k))))
     ∙ ap (drop (m .removers)) (sounds-drop (m .sounds) (writeRemovers (m .removers) k)) ∙ removers-drop (m .removers) k
 
-pub measure-positions : (m : Measure) (k : List Token) → ChordsFit (m .sounds) → positionsOf (tokenWords k) ≡ [] → positionsOf (tokenWords (writeMeasure m k)) ≡ tokenWords (writeMeasure m [])
+pub measure-positions : (m : Measure) (k : List Token) → ChordsFit (m .sounds) → positionsOf (tokenWords k) ≡ []
+    → positionsOf (tokenWords (writeMeasure m k)) ≡ tokenWords (writeMeasure m [])
 unfolding writeMeasure tokenWords
-measure-positions m k h e = sounds-positions (m .sounds) (writeRemovers (m .removers) k) (writeRemovers (m .removers) []) h (removers-positions (m .removers) k [] e)
+measure-positions m k h e =
+    sounds-positions (m .sounds) (writeRemovers (m .removers) k) (writeRemovers (m .removers) []) h (removers-positions (m .removers) k [] e)
 
 pub measure-length : (m : Measure) → length (tokenWords (writeMeasure m [])) ≡ positions m
 unfolding writeMeasure positions tokenWords
 measure-length m = let a = sounds-length (m .sounds) (writeRemovers (m .removers) []) in let b = removers-length (m .removers) [] in omega arith
 
-pub measure-beats : (n : ℕ) (last : Option Chord) (m : Measure) → ChordsFit (m .sounds) → partsOf (n / positions m) (voiceWord last) (tokenWords (writeMeasure m [])) ≡ map beatWord (beatsOf n last m)
+pub measure-beats : (n : ℕ) (last : Option Chord) (m : Measure) → ChordsFit (m .sounds)
+    → partsOf (n / positions m) (voiceWord last) (tokenWords (writeMeasure m [])) ≡ map beatWord (beatsOf n last m)
 unfolding writeMeasure beatsOf tokenWords partsOf
 measure-beats n last m h =
     sounds-parts (n / positions m) last (m .sounds) (writeRemovers (m .removers) []) h
-    ∙ ap (λ x. map beatWord (gather (lasting (n / positions m)) (voices last (m .sounds))) ++ x) (removers-parts (n / positions m) (voiceWord (lastSounds last (m .sounds))) (m .removers) [])
+    ∙ ap (λ x. map beatWord (gather (lasting (n / positions m)) (voices last (m .sounds))) ++ x)
+    (removers-parts (n / positions m) (voiceWord (lastSounds last (m .sounds))) (m .removers) [])
     ∙ append-nil (map beatWord (gather (lasting (n / positions m)) (voices last (m .sounds))))
 
-pub measure-chord : (last : Option Chord) (m : Measure) → ChordsFit (m .sounds) → chordsOf (voiceWord last) (tokenWords (writeMeasure m [])) ≡ voiceWord (lastSounds last (m .sounds))
+pub measure-chord : (last : Option Chord) (m : Measure) → ChordsFit (m .sounds)
+    → chordsOf (voiceWord last) (tokenWords (writeMeasure m [])) ≡ voiceWord (lastSounds last (m .sounds))
 unfolding writeMeasure tokenWords chordsOf
-measure-chord last m h = sounds-chords last (m .sounds) (writeRemovers (m .removers) []) h ∙ removers-chords (voiceWord (lastSounds last (m .sounds))) (m .removers) []
+measure-chord last m h =
+    sounds-chords last (m .sounds) (writeRemovers (m .removers) []) h ∙ removers-chords (voiceWord (lastSounds last (m .sounds))) (m .removers) []

@@ -1,10 +1,10 @@
 -- Laws of the walk, one for each way through the code.
-use Prim.Native.Nat.{ℕ, zero, suc, _+_, _-_, _*_, _<_, _≤_}
-use mathlib.Core.Path.{_≡_, refl, sym, ap, _∙_, subst}
-use mathlib.Core.List.{List, [], _∷_, _++_}
-use mathlib.Core.Bool.{Bool, true, false, _||_, _&&_}
+use Prim.Native.Nat.{ℕ, zero, suc, _+_, _-_, _<_, _≤_}
+use mathlib.Core.Path.{_≡_, refl, sym, ap, _∙_}
+use mathlib.Core.List.{List}
+use mathlib.Core.Bool.{Bool, true, false}
 use native.Mathlib.Omega.{arith}
-use borrow.Author.Tests.{eq-eqb, ne-eqb, eqb-true, eqb-false, leb-true, leb-false, lt-leb, le-leb, lt-ltb, le-ltb, ltb-true, ltb-false}
+use borrow.Author.Tests.{eq-eqb, ne-eqb, eqb-false, leb-false, le-leb, ltb-false}
 use lib.Dec.{eqb, leb, ltb}
 use lib.ListN.{length}
 use Rattle.songcode.specs.Lists.{if_then_else_, times}
@@ -13,8 +13,9 @@ use Rattle.player.specs.declared.leaves.Definitions.{Definitions}
 use Rattle.player.specs.declared.leaves.Stretch.{Stretch}
 use Rattle.player.specs.Signs.{kindOf, numberOf, wordOf, isPosition, isSeparator, isStop, positionsAt}
 use Rattle.player.specs.Page.{Page, Fine, play}
-use Rattle.player.specs.Walks.{Read, End, finish, stop, and-then, oneOf, passesOf, behindOf, looped, loopOf, stretchOf, refOf, itemBy, itemOf, rowsBy, level}
-use Rattle.player.proofs.SignLaws.{positions-more, stop-inside}
+use Rattle.player.specs.Walks.{Read, End, finish, stop, and-then, oneOf, passesOf, behindOf, looped, loopOf, stretchOf, refOf, itemBy, itemOf}
+use Rattle.player.specs.Walks.{rowsBy, level}
+use Rattle.player.proofs.SignLaws.{positions-more}
 use Rattle.player.proofs.PageLaws.{play-append, play-none, fine-play}
 
 pub fine-end : (e : End) (r : Read) (g : Page) → e ≡ finish r g → Fine (g .pen) → Fine (e .page .pen)
@@ -39,27 +40,35 @@ module _ (inner : ℕ → ℕ → ℕ → Read) (d : Definitions) (n : ℕ) (ws 
   rows-stop zero to at last e = refl
   rows-stop (suc f) to at last e = rw e
 
-  pub rows-more : (f to at last : ℕ) → 1 ≤ f → isStop (kindOf (wordOf ws to at)) ≡ false → rowsBy inner d n ws f to at last ≡ and-then (itemOf inner d n ws to at last) (rowsBy inner d n ws (f - 1) to)
+  pub rows-more : (f to at last : ℕ) → 1 ≤ f → isStop (kindOf (wordOf ws to at)) ≡ false
+      → rowsBy inner d n ws f to at last ≡ and-then (itemOf inner d n ws to at last) (rowsBy inner d n ws (f - 1) to)
   unfolding rowsBy if_then_else_
   rows-more zero to at last h e = let z : ⊥ = omega arith in absurd z
   rows-more (suc f) to at last h e = let z : suc f - 1 ≡ f = omega arith in rw (e, z)
 
   pub rows-next : (f to at last : ℕ) (g : Page) (e goal : End) → 1 ≤ f → isStop (kindOf (wordOf ws to at)) ≡ false
-      → e ≡ finish (itemOf inner d n ws to at last) g → finish (rowsBy inner d n ws f to at last) g ≡ goal → finish (rowsBy inner d n ws (f - 1) to (e .at) (e .last)) (e .page) ≡ goal
+      → e ≡ finish (itemOf inner d n ws to at last) g → finish (rowsBy inner d n ws f to at last) g ≡ goal
+      → finish (rowsBy inner d n ws (f - 1) to (e .at) (e .last)) (e .page) ≡ goal
   unfolding finish
   rows-next f to at last g e goal h t k l =
-      rw k (sym (finish-then (itemOf inner d n ws to at last) (rowsBy inner d n ws (f - 1) to) g) ∙ sym (ap (λ (r : Read). finish r g) (rows-more f to at last h t)) ∙ l)
+      rw k (sym (finish-then (itemOf inner d n ws to at last) (rowsBy inner d n ws (f - 1) to) g)
+      ∙ sym (ap (λ (r : Read). finish r g) (rows-more f to at last h t)) ∙ l)
 
   -- One item.
-  pub item-loop : (to at last w k : ℕ) (e : End) (g : Page) → w ≡ wordOf ws to at → k ≡ kindOf w → k ≡ 57 → e ≡ finish (loopOf inner ws to (at + 1) last) g → e ≡ finish (itemOf inner d n ws to at last) g
+  pub item-loop : (to at last w k : ℕ) (e : End) (g : Page) → w ≡ wordOf ws to at → k ≡ kindOf w → k ≡ 57
+      → e ≡ finish (loopOf inner ws to (at + 1) last) g → e ≡ finish (itemOf inner d n ws to at last) g
   unfolding itemOf itemBy if_then_else_
   item-loop to at last w k e g a b t m = simp (← a, eq-eqb (kindOf w) 57 (sym b ∙ t)) m
 
-  pub item-refer : (to at last w k x : ℕ) (e : End) (g : Page) → w ≡ wordOf ws to at → k ≡ kindOf w → (k ≡ 57 → ⊥) → k ≡ 55 → x ≡ numberOf w → e ≡ finish (refOf inner d x at last) g → e ≡ finish (itemOf inner d n ws to at last) g
+  pub item-refer : (to at last w k x : ℕ) (e : End) (g : Page) → w ≡ wordOf ws to at → k ≡ kindOf w → (k ≡ 57 → ⊥) → k ≡ 55 → x ≡ numberOf w
+      → e ≡ finish (refOf inner d x at last) g → e ≡ finish (itemOf inner d n ws to at last) g
   unfolding itemOf itemBy if_then_else_
-  item-refer to at last w k x e g a b s t y m = let u : (kindOf w ≡ 57 → ⊥) = λ z. s (b ∙ z) in simp (← a, ne-eqb (kindOf w) 57 u, eq-eqb (kindOf w) 55 (sym b ∙ t)) (rw y at m)
+  item-refer to at last w k x e g a b s t y m =
+      let u : (kindOf w ≡ 57 → ⊥) = λ z. s (b ∙ z) in
+      simp (← a, ne-eqb (kindOf w) 57 u, eq-eqb (kindOf w) 55 (sym b ∙ t)) (rw y at m)
 
-  pub item-separator : (to at last w k : ℕ) (r : Bool) (g : Page) → w ≡ wordOf ws to at → k ≡ kindOf w → (k ≡ 57 → ⊥) → (k ≡ 55 → ⊥) → r ≡ isSeparator k → r ≡ true → _≡_ {A = End} (record { at = at + 1; last = last; page = g }) (finish (itemOf inner d n ws to at last) g)
+  pub item-separator : (to at last w k : ℕ) (r : Bool) (g : Page) → w ≡ wordOf ws to at → k ≡ kindOf w → (k ≡ 57 → ⊥) → (k ≡ 55 → ⊥)
+      → r ≡ isSeparator k → r ≡ true → _≡_ {A = End} (record { at = at + 1; last = last; page = g }) (finish (itemOf inner d n ws to at last) g)
   unfolding itemOf itemBy if_then_else_ finish play
   item-separator to at last w k r g a b s t y m =
       let u : (kindOf w ≡ 57 → ⊥) = λ z. s (b ∙ z) in
@@ -67,7 +76,8 @@ module _ (inner : ℕ → ℕ → ℕ → Read) (d : Definitions) (n : ℕ) (ws 
       let p : isSeparator (kindOf w) ≡ true = rw (← b, ← y) m in
       simp (← a, ne-eqb (kindOf w) 57 u, ne-eqb (kindOf w) 55 v, p)
 
-  pub item-one : (to at last w k : ℕ) (r : Bool) (e : End) (g : Page) → w ≡ wordOf ws to at → k ≡ kindOf w → (k ≡ 57 → ⊥) → (k ≡ 55 → ⊥) → r ≡ isSeparator k → r ≡ false → e ≡ finish (oneOf n ws to at last) g → e ≡ finish (itemOf inner d n ws to at last) g
+  pub item-one : (to at last w k : ℕ) (r : Bool) (e : End) (g : Page) → w ≡ wordOf ws to at → k ≡ kindOf w → (k ≡ 57 → ⊥) → (k ≡ 55 → ⊥)
+      → r ≡ isSeparator k → r ≡ false → e ≡ finish (oneOf n ws to at last) g → e ≡ finish (itemOf inner d n ws to at last) g
   unfolding itemOf itemBy if_then_else_
   item-one to at last w k r e g a b s t y m q =
       let u : (kindOf w ≡ 57 → ⊥) = λ z. s (b ∙ z) in
@@ -76,12 +86,14 @@ module _ (inner : ℕ → ℕ → ℕ → Read) (d : Definitions) (n : ℕ) (ws 
       simp (← a, ne-eqb (kindOf w) 57 u, ne-eqb (kindOf w) 55 v, p) q
 
   -- References and loops.
-  pub refer-done : (x at last : ℕ) (s : Stretch) (e : End) (g : Page) → s ≡ stretchOf d x → e ≡ finish (inner (s .to) (s .from) last) g → _≡_ {A = End} (record { at = at + 1; last = e .last; page = e .page }) (finish (refOf inner d x at last) g)
+  pub refer-done : (x at last : ℕ) (s : Stretch) (e : End) (g : Page) → s ≡ stretchOf d x → e ≡ finish (inner (s .to) (s .from) last) g
+      → _≡_ {A = End} (record { at = at + 1; last = e .last; page = e .page }) (finish (refOf inner d x at last) g)
   unfolding finish refOf
   refer-done x at last s e g p k = rw (k, p)
 
   pub loop-done : (to at last k end : ℕ) (e : End) (g h : Page) → e ≡ finish (inner to at last) g → k ≡ passesOf ws to (e .at) → end ≡ behindOf ws to (e .at)
-      → h ≡ play (times k (inner to at last .row)) (e .page) → _≡_ {A = End} (record { at = end; last = e .last; page = h }) (finish (loopOf inner ws to at last) g)
+      → h ≡ play (times k (inner to at last .row)) (e .page)
+      → _≡_ {A = End} (record { at = end; last = e .last; page = h }) (finish (loopOf inner ws to at last) g)
   unfolding finish loopOf looped
   loop-done to at last k end e g h i a b p =
       let r = inner to at last in
@@ -90,22 +102,26 @@ module _ (inner : ℕ → ℕ → ℕ → Read) (d : Definitions) (n : ℕ) (ws 
       let p' : h ≡ play (times k (r .row)) (play (r .row) g) = rw i at p in
       rw (i, b', p', a', play-append (r .row) (times (passesOf ws to (r .at)) (r .row)) g)
 
-pub rows-end : (r : Read) (at last : ℕ) (g : Page) (goal : End) → r ≡ stop at last → finish r g ≡ goal → _≡_ {A = End} (record { at = at; last = last; page = g }) goal
+pub rows-end : (r : Read) (at last : ℕ) (g : Page) (goal : End) → r ≡ stop at last → finish r g ≡ goal
+    → _≡_ {A = End} (record { at = at; last = last; page = g }) goal
 unfolding finish play
 rows-end r at last g goal e k = rw e at k
 
-pub level-none : (k : ℕ) (d : Definitions) (n : ℕ) (ws : List ℕ) (to at last : ℕ) (g : Page) → k ≡ 0 → _≡_ {A = End} (record { at = at; last = last; page = g }) (finish (level k d n ws to at last) g)
+pub level-none : (k : ℕ) (d : Definitions) (n : ℕ) (ws : List ℕ) (to at last : ℕ) (g : Page) → k ≡ 0
+    → _≡_ {A = End} (record { at = at; last = last; page = g }) (finish (level k d n ws to at last) g)
 unfolding level finish play
 level-none zero d n ws to at last g e = refl
 level-none (suc k) d n ws to at last g e = let z : ⊥ = omega arith in absurd z
 
-pub level-more : (k : ℕ) (d : Definitions) (n : ℕ) (ws : List ℕ) (to at last : ℕ) → (k ≡ 0 → ⊥) → rowsBy (level (k - 1) d n ws) d n ws to to at last ≡ level k d n ws to at last
+pub level-more : (k : ℕ) (d : Definitions) (n : ℕ) (ws : List ℕ) (to at last : ℕ) → (k ≡ 0 → ⊥)
+    → rowsBy (level (k - 1) d n ws) d n ws to to at last ≡ level k d n ws to at last
 unfolding level
 level-more zero d n ws to at last e = absurd (e refl)
 level-more (suc k) d n ws to at last e = let z : suc k - 1 ≡ k = omega arith in rw z
 
 -- The passes of a loop, and the rounds of a pattern.
-pub loop-next : (row : List (List ℕ)) (n i : ℕ) (g h goal : Page) → i < n → h ≡ play row g → play (times (n - i) row) g ≡ goal → play (times (n - (i + 1)) row) h ≡ goal
+pub loop-next : (row : List (List ℕ)) (n i : ℕ) (g h goal : Page) → i < n → h ≡ play row g → play (times (n - i) row) g ≡ goal
+    → play (times (n - (i + 1)) row) h ≡ goal
 unfolding times
 loop-next row n i g h goal l k e =
     let s : n - i ≡ suc (n - (i + 1)) = omega arith in
@@ -126,7 +142,10 @@ rounds-none row (suc r) g e = let z : ⊥ = omega arith in absurd z
 pub rounds-some : (row : List (List ℕ)) (r : ℕ) (g h k : Page) → (r ≡ 0 → ⊥) → h ≡ play row g → k ≡ play (times (r - 1) row) h → k ≡ play (times r row) g
 unfolding times
 rounds-some row zero g h k n e f = absurd (n refl)
-rounds-some row (suc r) g h k n e f = let z : suc r - 1 ≡ r = omega arith in let f' : k ≡ play (times r row) h = rw z at f in f' ∙ rw (e, play-append row (times r row) g)
+rounds-some row (suc r) g h k n e f =
+    let z : suc r - 1 ≡ r = omega arith in
+    let f' : k ≡ play (times r row) h = rw z at f in
+    f' ∙ rw (e, play-append row (times r row) g)
 
 -- A walk goes on: an item is behind its first word.
 abbrev pub Onward : (ℕ → ℕ → ℕ → Read) → Type 0
@@ -157,11 +176,13 @@ position-left k e a b f =
     between : (k : ℕ) → 54 < k → k < 58 → (k ≡ 57 → ⊥) → (k ≡ 55 → ⊥) → (k ≡ 56 → ⊥) → ⊥
     between k l h a b v = omega arith
 
-pub item-onward : (inner : ℕ → ℕ → ℕ → Read) (d : Definitions) (n : ℕ) (ws : List ℕ) (to at last : ℕ) → Onward inner → isStop (kindOf (wordOf ws to at)) ≡ false → at + 1 ≤ itemOf inner d n ws to at last .at
+pub item-onward : (inner : ℕ → ℕ → ℕ → Read) (d : Definitions) (n : ℕ) (ws : List ℕ) (to at last : ℕ) → Onward inner
+    → isStop (kindOf (wordOf ws to at)) ≡ false → at + 1 ≤ itemOf inner d n ws to at last .at
 unfolding itemOf itemBy loopOf looped refOf oneOf
 item-onward inner d n ws to at last i e =
     let w = wordOf ws to at in
-    by-cases (eqb (kindOf w) 57) (λ a. rw (a, if_then_else_) (let h = i to (at + 1) last in let k = behind-on ws to (inner to (at + 1) last .at) in omega arith))
+    by-cases (eqb (kindOf w) 57) (λ a. rw (a, if_then_else_)
+    (let h = i to (at + 1) last in let k = behind-on ws to (inner to (at + 1) last .at) in omega arith))
     (λ a.
     by-cases (eqb (kindOf w) 55) (λ b. rw (a, b, if_then_else_) (omega arith))
     (λ b.

@@ -1,17 +1,17 @@
 -- Which items can be walked: those whose chords and numbers fit their words, where loops and references are not too deep. An empty stretch plays nothing.
-use Prim.Native.Nat.{ℕ, zero, suc, _+_, _<_, _≤_, max}
-use mathlib.Core.Path.{_≡_, refl, sym, ap, _∙_}
-use mathlib.Core.List.{List, [], _∷_, _++_}
-use mathlib.Core.Option.{Option, none, some}
+use Prim.Native.Nat.{ℕ, zero, suc, _+_, _≤_}
+use mathlib.Core.Path.{_≡_, ap}
+use mathlib.Core.List.{List, [], _∷_}
+use mathlib.Core.Option.{Option}
 use native.Mathlib.Omega.{arith}
-use Rattle.songcode.specs.Song.{Sounds, Measure, Item, measure, loop, refer, Items, one, next}
+use Rattle.songcode.specs.Song.{Item, measure, loop, refer, Items, one, next}
 use Rattle.songcode.specs.PatternText.{depthI, depth, referencesI, references}
 use Rattle.songcode.proofs.ListLaws.{Each, append-each}
 use Rattle.player.specs.declared.leaves.Definitions.{Definitions}
 use Rattle.player.specs.declared.leaves.Stretch.{Stretch}
-use Rattle.player.specs.Signs.{kindOf, wordOf, isStop}
-use Rattle.player.specs.Walks.{rowOf, level, rowsBy, stop, Read}
-use Rattle.player.specs.Texts.{ChordsFit, ItemFits, ItemsFit, Says, WalkableItem, WalkableBy, Walkable}
+use Rattle.player.specs.Signs.{isStop}
+use Rattle.player.specs.Walks.{rowOf, level, Read}
+use Rattle.player.specs.Texts.{ItemFits, ItemsFit, Says, WalkableItem, WalkableBy, Walkable}
 use Rattle.player.proofs.SignLaws.{word-past}
 use Rattle.player.proofs.WalkLaws.{rows-stop}
 
@@ -43,7 +43,8 @@ module _ (ws : List ℕ) (d : Definitions) (f : ℕ → Option Items) where
   mutual
     unfolding ItemFits ItemsFit depthI depth referencesI references Each WalkableItem WalkableBy Walkable
 
-    item-walkable : (k e b : ℕ) → e + k ≤ b → (i : Item) → ItemFits i → depthI i ≤ e → Each (Leads k) (referencesI i) → WalkableItem ws d f (Walkable ws d f b) i
+    item-walkable : (k e b : ℕ) → e + k ≤ b → (i : Item) → ItemFits i → depthI i ≤ e → Each (Leads k) (referencesI i)
+        → WalkableItem ws d f (Walkable ws d f b) i
     item-walkable k e b q (measure m) h l s = h
     item-walkable k zero b q (loop r n) h l s = let z : ⊥ = omega arith in absurd z
     item-walkable k (suc e) zero q (loop r n) h l s = let z : ⊥ = omega arith in absurd z
@@ -76,8 +77,15 @@ module _ (ws : List ℕ) (d : Definitions) (f : ℕ → Option Items) where
   unfolding Each
   all-lead [] h = tt
   all-lead (j ∷ js) h =
-      let q = h .0 in
-      (record { items = q .items; says = q .says; walkable = items-walkable 0 3 3 (omega arith) (q .items) (q .fits) (q .shallow) (none-lead 0 (references (q .items)) (q .says .plain)) }, all-lead js (h .1))
+      let q = h .0 in (
+        record {
+          items = q .items;
+          says = q .says;
+          walkable =
+              items-walkable 0 3 3 (omega arith) (q .items) (q .fits) (q .shallow) (none-lead 0 (references (q .items)) (q .says .plain));
+        },
+        all-lead js (h .1),
+      )
 
   -- Items whose references say what stands in definitions, as those of a definition that a section names.
   pub refers-walkable : (r : Items) → ItemsFit r → depth r ≤ 3 → Each Refers (references r) → Walkable ws d f 8 r
@@ -86,4 +94,5 @@ module _ (ws : List ℕ) (d : Definitions) (f : ℕ → Option Items) where
 -- An empty stretch.
 pub empty-row : (d : Definitions) (n : ℕ) (ws : List ℕ) (s : Stretch) → s .to ≤ s .from → rowOf d n ws s ≡ []
 unfolding rowOf level isStop
-empty-row d n ws s h = ap (λ (r : Read). r .row) (rows-stop (level 7 d n ws) d n ws (s .to) (s .to) (s .from) 4227858432 (rw (← word-past ws (s .to) (s .from) h)))
+empty-row d n ws s h =
+    ap (λ (r : Read). r .row) (rows-stop (level 7 d n ws) d n ws (s .to) (s .to) (s .from) 4227858432 (rw (← word-past ws (s .to) (s .from) h)))

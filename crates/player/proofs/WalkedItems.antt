@@ -1,36 +1,30 @@
 -- A measure, a loop, a reference and a separator that stand written in the buffer, each walked.
-use Prim.Native.Nat.{ℕ, zero, suc, _+_, _-_, _*_, _/_, _^_, _<_, _≤_}
-use mathlib.Core.Path.{_≡_, refl, sym, ap, _∙_, subst}
-use mathlib.Core.List.{List, [], _∷_, _++_, map, append-assoc, append-nil}
-use mathlib.Core.Bool.{Bool, true, false}
-use mathlib.Core.Option.{Option, none, some}
+use Prim.Native.Nat.{ℕ, _+_, _-_, _<_, _≤_}
+use mathlib.Core.Path.{_≡_, refl, sym, ap, _∙_}
+use mathlib.Core.List.{List, [], _∷_}
+use mathlib.Core.Bool.{true, false}
+use mathlib.Core.Option.{Option}
 use native.Mathlib.Omega.{arith}
-use borrow.Author.Tests.{eq-eqb, ne-eqb, ltb-true, ltb-false, leb-true, le-leb, lt-leb}
-use lib.Dec.{eqb, leb, ltb}
-use lib.ListN.{length, take, drop, getD, length-take, length-drop}
-use lib.Seq.{getD-drop, drop-drop}
-use Rattle.songcode.specs.Lists.{if_then_else_, times, orElse}
+use lib.Dec.{eqb}
+use lib.ListN.{length, take, drop}
+use lib.Seq.{drop-drop}
+use Rattle.songcode.specs.Lists.{if_then_else_, times}
 use Rattle.songcode.specs.Chords.{Chord}
-use Rattle.songcode.specs.Song.{Sound, chord, again, silence, Sounds, only, also, Measure, Beside, nothing, aLineEnd, Separator, bySemicolon, byLineEnd, byColon, Item, measure, loop, refer, Items, one, next}
-use Rattle.songcode.specs.Tokens.{Token, sound, remover, reference, semicolon, colon, lineEnd, opens, closes}
-use Rattle.songcode.specs.PatternText.{references}
-use Rattle.songcode.specs.References.{glue, putInItem, putIn}
-use Rattle.songcode.specs.WrittenPattern.{writeSounds, writeMeasure, writeBeside, writeSeparator, writeItem, writeItems}
-use Rattle.songcode.specs.Playing.{Beat, lastSounds, lastItem, lastItems, beatsOf, positions, measuresItem, measuresOf}
-use Rattle.songcode.specs.Tables.{beatWord}
-use Rattle.tokens.specs.TokenWords.{chordWord, tokenWord, tokenWords}
+use Rattle.songcode.specs.Song.{Measure, Beside, nothing, aLineEnd, Separator, bySemicolon, byLineEnd, byColon}
+use Rattle.songcode.specs.Tokens.{Token, reference, semicolon, colon, lineEnd, opens, closes}
+use Rattle.songcode.specs.WrittenPattern.{writeMeasure, writeBeside, writeSeparator}
+use Rattle.songcode.specs.Playing.{Beat, lastSounds, beatsOf, positions}
+use Rattle.tokens.specs.TokenWords.{tokenWord, tokenWords}
 use Rattle.player.specs.declared.leaves.Definitions.{Definitions}
-use Rattle.player.specs.declared.leaves.Stretch.{Stretch}
-use Rattle.player.specs.Signs.{kindOf, numberOf, wordOf, isPosition, isSeparator, isStop, chordsOf, partsOf, positionsOf, positionsAt}
-use Rattle.player.specs.Walks.{Read, stop, and-then, oneOf, passesOf, behindOf, looped, loopOf, stretchOf, refOf, itemBy, itemOf, rowsBy, level, rowOf}
-use Rattle.player.specs.Texts.{voiceWord, rowWords, Stands, ChordFits, ChordsFit, Says, WalkableItem, WalkableBy, Walkable}
-use Rattle.player.proofs.WalkLaws.{rows-stop, rows-more, item-onward, level-onward}
-use Rattle.songcode.proofs.ListLaws.{by-cases}
+use Rattle.player.specs.Signs.{kindOf, wordOf, isPosition, isSeparator, isStop, positionsOf, positionsAt}
+use Rattle.player.specs.Walks.{Read, and-then, oneOf, passesOf, behindOf, looped, loopOf, stretchOf, refOf, itemBy, itemOf, rowsBy}
+use Rattle.player.specs.Texts.{voiceWord, rowWords, ChordsFit}
+use Rattle.player.proofs.WalkLaws.{rows-more}
 use Rattle.songcode.proofs.PlayingAgree.{positions-some}
 use Rattle.player.proofs.SignLaws.{position-inside, position-there}
 use Rattle.player.proofs.SoundLaws.{measure-drop, measure-positions, measure-length, measure-beats, measure-chord}
-use Rattle.player.proofs.PutInLaws.{last-glue, measures-glue, putIn-same, words-append, words-times}
-use Rattle.player.proofs.WrittenWords.{word-here, word-none, behind-here, inside-here, Ends, closes-kind, refers-kind, closes-ends, Apart, ends-apart, Only, position-only, times-one, separator-apart}
+use Rattle.player.proofs.PutInLaws.{words-times}
+use Rattle.player.proofs.WrittenWords.{word-here, behind-here, inside-here, closes-kind, refers-kind, Apart, position-only, times-one}
 
 module _ (ws : List ℕ) (d : Definitions) (n : ℕ) where
   -- A walk has played the row, and ends where the tokens k stand.
@@ -40,13 +34,15 @@ module _ (ws : List ℕ) (d : Definitions) (n : ℕ) where
     pub text-is : drop (x .at) (take to ws) ≡ tokenWords k
 
   -- An item was walked, from a word that ends no row.
-  pub record Passed (inner : ℕ → ℕ → ℕ → Read) (to at : ℕ) (before : Option Chord) (row : List (List Beat)) (last : Option Chord) (k : List Token) : Type 0 where
+  pub record Passed (inner : ℕ → ℕ → ℕ → Read) (to at : ℕ) (before : Option Chord) (row : List (List Beat)) (last : Option Chord)
+      (k : List Token) : Type 0 where
     pub walked : Walked to (itemOf inner d n ws to at (voiceWord before)) row last k
     pub goes-on : isStop (kindOf (wordOf ws to at)) ≡ false
     pub inside : at < to
 
   module _ (inner : ℕ → ℕ → ℕ → Read) (to at : ℕ) (last : Option Chord) where
-    pub measure-passed : (m : Measure) (k : List Token) → ChordsFit (m .sounds) → Apart k → drop at (take to ws) ≡ tokenWords (writeMeasure m k) → Passed inner to at last (beatsOf n last m ∷ []) (lastSounds last (m .sounds)) k
+    pub measure-passed : (m : Measure) (k : List Token) → ChordsFit (m .sounds) → Apart k
+        → drop at (take to ws) ≡ tokenWords (writeMeasure m k) → Passed inner to at last (beatsOf n last m ∷ []) (lastSounds last (m .sounds)) k
     unfolding Apart positionsAt itemOf itemBy oneOf rowWords
     measure-passed m k h a e =
         let ps : positionsAt ws to at ≡ tokenWords (writeMeasure m []) = ap positionsOf e ∙ measure-positions m k h a in
@@ -64,7 +60,8 @@ module _ (ws : List ℕ) (d : Definitions) (n : ℕ) where
           inside = position-inside ws to at p;
         }
 
-    pub loop-passed : (j : ℕ) (row : List (List Beat)) (l : Option Chord) (x : List ℕ) (k : List Token) → 1 ≤ j → j < 67108864 → drop at (take to ws) ≡ tokenWord opens ∷ x → Walked to (inner to (at + 1) (voiceWord last)) row l (closes j ∷ k)
+    pub loop-passed : (j : ℕ) (row : List (List Beat)) (l : Option Chord) (x : List ℕ) (k : List Token) → 1 ≤ j → j < 67108864
+        → drop at (take to ws) ≡ tokenWord opens ∷ x → Walked to (inner to (at + 1) (voiceWord last)) row l (closes j ∷ k)
         → Passed inner to at last (times j row) l k
     unfolding itemOf itemBy loopOf looped passesOf behindOf tokenWord tokenWords isStop if_then_else_
     loop-passed j row l x k h i e w =
@@ -82,14 +79,21 @@ module _ (ws : List ℕ) (d : Definitions) (n : ℕ) where
           inside = inside-here ws to at 3825205248 x e;
         }
 
-    pub refer-passed : (j : ℕ) (row : List (List Beat)) (l : Option Chord) (k k' : List Token) → j < 67108864 → drop at (take to ws) ≡ tokenWord (reference j) ∷ tokenWords k
+    pub refer-passed : (j : ℕ) (row : List (List Beat)) (l : Option Chord) (k k' : List Token) → j < 67108864
+        → drop at (take to ws) ≡ tokenWord (reference j) ∷ tokenWords k
         → Walked (stretchOf d j .to) (inner (stretchOf d j .to) (stretchOf d j .from) (voiceWord last)) row l k' → Passed inner to at last row l k
     unfolding itemOf itemBy refOf isStop if_then_else_
     refer-passed j row l k k' i e w =
         let o : wordOf ws to at ≡ tokenWord (reference j) = word-here ws to at (tokenWord (reference j)) (tokenWords k) e in
         let c = refers-kind j i in
         record {
-          walked = rw (o, c .0, c .1) (record { row-is = w .row-is; last-is = w .last-is; text-is = behind-here ws to at (tokenWord (reference j)) (tokenWords k) e });
+          walked =
+              rw (o, c .0, c .1) (record {
+                row-is = w .row-is;
+                last-is = w .last-is;
+                text-is =
+                    behind-here ws to at (tokenWord (reference j)) (tokenWords k) e;
+              });
           goes-on = rw (o, c .0);
           inside = inside-here ws to at (tokenWord (reference j)) (tokenWords k) e;
         }
@@ -123,7 +127,8 @@ module _ (ws : List ℕ) (d : Definitions) (n : ℕ) where
           same = rows-more inner d n ws f to at l (omega arith) g ∙ rw (o, s .not-open, s .not-refer, s .separator);
         }
 
-    pub then-across : (f at : ℕ) (j k : List Token) → Across f at j → ((g b : ℕ) → drop b (take to ws) ≡ tokenWords j → to ≤ b + g → Across g b k) → Across f at k
+    pub then-across : (f at : ℕ) (j k : List Token) → Across f at j
+        → ((g b : ℕ) → drop b (take to ws) ≡ tokenWords j → to ≤ b + g → Across g b k) → Across f at k
     then-across f at j k a more =
         let b = more (a .fuel) (a .place) (a .text) (a .enough) in
         record { fuel = b .fuel; place = b .place; text = b .text; enough = b .enough; same = a .same ∙ b .same }
@@ -151,4 +156,5 @@ module _ (ws : List ℕ) (d : Definitions) (n : ℕ) where
     separator-across byLineEnd f at k e h = step-across f at (tokenWord lineEnd) k line-end-separates e h
     separator-across (byColon b a) f at k e h =
         then-across f at (colon ∷ writeBeside a k) k (beside-across b f at (colon ∷ writeBeside a k) e h)
-        (λ g c p q. then-across g c (writeBeside a k) k (step-across g c (tokenWord colon) (writeBeside a k) colon-separates p q) (λ i j r t. beside-across a i j k r t))
+        (λ g c p q. then-across g c (writeBeside a k) k (step-across g c (tokenWord colon) (writeBeside a k) colon-separates p q)
+        (λ i j r t. beside-across a i j k r t))

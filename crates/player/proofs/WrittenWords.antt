@@ -1,40 +1,27 @@
 -- Written tokens in the buffer: the word at a place and the text behind it, what ends a row, and what is no position.
-use Prim.Native.Nat.{ℕ, zero, suc, _+_, _-_, _*_, _/_, _^_, _<_, _≤_}
-use mathlib.Core.Path.{_≡_, refl, sym, ap, _∙_, subst}
-use mathlib.Core.List.{List, [], _∷_, _++_, map, append-assoc, append-nil}
-use mathlib.Core.Bool.{Bool, true, false}
-use mathlib.Core.Option.{Option, none, some}
+use Prim.Native.Nat.{ℕ, zero, suc, _+_, _-_, _/_, _<_, _≤_}
+use mathlib.Core.Path.{_≡_, refl, sym, ap, _∙_}
+use mathlib.Core.List.{List, [], _∷_, _++_}
+use mathlib.Core.Bool.{true, false}
 use native.Mathlib.Omega.{arith}
-use borrow.Author.Tests.{eq-eqb, ne-eqb, ltb-true, ltb-false, leb-true, le-leb, lt-leb}
+use borrow.Author.Tests.{ne-eqb, ltb-true, leb-true, le-leb, lt-leb}
 use lib.Dec.{eqb, leb, ltb}
 use lib.ListN.{length, take, drop, getD, length-take, length-drop}
 use lib.Seq.{getD-drop, drop-drop}
-use Rattle.songcode.specs.Lists.{if_then_else_, times, orElse}
-use Rattle.songcode.specs.Chords.{Chord}
-use Rattle.songcode.specs.Song.{Sound, chord, again, silence, Sounds, only, also, Measure, Beside, nothing, aLineEnd, Separator, bySemicolon, byLineEnd, byColon, Item, measure, loop, refer, Items, one, next}
-use Rattle.songcode.specs.Tokens.{Token, sound, remover, reference, semicolon, colon, lineEnd, opens, closes}
-use Rattle.songcode.specs.PatternText.{references}
-use Rattle.songcode.specs.References.{glue, putInItem, putIn}
-use Rattle.songcode.specs.WrittenPattern.{writeSounds, writeMeasure, writeBeside, writeSeparator, writeItem, writeItems}
-use Rattle.songcode.specs.Playing.{Beat, lastSounds, lastItem, lastItems, beatsOf, positions, measuresItem, measuresOf}
-use Rattle.songcode.specs.Tables.{beatWord}
-use Rattle.tokens.specs.TokenWords.{chordWord, tokenWord, tokenWords}
-use Rattle.player.specs.declared.leaves.Definitions.{Definitions}
-use Rattle.player.specs.declared.leaves.Stretch.{Stretch}
-use Rattle.player.specs.Signs.{kindOf, numberOf, wordOf, isPosition, isSeparator, isStop, chordsOf, partsOf, positionsOf, positionsAt}
-use Rattle.player.specs.Walks.{Read, stop, and-then, oneOf, passesOf, behindOf, looped, loopOf, stretchOf, refOf, itemBy, itemOf, rowsBy, level, rowOf}
-use Rattle.player.specs.Texts.{voiceWord, rowWords, Stands, ChordFits, ChordsFit, Says, WalkableItem, WalkableBy, Walkable}
-use Rattle.player.proofs.WalkLaws.{rows-stop, rows-more, item-onward, level-onward}
+use Rattle.songcode.specs.Lists.{if_then_else_, times}
+use Rattle.songcode.specs.Song.{nothing, aLineEnd, Separator, bySemicolon, byLineEnd, byColon}
+use Rattle.songcode.specs.Tokens.{Token, reference, closes}
+use Rattle.songcode.specs.WrittenPattern.{writeBeside, writeSeparator}
+use Rattle.tokens.specs.TokenWords.{tokenWord, tokenWords}
+use Rattle.player.specs.Signs.{kindOf, numberOf, wordOf, isPosition, isSeparator, isStop, positionsOf}
 use Rattle.songcode.proofs.ListLaws.{by-cases}
-use Rattle.songcode.proofs.PlayingAgree.{positions-some}
-use Rattle.player.proofs.SignLaws.{position-inside, position-there}
-use Rattle.player.proofs.SoundLaws.{measure-drop, measure-positions, measure-length, measure-beats, measure-chord}
-use Rattle.player.proofs.PutInLaws.{last-glue, measures-glue, putIn-same, words-append, words-times}
 
 -- The word at a place, and the text behind it.
 pub word-here : (ws : List ℕ) (to at w : ℕ) (k : List ℕ) → drop at (take to ws) ≡ w ∷ k → wordOf ws to at ≡ w
 unfolding wordOf
-word-here ws to at w k e = let z : at + 0 ≡ at = omega arith in sym (rw z at (getD-drop at (take to ws) 0 3623878656)) ∙ ap (λ (l : List ℕ). getD l 0 3623878656) e
+word-here ws to at w k e =
+    let z : at + 0 ≡ at = omega arith in
+    sym (rw z at (getD-drop at (take to ws) 0 3623878656)) ∙ ap (λ (l : List ℕ). getD l 0 3623878656) e
 
 pub word-none : (ws : List ℕ) (to at : ℕ) → drop at (take to ws) ≡ [] → wordOf ws to at ≡ 3623878656
 unfolding wordOf
@@ -94,11 +81,24 @@ unfolding isPosition isSeparator isStop
 position-only k e =
     by-cases (ltb k 34)
     (λ t. let h = ltb-true k 34 t in
-    record { not-open = ne-eqb k 57 (λ z. omega arith); not-refer = ne-eqb k 55 (λ z. omega arith); not-separator = rw (lt-leb 58 k (omega arith)); not-stop = rw (ne-eqb k 56 (λ z. omega arith), lt-leb 34 k h) })
+    record {
+      not-open = ne-eqb k 57 (λ z. omega arith);
+      not-refer = ne-eqb k 55 (λ z. omega arith);
+      not-separator =
+          rw (lt-leb 58 k (omega arith));
+      not-stop = rw (ne-eqb k 56 (λ z. omega arith), lt-leb 34 k h);
+    })
     (λ t.
     let e' : leb 61 k ≡ true = rw t at e in
     let h = leb-true 61 k e' in
-    record { not-open = ne-eqb k 57 (λ z. omega arith); not-refer = ne-eqb k 55 (λ z. omega arith); not-separator = rw (le-leb 58 k (omega arith), lt-leb k 60 (omega arith)); not-stop = rw (ne-eqb k 56 (λ z. omega arith), le-leb 34 k (omega arith), lt-leb k 54 (omega arith)) })
+    record {
+      not-open = ne-eqb k 57 (λ z. omega arith);
+      not-refer = ne-eqb k 55 (λ z. omega arith);
+      not-separator =
+          rw (le-leb 58 k (omega arith), lt-leb k 60 (omega arith));
+      not-stop =
+          rw (ne-eqb k 56 (λ z. omega arith), le-leb 34 k (omega arith), lt-leb k 54 (omega arith));
+    })
 
 pub times-one : (k : ℕ) (row : List (List ℕ)) → 1 ≤ k → times k row ≡ row ++ times (k - 1) row
 unfolding times

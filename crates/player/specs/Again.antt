@@ -30,10 +30,20 @@ pub record Copies (p q : Pen) : Type 0 where
 
 -- The pen behind k more passes that are passed over, and behind one more that is written.
 unfoldable pub skippedOf : Pen → Pen → ℕ → Pen
-skippedOf p q k = record { base = q .base; todo = q .todo - k * (p .todo - q .todo); skip = q .skip - k * (p .skip - q .skip); left = q .left; m = q .m; b = q .b }
+skippedOf p q k =
+    record { base = q .base; todo = q .todo - k * (p .todo - q .todo); skip = q .skip - k * (p .skip - q .skip); left = q .left; m = q .m; b = q .b }
 
 unfoldable pub copiedOf : Pen → Pen → Pen
-copiedOf p q = record { base = q .base; todo = q .todo - (p .todo - q .todo); skip = q .skip; left = q .left - (q .b - p .b); m = q .m + (q .m - p .m); b = q .b + (q .b - p .b) }
+copiedOf p q =
+    record {
+      base = q .base;
+      todo = q .todo - (p .todo - q .todo);
+      skip = q .skip;
+      left = q .left - (q .b - p .b);
+      m =
+          q .m + (q .m - p .m);
+      b = q .b + (q .b - p .b);
+    }
 
 -- The words of a table from one place on and before another, each changed by f, again behind them, as far as the table goes.
 unfoldable pub copyOf : (ℕ → ℕ) → List ℕ → ℕ → ℕ → List ℕ

@@ -1,20 +1,18 @@
 -- The walk run on token words of written patterns: what it plays is what the definitions of songcode play.
-use Prim.Native.Nat.{ℕ, _*_, _+_}
+use Prim.Native.Nat.{ℕ}
 use mathlib.Core.List.{List, [], _∷_, _++_, map}
 use mathlib.Core.Option.{Option, none, some}
 use mathlib.Core.Path.{_≡_, refl}
 use lib.ListN.{length}
-use Rattle.songcode.specs.Lists.{times}
-use Rattle.songcode.specs.Chords.{Chord}
-use Rattle.songcode.specs.Song.{Sound, chord, again, silence, Sounds, only, also, Measure, bySemicolon, byLineEnd, Item, measure, loop, refer, Items, one, next, Cut, Measures, Beats}
+use Rattle.songcode.specs.Song.{Sound, chord, again, silence, only, also, bySemicolon, byLineEnd, Item, measure, loop, refer, Items, one, next}
 use Rattle.songcode.specs.WrittenPattern.{writeItems}
-use Rattle.songcode.specs.Playing.{measuresOf, cutFront, cutBack}
+use Rattle.songcode.specs.Playing.{measuresOf}
 use Rattle.songcode.specs.Tables.{beatWord}
 use Rattle.songcode.specs.References.{putIn}
 use Rattle.tokens.specs.TokenWords.{tokenWords}
 use Rattle.player.specs.declared.leaves.Definitions.{Definitions}
 use Rattle.player.specs.Walks.{rowOf}
-use Rattle.player.specs.Windows.{keptOf, heads}
+use Rattle.player.specs.Windows.{keptOf}
 
 abbrev plain : ℕ → Sound
 plain n = chord (record { base = n; extension = [] })
@@ -50,11 +48,13 @@ walked = refl
 abbrev two : List (List ℕ)
 two = (1 ∷ 2 ∷ 3 ∷ 4 ∷ []) ∷ (5 ∷ 6 ∷ 7 ∷ 8 ∷ []) ∷ []
 
-front : keptOf (record { measures = record { 0 = 1 }; beats = record { 0 = 2 } }) (record { measures = record { 0 = 0 }; beats = record { 0 = 0 } }) two ≡ (7 ∷ 8 ∷ []) ∷ []
+front : keptOf (record { measures = record { 0 = 1 }; beats = record { 0 = 2 } })
+    (record { measures = record { 0 = 0 }; beats = record { 0 = 0 } }) two ≡ (7 ∷ 8 ∷ []) ∷ []
 unfolding keptOf
 front = refl
 
-back : keptOf (record { measures = record { 0 = 0 }; beats = record { 0 = 0 } }) (record { measures = record { 0 = 0 }; beats = record { 0 = 7 } }) two ≡ (1 ∷ []) ∷ []
+back : keptOf (record { measures = record { 0 = 0 }; beats = record { 0 = 0 } })
+    (record { measures = record { 0 = 0 }; beats = record { 0 = 7 } }) two ≡ (1 ∷ []) ∷ []
 unfolding keptOf
 back = refl
 

@@ -25,9 +25,14 @@ pub record Fine (p : Pen) : Type 0 where
 
 -- A beat: passed over, written, or past the end.
 unfoldable pub beatBy : ℕ → ℕ → ℕ → Ink → Ink
-beatBy (suc s) l w g = record { pen = record { base = g .pen .base; todo = g .pen .todo; skip = s; left = g .pen .left; m = g .pen .m; b = g .pen .b }; bs = g .bs }
+beatBy (suc s) l w g =
+    record { pen = record { base = g .pen .base; todo = g .pen .todo; skip = s; left = g .pen .left; m = g .pen .m; b = g .pen .b }; bs = g .bs }
 beatBy zero zero w g = g
-beatBy zero (suc l) w g = record { pen = record { base = g .pen .base; todo = g .pen .todo; skip = g .pen .skip; left = l; m = g .pen .m; b = g .pen .b + 1 }; bs = set (g .bs) (g .pen .b) w }
+beatBy zero (suc l) w g =
+    record {
+      pen = record { base = g .pen .base; todo = g .pen .todo; skip = g .pen .skip; left = l; m = g .pen .m; b = g .pen .b + 1 };
+      bs = set (g .bs) (g .pen .b) w;
+    }
 
 unfoldable pub beatOf : ℕ → Ink → Ink
 beatOf w g = beatBy (g .pen .skip) (g .pen .left) w g
@@ -40,7 +45,20 @@ inked (w ∷ x) g = inked x (beatOf w g)
 unfoldable pub closeBy : Bool → ℕ → Page → Page
 unfolding measureWord
 closeBy true from g = g
-closeBy false from g = record { pen = record { base = g .pen .base; todo = g .pen .todo; skip = g .pen .skip; left = g .pen .left; m = g .pen .m + 1; b = g .pen .b }; ms = set (g .ms) (g .pen .m) (measureWord (g .pen .base + from) (g .pen .b - from)); bs = g .bs }
+closeBy false from g =
+    record {
+      pen = record {
+        base = g .pen .base;
+        todo = g .pen .todo;
+        skip = g .pen .skip;
+        left = g .pen .left;
+        m = g .pen .m + 1;
+        b =
+            g .pen .b;
+      };
+      ms = set (g .ms) (g .pen .m) (measureWord (g .pen .base + from) (g .pen .b - from));
+      bs = g .bs;
+    }
 
 unfoldable pub closed : ℕ → Page → Page
 closed from g = closeBy (eqb from (g .pen .b)) from g
@@ -63,7 +81,18 @@ rested g = record { pen = restOf (g .pen); ms = g .ms; bs = g .bs }
 -- A measure that is looked at, t more behind it.
 unfoldable pub lookedAt : ℕ → List ℕ → Page → Page
 lookedAt t x g = closed (g .pen .b)
-    (onPage (inked x (record { pen = record { base = g .pen .base; todo = t; skip = g .pen .skip; left = g .pen .left; m = g .pen .m; b = g .pen .b }; bs = g .bs })) (g .ms))
+    (onPage (inked x (record {
+      pen = record {
+        base = g .pen .base;
+        todo = t;
+        skip = g .pen .skip;
+        left = g .pen .left;
+        m = g .pen .m;
+        b =
+            g .pen .b;
+      };
+      bs = g .bs;
+    })) (g .ms))
 
 -- A measure, if any is still to be looked at.
 unfoldable pub measureBy : ℕ → List ℕ → Page → Page

@@ -1,10 +1,10 @@
 -- What a token word tells the player: its kind, whether it is a position of a measure, what it sounds, and the last chord behind it.
-use Prim.Native.Nat.{ℕ, zero, suc, _+_, _-_, _*_, _/_, _%_}
+use Prim.Native.Nat.{ℕ, zero, suc, _+_, _/_, _%_}
 use mathlib.Core.List.{List, [], _∷_, _++_}
-use mathlib.Core.Bool.{Bool, true, false, _||_, _&&_}
+use mathlib.Core.Bool.{Bool, _||_, _&&_}
 use lib.Dec.{eqb, leb, ltb}
 use lib.ListN.{take, drop, getD, replicate}
-use Rattle.songcode.specs.Lists.{if_then_else_, taken}
+use Rattle.songcode.specs.Lists.{if_then_else_}
 
 -- The number above the 26 low bits, and the number in them.
 abbrev pub kindOf : ℕ → ℕ

@@ -1,11 +1,11 @@
 -- When a stretch of the buffer holds the words of written items that can be walked, and the words of what they play.
-use Prim.Native.Nat.{ℕ, zero, suc, _+_, _*_, _<_, _≤_}
+use Prim.Native.Nat.{ℕ, zero, suc, _<_, _≤_}
 use mathlib.Core.Path.{_≡_}
-use mathlib.Core.List.{List, [], _∷_, map}
+use mathlib.Core.List.{List, [], map}
 use mathlib.Core.Option.{Option, none, some}
 use lib.ListN.{take, drop}
 use Rattle.songcode.specs.Chords.{Chord}
-use Rattle.songcode.specs.Song.{Sound, chord, again, silence, Sounds, only, also, Measure, Item, measure, loop, refer, Items, one, next}
+use Rattle.songcode.specs.Song.{Sound, chord, again, silence, Sounds, only, also, Item, measure, loop, refer, Items, one, next}
 use Rattle.songcode.specs.PatternText.{references}
 use Rattle.songcode.specs.WrittenPattern.{writeItems}
 use Rattle.songcode.specs.Playing.{Beat}

@@ -1,13 +1,12 @@
 -- What token words mean as they are walked: rows of measures, the place where the walk ends, and the last chord.
-use Prim.Native.Nat.{ℕ, zero, suc, _+_, _-_, _*_, _/_, min}
+use Prim.Native.Nat.{ℕ, zero, suc, _+_, _-_, _/_, min}
 use mathlib.Core.List.{List, [], _∷_, _++_}
-use mathlib.Core.Bool.{Bool, true, false}
 use lib.ListN.{length, getD}
 use lib.Dec.{eqb}
 use Rattle.songcode.specs.Lists.{if_then_else_, times}
 use Rattle.player.specs.declared.leaves.Definitions.{Definitions}
 use Rattle.player.specs.declared.leaves.Stretch.{Stretch}
-use Rattle.player.specs.Signs.{kindOf, numberOf, wordOf, isPosition, isSeparator, isStop, chordsOf, partsOf, positionsAt, soundingOf}
+use Rattle.player.specs.Signs.{kindOf, numberOf, wordOf, isSeparator, isStop, chordsOf, partsOf, positionsAt}
 use Rattle.player.specs.Page.{Page, play}
 
 -- Where the definition of that number stands among the k from place i on; an empty stretch if it is not there.
@@ -72,7 +71,13 @@ loopOf inner ws to at last = looped ws to (inner to at last)
 -- A reference: the row of the definition's stretch, and back.
 unfoldable pub refOf : (ℕ → ℕ → ℕ → Read) → Definitions → ℕ → ℕ → ℕ → Read
 unfolding stretchOf
-refOf inner d x at last = record { row = inner (stretchOf d x .to) (stretchOf d x .from) last .row; at = at + 1; last = inner (stretchOf d x .to) (stretchOf d x .from) last .last }
+refOf inner d x at last =
+    record {
+      row = inner (stretchOf d x .to) (stretchOf d x .from) last .row;
+      at = at + 1;
+      last =
+          inner (stretchOf d x .to) (stretchOf d x .from) last .last;
+    }
 
 unfoldable pub itemBy : (ℕ → ℕ → ℕ → Read) → Definitions → ℕ → List ℕ → ℕ → ℕ → ℕ → ℕ → Read
 unfolding if_then_else_ loopOf refOf oneOf isSeparator

@@ -1,7 +1,6 @@
 // What stands in the buffer: token words, their kinds, and the stretches of the definitions. Every function is safe on every content.
 ghost use mathlib.Core.Path.{_≡_};
-ghost use Prim.Native.Nat.{ℕ, _+_, _-_, _/_, _≤_, _<_, min};
-ghost use lib.ListN.{length, take, getD};
+ghost use Prim.Native.Nat.{_+_, _-_, _/_, _≤_, _<_, min};
 ghost use Rattle.player.specs.Signs.{kindOf, numberOf, wordOf, isPosition, isSeparator, isStop, voiceOf, chordOf, soundsAs};
 ghost use Rattle.player.specs.Walks.{stretchOf, passesOf, behindOf};
 

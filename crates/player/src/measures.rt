@@ -11,7 +11,7 @@ use super::pens::close;
 use super::pens::lasting;
 use super::pens::resting;
 ghost use mathlib.Core.Path.{_≡_};
-ghost use Prim.Native.Nat.{ℕ, _+_, _-_, _*_, _≤_, _<_};
+ghost use Prim.Native.Nat.{_+_, _-_, _*_, _≤_, _<_};
 ghost use lib.ListN.{length};
 ghost use Rattle.player.specs.Signs.{partOf, partsOf, positionsAt, soundingOf, chordsOf};
 ghost use Rattle.player.specs.Page.{Page, Ink, Fine, inked, measureOf};
@@ -79,7 +79,8 @@ pub fn positions(
     bs: &mut [u32],
 ) -> Pen
     requires { ⌜ Fine p × (last ≤ 4227858432) × (stop ≡ at + length (positionsAt (now words) to at)) ⌝ }
-    ensures { λ r. ⌜ _≡_ {A = Ink} (record { pen = r; bs = now (bs .exit) }) (inked (partsOf share last (positionsAt (now (words .entry)) to at)) (record { pen = p; bs = now (bs .entry) })) ⌝ }
+    ensures { λ r. ⌜ _≡_ {A = Ink} (record { pen = r; bs = now (bs .exit) })
+        (inked (partsOf share last (positionsAt (now (words .entry)) to at)) (record { pen = p; bs = now (bs .entry) })) ⌝ }
 {
     let mut q = p;
     let mut l = last;
@@ -120,8 +121,10 @@ pub fn sounded(
     ms: &mut [u32],
     bs: &mut [u32],
 ) -> Pen
-    requires { ⌜ Fine p × (last ≤ 4227858432) × (seen .stop ≡ at + length (positionsAt (now words) to at)) × (seen .sounding ≡ soundingOf (positionsAt (now words) to at)) × (share * seen .sounding ≤ 32) ⌝ }
-    ensures { λ r. ⌜ _≡_ {A = Page} (record { pen = r; ms = now (ms .exit); bs = now (bs .exit) }) (measureOf (partsOf share last (positionsAt (now (words .entry)) to at)) (record { pen = p; ms = now (ms .entry); bs = now (bs .entry) })) ⌝ }
+    requires { ⌜ Fine p × (last ≤ 4227858432) × (seen .stop ≡ at + length (positionsAt (now words) to at))
+        × (seen .sounding ≡ soundingOf (positionsAt (now words) to at)) × (share * seen .sounding ≤ 32) ⌝ }
+    ensures { λ r. ⌜ _≡_ {A = Page} (record { pen = r; ms = now (ms .exit); bs = now (bs .exit) })
+        (measureOf (partsOf share last (positionsAt (now (words .entry)) to at)) (record { pen = p; ms = now (ms .entry); bs = now (bs .entry) })) ⌝ }
 {
     if p.todo == 0 {
         return p;
@@ -147,7 +150,13 @@ pub fn measure(
     bs: &mut [u32],
 ) -> Walk
     requires { ⌜ Fine p × (last ≤ 4227858432) × (n ≤ 32) ⌝ }
-    ensures walk { λ r. ⌜ _≡_ {A = End} (record { at = r .at; last = r .last; page = record { pen = r .pen; ms = now (ms .exit); bs = now (bs .exit) } }) (finish (oneOf n (now (words .entry)) to at last) (record { pen = p; ms = now (ms .entry); bs = now (bs .entry) })) ⌝ }
+    ensures walk { λ r. ⌜ _≡_ {A = End} (record {
+      at = r .at;
+      last = r .last;
+      page =
+          record { pen = r .pen; ms = now (ms .exit); bs = now (bs .exit) };
+    })
+        (finish (oneOf n (now (words .entry)) to at last) (record { pen = p; ms = now (ms .entry); bs = now (bs .entry) })) ⌝ }
     ensures last { λ r. ⌜ r .last ≤ 4227858432 ⌝ }
 {
     let seen = look(words, to, at, last);

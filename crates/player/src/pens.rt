@@ -2,7 +2,7 @@
 ghost use mathlib.Core.Path.{_≡_};
 ghost use mathlib.Core.List.{List};
 ghost use Prim.Native.Nat.{ℕ, _+_, _-_, _*_, _≤_, _<_};
-ghost use lib.ListN.{length, set, replicate};
+ghost use lib.ListN.{set, replicate};
 ghost use Rattle.player.specs.Signs.{lastingOf};
 ghost use Rattle.player.specs.Page.{Page, Ink, Fine, beatOf, inked, closed, restOf};
 
@@ -83,7 +83,8 @@ pub fn lasting(share: usize, v: u32, p: Pen, bs: &mut [u32]) -> Pen
 // The word of a measure of which beats were written.
 pub fn close(from: usize, p: Pen, ms: &mut [u32]) -> Pen
     requires { ⌜ Fine p × (p .m ≤ from) × (from ≤ p .b) × (p .b ≤ from + 63) ⌝ }
-    ensures { λ r. ⌜ ((bs : List ℕ) → _≡_ {A = Page} (record { pen = r; ms = now (ms .exit); bs = bs }) (closed from (record { pen = p; ms = now (ms .entry); bs = bs }))) ⌝ }
+    ensures { λ r. ⌜ ((bs : List ℕ) → _≡_ {A = Page} (record { pen = r; ms = now (ms .exit); bs = bs })
+        (closed from (record { pen = p; ms = now (ms .entry); bs = bs }))) ⌝ }
 {
     if from == p.b {
         return p;

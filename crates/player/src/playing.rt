@@ -43,7 +43,8 @@ pub fn rounds(
     bs: &mut [u32],
 ) -> Pen
     requires { ⌜ Fine p × (n ≤ 32) ⌝ }
-    ensures { λ q. ⌜ _≡_ {A = Page} (record { pen = q; ms = now (ms .exit); bs = now (bs .exit) }) (play (times r (rowOf d n (now (words .entry)) s)) (record { pen = p; ms = now (ms .entry); bs = now (bs .entry) })) ⌝ }
+    ensures { λ q. ⌜ _≡_ {A = Page} (record { pen = q; ms = now (ms .exit); bs = now (bs .exit) })
+        (play (times r (rowOf d n (now (words .entry)) s)) (record { pen = p; ms = now (ms .entry); bs = now (bs .entry) })) ⌝ }
 {
     if r == 0 || p.todo == 0 {
         return p;
@@ -110,7 +111,8 @@ pub fn planned(
     requires { ⌜ (n ≤ 32) × (length (times r (rowOf d n (now words) s)) ≤ 65535) × (front .beats .0 ≤ 9999) ⌝ }
     ensures todo { λ p. ⌜ p .todo ≡ length (times r (rowOf d n (now (words .entry)) s)) ⌝ }
     ensures skip { λ p. ⌜ p .skip ≡ firstBeat front (times r (rowOf d n (now (words .entry)) s)) ⌝ }
-    ensures left { λ p. ⌜ p .left ≡ lastBeat back (times r (rowOf d n (now (words .entry)) s)) - firstBeat front (times r (rowOf d n (now (words .entry)) s)) ⌝ }
+    ensures left { λ p. ⌜ p .left ≡ lastBeat back (times r (rowOf d n (now (words .entry)) s))
+        - firstBeat front (times r (rowOf d n (now (words .entry)) s)) ⌝ }
 {
     let all = tally(words, d, n, s, r, 65536);
     let f = tally(words, d, n, s, r, least(front.measures.0, 65536));

@@ -16,9 +16,7 @@ use super::measures::Walk;
 use super::measures::measure;
 use super::pens::Pen;
 ghost use mathlib.Core.Path.{_≡_};
-ghost use mathlib.Core.Bool.{false};
-ghost use Prim.Native.Nat.{ℕ, _+_, _-_, _*_, _≤_, _<_};
-ghost use Rattle.player.specs.Signs.{kindOf, numberOf, wordOf, isStop};
+ghost use Prim.Native.Nat.{_+_, _-_, _≤_, _<_};
 ghost use Rattle.songcode.specs.Lists.{times};
 ghost use Rattle.player.specs.Page.{Page, Fine, play};
 ghost use Rattle.player.specs.Again.{Took};
@@ -38,7 +36,13 @@ pub fn items(
     bs: &mut [u32],
 ) -> Walk
     requires { ⌜ Fine p × (last ≤ 4227858432) × (n ≤ 32) × (depth < 1000) ⌝ }
-    ensures walk { λ r. ⌜ _≡_ {A = End} (record { at = r .at; last = r .last; page = record { pen = r .pen; ms = now (ms .exit); bs = now (bs .exit) } }) (finish (level depth d n (now (words .entry)) to at last) (record { pen = p; ms = now (ms .entry); bs = now (bs .entry) })) ⌝ }
+    ensures walk { λ r. ⌜ _≡_ {A = End} (record {
+      at = r .at;
+      last = r .last;
+      page =
+          record { pen = r .pen; ms = now (ms .exit); bs = now (bs .exit) };
+    })
+        (finish (level depth d n (now (words .entry)) to at last) (record { pen = p; ms = now (ms .entry); bs = now (bs .entry) })) ⌝ }
     ensures last { λ r. ⌜ r .last ≤ 4227858432 ⌝ }
 {
     let mut w = Walk { at, last, pen: p };
@@ -68,7 +72,14 @@ pub fn item(
     bs: &mut [u32],
 ) -> Walk
     requires { ⌜ Fine p × (last ≤ 4227858432) × (n ≤ 32) × (depth < 1000) × (at < to) ⌝ }
-    ensures walk { λ r. ⌜ _≡_ {A = End} (record { at = r .at; last = r .last; page = record { pen = r .pen; ms = now (ms .exit); bs = now (bs .exit) } }) (finish (itemOf (level depth d n (now (words .entry))) d n (now (words .entry)) to at last) (record { pen = p; ms = now (ms .entry); bs = now (bs .entry) })) ⌝ }
+    ensures walk { λ r. ⌜ _≡_ {A = End} (record {
+      at = r .at;
+      last = r .last;
+      page =
+          record { pen = r .pen; ms = now (ms .exit); bs = now (bs .exit) };
+    })
+        (finish (itemOf (level depth d n (now (words .entry))) d n (now (words .entry)) to at last)
+        (record { pen = p; ms = now (ms .entry); bs = now (bs .entry) })) ⌝ }
     ensures last { λ r. ⌜ r .last ≤ 4227858432 ⌝ }
 {
     let w = word_at(words, to, at);
@@ -103,7 +114,13 @@ pub fn jump(
     bs: &mut [u32],
 ) -> Walk
     requires { ⌜ Fine p × (last ≤ 4227858432) × (n ≤ 32) × (depth < 1000) × (at < 18446744073709551615) ⌝ }
-    ensures walk { λ r. ⌜ _≡_ {A = End} (record { at = r .at; last = r .last; page = record { pen = r .pen; ms = now (ms .exit); bs = now (bs .exit) } }) (finish (refOf (level depth d n (now (words .entry))) d x at last) (record { pen = p; ms = now (ms .entry); bs = now (bs .entry) })) ⌝ }
+    ensures walk { λ r. ⌜ _≡_ {A = End} (record {
+      at = r .at;
+      last = r .last;
+      page =
+          record { pen = r .pen; ms = now (ms .exit); bs = now (bs .exit) };
+    })
+        (finish (refOf (level depth d n (now (words .entry))) d x at last) (record { pen = p; ms = now (ms .entry); bs = now (bs .entry) })) ⌝ }
     ensures last { λ r. ⌜ r .last ≤ 4227858432 ⌝ }
 {
     let s = stretch_of(d, x);
@@ -130,7 +147,14 @@ pub fn loop_(
     bs: &mut [u32],
 ) -> Walk
     requires { ⌜ Fine p × (last ≤ 4227858432) × (n ≤ 32) × (depth < 1000) ⌝ }
-    ensures walk { λ r. ⌜ _≡_ {A = End} (record { at = r .at; last = r .last; page = record { pen = r .pen; ms = now (ms .exit); bs = now (bs .exit) } }) (finish (loopOf (level depth d n (now (words .entry))) (now (words .entry)) to at last) (record { pen = p; ms = now (ms .entry); bs = now (bs .entry) })) ⌝ }
+    ensures walk { λ r. ⌜ _≡_ {A = End} (record {
+      at = r .at;
+      last = r .last;
+      page =
+          record { pen = r .pen; ms = now (ms .exit); bs = now (bs .exit) };
+    })
+        (finish (loopOf (level depth d n (now (words .entry))) (now (words .entry)) to at last)
+        (record { pen = p; ms = now (ms .entry); bs = now (bs .entry) })) ⌝ }
     ensures last { λ r. ⌜ r .last ≤ 4227858432 ⌝ }
 {
     let w = items(words, d, n, to, at, last, depth, p, ms, bs);
@@ -160,7 +184,8 @@ pub fn again(
     bs: &mut [u32],
 ) -> Pen
     requires { ⌜ Fine q × (last ≤ 4227858432) × (n ≤ 32) × (depth < 1000) × Took (level depth d n (now words) to at last .row) p q (now ms) (now bs) ⌝ }
-    ensures { λ r. ⌜ _≡_ {A = Page} (record { pen = r; ms = now (ms .exit); bs = now (bs .exit) }) (play (times k (level depth d n (now (words .entry)) to at last .row)) (record { pen = q; ms = now (ms .entry); bs = now (bs .entry) })) ⌝ }
+    ensures { λ r. ⌜ _≡_ {A = Page} (record { pen = r; ms = now (ms .exit); bs = now (bs .exit) })
+        (play (times k (level depth d n (now (words .entry)) to at last .row)) (record { pen = q; ms = now (ms .entry); bs = now (bs .entry) })) ⌝ }
 {
     if skips(p, q, k) {
         return skipped(p, q, k);
@@ -195,7 +220,8 @@ pub fn once_more(
     bs: &mut [u32],
 ) -> Pen
     requires { ⌜ Fine q × (last ≤ 4227858432) × (n ≤ 32) × (depth < 1000) × Took (level depth d n (now words) to at last .row) p q (now ms) (now bs) ⌝ }
-    ensures { λ r. ⌜ _≡_ {A = Page} (record { pen = r; ms = now (ms .exit); bs = now (bs .exit) }) (play (level depth d n (now (words .entry)) to at last .row) (record { pen = q; ms = now (ms .entry); bs = now (bs .entry) })) ⌝ }
+    ensures { λ r. ⌜ _≡_ {A = Page} (record { pen = r; ms = now (ms .exit); bs = now (bs .exit) })
+        (play (level depth d n (now (words .entry)) to at last .row) (record { pen = q; ms = now (ms .entry); bs = now (bs .entry) })) ⌝ }
 {
     if skips(p, q, 1) {
         return skipped(p, q, 1);

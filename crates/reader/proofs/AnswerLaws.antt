@@ -38,11 +38,14 @@ keys-eight : (song : Song) → length (tables song .keys) ≡ 8
 unfolding tables keyWords keyOrder
 keys-eight song = refl
 
-pub short-is : (room : Room) (song : Song) (t : Totals) → Holds (tables song) t → isShort t (room .keys) (room .sections) (room .measures) (room .beats) (room .items) ≡ true → roomFaults room (tables song) ≡ complaint 18 0 ∷ []
+pub short-is : (room : Room) (song : Song) (t : Totals) → Holds (tables song) t
+    → isShort t (room .keys) (room .sections) (room .measures) (room .beats) (room .items) ≡ true
+    → roomFaults room (tables song) ≡ complaint 18 0 ∷ []
 unfolding isShort roomFaults complainIf when
 short-is room song t h e = let f = rw (h .sections, h .measures, h .beats, h .items, ← keys-eight song) at e in rw f refl
 
-pub long-is : (room : Room) (song : Song) (t : Totals) → Holds (tables song) t → isShort t (room .keys) (room .sections) (room .measures) (room .beats) (room .items) ≡ false → roomFaults room (tables song) ≡ []
+pub long-is : (room : Room) (song : Song) (t : Totals) → Holds (tables song) t
+    → isShort t (room .keys) (room .sections) (room .measures) (room .beats) (room .items) ≡ false → roomFaults room (tables song) ≡ []
 unfolding isShort roomFaults complainIf when
 long-is room song t h e = let f = rw (h .sections, h .measures, h .beats, h .items, ← keys-eight song) at e in rw f refl
 
@@ -50,10 +53,14 @@ long-is room song t h e = let f = rw (h .sections, h .measures, h .beats, h .ite
 pub keys-room : (t : Totals) (k s m b i : ℕ) → isShort t k s m b i ≡ false → 8 ≤ k
 unfolding isShort
 keys-room t k s m b i e =
-    let w = none-passes (ltb k 8) (ltb s (t .sections)) (none-passes (ltb k 8 || ltb s (t .sections)) (ltb m (t .measures)) (none-passes (ltb k 8 || ltb s (t .sections) || ltb m (t .measures)) (ltb b (t .beats)) (none-passes (ltb k 8 || ltb s (t .sections) || ltb m (t .measures) || ltb b (t .beats)) (ltb i (t .items)) e .0) .0) .0) in
+    let w = none-passes (ltb k 8) (ltb s (t .sections))
+    (none-passes (ltb k 8 || ltb s (t .sections)) (ltb m (t .measures))
+    (none-passes (ltb k 8 || ltb s (t .sections) || ltb m (t .measures)) (ltb b (t .beats))
+    (none-passes (ltb k 8 || ltb s (t .sections) || ltb m (t .measures) || ltb b (t .beats)) (ltb i (t .items)) e .0) .0) .0) in
     ltb-false _ _ (w .0)
 
-pub tables-room : (song : Song) (t : Totals) (k : ℕ) (s m b i : List ℕ) → Holds (tables song) t → isShort t k (length s) (length m) (length b) (length i) ≡ false → Roomy (tables song) s m b i
+pub tables-room : (song : Song) (t : Totals) (k : ℕ) (s m b i : List ℕ) → Holds (tables song) t
+    → isShort t k (length s) (length m) (length b) (length i) ≡ false → Roomy (tables song) s m b i
 unfolding isShort
 tables-room song t k s m b i h e =
     let p = none-passes (ltb k 8 || ltb (length s) (t .sections) || ltb (length m) (t .measures) || ltb (length b) (t .beats)) (ltb (length i) (t .items)) e in
@@ -68,16 +75,21 @@ tables-room song t k s m b i h e =
     }
 
 -- A refusal is promised where no table was written.
-pub promised-refused : (text : List ℕ) (lent : Lent) (n l : ℕ) (r : Answer) → answer (roomOf lent) text ≡ refused n l → r ≡ record { refusal = n; line = l; sections = 0; measures = 0; beats = 0; items = 0 } → Promised text lent r lent
+pub promised-refused : (text : List ℕ) (lent : Lent) (n l : ℕ) (r : Answer) → answer (roomOf lent) text ≡ refused n l
+    → r ≡ record { refusal = n; line = l; sections = 0; measures = 0; beats = 0; items = 0 } → Promised text lent r lent
 unfolding answerOf stored
 promised-refused text lent n l r is e = record { answer = e ∙ sym (ap answerOf is); tables = sym (ap (λ a. stored a lent) is) }
 
 -- A song is promised where all tables were.
-same-lent : {k s m b i x y z u v : List ℕ} → k ≡ x → s ≡ y → m ≡ z → b ≡ u → i ≡ v → _≡_ {A = Lent} (record { keys = k; sections = s; measures = m; beats = b; items = i }) (record { keys = x; sections = y; measures = z; beats = u; items = v })
+same-lent : {k s m b i x y z u v : List ℕ} → k ≡ x → s ≡ y → m ≡ z → b ≡ u → i ≡ v
+    → _≡_ {A = Lent} (record { keys = k; sections = s; measures = m; beats = b; items = i })
+    (record { keys = x; sections = y; measures = z; beats = u; items = v })
 same-lent p q r e f = rw (p, q, r, e, f) refl
 
 pub promised-accepted : (text : List ℕ) (lent after : Lent) (t : Tables) (q : Totals) (r : Answer) → answer (roomOf lent) text ≡ accepted t → Holds t q
-    → after .keys ≡ written (t .keys) (lent .keys) → after .sections ≡ written (t .sections) (lent .sections) → after .measures ≡ written (t .measures) (lent .measures) → after .beats ≡ written (t .beats) (lent .beats) → after .items ≡ written (t .items) (lent .items)
+    → after .keys ≡ written (t .keys) (lent .keys) → after .sections ≡ written (t .sections) (lent .sections)
+    → after .measures ≡ written (t .measures) (lent .measures) → after .beats ≡ written (t .beats) (lent .beats)
+    → after .items ≡ written (t .items) (lent .items)
     → r ≡ record { refusal = 0; line = 0; sections = q .sections; measures = q .measures; beats = q .beats; items = q .items } → Promised text lent r after
 unfolding answerOf stored
 promised-accepted text lent after t q r is h a b c d e f =
@@ -91,7 +103,8 @@ pub one-outcome : (text : List ℕ) (before : Lent) (r q : Answer) (a b : Lent) 
 one-outcome text before r q a b x y = (x .answer ∙ sym (y .answer), x .tables ∙ sym (y .tables))
 
 -- The call without tables: what it answers.
-pub counted-refused : (text : List ℕ) (n l : ℕ) (r : Answer) → songAnswer text ≡ refused n l → r ≡ record { refusal = n; line = l; sections = 0; measures = 0; beats = 0; items = 0 } → Counted text r
+pub counted-refused : (text : List ℕ) (n l : ℕ) (r : Answer) → songAnswer text ≡ refused n l
+    → r ≡ record { refusal = n; line = l; sections = 0; measures = 0; beats = 0; items = 0 } → Counted text r
 unfolding answerOf
 counted-refused text n l r is e = record { answer = e ∙ sym (ap answerOf is) }
 

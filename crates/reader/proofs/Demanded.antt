@@ -1,21 +1,18 @@
 -- Every demand of the calls, proved: by the answer's cases, and by what `songcode` has proved of each.
 use Prim.Native.Nat.{ℕ, _≤_}
-use mathlib.Core.Path.{_≡_, refl, sym, ap, subst, _∙_}
+use mathlib.Core.Path.{_≡_, refl, sym, ap, _∙_}
 use mathlib.Core.Logic.{_↔_}
 use mathlib.Core.List.{List}
 use native.Mathlib.Omega.{arith}
 use lib.ListN.{length}
-use Rattle.songcode.specs.Complaints.{complaint}
 use Rattle.songcode.specs.Tables.{Tables}
 use Rattle.songcode.specs.Answer as songcode
-use Rattle.songcode.specs.Answer.{Room, stages, songStages, refused, accepted, answer, songAnswer}
-use Rattle.songcode.specs.Given.{Given}
+use Rattle.songcode.specs.Answer.{Room, refused, accepted, answer, songAnswer}
 use Rattle.songcode.specs.Described.{HasRoom, Described}
 use Rattle.songcode.proofs.AnswerAgree.{accepted-exactly, refused-exactly}
 use Rattle.songcode.proofs.RefusalsAgree.{refused-as-stated}
 use Rattle.songcode.proofs.RefusalNumbers.{refusal-numbers}
 use Rattle.songcode.proofs.SongAlone.{song-refused-exactly, refused-with-tables, accepted-with-room}
-use Rattle.packing.specs.Written.{written}
 use Rattle.reader.specs.declared.answers.Answer.{Answer}
 use Rattle.reader.specs.Answers.{answerOf, Lent, roomOf, stored, Promised, Counted}
 use Rattle.reader.specs.Demands.{Counts, Holds, CountsNothing, ReadDemands, CountDemands, Demands}

@@ -26,7 +26,14 @@ pub fn refused(number: usize, line: usize) -> Answer
 }
 
 pub fn accepted(totals: Totals) -> Answer
-    ensures { λ r. ⌜ r ≡ record { refusal = 0; line = 0; sections = totals .sections; measures = totals .measures; beats = totals .beats; items = totals .items } ⌝ }
+    ensures { λ r. ⌜ r ≡ record {
+      refusal = 0;
+      line = 0;
+      sections = totals .sections;
+      measures = totals .measures;
+      beats = totals .beats;
+      items = totals .items;
+    } ⌝ }
 {
     Answer {
         refusal: 0,

@@ -52,7 +52,20 @@ fn read_song(
     items: &mut [u64],
 ) -> Answer
     requires { ⌜ (inputFaults (now text) ≡ []) × (textFaults (blocksOf (now text)) ≡ []) × (length (now text) ≤ length (now words)) ⌝ }
-    ensures { λ r. ⌜ Promised (now (text .entry)) (record { keys = now (keys .entry); sections = now (sections .entry); measures = now (measures .entry); beats = now (beats .entry); items = now (items .entry) }) r (record { keys = now (keys .exit); sections = now (sections .exit); measures = now (measures .exit); beats = now (beats .exit); items = now (items .exit) }) ⌝ }
+    ensures { λ r. ⌜ Promised (now (text .entry)) (record {
+      keys = now (keys .entry);
+      sections = now (sections .entry);
+      measures = now (measures .entry);
+      beats = now (beats .entry);
+      items = now (items .entry);
+    }) r
+        (record {
+          keys = now (keys .exit);
+          sections = now (sections .exit);
+          measures = now (measures .exit);
+          beats = now (beats .exit);
+          items = now (items .exit);
+        }) ⌝ }
 {
     let chart = judge(text, words);
     let totals = chart.totals;
@@ -84,7 +97,20 @@ fn read_short(
     items: &mut [u64],
 ) -> Answer
     requires { ⌜ (inputFaults (now text) ≡ []) × (textFaults (blocksOf (now text)) ≡ []) × (length (now text) ≤ 2048) ⌝ }
-    ensures { λ r. ⌜ Promised (now (text .entry)) (record { keys = now (keys .entry); sections = now (sections .entry); measures = now (measures .entry); beats = now (beats .entry); items = now (items .entry) }) r (record { keys = now (keys .exit); sections = now (sections .exit); measures = now (measures .exit); beats = now (beats .exit); items = now (items .exit) }) ⌝ }
+    ensures { λ r. ⌜ Promised (now (text .entry)) (record {
+      keys = now (keys .entry);
+      sections = now (sections .entry);
+      measures = now (measures .entry);
+      beats = now (beats .entry);
+      items = now (items .entry);
+    }) r
+        (record {
+          keys = now (keys .exit);
+          sections = now (sections .exit);
+          measures = now (measures .exit);
+          beats = now (beats .exit);
+          items = now (items .exit);
+        }) ⌝ }
 {
     let mut words = [0u32; 2048];
     read_song(text, &mut words, keys, sections, measures, beats, items)
@@ -100,7 +126,20 @@ fn read_long(
     items: &mut [u64],
 ) -> Answer
     requires { ⌜ (inputFaults (now text) ≡ []) × (textFaults (blocksOf (now text)) ≡ []) × (length (now text) ≤ 65536) ⌝ }
-    ensures { λ r. ⌜ Promised (now (text .entry)) (record { keys = now (keys .entry); sections = now (sections .entry); measures = now (measures .entry); beats = now (beats .entry); items = now (items .entry) }) r (record { keys = now (keys .exit); sections = now (sections .exit); measures = now (measures .exit); beats = now (beats .exit); items = now (items .exit) }) ⌝ }
+    ensures { λ r. ⌜ Promised (now (text .entry)) (record {
+      keys = now (keys .entry);
+      sections = now (sections .entry);
+      measures = now (measures .entry);
+      beats = now (beats .entry);
+      items = now (items .entry);
+    }) r
+        (record {
+          keys = now (keys .exit);
+          sections = now (sections .exit);
+          measures = now (measures .exit);
+          beats = now (beats .exit);
+          items = now (items .exit);
+        }) ⌝ }
 {
     let mut words = [0u32; 65536];
     read_song(text, &mut words, keys, sections, measures, beats, items)
@@ -115,7 +154,20 @@ pub fn read(
     beats: &mut [u32],
     items: &mut [u64],
 ) -> Answer
-    ensures { λ r. ⌜ Promised (now (text .entry)) (record { keys = now (keys .entry); sections = now (sections .entry); measures = now (measures .entry); beats = now (beats .entry); items = now (items .entry) }) r (record { keys = now (keys .exit); sections = now (sections .exit); measures = now (measures .exit); beats = now (beats .exit); items = now (items .exit) }) ⌝ }
+    ensures { λ r. ⌜ Promised (now (text .entry)) (record {
+      keys = now (keys .entry);
+      sections = now (sections .entry);
+      measures = now (measures .entry);
+      beats = now (beats .entry);
+      items = now (items .entry);
+    }) r
+        (record {
+          keys = now (keys .exit);
+          sections = now (sections .exit);
+          measures = now (measures .exit);
+          beats = now (beats .exit);
+          items = now (items .exit);
+        }) ⌝ }
 {
     let early = first_stages(text);
     if early.number != 0 {

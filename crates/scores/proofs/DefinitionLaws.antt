@@ -139,7 +139,8 @@ module _ (s : List ℕ) (count : ℕ) (seen : List ℕ) (p : Place) (w : Leaves 
   fresh-parts =
       let g : twice 6 headIn seen (map firstLine (block ∷ definitionBlocks rest)) ≡ [] = ap (λ bs. twice 6 headIn seen (map firstLine bs))
       (sym first-definition) ∙ w .fresh in
-      let h : complainIf (any (λ x. eqb x (e .id)) seen) 6 (block .first .number) ++ twice 6 headIn (e .id ∷ seen) (map firstLine (definitionBlocks rest)) ≡ [] = rw head-is at g in
+      let h : complainIf (any (λ x. eqb x (e .id)) seen) 6 (block .first .number)
+      ++ twice 6 headIn (e .id ∷ seen) (map firstLine (definitionBlocks rest)) ≡ [] = rw head-is at g in
       let a = append-is-nil (complainIf (any (λ x. eqb x (e .id)) seen) 6 (block .first .number))
       (twice 6 headIn (e .id ∷ seen) (map firstLine (definitionBlocks rest))) h in
       (complainIf-nil (any (λ x. eqb x (e .id)) seen) 6 (block .first .number) (a .0), a .1)

@@ -55,7 +55,9 @@ stands-kept ws vs fill at r h e p =
 pub laid-there : (fill : ℕ) (new ws : List ℕ) → fill ≤ length ws → drop fill (take (fill + length new) (laid fill new ws)) ≡ new
 laid-there fill new ws h =
     let l : length (take fill ws) ≡ fill = length-take fill ws ∙ omega arith in
-    let a : take (length (take fill ws) + length new) (laid fill new ws) ≡ take fill ws ++ take (length new) (new ++ drop (fill + length new) ws) = take-append-add (take fill ws) (new ++ drop (fill + length new) ws) (length new) in
+    let a : take (length (take fill ws) + length new) (laid fill new ws) ≡ take fill ws
+    ++ take (length new) (new ++ drop (fill + length new) ws) =
+    take-append-add (take fill ws) (new ++ drop (fill + length new) ws) (length new) in
     let b : take (length new) (new ++ drop (fill + length new) ws) ≡ new = take-at new (drop (fill + length new) ws) (length new) refl in
     let c : take (fill + length new) (laid fill new ws) ≡ take fill ws ++ new = ap (λ (k : ℕ). take (k + length new) (laid fill new ws))
     (sym l) ∙ a ∙ ap (λ ys. take fill ws ++ ys) b in

@@ -257,7 +257,8 @@ module _ (s ws : List ℕ) (score : Score) (p : Place) (w : Loading s ws score p
                 (stretchOf (score .definitions) n) (lookUp (score .definitions) (score .outlines) n)
                 → isMissing (score .definitions) (score .outlines) n ≡ true
             missing-before z h =
-                let g : Held ds ws (score .fill) none (isMissing (score .definitions) (score .outlines) n) (stretchOf (score .definitions) n) (lookUp (score .definitions) (score .outlines) n) = rw z at h in
+                let g : Held ds ws (score .fill) none (isMissing (score .definitions) (score .outlines) n)
+                (stretchOf (score .definitions) n) (lookUp (score .definitions) (score .outlines) n) = rw z at h in
                 g .0
 
             held-new : HeldItems ds vs end text found-outline (definitionItems (linesOf s (e .pattern)))

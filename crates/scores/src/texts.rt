@@ -50,7 +50,11 @@ pub struct Opened {
 
 // A text that holds no reference.
 fn plain_text(words: &[u32], score: Score, at: Stretch) -> Text
-    ensures { λ r. ⌜ r ≡ record { at = at; outline = outlined (lookUp (score .definitions) (score .outlines)) (drop (at .from) (take (at .to) (now (words .entry)))) } ⌝ }
+    ensures { λ r. ⌜ r ≡ record {
+      at = at;
+      outline = outlined (lookUp (score .definitions) (score .outlines))
+          (drop (at .from) (take (at .to) (now (words .entry))));
+    } ⌝ }
 {
     Text {
         at,
@@ -113,7 +117,8 @@ pub fn open_section(s: &[u8], p: Place, score: Score, words: &mut [u32]) -> Open
 // Whether a section's pattern is not empty.
 pub fn is_played(s: &[u8], pattern: Run, score: Score) -> bool
     requires { ⌜ Placed (now s) pattern × Told (now s) score ⌝ }
-    ensures { λ r. ⌜ ((x : Pattern) → patternIn (linesOf (now (s .entry)) pattern) ≡ some x → r ≡ isSome (patternItems (songOf (now (s .entry)) .definitions) x)) ⌝ }
+    ensures { λ r. ⌜ ((x : Pattern) → patternIn (linesOf (now (s .entry)) pattern) ≡ some x
+        → r ≡ isSome (patternItems (songOf (now (s .entry)) .definitions) x)) ⌝ }
 {
     let named = named_in(s, pattern);
     if named == 0 {

@@ -9,7 +9,7 @@ use Rattle.songcode.specs.Sections.{isPatternLine, notPatternLine, patternRun, 
 use Rattle.songcode.specs.SongText.{headIn}
 use Rattle.text.specs.Spans.{lineAt, lineText}
 use Rattle.sections.specs.declared.runs.Run.{Run}
-use Rattle.sections.specs.declared.runs.Test.the-variants.{Empty, Full}
+use Rattle.sections.specs.declared.runs.Test.the-variants.{Full}
 use Rattle.sections.specs.declared.blocks.Parts.{Parts}
 use Rattle.sections.specs.declared.blocks.Place.{Place}
 use Rattle.sections.specs.declared.blocks.SectionRead.{SectionRead}

@@ -1,15 +1,14 @@
 -- The search: what is still to be found in the range that is left, and what that says of the whole table.
 use Prim.Native.Nat.{ℕ, suc, _+_, _/_, _<_, _≤_}
-use mathlib.Core.Path.{_≡_, sym, subst}
+use mathlib.Core.Path.{_≡_, subst}
 use mathlib.Core.List.{List}
 use mathlib.Core.Option.{Option, none, some}
 use native.Mathlib.Omega.{arith}
 use lib.ListN.{length, getD}
-use Rattle.songcode.specs.Joined.{firstBeat, beatCount, endBeat}
+use Rattle.songcode.specs.Joined.{firstBeat, endBeat}
 use Rattle.songcode.specs.Finding.{half, jumpTo}
 use Rattle.songcode.specs.Jumps.{Holds, Halves, empty, held, before, past}
 use Rattle.songcode.proofs.JumpsProved.{jumps-proved}
-use Rattle.seek.specs.declared.Found.{Found}
 use Rattle.seek.specs.Answers.{foundAs, foundOf}
 
 -- After so many probes the range from start to end is left: what the rule gives for it is what it gives for the table, these probes added.

@@ -1,1 +1,2 @@
+-- The definitions that the call's contract names.
 pub mod Answers

@@ -6,7 +6,7 @@ use super::states::Heads;
 use tokens::Number;
 ghost use mathlib.Core.Path.{_≡_};
 ghost use Prim.Native.Nat.{_<_, _≤_};
-ghost use Rattle.stage2.specs.States.{Fit, again, marked, hasHead, headAgain, headJudged, orZero, withHead};
+ghost use Rattle.stage2.specs.States.{Fit, again, marked, hasHead, headJudged, orZero, withHead};
 
 // Complained of if the mark is there already; 8 is nothing.
 pub fn again_note(number: usize, k: usize, marks: [bool; 8], line: usize) -> usize

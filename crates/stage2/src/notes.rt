@@ -3,7 +3,7 @@ use text::Refusal;
 ghost use mathlib.Core.Path.{_≡_};
 ghost use Prim.Native.Nat.{_<_, _≤_, min, max};
 ghost use Rattle.songcode.specs.Complaints.{complainIf};
-ghost use Rattle.stage2.specs.Ranks.{ranked, none, least, unless, refusalAt};
+ghost use Rattle.stage2.specs.Ranks.{ranked, least, unless, refusalAt};
 
 // No complaint.
 pub const NONE: usize = 8388608;

@@ -100,7 +100,8 @@ pub base-exactly : (w : List ℕ) → (baseOf (longestFrom isTaken 0 bases w non
 unfolding baseOf
 base-exactly w h = go (longestFrom isTaken 0 bases w none) refl h
   where
-    go : (o : Option songcode.Base) → longestFrom isTaken 0 bases w none ≡ o → (baseOf o .length ≡ 0 → ⊥) → eqb (baseOf o .length) (length w) ≡ isBase (placed 0 w)
+    go : (o : Option songcode.Base) → longestFrom isTaken 0 bases w none ≡ o → (baseOf o .length ≡ 0 → ⊥)
+        → eqb (baseOf o .length) (length w) ≡ isBase (placed 0 w)
     go none e h = absurd (h refl)
     go (some b) e h =
         by-cases

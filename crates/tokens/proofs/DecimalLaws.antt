@@ -1,22 +1,19 @@
 -- Decimals, digit by digit; a number's range; that a number does not depend on the places of its digits.
-use Prim.Native.Nat.{ℕ, zero, suc, _+_, _*_, _-_, _<_, _≤_}
-use mathlib.Core.Path.{_≡_, refl, sym, ap, _∙_}
+use Prim.Native.Nat.{ℕ, suc, _+_, _*_, _-_, _<_, _≤_}
+use mathlib.Core.Path.{_≡_, refl, sym, _∙_}
 use mathlib.Core.List.{List, [], _∷_}
-use mathlib.Core.Bool.{Bool, true, false, _&&_, not}
+use mathlib.Core.Bool.{Bool, true, false, _&&_}
 use mathlib.Core.Option.{Option, none, some}
 use native.Mathlib.Omega.{arith}
 use native.Mathlib.Numerals.{add-one}
 use borrow.Author.Tests.{le-leb, lt-leb, eq-eqb, ne-eqb}
-use lib.Dec.{leb, eqb}
+use lib.Dec.{leb}
 use lib.ListN.{length, getD, drop, drop-of-length-le}
 use lib.Seq.{drop-cons}
 use Rattle.songcode.specs.Lists.{if_then_else_}
 use Rattle.songcode.specs.Bytes.{Byte, placed}
 use Rattle.songcode.specs.Numbers.{isDigit, digits, isDecimal, valueFrom, numberIn}
-use Rattle.songcode.proofs.ListLaws.{by-cases}
 use Rattle.songcode.proofs.NumbersAgree.{number-exact}
-use Rattle.songcode.proofs.PatternLaws.{none-some}
-use Rattle.tokens.specs.declared.numbers.Number.{Number}
 use Rattle.tokens.specs.declared.numbers.Number.the-variants.{Is, Not}
 use Rattle.tokens.specs.Decimals.{numberOf, digitsFrom}
 
@@ -88,7 +85,8 @@ decimal-zero [] h g e = absurd (h refl)
 decimal-zero (b ∷ []) h g e = absurd (g refl)
 decimal-zero (b ∷ c ∷ w) h g e = rw (eq-eqb b 48 e)
 
-pub decimal-more : (w : List ℕ) → (length w ≡ 0 → ⊥) → (length w ≡ 1 → ⊥) → (getD w 0 0 ≡ 48 → ⊥) → digitsFrom 0 (placed 0 w) ≡ numberOf (numberIn 0 9999 (placed 0 w))
+pub decimal-more : (w : List ℕ) → (length w ≡ 0 → ⊥) → (length w ≡ 1 → ⊥) → (getD w 0 0 ≡ 48 → ⊥)
+    → digitsFrom 0 (placed 0 w) ≡ numberOf (numberIn 0 9999 (placed 0 w))
 unfolding isDecimal placed
 decimal-more [] h g e = absurd (h refl)
 decimal-more (b ∷ []) h g e = absurd (g refl)

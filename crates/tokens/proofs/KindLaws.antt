@@ -1,8 +1,7 @@
 -- A token's word tells its kind and its numbers.
 use Prim.Native.Nat.{_+_, _*_, _/_, _%_, _^_, _<_, _≤_}
-use mathlib.Core.Path.{_≡_, refl, _∙_}
+use mathlib.Core.Path.{_≡_, refl}
 use native.Mathlib.Omega.{arith}
-use Rattle.songcode.specs.Lists.{if_then_else_}
 use Rattle.songcode.specs.Song.{chord, again, silence}
 use Rattle.songcode.specs.Tokens.{Token, sound, remover, reference, semicolon, colon, lineEnd, opens, closes, wrong}
 use Rattle.tokens.specs.TokenWords.{chordWord, tokenWord}

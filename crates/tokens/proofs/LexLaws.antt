@@ -1,8 +1,8 @@
 -- The tokens of a part of a text, from its first byte on.
-use Prim.Native.Nat.{ℕ, zero, suc, _+_, _-_, _<_, _≤_}
+use Prim.Native.Nat.{ℕ, suc, _+_, _-_, _<_, _≤_}
 use mathlib.Core.Path.{_≡_, refl, sym, ap, _∙_}
 use mathlib.Core.List.{List, [], _∷_, _++_}
-use mathlib.Core.Bool.{Bool, true, false, not}
+use mathlib.Core.Bool.{true, false, not}
 use native.Mathlib.Omega.{arith}
 use native.Mathlib.Numerals.{add-one}
 use native.Mathlib.Nat.{add-zero, add-suc, suc-add}
@@ -14,8 +14,9 @@ use Rattle.songcode.specs.Lists.{if_then_else_}
 use Rattle.songcode.specs.Bytes.{Byte, placed, isBlank, isByte}
 use Rattle.songcode.specs.Numbers.{repeatIn}
 use Rattle.songcode.specs.WrittenPattern.{Plain, NoPlain}
-use Rattle.songcode.specs.Tokens.{Token, semicolon, colon, opens, Class, blank, semi, double, bracket, closing, plain, class, closingToken, wordToken, word, lexedBy, lexed, tokens}
-use Rattle.songcode.proofs.ByteLaws.{placed-append, length-placed}
+use Rattle.songcode.specs.Tokens.{Token, semicolon, colon, opens, Class, blank, semi, double, bracket, closing, plain, class, closingToken, wordToken}
+use Rattle.songcode.specs.Tokens.{word, lexedBy, lexed, tokens}
+use Rattle.songcode.proofs.ByteLaws.{placed-append}
 use Rattle.songcode.proofs.ListLaws.{by-cases, true-is-not-false}
 use Rattle.songcode.proofs.TokensAgree.{lexed-behind}
 use Rattle.text.specs.Spans.{part, frontBlanks}
@@ -105,12 +106,17 @@ module _ (x : Byte) (bs : List Byte) where
 
 module _ (x : Byte) (at : ℕ) (bs : List ℕ) where
   first-closing : class x ≡ closing
-      → tokens (x ∷ placed at bs) ≡ closingToken (repeatIn (placed at (take (plainLength bs) bs))) ∷ tokens (placed (at + plainLength bs) (drop (plainLength bs) bs))
+      → tokens (x ∷ placed at bs) ≡ closingToken (repeatIn (placed at (take (plainLength bs) bs)))
+      ∷ tokens (placed (at + plainLength bs) (drop (plainLength bs) bs))
   unfolding tokens lexed lexedBy word
   first-closing e = rw (e, lexed-run at bs)
 
   lexed-first : class x ≡ plain
-      → lexed (x ∷ placed at bs) ≡ record { front = x ∷ placed at (take (plainLength bs) bs); rest = tokens (placed (at + plainLength bs) (drop (plainLength bs) bs)) }
+      → lexed (x ∷ placed at bs) ≡ record {
+        front = x ∷ placed at (take (plainLength bs) bs);
+        rest =
+            tokens (placed (at + plainLength bs) (drop (plainLength bs) bs));
+      }
   unfolding lexed lexedBy
   lexed-first e = rw (e, lexed-run at bs)
 

@@ -1,13 +1,13 @@
 -- Parts of a text, and bytes with their places.
 use Prim.Native.Nat.{ℕ, zero, suc, _+_, _-_, _<_, _≤_}
-use mathlib.Core.Path.{_≡_, refl, sym, ap, _∙_}
+use mathlib.Core.Path.{_≡_, refl, _∙_}
 use mathlib.Core.List.{List, [], _∷_}
 use native.Mathlib.Omega.{arith}
 use native.Mathlib.Numerals.{add-one}
 use native.Mathlib.Nat.{add-zero, add-suc, suc-add}
-use lib.ListN.{length, getD, take, drop}
-use lib.Seq.{drop-cons, drop-drop, take-nil}
-use Rattle.songcode.specs.Bytes.{Byte, placed}
+use lib.ListN.{length, getD, drop}
+use lib.Seq.{drop-cons, drop-drop}
+use Rattle.songcode.specs.Bytes.{placed}
 use Rattle.text.specs.Spans.{part}
 use Rattle.songcode.proofs.ListLaws.{drop-take}
 

@@ -110,7 +110,11 @@ found-more r j w o h l =
     let ss = rowOf r in
     by-cases
     (leb (length ss) j)
-    (λ t. (o, better-past (firstOf r + j) ss j w (baseOf o) (leb-true (length ss) j t), rw (drop-of-length-le ss {i = j} (leb-true (length ss) j t), drop-of-length-le ss {i = j + 1} (omega (arith, leb-true (length ss) j t)))))
+    (λ t. (
+      o,
+      better-past (firstOf r + j) ss j w (baseOf o) (leb-true (length ss) j t),
+      rw (drop-of-length-le ss {i = j} (leb-true (length ss) j t), drop-of-length-le ss {i = j + 1} (omega (arith, leb-true (length ss) j t))),
+    ))
     (λ t.
     let i = leb-false (length ss) j t in
     let s = getD ss j [] in
@@ -122,7 +126,8 @@ unfolding longestFrom
 found-all r j w o h l = rw (drop-of-length-le (rowOf r) {i = j} (omega (arith, row-full r h)))
 
 -- The row of a letter is enough: no spelling of another row fits.
-pub row-enough : (r : ℕ) → r < 7 → (bs : List ℕ) → longestFrom isTaken 0 bases ((65 + r) ∷ bs) none ≡ longestFrom isTaken (firstOf r) (rowOf r) ((65 + r) ∷ bs) none
+pub row-enough : (r : ℕ) → r < 7 → (bs : List ℕ) → longestFrom isTaken 0 bases ((65 + r) ∷ bs) none
+    ≡ longestFrom isTaken (firstOf r) (rowOf r) ((65 + r) ∷ bs) none
 unfolding longestFrom bases rowOf firstOf isTaken begins if_then_else_
 row-enough =
     seven

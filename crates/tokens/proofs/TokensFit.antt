@@ -15,7 +15,8 @@ use Rattle.songcode.specs.Chords.{bases, isTaken, longestFrom, longestBase, Cho
 use Rattle.songcode.specs.Chords as songcode
 use Rattle.songcode.specs.Song.{again, silence}
 use Rattle.songcode.specs.Tables.{offset}
-use Rattle.songcode.specs.Tokens.{Token, sound, remover, Class, blank, semi, double, bracket, closing, plain, class, chordToken, referenceToken, closingToken, dollarOr, wordToken, Lexed, word, lexedBy, lexed, tokens}
+use Rattle.songcode.specs.Tokens.{Token, sound, remover, Class, blank, semi, double, bracket, closing, plain, class, chordToken, referenceToken}
+use Rattle.songcode.specs.Tokens.{closingToken, dollarOr, wordToken, Lexed, word, lexedBy, lexed, tokens}
 use Rattle.songcode.proofs.ListLaws.{by-cases}
 use Rattle.tokens.specs.Fitting.{Fit, AllFit}
 use Rattle.tokens.proofs.BaseLaws.{longest-fits}
@@ -48,7 +49,11 @@ chord-by-fit none w e h = tt
 chord-by-fit (some b) w e h =
     by-cases
     (leb (length (drop (b .length) w)) 31)
-    (λ t. rw t (longest-fits (values w) b e .number, offset-below (drop (b .length) w) (drop-below (b .length) w h), leb-true (length (drop (b .length) w)) 31 t))
+    (λ t. rw t (
+      longest-fits (values w) b e .number,
+      offset-below (drop (b .length) w) (drop-below (b .length) w h),
+      leb-true (length (drop (b .length) w)) 31 t,
+    ))
     (λ t. rw t tt)
 
 slip-fit : (o : Option Chord) → Fit (chordToken o) → Fit (chordToken (withoutSlip o))

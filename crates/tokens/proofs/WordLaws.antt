@@ -1,15 +1,15 @@
 -- The tokens of words and of counts, as the code finds them.
-use Prim.Native.Nat.{ℕ, zero, suc, _+_, _*_, _-_, _^_, _<_, _≤_}
+use Prim.Native.Nat.{ℕ, suc, _+_, _*_, _-_, _^_, _<_, _≤_}
 use mathlib.Core.Path.{_≡_, refl, sym, ap, _∙_}
 use mathlib.Core.List.{List, [], _∷_}
-use mathlib.Core.Bool.{Bool, true, false}
+use mathlib.Core.Bool.{true, false}
 use mathlib.Core.Option.{Option, none, some}
 use native.Mathlib.Omega.{arith}
 use borrow.Author.Tests.{le-leb, lt-leb, eq-eqb, ne-eqb, eqb-true, eqb-false}
 use lib.Dec.{eqb}
 use lib.ListN.{length, getD, drop, length-drop}
 use Rattle.songcode.specs.Lists.{if_then_else_, any}
-use Rattle.songcode.specs.Bytes.{Byte, placed, values, ascii, same, is, isByte}
+use Rattle.songcode.specs.Bytes.{Byte, placed, ascii, same, is, isByte}
 use Rattle.songcode.specs.Numbers.{isDigit, digits, isDecimal, valueFrom, numberIn, countIn, repeatIn}
 use Rattle.songcode.specs.Chords.{bases, isTaken, longestFrom, longestBase, chordBy, withoutSlip, chordIn}
 use Rattle.songcode.specs.Chords as songcode
@@ -21,7 +21,6 @@ use Rattle.songcode.proofs.NumbersAgree.{number-exact}
 use Rattle.text.specs.Spans.{part}
 use Rattle.text.proofs.WalkLaws.{part-length}
 use Rattle.tokens.specs.declared.bases.Base.{Base}
-use Rattle.tokens.specs.declared.numbers.Number.{Number}
 use Rattle.tokens.specs.declared.numbers.Number.the-variants.{Is, Not}
 use Rattle.tokens.specs.Bases.{baseOf}
 use Rattle.tokens.specs.Decimals.{numberOf}

@@ -1,11 +1,11 @@
 -- Base chords as the code looks them up: by rows of spellings padded with zeros.
-use Prim.Native.Nat.{ℕ, zero, suc, _+_}
-use mathlib.Core.List.{List, [], _∷_, map}
+use Prim.Native.Nat.{ℕ, _+_}
+use mathlib.Core.List.{List, [], _∷_}
 use mathlib.Core.Option.{Option, none, some}
 use lib.Dec.{eqb, ltb}
 use lib.ListN.{length, getD}
 use Rattle.songcode.specs.Lists.{if_then_else_}
-use Rattle.songcode.specs.Bytes.{begins, ascii}
+use Rattle.songcode.specs.Bytes.{begins}
 use Rattle.songcode.specs.Chords.{spellings, rows, isTaken}
 use Rattle.songcode.specs.Chords as songcode
 use Rattle.tokens.specs.declared.bases.Base.{Base}

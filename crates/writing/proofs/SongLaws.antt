@@ -145,7 +145,8 @@ module _ {s ws vs : List ℕ} {score : Score} {p : Place} {m b : ℕ} (a : Along
       (sectionWords (songOf s) (m + c) (sectionsFrom s (x .next))) all
   unfolding sectionWords
   sections-next old new all k w tempo h f g t =
-      let q : w ≡ sectionWord (sectionAt s p .header) m (length (played (songOf s) (sectionAt s p))) (timeOf (songOf s) (sectionAt s p)) (bpmOf (songOf s) (sectionAt s p)) = f ∙ rw (o .met .says .header, measures, e, g) in
+      let q : w ≡ sectionWord (sectionAt s p .header) m (length (played (songOf s) (sectionAt s p))) (timeOf (songOf s) (sectionAt s p))
+      (bpmOf (songOf s) (sectionAt s p)) = f ∙ rw (o .met .says .header, measures, e, g) in
       let r : sectionWords (songOf s) m (sectionsFrom s p) ≡ w ∷ sectionWords (songOf s) (m + c) (sectionsFrom s (x .next)) =
       ap (λ (xs : List Section). sectionWords (songOf s) m xs) (o .met .first) ∙ rw (q, measures) in
       wrote-put old k new (sectionWords (songOf s) (m + c) (sectionsFrom s (x .next))) all w h (subst (λ xs. Wrote old k new xs all) r t)

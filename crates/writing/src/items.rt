@@ -48,9 +48,12 @@ pub struct Behind {
 
 // The items of some lyric lines from a measure on.
 fn write_lyrics(s: &[u8], run: Run, first: usize, items: &mut [u64]) -> Behind
-    requires { ⌜ Placed (now s) run × (0 < length (linesOf (now s) run) → 2 ≤ run .number) × (length (now s) ≤ 65536) × (first + counted (map lyricLine (linesOf (now s) run)) ≤ 65535) × (length (linesOf (now s) run) ≤ length (now items)) ⌝ }
-    ensures items { λ r. ⌜ now (items .exit) ≡ written (map itemWord (promptsFrom first (map lyricLine (linesOf (now (s .entry)) run)))) (now (items .entry)) ⌝ }
-    ensures behind { λ r. ⌜ (r .items ≡ length (linesOf (now (s .entry)) run)) × (r .measure ≡ first + counted (map lyricLine (linesOf (now (s .entry)) run))) ⌝ }
+    requires { ⌜ Placed (now s) run × (0 < length (linesOf (now s) run) → 2 ≤ run .number) × (length (now s) ≤ 65536)
+        × (first + counted (map lyricLine (linesOf (now s) run)) ≤ 65535) × (length (linesOf (now s) run) ≤ length (now items)) ⌝ }
+    ensures items { λ r. ⌜ now (items .exit) ≡ written (map itemWord (promptsFrom first (map lyricLine (linesOf (now (s .entry)) run))))
+        (now (items .entry)) ⌝ }
+    ensures behind { λ r. ⌜ (r .items ≡ length (linesOf (now (s .entry)) run))
+        × (r .measure ≡ first + counted (map lyricLine (linesOf (now (s .entry)) run))) ⌝ }
 {
     let mut number = run.number;
     let mut at = run.at;
@@ -75,7 +78,8 @@ fn write_lyrics(s: &[u8], run: Run, first: usize, items: &mut [u64]) -> Behind
 
 // The items of all sections, if there are any.
 pub fn write_items(s: &[u8], first: Place, count: usize, items: &mut [u64])
-    requires { ⌜ Begins (now s) first × (length (now s) ≤ 65536) × (count ≡ length (tables (songOf (now s)) .items)) × (count ≤ length (now items)) × (lengthFaults (songOf (now s)) 0 (songOf (now s) .sections) ≡ []) × (sumFaults (songOf (now s)) ≡ []) ⌝ }
+    requires { ⌜ Begins (now s) first × (length (now s) ≤ 65536) × (count ≡ length (tables (songOf (now s)) .items))
+        × (count ≤ length (now items)) × (lengthFaults (songOf (now s)) 0 (songOf (now s) .sections) ≡ []) × (sumFaults (songOf (now s)) ≡ []) ⌝ }
     ensures { λ _. ⌜ now (items .exit) ≡ written (tables (songOf (now (s .entry))) .items) (now (items .entry)) ⌝ }
 {
     if count == 0 {

@@ -19,7 +19,8 @@ ghost use Rattle.writing.specs.Words.{wordOfSetting, ShortSetting};
 
 // The word of the key at a place of the table.
 fn key_at(s: &[u8], metadata: Run, k: usize) -> u32
-    requires { ⌜ (1 ≤ metadata .number) × (metadata .number ≤ metadata .at + 1) × (metadata .at ≤ length (now s)) × (k < 8) × (inputFaults (now s) ≡ []) × ShortSetting (settingAmong k (linesOf (now s) metadata)) ⌝ }
+    requires { ⌜ (1 ≤ metadata .number) × (metadata .number ≤ metadata .at + 1) × (metadata .at ≤ length (now s)) × (k < 8)
+        × (inputFaults (now s) ≡ []) × ShortSetting (settingAmong k (linesOf (now s) metadata)) ⌝ }
     ensures { λ r. ⌜ r ≡ wordOfSetting (settingAmong k (linesOf (now (s .entry)) metadata)) ⌝ }
 {
     let said = find(s, k, metadata);

@@ -37,9 +37,11 @@ pub fn write_song(
     beats: &mut [u32],
 )
     requires ready { ⌜ Begins (now s) first × Ready (now s) (now words) score × (score .fill ≤ first .at) ⌝ }
-    requires keys { ⌜ (song .time ≡ orElse (timeAmong (songOf (now s) .keys)) 0) × (song .time ≤ 32) × (song .bpm ≡ orElse (bpmAmong (songOf (now s) .keys)) 511) × (song .bpm ≤ 511) ⌝ }
+    requires keys { ⌜ (song .time ≡ orElse (timeAmong (songOf (now s) .keys)) 0) × (song .time ≤ 32)
+        × (song .bpm ≡ orElse (bpmAmong (songOf (now s) .keys)) 511) × (song .bpm ≤ 511) ⌝ }
     requires clear { ⌜ (meterFaults (songOf (now s)) ≡ []) × (lengthFaults (songOf (now s)) 0 (songOf (now s) .sections) ≡ []) ⌝ }
-    requires room { ⌜ (length (tables (songOf (now s)) .sections) ≤ length (now sections)) × (length (tables (songOf (now s)) .measures) ≤ length (now measures)) × (length (tables (songOf (now s)) .beats) ≤ length (now beats)) ⌝ }
+    requires room { ⌜ (length (tables (songOf (now s)) .sections) ≤ length (now sections))
+        × (length (tables (songOf (now s)) .measures) ≤ length (now measures)) × (length (tables (songOf (now s)) .beats) ≤ length (now beats)) ⌝ }
     ensures sections { λ _. ⌜ now (sections .exit) ≡ written (tables (songOf (now (s .entry))) .sections) (now (sections .entry)) ⌝ }
     ensures measures { λ _. ⌜ now (measures .exit) ≡ written (tables (songOf (now (s .entry))) .measures) (now (measures .entry)) ⌝ }
     ensures beats { λ _. ⌜ now (beats .exit) ≡ written (tables (songOf (now (s .entry))) .beats) (now (beats .entry)) ⌝ }

@@ -1,3 +1,4 @@
+-- The measure, if there is one, is among those between start and end; each probe leaves fewer of them.
 use Prim.Native.Nat.{_+_, _-_, _≤_}
 use native.Mathlib.Omega.{arith}
 use lib.ListN.{length}

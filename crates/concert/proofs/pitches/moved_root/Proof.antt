@@ -1,3 +1,4 @@
+-- The remainder of root and shift by twelve, and twelve more where it is below zero, is the root moved.
 use Rattle.concert.proofs.RootLaws.{total, rest, sum-fits, quotient-fits, rest-kept, more-fits, more-kept, lifted-root, reduced-root}
 use Rattle.concert.proofs.BaseLaws.{moved-below}
 use lib.IntN.{pos, _+ℤ_}

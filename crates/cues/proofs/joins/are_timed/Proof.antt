@@ -21,12 +21,16 @@ loop-holds c = (search needs, refl)
 returns : tie.Need-returns Inv-loop μ-loop
 returns c =
     let l = c .before .before .before .before .loop in
-    sym (every-stops isTimed (l .i) _ (c .before .before .before .loop-test .taken) (sym (c .before .is-timed .ensures) ∙ not-true _ (c .if1 .taken))) ∙ l .inv .1
+    sym (every-stops isTimed (l .i) _ (c .before .before .before .loop-test .taken)
+    (sym (c .before .is-timed .ensures) ∙ not-true _ (c .if1 .taken))) ∙ l .inv .1
 
 loop-again : tie.Need-loop-again Inv-loop μ-loop
 loop-again c =
-    let l = c .before .before .before .before .loop in
-    (search needs, sym (every-next isTimed (l .i) _ (c .before .before .before .loop-test .taken) (sym (c .before .is-timed .ensures) ∙ not-false _ (c .if1 .left))) ∙ l .inv .1)
+    let l = c .before .before .before .before .loop in (
+      search needs,
+      sym (every-next isTimed (l .i) _ (c .before .before .before .loop-test .taken)
+          (sym (c .before .is-timed .ensures) ∙ not-false _ (c .if1 .left))) ∙ l .inv .1,
+    )
 
 returns-2 : tie.Need-returns-2 Inv-loop μ-loop
 returns-2 c =

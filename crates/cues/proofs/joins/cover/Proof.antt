@@ -29,8 +29,11 @@ loop-again c =
     let l = c .before .before .before .before .before .before .loop in
     let h = c .before .before .before .section-of .ensures in
     let f = section-fields h in
-    let e = c .before .if1 .left in
-    (search needs, omega (arith, h .first-fits, h .measures-fits, e), rw (f .1) (sym (cover-next (l .first) _ (l .i) _ (c .before .before .before .before .before .loop-test .taken) (sym (f .0) ∙ e)) ∙ l .inv .2))
+    let e = c .before .if1 .left in (
+      search needs,
+      omega (arith, h .first-fits, h .measures-fits, e),
+      rw (f .1) (sym (cover-next (l .first) _ (l .i) _ (c .before .before .before .before .before .loop-test .taken) (sym (f .0) ∙ e)) ∙ l .inv .2),
+    )
 
 returns-2 : tie.Need-returns-2 Inv-loop μ-loop
 returns-2 c =

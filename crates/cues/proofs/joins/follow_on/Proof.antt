@@ -1,3 +1,4 @@
+-- Measure by measure: the measures passed follow on, so all do if those that are left follow on from the beat reached.
 use Prim.Native.Nat.{_-_, _^_, _≤_}
 use mathlib.Core.Path.{_≡_, refl, sym, _∙_}
 use native.Mathlib.Omega.{arith}
@@ -28,21 +29,27 @@ returns-2 : tie.Need-returns-2 Inv-loop μ-loop
 returns-2 c =
     let l = c .before .before .before .before .before .before .before .loop in
     let f = measure-fields (c .before .before .before .before .measure-of .ensures) in
-    sym (join-empty (l .beat) (l .i) _ (c .before .before .before .before .before .before .loop-test .taken) (sym (f .0) ∙ c .before .before .if1 .left) (sym (f .1) ∙ c .if2 .taken)) ∙ l .inv .2
+    sym (join-empty (l .beat) (l .i) _ (c .before .before .before .before .before .before .loop-test .taken)
+    (sym (f .0) ∙ c .before .before .if1 .left) (sym (f .1) ∙ c .if2 .taken)) ∙ l .inv .2
 
 returns-3 : tie.Need-returns-3 Inv-loop μ-loop
 returns-3 c =
     let l = c .before .before .before .before .before .before .before .before .before .loop in
     let f = measure-fields (c .before .before .before .before .before .before .measure-of .ensures) in
-    sym (join-long (l .beat) (l .i) _ (c .before .before .before .before .before .before .before .before .loop-test .taken) (omega (arith, f .1, c .if3 .taken))) ∙ l .inv .2
+    sym (join-long (l .beat) (l .i) _ (c .before .before .before .before .before .before .before .before .loop-test .taken)
+    (omega (arith, f .1, c .if3 .taken))) ∙ l .inv .2
 
 loop-again : tie.Need-loop-again Inv-loop μ-loop
 loop-again c =
     let l = c .before .before .before .before .before .before .before .before .before .before .loop in
     let h = c .before .before .before .before .before .before .before .measure-of .ensures in
     let f = measure-fields h in
-    let e = c .before .before .before .before .before .if1 .left in
-    (search needs, omega (arith, h .first-fits, h .beats-fits, e), rw (f .1) (sym (join-next (l .beat) (l .i) _ (c .before .before .before .before .before .before .before .before .before .loop-test .taken) (sym (f .0) ∙ e) (omega (arith, f .1, c .before .before .before .if2 .left)) (omega (arith, f .1, c .before .if3 .left))) ∙ l .inv .2))
+    let e = c .before .before .before .before .before .if1 .left in (
+      search needs,
+      omega (arith, h .first-fits, h .beats-fits, e),
+      rw (f .1) (sym (join-next (l .beat) (l .i) _ (c .before .before .before .before .before .before .before .before .before .loop-test .taken)
+          (sym (f .0) ∙ e) (omega (arith, f .1, c .before .before .before .if2 .left)) (omega (arith, f .1, c .before .if3 .left))) ∙ l .inv .2),
+    )
 
 returns-4 : tie.Need-returns-4 Inv-loop μ-loop
 returns-4 c =

@@ -21,7 +21,14 @@ product : (a b : ℕ) → a < 64 → b ≤ 60000000 → a * b ≤ 3780000000
 product a b l m = let few : a ≤ 63 = omega arith in mul-le-mul few m
 
 cast-result : tie.Need-cast-result
-cast-result c = record { fits = omega (arith, entry (c .before .before .args .table .now) (c .before .before .args .bpm) (c .before .before .pre), beat-length-le (c .before .before .args .bpm)) }
+cast-result c =
+    record {
+      fits = omega (
+        arith,
+        entry (c .before .before .args .table .now) (c .before .before .args .bpm) (c .before .before .pre),
+        beat-length-le (c .before .before .args .bpm),
+      );
+    }
 
 mul-result-2 : tie.Need-mul-result-2
 mul-result-2 c =

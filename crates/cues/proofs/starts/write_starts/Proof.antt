@@ -1,3 +1,4 @@
+-- Section by section: the starts written so far and those of the sections that are left are the starts of all measures.
 use Prim.Native.Nat.{ℕ, _+_, _-_, _*_, _^_, _≤_}
 use mathlib.Core.Path.{_≡_, refl, sym, _∙_, subst}
 use mathlib.Core.List.{List, []}
@@ -101,9 +102,11 @@ loop-again c =
       l .inv .6,
       l .inv .7,
       l .inv .8,
-      rw (e .0 .0) (sym (sum-section (l .i) (l .first) (l .time) (s .tempo) (l .first + s .measures - l .first) (s .measures) (a .sections .now) (a .measures .now) t (f .2) n (f .1)) ∙ l .inv .9),
+      rw (e .0 .0) (sym (sum-section (l .i) (l .first) (l .time) (s .tempo) (l .first + s .measures - l .first) (s .measures)
+          (a .sections .now) (a .measures .now) t (f .2) n (f .1)) ∙ l .inv .9),
       rw (e .0 .0)
-          (starts-section (l .i) (l .first) (l .time) (s .tempo) (l .first + s .measures - l .first) (s .measures) (a .sections .now) (a .measures .now) t (f .2) n (f .1) _ (l .cues) _ _
+          (starts-section (l .i) (l .first) (l .time) (s .tempo) (l .first + s .measures - l .first) (s .measures) (a .sections .now)
+          (a .measures .now) t (f .2) n (f .1) _ (l .cues) _ _
           (omega (arith, f .1, r .0)) (omega (arith, f .1, r .0, l .inv .8)) (omega (arith, l .inv .1, l .inv .2, l .inv .8)) (l .inv .10) (e .1)),
     )
 

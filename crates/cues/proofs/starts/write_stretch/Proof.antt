@@ -1,3 +1,4 @@
+-- Measure by measure: the starts written so far and those of the measures that are left are the starts of the section.
 use Prim.Native.Nat.{_+_, _-_, _*_, _≤_}
 use mathlib.Core.Path.{_≡_, refl, sym, _∙_}
 use native.Mathlib.Omega.{arith}
@@ -30,7 +31,15 @@ length-of-requires c κs =
     (q .pre .1 (omega (arith, c .before .loop-test .taken)), q .pre .0 .3)
 
 add-at : tie.Need-add-at Inv-loop μ-loop
-add-at c = record { fits = omega (arith, c .before .before .before .before .before .before .pre .0 .1, c .before .before .before .before .before .before .pre .0 .2, c .length-of .ensures .1) }
+add-at c =
+    record {
+      fits = omega (
+        arith,
+        c .before .before .before .before .before .before .pre .0 .1,
+        c .before .before .before .before .before .before .pre .0 .2,
+        c .length-of .ensures .1,
+      );
+    }
 
 loop-again : tie.Need-loop-again Inv-loop μ-loop
 loop-again c =
@@ -43,7 +52,8 @@ loop-again c =
       search needs,
       omega (arith, b, l .inv .2),
       rw e (sym (sum-next (a .bpm) (l .i) (l .at) (a .measures .now) t) ∙ l .inv .3),
-      rw e (starts-next (a .bpm) (l .i) (l .at) (a .measures .now) t _ (l .cues) _ (omega (arith, t, c .before .before .before .before .before .before .pre .0 .0)) (l .inv .4)),
+      rw e (starts-next (a .bpm) (l .i) (l .at) (a .measures .now) t _ (l .cues) _
+          (omega (arith, t, c .before .before .before .before .before .before .pre .0 .0)) (l .inv .4)),
     )
 
 returns : tie.Need-returns Inv-loop μ-loop

@@ -33,9 +33,13 @@ abbrev μ-loop : tie.MeasureT-loop
 
 -- The section that is opened is played in its own N.
 meter : (c : tie.After-meter-of Inv-loop μ-loop) → c .meter-of .result
-    ≡ timeOf (songOf (c .before .before .before .before .before .before .before .before .before .before .before .before .before .before .before .before .args .s .now)) (sectionAt (c .before .before .before .before .before .before .before .before .before .before .before .before .before .before .before .before .args .s .now) (c .before .before .before .before .before .before .before .before .before .before .before .before .before .loop .place))
+    ≡ timeOf (songOf (c .before .before .before .before .before .before .before .before .before .before .before .before .before .before
+    .before .before .args .s .now)) (sectionAt (c .before .before .before .before .before .before .before .before .before .before
+    .before .before .before .before .before .before .args .s .now)
+    (c .before .before .before .before .before .before .before .before .before .before .before .before .before .loop .place))
 meter c =
-    c .meter-of .ensures ∙ meter-is _ _ (c .before .before .before .before .before .before .before .before .before .open-section .ensures .0 .met .says .time) (c .before .before .before .before .before .before .before .before .before .before .before .before .before .before .before .before .pre .3)
+    c .meter-of .ensures ∙ meter-is _ _ (c .before .before .before .before .before .before .before .before .before .open-section .ensures .0 .met .says .time)
+    (c .before .before .before .before .before .before .before .before .before .before .before .before .before .before .before .before .pre .3)
 
 loop-holds : tie.Need-loop-holds Inv-loop μ-loop
 loop-holds c = let q = c .before .before .pre in
@@ -64,7 +68,13 @@ tally-lyrics-requires c κs = (
 
 same-length : tie.Need-same-length Inv-loop μ-loop
 same-length c =
-    omega (arith, c .before .before .before .before .before .before .before .before .before .before .before .before .before .before .open-section .ensures .1 .1, c .before .before .before .before .before .before .before .before .before .before .before .before .before .before .before .before .before .before .loop .inv .1)
+    omega (
+      arith,
+      c .before .before .before .before .before .before .before .before .before .before .before .before .before .before
+          .open-section .ensures .1 .1,
+      c .before .before .before .before .before .before .before .before .before .before .before .before
+          .before .before .before .before .before .before .loop .inv .1,
+    )
 
 returns : tie.Need-returns Inv-loop μ-loop
 returns c = let y = c .before .before .before .before .before in
@@ -75,7 +85,8 @@ returns c = let y = c .before .before .before .before .before in
     let m = along-measures (l .inv .0) (o .result) (o .ensures .0) (o .ensures .1 .0) (y .meter-of .result) (meter y) _
     (c .before .before .before .before .counts-of .ensures .0) in
     let off = opened-off (o .result) (o .ensures .0) (tally .result) (tally .ensures) _ _ _
-    (y .before .before .before .before .before .before .before .before .before .before .before .before .before .before .before .before .pre .7) (c .before .before .sum-differs .ensures) m ∙ c .before .if2 .taken in
+    (y .before .before .before .before .before .before .before .before .before .before .before .before .before .before .before .before .pre .7)
+    (c .before .before .sum-differs .ensures) m ∙ c .before .if2 .taken in
     let r = c .sum-refused .ensures in (
       ap (λ (t : Totals). t .refusal) r ∙ sym (opened-refused (o .result) (o .ensures .0) (tally .result) (tally .ensures) off (l .inv .5)),
       (
@@ -101,7 +112,13 @@ with-section-requires c κs = let y = c .before .before .before .before .before 
 
 loop-less : tie.Need-loop-less Inv-loop μ-loop
 loop-less c =
-    omega (arith, c .before .before .before .before .before .before .before .before .before .before .before .before .before .before .before .before .open-section .ensures .0 .met .further, c .before .before .before .before .before .before .before .before .before .before .before .before .before .before .before .before .before .before .if1 .taken)
+    omega (
+      arith,
+      c .before .before .before .before .before .before .before .before .before .before .before .before .before .before .before
+          .before .open-section .ensures .0 .met .further,
+      c .before .before .before .before .before .before .before .before .before .before
+          .before .before .before .before .before .before .before .before .if1 .taken,
+    )
 
 loop-again : tie.Need-loop-again Inv-loop μ-loop
 loop-again c = let y = c .before .before .before .before .before .before .before in
@@ -118,7 +135,8 @@ loop-again c = let y = c .before .before .before .before .before .before .before
     let w = c .before .with-section .ensures in
     let counted = with-counts (c .before .with-section .result) (l .sums) (counts .result) (tally .result .lines) (c .before .before .has-prompts .result) w in
     let off = opened-off x i (tally .result) (tally .ensures) _ _ _
-    (y .before .before .before .before .before .before .before .before .before .before .before .before .before .before .before .before .pre .7) (c .before .before .before .before .sum-differs .ensures) m ∙ c .before .before .before .if2 .left in (
+    (y .before .before .before .before .before .before .before .before .before .before .before .before .before .before .before .before .pre .7)
+    (c .before .before .before .before .sum-differs .ensures) m ∙ c .before .before .before .if2 .left in (
       along-same (omega (arith, counted .1, m)) (omega (arith, counted .2, b)) a,
       omega (arith, o .ensures .1 .1, l .inv .1),
       omega (arith, counted .0, l .inv .2, i .met .further),

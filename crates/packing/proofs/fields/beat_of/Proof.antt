@@ -7,15 +7,6 @@ use Rattle.packing.proofs.Bits.{field-and-above, bit-told}
 use Rattle.packing.proofs.fields.beat_of.Statement.{statement}
 use Rattle.packing.proofs.fields.beat_of.Tie as tie
 
-cast-t3 : tie.Need-cast-t3
-cast-t3 c = search needs
-
-cast-t6 : tie.Need-cast-t6
-cast-t6 c = search needs
-
-cast-t9 : tie.Need-cast-t9
-cast-t9 c = search needs
-
 returns : tie.Need-returns
 unfolding packedBeat
 returns c =
@@ -33,4 +24,4 @@ returns c =
     }
 
 pub beat-of-spec : {M : Type 1} → statement M
-beat-of-spec = tie.close (tie.spec cast-t3 cast-t6 cast-t9 returns)
+beat-of-spec = tie.close (tie.spec (λ c. search needs) (λ c. search needs) (λ c. search needs) returns)

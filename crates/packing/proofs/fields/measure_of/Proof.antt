@@ -7,12 +7,6 @@ use Rattle.packing.proofs.Bits.{field-and-above}
 use Rattle.packing.proofs.fields.measure_of.Statement.{statement}
 use Rattle.packing.proofs.fields.measure_of.Tie as tie
 
-cast-t3 : tie.Need-cast-t3
-cast-t3 c = search needs
-
-cast-t6 : tie.Need-cast-t6
-cast-t6 c = search needs
-
 returns : tie.Need-returns
 unfolding measureWord
 returns c =
@@ -25,4 +19,4 @@ returns c =
     }
 
 pub measure-of-spec : {M : Type 1} → statement M
-measure-of-spec = tie.close (tie.spec cast-t3 cast-t6 returns)
+measure-of-spec = tie.close (tie.spec (λ c. search needs) (λ c. search needs) returns)

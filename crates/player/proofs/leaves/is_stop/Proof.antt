@@ -1,22 +1,16 @@
 use Rattle.player.specs.Signs.{isStop}
-use borrow.Author.Tests.{eq-eqb, ne-eqb, lt-ltb, le-ltb, le-leb, lt-leb}
-use borrow.Author.Needs.{needs}
+use borrow.Author.Tests.{eq-eqb, ne-eqb, le-leb, lt-leb}
 use Rattle.player.proofs.leaves.is_stop.Statement.{statement}
 use Rattle.player.proofs.leaves.is_stop.Tie as tie
-use Rattle.player.proofs.leaves.is_stop.Reads as reads
-use Rattle.player.proofs.leaves.is_stop.Lts as lts
 
--- src/leaves.rt:57:1
 returns : tie.Need-returns
 unfolding isStop
 returns c = simp (eq-eqb _ _ (c .if1 .taken))
 
--- src/leaves.rt:57:1
 returns-2 : tie.Need-returns-2
 unfolding isStop
 returns-2 c = simp (ne-eqb _ _ (c .before .if1 .left), le-leb _ _ (c .if2 .taken))
 
--- src/leaves.rt:57:1
 returns-3 : tie.Need-returns-3
 unfolding isStop
 returns-3 c = simp (ne-eqb _ _ (c .before .if1 .left), lt-leb _ _ (c .if2 .left))

@@ -1,19 +1,14 @@
 use Rattle.player.specs.Signs.{soundsAs}
 use native.Mathlib.Omega.{arith}
 use Rattle.songcode.specs.Lists.{if_then_else_}
-use borrow.Author.Tests.{eq-eqb, ne-eqb, lt-ltb, le-ltb, le-leb, lt-leb}
-use borrow.Author.Needs.{needs}
+use borrow.Author.Tests.{eq-eqb, ne-eqb}
 use Rattle.player.proofs.leaves.sounds.Statement.{statement}
 use Rattle.player.proofs.leaves.sounds.Tie as tie
-use Rattle.player.proofs.leaves.sounds.Reads as reads
-use Rattle.player.proofs.leaves.sounds.Lts as lts
 
--- src/leaves.rt:87:1
 returns : tie.Need-returns
 unfolding soundsAs if_then_else_
 returns c = (simp (eq-eqb _ _ (c .if1 .taken)), omega arith)
 
--- src/leaves.rt:87:1
 returns-2 : tie.Need-returns-2
 unfolding soundsAs if_then_else_
 returns-2 c = (simp (ne-eqb _ _ (c .if1 .left)), omega arith)

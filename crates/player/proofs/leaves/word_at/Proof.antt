@@ -2,28 +2,15 @@ use Rattle.player.proofs.SignLaws.{word-past, word-over, word-is}
 use borrow.Author.Needs.{needs}
 use Rattle.player.proofs.leaves.word_at.Statement.{statement}
 use Rattle.player.proofs.leaves.word_at.Tie as tie
-use Rattle.player.proofs.leaves.word_at.Reads as reads
-use Rattle.player.proofs.leaves.word_at.Lts as lts
 
--- src/leaves.rt:27:9
 returns : tie.Need-returns
 returns c = word-past (c .before .args .words .now) (c .before .args .to) (c .before .args .at) (c .if1 .taken)
 
--- src/leaves.rt:29:27
-mul-result : tie.Need-mul-result
-mul-result c = search needs
-
--- src/leaves.rt:29:27
-shared-slice-read-result : tie.Need-shared-slice-read-result
-shared-slice-read-result c = search needs
-
--- src/leaves.rt:23:1
 returns-2 : tie.Need-returns-2
 returns-2 c = let a = c .before .before .before .args in word-is (a .words .now) (a .to) (a .at) _ (c .before .before .if1 .left) (c .before .if2 .taken)
 
--- src/leaves.rt:23:1
 returns-3 : tie.Need-returns-3
 returns-3 c = let a = c .before .before .args in word-over (a .words .now) (a .to) (a .at) (c .if2 .left)
 
 pub word-at-spec : {M : Type 1} → statement M
-word-at-spec = tie.close (tie.spec returns mul-result shared-slice-read-result returns-2 returns-3)
+word-at-spec = tie.close (tie.spec returns (λ c. search needs) (λ c. search needs) returns-2 returns-3)

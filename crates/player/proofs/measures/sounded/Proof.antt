@@ -14,9 +14,6 @@ use Rattle.player.proofs.measures.sounded.Tie as tie
 returns : tie.Need-returns
 returns c = let a = c .before .before .before .before .before .args in measure-none _ (record { pen = a .p; ms = a .ms .now; bs = a .bs .now }) (c .if1 .taken)
 
-mul-beats : tie.Need-mul-beats
-mul-beats c = search needs
-
 begun-requires : tie.Need-begun-requires
 begun-requires c κs = not-none (c .before .before .before .before .if1 .left)
 
@@ -34,16 +31,19 @@ begun-requires-2 : tie.Need-begun-requires-2
 begun-requires-2 c κs = not-none (c .before .before .before .if1 .left)
 
 positions-requires : tie.Need-positions-requires
-positions-requires c κs = let q = c .before .before .before .before .before .before .before .before .before .before in (fine-begun (q .args .p) _ _ _ (c .before .begun2 .ensures) (q .pre .0), q .pre .1, q .pre .2)
+positions-requires c κs =
+    let q = c .before .before .before .before .before .before .before .before .before .before in
+    (fine-begun (q .args .p) _ _ _ (c .before .begun2 .ensures) (q .pre .0), q .pre .1, q .pre .2)
 
 close-requires : tie.Need-close-requires
-close-requires c κs = let q = c .before .before .before .before .before .before .before .before .before .before .before .before .before .before in let a = q .args in let ps = positionsAt (a .words .now) (a .to) (a .at) in let e = ap (λ s. a .share * s) (q .pre .3) ∙ sym (parts-length (a .share) (a .last) ps) in let o = inked-from (partsOf (a .share) (a .last) ps) _ _ _ _ _ (c .before .before .before .before .before .begun2 .ensures) (c .before .before .before .positions .ensures) in measured (partsOf (a .share) (a .last) ps) _ _ _ _ (record { few = q .pre .0 .few; fits = q .pre .0 .fits }) (omega (arith, e, q .pre .4)) o
-
-same-length : tie.Need-same-length
-same-length c = search needs
-
-same-length-2 : tie.Need-same-length-2
-same-length-2 c = search needs
+close-requires c κs =
+    let q = c .before .before .before .before .before .before .before .before .before .before .before .before .before .before in
+    let a = q .args in
+    let ps = positionsAt (a .words .now) (a .to) (a .at) in
+    let e = ap (λ s. a .share * s) (q .pre .3) ∙ sym (parts-length (a .share) (a .last) ps) in
+    let o = inked-from (partsOf (a .share) (a .last) ps) _ _ _ _ _ (c .before .before .before .before .before .begun2 .ensures)
+    (c .before .before .before .positions .ensures) in
+    measured (partsOf (a .share) (a .last) ps) _ _ _ _ (record { few = q .pre .0 .few; fits = q .pre .0 .fits }) (omega (arith, e, q .pre .4)) o
 
 returns-3 : tie.Need-returns-3
 returns-3 c =
@@ -61,16 +61,5 @@ returns-3 c =
 pub sounded-spec : {M : Type 1} → statement M
 sounded-spec =
     tie.close
-    (tie.spec
-    returns
-    mul-beats
-    begun-requires
-    (λ c κs. search needs)
-    returns-2
-    begun-requires-2
-    positions-requires
-    close-requires
-    (λ c κs. search needs)
-    same-length
-    same-length-2
-    returns-3)
+    (tie.spec returns (λ c. search needs) begun-requires (λ c κs. search needs) returns-2 begun-requires-2 positions-requires close-requires
+    (λ c κs. search needs) (λ c. search needs) (λ c. search needs) returns-3)

@@ -58,10 +58,24 @@ rounds-requires-3 c κs =
     (fine-tail _ (times (a .r) row) _ _ _ _ _ _ _ _ f (at .at-pattern .ensures) (kept .rounds2 .ensures) (behind .at-tail .ensures), q .pre .0 .0)
 
 same-length : tie.Need-same-length
-same-length c = omega (arith, c .before .before .before .ms3 .given, c .before .before .before .before .before .before .before .before .before .before .before .ms2 .given, c .before .before .before .before .before .before .before .before .before .before .before .before .before .before .before .before .before .before .before .ms .given)
+same-length c =
+    omega (
+      arith,
+      c .before .before .before .ms3 .given,
+      c .before .before .before .before .before .before .before .before .before .before .before .ms2 .given,
+      c .before .before .before .before .before .before .before .before .before .before .before .before .before .before .before .before
+          .before .before .before .ms .given,
+    )
 
 same-length-2 : tie.Need-same-length-2
-same-length-2 c = omega (arith, c .before .bs3 .given, c .before .before .before .before .before .before .before .before .before .bs2 .given, c .before .before .before .before .before .before .before .before .before .before .before .before .before .before .before .before .before .bs .given)
+same-length-2 c =
+    omega (
+      arith,
+      c .before .bs3 .given,
+      c .before .before .before .before .before .before .before .before .before .bs2 .given,
+      c .before .before .before .before .before .before .before .before .before .before .before .before .before .before .before .before
+          .before .bs .given,
+    )
 
 returns : tie.Need-returns
 returns c =

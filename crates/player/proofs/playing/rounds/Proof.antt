@@ -10,12 +10,7 @@ use native.Mathlib.Omega.{arith}
 use borrow.Author.Needs.{needs}
 use Rattle.player.proofs.playing.rounds.Statement.{statement}
 use Rattle.player.proofs.playing.rounds.Tie as tie
-use Rattle.player.proofs.playing.rounds.Reads as reads
-use Rattle.player.proofs.playing.rounds.Lts as lts
-use Rattle.player.proofs.walks.again.Reads as again-reads
-use Rattle.player.proofs.walks.items.Reads as items-reads
 
--- src/playing.rt:47:9
 returns : tie.Need-returns
 returns c =
     let a = c .before .before .before .before .args in
@@ -23,32 +18,33 @@ returns c =
     let g : Page = record { pen = a .p; ms = a .ms .now; bs = a .bs .now } in
     ⊎-elim (λ w. rounds-none row (a .r) g (w .taken)) (λ w. sym (play-none (times (a .r) row) g (eqb-true (a .p .todo) 0 (w .2 .taken)))) (c .if1 .came)
 
--- src/playing.rt:49:9
-items-requires : tie.Need-items-requires
-items-requires c κs = search needs
-
--- src/playing.rt:50:53
-sub-again : tie.Need-sub-again
-sub-again c = search needs
-
--- src/playing.rt:50:5
 again-requires : tie.Need-again-requires
-again-requires c κs = let q = c .before .before .before .before .before .before .before .before .before .before .before .before .before .before .before in let a = q .args in let l = (level 8 (a .d) (a .n) (a .words .now) (a .s .to) (a .s .from) 4227858432) in let e = c .before .before .before .before .before .before .items .ensures .0 in (fine-end _ l (record { pen = a .p; ms = a .ms .now; bs = a .bs .now }) e (q .pre .0), omega arith, q .pre .1, omega arith, record { ms-before = a .ms .now; bs-before = a .bs .now; pass = end-page _ l (record { pen = a .p; ms = a .ms .now; bs = a .bs .now }) e })
+again-requires c κs =
+    let q = c .before .before .before .before .before .before .before .before .before .before .before .before .before .before .before in
+    let a = q .args in
+    let l = (level 8 (a .d) (a .n) (a .words .now) (a .s .to) (a .s .from) 4227858432) in
+    let e = c .before .before .before .before .before .before .items .ensures .0 in (
+      fine-end _ l (record { pen = a .p; ms = a .ms .now; bs = a .bs .now }) e (q .pre .0),
+      omega arith,
+      q .pre .1,
+      omega arith,
+      record { ms-before = a .ms .now; bs-before = a .bs .now; pass = end-page _ l (record { pen = a .p; ms = a .ms .now; bs = a .bs .now }) e },
+    )
 
--- src/playing.rt:33:1
-same-length : tie.Need-same-length
-same-length c = search needs
-
--- src/playing.rt:33:1
-same-length-2 : tie.Need-same-length-2
-same-length-2 c = search needs
-
--- src/playing.rt:33:1
 returns-2 : tie.Need-returns-2
 unfolding rowOf
-returns-2 c = let q = c .before .before .before .before .before .before .before .before .before .before .before .before .before .before .before .before .before .before .before .before in let a = q .args in let l = (level 8 (a .d) (a .n) (a .words .now) (a .s .to) (a .s .from) 4227858432) in rounds-some (l .row) (a .r) (record { pen = a .p; ms = a .ms .now; bs = a .bs .now }) _ _ (c .before .before .before .before .before .before .before .before .before .before .before .before .before .before .before .before .if1 .left) (end-page _ l (record { pen = a .p; ms = a .ms .now; bs = a .bs .now }) (c .before .before .before .before .before .before .before .before .before .before .before .items .ensures .0)) (c .before .before .before .before .again .ensures)
+returns-2 c =
+    let q = c .before .before .before .before .before .before .before .before .before .before .before .before .before .before .before
+    .before .before .before .before .before in
+    let a = q .args in
+    let l = (level 8 (a .d) (a .n) (a .words .now) (a .s .to) (a .s .from) 4227858432) in
+    rounds-some (l .row) (a .r) (record { pen = a .p; ms = a .ms .now; bs = a .bs .now }) _ _
+    (c .before .before .before .before .before .before .before .before .before .before .before .before .before .before .before .before .if1 .left)
+    (end-page _ l (record { pen = a .p; ms = a .ms .now; bs = a .bs .now })
+    (c .before .before .before .before .before .before .before .before .before .before .before .items .ensures .0))
+    (c .before .before .before .before .again .ensures)
 
 pub rounds-spec : {M : Type 1} → statement M
 rounds-spec =
     tie.close
-    (tie.spec returns items-requires sub-again again-requires same-length same-length-2 returns-2)
+    (tie.spec returns (λ c κs. search needs) (λ c. search needs) again-requires (λ c. search needs) (λ c. search needs) returns-2)

@@ -6,41 +6,35 @@ use native.Mathlib.Omega.{arith}
 use borrow.Author.Needs.{needs}
 use Rattle.player.proofs.playing.tally.Statement.{statement}
 use Rattle.player.proofs.playing.tally.Tie as tie
-use Rattle.player.proofs.playing.tally.Reads as reads
-use Rattle.player.proofs.playing.tally.Lts as lts
-use Rattle.player.proofs.playing.rounds.Reads as rounds-reads
 
--- src/playing.rt:67:104
-slice-aggregate-rounds : tie.Need-slice-aggregate-rounds
-slice-aggregate-rounds c = search needs
-
--- src/playing.rt:67:113
-slice-aggregate-rounds-2 : tie.Need-slice-aggregate-rounds-2
-slice-aggregate-rounds-2 c = search needs
-
--- src/playing.rt:67:9
-rounds-requires : tie.Need-rounds-requires
-rounds-requires c κs = search needs
-
--- src/playing.rt:68:24
 sub-t15 : tie.Need-sub-t15
-sub-t15 c = let q = c .before .before .before .before .before .before .before in let a = q .args in let row = times (a .r) (rowOf (a .d) (a .n) (a .words .now) (a .s)) in let t = tallied row (a .k) _ _ _ _ _ (short-times (a .r) _ (short-row (a .d) (a .n) (a .words .now) (q .pre .0) (a .s))) (q .pre .1) (c .before .before .before .rounds .ensures) in omega (arith, t .0)
+sub-t15 c =
+    let q = c .before .before .before .before .before .before .before in
+    let a = q .args in
+    let row = times (a .r) (rowOf (a .d) (a .n) (a .words .now) (a .s)) in
+    let t = tallied row (a .k) _ _ _ _ _ (short-times (a .r) _ (short-row (a .d) (a .n) (a .words .now) (q .pre .0) (a .s))) (q .pre .1)
+    (c .before .before .before .rounds .ensures) in
+    omega (arith, t .0)
 
--- src/playing.rt:68:43
 sub-t16 : tie.Need-sub-t16
-sub-t16 c = let q = c .before .before .before .before .before .before .before .before in let a = q .args in let row = times (a .r) (rowOf (a .d) (a .n) (a .words .now) (a .s)) in let t = tallied row (a .k) _ _ _ _ _ (short-times (a .r) _ (short-row (a .d) (a .n) (a .words .now) (q .pre .0) (a .s))) (q .pre .1) (c .before .before .before .before .rounds .ensures) in omega (arith, t .1)
+sub-t16 c =
+    let q = c .before .before .before .before .before .before .before .before in
+    let a = q .args in
+    let row = times (a .r) (rowOf (a .d) (a .n) (a .words .now) (a .s)) in
+    let t = tallied row (a .k) _ _ _ _ _ (short-times (a .r) _ (short-row (a .d) (a .n) (a .words .now) (q .pre .0) (a .s))) (q .pre .1)
+    (c .before .before .before .before .rounds .ensures) in
+    omega (arith, t .1)
 
--- src/playing.rt:59:1
 returns : tie.Need-returns
-returns c = let q = c .before .before .before .before .before .before .before .before in let a = q .args in let row = times (a .r) (rowOf (a .d) (a .n) (a .words .now) (a .s)) in let t = tallied row (a .k) _ _ _ _ _ (short-times (a .r) _ (short-row (a .d) (a .n) (a .words .now) (q .pre .0) (a .s))) (q .pre .1) (c .before .before .before .before .rounds .ensures) in (omega (arith, t .0), (omega (arith, t .1, t .2), omega (arith, t .1, t .2)))
+returns c =
+    let q = c .before .before .before .before .before .before .before .before in
+    let a = q .args in
+    let row = times (a .r) (rowOf (a .d) (a .n) (a .words .now) (a .s)) in
+    let t = tallied row (a .k) _ _ _ _ _ (short-times (a .r) _ (short-row (a .d) (a .n) (a .words .now) (q .pre .0) (a .s))) (q .pre .1)
+    (c .before .before .before .before .rounds .ensures) in
+    (omega (arith, t .0), (omega (arith, t .1, t .2), omega (arith, t .1, t .2)))
 
 pub tally-spec : {M : Type 1} → statement M
 tally-spec =
     tie.close
-    (tie.spec
-    slice-aggregate-rounds
-    slice-aggregate-rounds-2
-    rounds-requires
-    sub-t15
-    sub-t16
-    returns)
+    (tie.spec (λ c. search needs) (λ c. search needs) (λ c κs. search needs) sub-t15 sub-t16 returns)

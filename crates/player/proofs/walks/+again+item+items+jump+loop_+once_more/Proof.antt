@@ -1,4 +1,7 @@
-use Rattle.player.proofs.WalkLaws.{fine-end, end-page, stop-test, rows-stop, rows-next, rows-end, level-none, level-more, item-loop, item-refer, item-separator, item-one, refer-done, loop-done, loop-next, loop-over, loop-early, item-onward, level-onward, end-onward}
+-- Six functions that call each other: a level of items, an item, a reference, and a loop with its further passes.
+use Rattle.player.proofs.WalkLaws.{fine-end, end-page, stop-test, rows-stop, rows-next, rows-end, level-none, level-more, item-loop}
+use Rattle.player.proofs.WalkLaws.{item-refer, item-separator, item-one, refer-done, loop-done, loop-next, loop-over, loop-early, item-onward}
+use Rattle.player.proofs.WalkLaws.{level-onward, end-onward}
 use Rattle.player.proofs.SignLaws.{stop-inside}
 use Rattle.player.proofs.SectionLaws.{fine-rounds}
 use Rattle.player.proofs.AgainLaws.{skipped-again, skipped-once, took-onward, copied-again}
@@ -105,12 +108,15 @@ once-more-below t =
     and 3 once-more-kinds.ps (falls 3 once-more-kinds.ps _<_ μ-once-more t) once-more.Pre
 
 abbrev again-Inv-loop : again-lts.InvT-loop
-again-Inv-loop words d n to at last depth k ms₀ bs₀ before₀ after₀ i₀ ms bs before after i = (i ≤ k) × Fine after × (length ms ≡ length ms₀) × (length bs ≡ length bs₀) × Took (level depth d n words to at last .row) before after ms bs × (_≡_ {A = Page} (play (times (k - i) (level depth d n words to at last .row)) (record { pen = after; ms = ms; bs = bs })) (play (times k (level depth d n words to at last .row)) (record { pen = after₀; ms = ms₀; bs = bs₀ })))
+again-Inv-loop words d n to at last depth k ms₀ bs₀ before₀ after₀ i₀ ms bs before after i =
+    (i ≤ k) × Fine after × (length ms ≡ length ms₀) × (length bs ≡ length bs₀)
+    × Took (level depth d n words to at last .row) before after ms bs
+    × (_≡_ {A = Page} (play (times (k - i) (level depth d n words to at last .row)) (record { pen = after; ms = ms; bs = bs }))
+    (play (times k (level depth d n words to at last .row)) (record { pen = after₀; ms = ms₀; bs = bs₀ })))
 
 abbrev again-μ-loop : again-lts.MeasureT-loop
 again-μ-loop words d n to at last depth k ms₀ bs₀ before₀ after₀ i₀ ms bs before after i = k - i
 
--- src/walks.rt:165:8
 again-skips-requires : (t : ℕ) → again-lts.Need-skips-requires (
   skips-reads.Asked,
   skips-reads.Learnt,
@@ -121,7 +127,6 @@ again-skips-requires : (t : ℕ) → again-lts.Need-skips-requires (
 ) (again-at t) again.Post again-Inv-loop again-μ-loop
 again-skips-requires t c κs = search needs
 
--- src/walks.rt:166:9
 again-skipped-requires : (t : ℕ) → again-lts.Need-skipped-requires (
   skips-reads.Asked,
   skips-reads.Learnt,
@@ -132,7 +137,6 @@ again-skipped-requires : (t : ℕ) → again-lts.Need-skipped-requires (
 ) (again-at t) again.Post again-Inv-loop again-μ-loop
 again-skipped-requires t c κs = c .before .skips .ensures (c .if1 .taken)
 
--- src/walks.rt:166:9
 again-returns : (t : ℕ) → again-lts.Need-returns (
   skips-reads.Asked,
   skips-reads.Learnt,
@@ -141,9 +145,13 @@ again-returns : (t : ℕ) → again-lts.Need-returns (
   once-more-below t,
   once-more.Post,
 ) (again-at t) again.Post again-Inv-loop again-μ-loop
-again-returns t c = let q = c .before .before .before .before .before .before in let a = q .args in let r = (level (a .depth) (a .d) (a .n) (a .words .now) (a .to) (a .at) (a .last)) in skipped-again (r .row) (a .p) (a .q) _ (a .k) (a .ms .now) (a .bs .now) (q .pre .1 .4) (c .before .before .skips .ensures (c .before .if1 .taken)) (c .skipped .ensures)
+again-returns t c =
+    let q = c .before .before .before .before .before .before in
+    let a = q .args in
+    let r = (level (a .depth) (a .d) (a .n) (a .words .now) (a .to) (a .at) (a .last)) in
+    skipped-again (r .row) (a .p) (a .q) _ (a .k) (a .ms .now) (a .bs .now) (q .pre .1 .4)
+    (c .before .before .skips .ensures (c .before .if1 .taken)) (c .skipped .ensures)
 
--- src/walks.rt:171:5
 again-loop-holds : (t : ℕ) → again-lts.Need-loop-holds (
   skips-reads.Asked,
   skips-reads.Learnt,
@@ -152,9 +160,12 @@ again-loop-holds : (t : ℕ) → again-lts.Need-loop-holds (
   once-more-below t,
   once-more.Post,
 ) (again-at t) again.Post again-Inv-loop again-μ-loop
-again-loop-holds t c = let q = c .before .before .before .before .before in let a = q .args in let r = (level (a .depth) (a .d) (a .n) (a .words .now) (a .to) (a .at) (a .last)) in (omega arith, q .pre .1 .0, refl, refl, q .pre .1 .4, rw (sub-zero (a .k)))
+again-loop-holds t c =
+    let q = c .before .before .before .before .before in
+    let a = q .args in
+    let r = (level (a .depth) (a .d) (a .n) (a .words .now) (a .to) (a .at) (a .last)) in
+    (omega arith, q .pre .1 .0, refl, refl, q .pre .1 .4, rw (sub-zero (a .k)))
 
--- src/walks.rt:173:13
 again-same-length : (t : ℕ) → again-lts.Need-same-length (
   skips-reads.Asked,
   skips-reads.Learnt,
@@ -165,7 +176,6 @@ again-same-length : (t : ℕ) → again-lts.Need-same-length (
 ) (again-at t) again.Post again-Inv-loop again-μ-loop
 again-same-length t c = search needs
 
--- src/walks.rt:173:13
 again-same-length-2 : (t : ℕ) → again-lts.Need-same-length-2 (
   skips-reads.Asked,
   skips-reads.Learnt,
@@ -176,7 +186,6 @@ again-same-length-2 : (t : ℕ) → again-lts.Need-same-length-2 (
 ) (again-at t) again.Post again-Inv-loop again-μ-loop
 again-same-length-2 t c = search needs
 
--- src/walks.rt:173:13
 again-returns-2 : (t : ℕ) → again-lts.Need-returns-2 (
   skips-reads.Asked,
   skips-reads.Learnt,
@@ -185,9 +194,14 @@ again-returns-2 : (t : ℕ) → again-lts.Need-returns-2 (
   once-more-below t,
   once-more.Post,
 ) (again-at t) again.Post again-Inv-loop again-μ-loop
-again-returns-2 t c = let q = c .before .before .before .before .before .before .before .before .before in let a = q .args in let r = (level (a .depth) (a .d) (a .n) (a .words .now) (a .to) (a .at) (a .last)) in let l = c .before .before .before .loop in let g : Page = record { pen = l .after; ms = l .ms; bs = l .bs } in loop-early (r .row) _ g _ (c .if2 .taken) (l .inv .5)
+again-returns-2 t c =
+    let q = c .before .before .before .before .before .before .before .before .before in
+    let a = q .args in
+    let r = (level (a .depth) (a .d) (a .n) (a .words .now) (a .to) (a .at) (a .last)) in
+    let l = c .before .before .before .loop in
+    let g : Page = record { pen = l .after; ms = l .ms; bs = l .bs } in
+    loop-early (r .row) _ g _ (c .if2 .taken) (l .inv .5)
 
--- src/walks.rt:175:13
 again-once-more-requires : (t : ℕ) → again-lts.Need-once-more-requires (
   skips-reads.Asked,
   skips-reads.Learnt,
@@ -198,7 +212,6 @@ again-once-more-requires : (t : ℕ) → again-lts.Need-once-more-requires (
 ) (again-at t) again.Post again-Inv-loop again-μ-loop
 again-once-more-requires t c κs = search needs
 
--- src/walks.rt:178:9
 again-add-i : (t : ℕ) → again-lts.Need-add-i (
   skips-reads.Asked,
   skips-reads.Learnt,
@@ -209,7 +222,6 @@ again-add-i : (t : ℕ) → again-lts.Need-add-i (
 ) (again-at t) again.Post again-Inv-loop again-μ-loop
 again-add-i t c = search needs
 
--- src/walks.rt:171:5
 again-loop-less : (t : ℕ) → again-lts.Need-loop-less (
   skips-reads.Asked,
   skips-reads.Learnt,
@@ -220,7 +232,6 @@ again-loop-less : (t : ℕ) → again-lts.Need-loop-less (
 ) (again-at t) again.Post again-Inv-loop again-μ-loop
 again-loop-less t c = search needs
 
--- src/walks.rt:171:5
 again-loop-again : (t : ℕ) → again-lts.Need-loop-again (
   skips-reads.Asked,
   skips-reads.Learnt,
@@ -229,9 +240,22 @@ again-loop-again : (t : ℕ) → again-lts.Need-loop-again (
   once-more-below t,
   once-more.Post,
 ) (again-at t) again.Post again-Inv-loop again-μ-loop
-again-loop-again t c = let q = c .before .before .before .before .before .before .before .before .before .before .before .before .before .before .before .before in let a = q .args in let r = (level (a .depth) (a .d) (a .n) (a .words .now) (a .to) (a .at) (a .last)) in let l = c .before .before .before .before .before .before .before .before .before .before .loop in let g : Page = record { pen = l .after; ms = l .ms; bs = l .bs } in let e = c .before .before .before .before .once-more .ensures in (omega arith, fine-rounds (r .row) g _ _ _ e (l .inv .1), search needs, search needs, record { ms-before = l .ms; bs-before = l .bs; pass = e }, loop-next (r .row) (a .k) (l .i) g _ _ (c .before .before .before .before .before .before .before .before .before .loop-test .taken) e (l .inv .5))
+again-loop-again t c =
+    let q = c .before .before .before .before .before .before .before .before .before .before .before .before .before .before .before .before in
+    let a = q .args in
+    let r = (level (a .depth) (a .d) (a .n) (a .words .now) (a .to) (a .at) (a .last)) in
+    let l = c .before .before .before .before .before .before .before .before .before .before .loop in
+    let g : Page = record { pen = l .after; ms = l .ms; bs = l .bs } in
+    let e = c .before .before .before .before .once-more .ensures in (
+      omega arith,
+      fine-rounds (r .row) g _ _ _ e (l .inv .1),
+      search needs,
+      search needs,
+      record { ms-before = l .ms; bs-before = l .bs; pass = e },
+      loop-next (r .row) (a .k) (l .i) g _ _ (c .before .before .before .before .before .before .before .before .before .loop-test .taken)
+          e (l .inv .5),
+    )
 
--- src/walks.rt:148:1
 again-same-length-3 : (t : ℕ) → again-lts.Need-same-length-3 (
   skips-reads.Asked,
   skips-reads.Learnt,
@@ -242,7 +266,6 @@ again-same-length-3 : (t : ℕ) → again-lts.Need-same-length-3 (
 ) (again-at t) again.Post again-Inv-loop again-μ-loop
 again-same-length-3 t c = search needs
 
--- src/walks.rt:148:1
 again-same-length-4 : (t : ℕ) → again-lts.Need-same-length-4 (
   skips-reads.Asked,
   skips-reads.Learnt,
@@ -253,7 +276,6 @@ again-same-length-4 : (t : ℕ) → again-lts.Need-same-length-4 (
 ) (again-at t) again.Post again-Inv-loop again-μ-loop
 again-same-length-4 t c = search needs
 
--- src/walks.rt:148:1
 again-returns-3 : (t : ℕ) → again-lts.Need-returns-3 (
   skips-reads.Asked,
   skips-reads.Learnt,
@@ -262,9 +284,14 @@ again-returns-3 : (t : ℕ) → again-lts.Need-returns-3 (
   once-more-below t,
   once-more.Post,
 ) (again-at t) again.Post again-Inv-loop again-μ-loop
-again-returns-3 t c = let q = c .before .before .before .before .before .before .before in let a = q .args in let r = (level (a .depth) (a .d) (a .n) (a .words .now) (a .to) (a .at) (a .last)) in let l = c .before .loop in let g : Page = record { pen = l .after; ms = l .ms; bs = l .bs } in loop-over (r .row) (a .k) (l .i) g _ (c .loop-test .left) (l .inv .5)
+again-returns-3 t c =
+    let q = c .before .before .before .before .before .before .before in
+    let a = q .args in
+    let r = (level (a .depth) (a .d) (a .n) (a .words .now) (a .to) (a .at) (a .last)) in
+    let l = c .before .loop in
+    let g : Page = record { pen = l .after; ms = l .ms; bs = l .bs } in
+    loop-over (r .row) (a .k) (l .i) g _ (c .loop-test .left) (l .inv .5)
 
--- src/walks.rt:74:9
 item-word-at-requires : (t : ℕ) → item-lts.Need-word-at-requires (
   word-at-reads.Asked,
   word-at-reads.Learnt,
@@ -283,7 +310,6 @@ item-word-at-requires : (t : ℕ) → item-lts.Need-word-at-requires (
 ) (item-at t) item.Post
 item-word-at-requires t c κs = search needs
 
--- src/walks.rt:75:9
 item-kind-requires : (t : ℕ) → item-lts.Need-kind-requires (
   word-at-reads.Asked,
   word-at-reads.Learnt,
@@ -302,7 +328,6 @@ item-kind-requires : (t : ℕ) → item-lts.Need-kind-requires (
 ) (item-at t) item.Post
 item-kind-requires t c κs = search needs
 
--- src/walks.rt:77:39
 item-add-loop- : (t : ℕ) → item-lts.Need-add-loop- (
   word-at-reads.Asked,
   word-at-reads.Learnt,
@@ -321,7 +346,6 @@ item-add-loop- : (t : ℕ) → item-lts.Need-add-loop- (
 ) (item-at t) item.Post
 item-add-loop- t c = search needs
 
--- src/walks.rt:77:9
 item-loop--requires : (t : ℕ) → item-lts.Need-loop--requires (
   word-at-reads.Asked,
   word-at-reads.Learnt,
@@ -340,7 +364,6 @@ item-loop--requires : (t : ℕ) → item-lts.Need-loop--requires (
 ) (item-at t) item.Post
 item-loop--requires t c κs = search needs
 
--- src/walks.rt:77:9
 item-same-length : (t : ℕ) → item-lts.Need-same-length (
   word-at-reads.Asked,
   word-at-reads.Learnt,
@@ -359,7 +382,6 @@ item-same-length : (t : ℕ) → item-lts.Need-same-length (
 ) (item-at t) item.Post
 item-same-length t c = search needs
 
--- src/walks.rt:77:9
 item-same-length-2 : (t : ℕ) → item-lts.Need-same-length-2 (
   word-at-reads.Asked,
   word-at-reads.Learnt,
@@ -378,7 +400,6 @@ item-same-length-2 : (t : ℕ) → item-lts.Need-same-length-2 (
 ) (item-at t) item.Post
 item-same-length-2 t c = search needs
 
--- src/walks.rt:77:9
 item-returns : (t : ℕ) → item-lts.Need-returns (
   word-at-reads.Asked,
   word-at-reads.Learnt,
@@ -395,9 +416,19 @@ item-returns : (t : ℕ) → item-lts.Need-returns (
   measure-reads.Asked,
   measure-reads.Learnt,
 ) (item-at t) item.Post
-item-returns t c = let q = c .before .before .before .before .before .before .before .before .before .before .before .before .before in let a = q .args in let ws = a .words .now in let g : Page = record { pen = a .p; ms = a .ms .now; bs = a .bs .now } in let inner = level (a .depth) (a .d) (a .n) ws in (item-loop inner (a .d) (a .n) ws (a .to) (a .at) (a .last) _ _ _ g (c .before .before .before .before .before .before .before .before .before .word-at .ensures) (c .before .before .before .before .before .before .before .before .kind .ensures) (c .before .before .before .before .before .before .before .if1 .taken) (c .before .before .before .before .loop- .ensures .0), c .before .before .before .before .loop- .ensures .1)
+item-returns t c =
+    let q = c .before .before .before .before .before .before .before .before .before .before .before .before .before in
+    let a = q .args in
+    let ws = a .words .now in
+    let g : Page = record { pen = a .p; ms = a .ms .now; bs = a .bs .now } in
+    let inner = level (a .depth) (a .d) (a .n) ws in (
+      item-loop inner (a .d) (a .n) ws (a .to) (a .at) (a .last) _ _ _ g
+          (c .before .before .before .before .before .before .before .before .before .word-at .ensures)
+          (c .before .before .before .before .before .before .before .before .kind .ensures)
+          (c .before .before .before .before .before .before .before .if1 .taken) (c .before .before .before .before .loop- .ensures .0),
+      c .before .before .before .before .loop- .ensures .1,
+    )
 
--- src/walks.rt:80:34
 item-number-requires : (t : ℕ) → item-lts.Need-number-requires (
   word-at-reads.Asked,
   word-at-reads.Learnt,
@@ -416,7 +447,6 @@ item-number-requires : (t : ℕ) → item-lts.Need-number-requires (
 ) (item-at t) item.Post
 item-number-requires t c κs = search needs
 
--- src/walks.rt:80:9
 item-jump-requires : (t : ℕ) → item-lts.Need-jump-requires (
   word-at-reads.Asked,
   word-at-reads.Learnt,
@@ -435,7 +465,6 @@ item-jump-requires : (t : ℕ) → item-lts.Need-jump-requires (
 ) (item-at t) item.Post
 item-jump-requires t c κs = search needs
 
--- src/walks.rt:80:9
 item-same-length-3 : (t : ℕ) → item-lts.Need-same-length-3 (
   word-at-reads.Asked,
   word-at-reads.Learnt,
@@ -454,7 +483,6 @@ item-same-length-3 : (t : ℕ) → item-lts.Need-same-length-3 (
 ) (item-at t) item.Post
 item-same-length-3 t c = search needs
 
--- src/walks.rt:80:9
 item-same-length-4 : (t : ℕ) → item-lts.Need-same-length-4 (
   word-at-reads.Asked,
   word-at-reads.Learnt,
@@ -473,7 +501,6 @@ item-same-length-4 : (t : ℕ) → item-lts.Need-same-length-4 (
 ) (item-at t) item.Post
 item-same-length-4 t c = search needs
 
--- src/walks.rt:80:9
 item-returns-2 : (t : ℕ) → item-lts.Need-returns-2 (
   word-at-reads.Asked,
   word-at-reads.Learnt,
@@ -490,9 +517,22 @@ item-returns-2 : (t : ℕ) → item-lts.Need-returns-2 (
   measure-reads.Asked,
   measure-reads.Learnt,
 ) (item-at t) item.Post
-item-returns-2 t c = let q = c .before .before .before .before .before .before .before .before .before .before .before .before .before .before .before in let a = q .args in let ws = a .words .now in let g : Page = record { pen = a .p; ms = a .ms .now; bs = a .bs .now } in let inner = level (a .depth) (a .d) (a .n) ws in (item-refer inner (a .d) (a .n) ws (a .to) (a .at) (a .last) _ _ _ _ g (c .before .before .before .before .before .before .before .before .before .before .before .word-at .ensures) (c .before .before .before .before .before .before .before .before .before .before .kind .ensures) (c .before .before .before .before .before .before .before .before .before .if1 .left) (c .before .before .before .before .before .before .before .before .if2 .taken) (c .before .before .before .before .before .before .before .number .ensures .0) (c .before .before .before .before .jump .ensures .0), c .before .before .before .before .jump .ensures .1)
+item-returns-2 t c =
+    let q = c .before .before .before .before .before .before .before .before .before .before .before .before .before .before .before in
+    let a = q .args in
+    let ws = a .words .now in
+    let g : Page = record { pen = a .p; ms = a .ms .now; bs = a .bs .now } in
+    let inner = level (a .depth) (a .d) (a .n) ws in (
+      item-refer inner (a .d) (a .n) ws (a .to) (a .at) (a .last) _ _ _ _ g
+          (c .before .before .before .before .before .before .before .before .before .before .before .word-at .ensures)
+          (c .before .before .before .before .before .before .before .before .before .before .kind .ensures)
+          (c .before .before .before .before .before .before .before .before .before .if1 .left)
+          (c .before .before .before .before .before .before .before .before .if2 .taken)
+          (c .before .before .before .before .before .before .before .number .ensures .0)
+          (c .before .before .before .before .jump .ensures .0),
+      c .before .before .before .before .jump .ensures .1,
+    )
 
--- src/walks.rt:82:8
 item-is-separator-requires : (t : ℕ) → item-lts.Need-is-separator-requires (
   word-at-reads.Asked,
   word-at-reads.Learnt,
@@ -511,7 +551,6 @@ item-is-separator-requires : (t : ℕ) → item-lts.Need-is-separator-requires (
 ) (item-at t) item.Post
 item-is-separator-requires t c κs = search needs
 
--- src/walks.rt:84:17
 item-add-t25 : (t : ℕ) → item-lts.Need-add-t25 (
   word-at-reads.Asked,
   word-at-reads.Learnt,
@@ -530,7 +569,6 @@ item-add-t25 : (t : ℕ) → item-lts.Need-add-t25 (
 ) (item-at t) item.Post
 item-add-t25 t c = search needs
 
--- src/walks.rt:83:9
 item-returns-3 : (t : ℕ) → item-lts.Need-returns-3 (
   word-at-reads.Asked,
   word-at-reads.Learnt,
@@ -547,9 +585,18 @@ item-returns-3 : (t : ℕ) → item-lts.Need-returns-3 (
   measure-reads.Asked,
   measure-reads.Learnt,
 ) (item-at t) item.Post
-item-returns-3 t c = let q = c .before .before .before .before .before .before .before .before .before in let a = q .args in let ws = a .words .now in let g : Page = record { pen = a .p; ms = a .ms .now; bs = a .bs .now } in let inner = level (a .depth) (a .d) (a .n) ws in (item-separator inner (a .d) (a .n) ws (a .to) (a .at) (a .last) _ _ _ g (c .before .before .before .before .before .word-at .ensures) (c .before .before .before .before .kind .ensures) (c .before .before .before .if1 .left) (c .before .before .if2 .left) (c .before .is-separator .ensures) (c .if3 .taken), q .pre .1 .1)
+item-returns-3 t c =
+    let q = c .before .before .before .before .before .before .before .before .before in
+    let a = q .args in
+    let ws = a .words .now in
+    let g : Page = record { pen = a .p; ms = a .ms .now; bs = a .bs .now } in
+    let inner = level (a .depth) (a .d) (a .n) ws in (
+      item-separator inner (a .d) (a .n) ws (a .to) (a .at) (a .last) _ _ _ g (c .before .before .before .before .before .word-at .ensures)
+          (c .before .before .before .before .kind .ensures) (c .before .before .before .if1 .left) (c .before .before .if2 .left)
+          (c .before .is-separator .ensures) (c .if3 .taken),
+      q .pre .1 .1,
+    )
 
--- src/walks.rt:89:5
 item-measure-requires : (t : ℕ) → item-lts.Need-measure-requires (
   word-at-reads.Asked,
   word-at-reads.Learnt,
@@ -568,7 +615,6 @@ item-measure-requires : (t : ℕ) → item-lts.Need-measure-requires (
 ) (item-at t) item.Post
 item-measure-requires t c κs = search needs
 
--- src/walks.rt:58:1
 item-same-length-5 : (t : ℕ) → item-lts.Need-same-length-5 (
   word-at-reads.Asked,
   word-at-reads.Learnt,
@@ -587,7 +633,6 @@ item-same-length-5 : (t : ℕ) → item-lts.Need-same-length-5 (
 ) (item-at t) item.Post
 item-same-length-5 t c = search needs
 
--- src/walks.rt:58:1
 item-same-length-6 : (t : ℕ) → item-lts.Need-same-length-6 (
   word-at-reads.Asked,
   word-at-reads.Learnt,
@@ -606,7 +651,6 @@ item-same-length-6 : (t : ℕ) → item-lts.Need-same-length-6 (
 ) (item-at t) item.Post
 item-same-length-6 t c = search needs
 
--- src/walks.rt:58:1
 item-returns-4 : (t : ℕ) → item-lts.Need-returns-4 (
   word-at-reads.Asked,
   word-at-reads.Learnt,
@@ -623,15 +667,31 @@ item-returns-4 : (t : ℕ) → item-lts.Need-returns-4 (
   measure-reads.Asked,
   measure-reads.Learnt,
 ) (item-at t) item.Post
-item-returns-4 t c = let q = c .before .before .before .before .before .before .before .before .before .before .before .before .before .before .before .before in let a = q .args in let ws = a .words .now in let g : Page = record { pen = a .p; ms = a .ms .now; bs = a .bs .now } in let inner = level (a .depth) (a .d) (a .n) ws in (item-one inner (a .d) (a .n) ws (a .to) (a .at) (a .last) _ _ _ _ g (c .before .before .before .before .before .before .before .before .before .before .before .before .word-at .ensures) (c .before .before .before .before .before .before .before .before .before .before .before .kind .ensures) (c .before .before .before .before .before .before .before .before .before .before .if1 .left) (c .before .before .before .before .before .before .before .before .before .if2 .left) (c .before .before .before .before .before .before .before .before .is-separator .ensures) (c .before .before .before .before .before .before .before .if3 .left) (c .before .before .before .before .measure .ensures .0), c .before .before .before .before .measure .ensures .1)
+item-returns-4 t c =
+    let q = c .before .before .before .before .before .before .before .before .before .before .before .before .before .before .before .before in
+    let a = q .args in
+    let ws = a .words .now in
+    let g : Page = record { pen = a .p; ms = a .ms .now; bs = a .bs .now } in
+    let inner = level (a .depth) (a .d) (a .n) ws in (
+      item-one inner (a .d) (a .n) ws (a .to) (a .at) (a .last) _ _ _ _ g
+          (c .before .before .before .before .before .before .before .before .before .before .before .before .word-at .ensures)
+          (c .before .before .before .before .before .before .before .before .before .before .before .kind .ensures)
+          (c .before .before .before .before .before .before .before .before .before .before .if1 .left)
+          (c .before .before .before .before .before .before .before .before .before .if2 .left)
+          (c .before .before .before .before .before .before .before .before .is-separator .ensures)
+          (c .before .before .before .before .before .before .before .if3 .left) (c .before .before .before .before .measure .ensures .0),
+      c .before .before .before .before .measure .ensures .1,
+    )
 
 abbrev items-Inv-loop : items-lts.InvT-loop
-items-Inv-loop words d n to at last depth ms₀ bs₀ w₀ ms bs w = (f : ℕ) × (to ≤ w .at + f) × (w .last ≤ 4227858432) × Fine (w .pen) × (length ms ≡ length ms₀) × (length bs ≡ length bs₀) × (_≡_ {A = End} (finish (rowsBy (level (depth - 1) d n words) d n words f to (w .at) (w .last)) (record { pen = w .pen; ms = ms; bs = bs })) (finish (level depth d n words to at last) (record { pen = w₀ .pen; ms = ms₀; bs = bs₀ })))
+items-Inv-loop words d n to at last depth ms₀ bs₀ w₀ ms bs w =
+    (f : ℕ) × (to ≤ w .at + f) × (w .last ≤ 4227858432) × Fine (w .pen) × (length ms ≡ length ms₀) × (length bs ≡ length bs₀)
+    × (_≡_ {A = End} (finish (rowsBy (level (depth - 1) d n words) d n words f to (w .at) (w .last))
+    (record { pen = w .pen; ms = ms; bs = bs })) (finish (level depth d n words to at last) (record { pen = w₀ .pen; ms = ms₀; bs = bs₀ })))
 
 abbrev items-μ-loop : items-lts.MeasureT-loop
 items-μ-loop words d n to at last depth ms₀ bs₀ w₀ ms bs w = to - w .at
 
--- src/walks.rt:46:9
 items-returns : (t : ℕ) → items-lts.Need-returns (
   word-at-reads.Asked,
   word-at-reads.Learnt,
@@ -642,9 +702,14 @@ items-returns : (t : ℕ) → items-lts.Need-returns (
   item-below t,
   item.Post,
 ) (items-at t) items.Post items-Inv-loop items-μ-loop
-items-returns t c = let q = c .before .before .before .before in let a = q .args in let ws = a .words .now in let g : Page = record { pen = a .p; ms = a .ms .now; bs = a .bs .now } in let inner = level (a .depth) (a .d) (a .n) ws in (level-none (a .depth) (a .d) (a .n) ws (a .to) (a .at) (a .last) g (c .if1 .taken), q .pre .1 .1)
+items-returns t c =
+    let q = c .before .before .before .before in
+    let a = q .args in
+    let ws = a .words .now in
+    let g : Page = record { pen = a .p; ms = a .ms .now; bs = a .bs .now } in
+    let inner = level (a .depth) (a .d) (a .n) ws in
+    (level-none (a .depth) (a .d) (a .n) ws (a .to) (a .at) (a .last) g (c .if1 .taken), q .pre .1 .1)
 
--- src/walks.rt:48:5
 items-loop-holds : (t : ℕ) → items-lts.Need-loop-holds (
   word-at-reads.Asked,
   word-at-reads.Learnt,
@@ -655,9 +720,21 @@ items-loop-holds : (t : ℕ) → items-lts.Need-loop-holds (
   item-below t,
   item.Post,
 ) (items-at t) items.Post items-Inv-loop items-μ-loop
-items-loop-holds t c = let q = c .before .before .before .before in let a = q .args in let ws = a .words .now in let g : Page = record { pen = a .p; ms = a .ms .now; bs = a .bs .now } in let inner = level (a .depth) (a .d) (a .n) ws in (a .to, omega arith, q .pre .1 .1, q .pre .1 .0, refl, refl, ap (λ (r : Read). finish r g) (level-more (a .depth) (a .d) (a .n) ws (a .to) (a .at) (a .last) (c .if1 .left)))
+items-loop-holds t c =
+    let q = c .before .before .before .before in
+    let a = q .args in
+    let ws = a .words .now in
+    let g : Page = record { pen = a .p; ms = a .ms .now; bs = a .bs .now } in
+    let inner = level (a .depth) (a .d) (a .n) ws in (
+      a .to,
+      omega arith,
+      q .pre .1 .1,
+      q .pre .1 .0,
+      refl,
+      refl,
+      ap (λ (r : Read). finish r g) (level-more (a .depth) (a .d) (a .n) ws (a .to) (a .at) (a .last) (c .if1 .left)),
+    )
 
--- src/walks.rt:50:25
 items-word-at-requires : (t : ℕ) → items-lts.Need-word-at-requires (
   word-at-reads.Asked,
   word-at-reads.Learnt,
@@ -670,7 +747,6 @@ items-word-at-requires : (t : ℕ) → items-lts.Need-word-at-requires (
 ) (items-at t) items.Post items-Inv-loop items-μ-loop
 items-word-at-requires t c κs = search needs
 
--- src/walks.rt:50:20
 items-kind-requires : (t : ℕ) → items-lts.Need-kind-requires (
   word-at-reads.Asked,
   word-at-reads.Learnt,
@@ -683,7 +759,6 @@ items-kind-requires : (t : ℕ) → items-lts.Need-kind-requires (
 ) (items-at t) items.Post items-Inv-loop items-μ-loop
 items-kind-requires t c κs = search needs
 
--- src/walks.rt:50:12
 items-is-stop-requires : (t : ℕ) → items-lts.Need-is-stop-requires (
   word-at-reads.Asked,
   word-at-reads.Learnt,
@@ -696,7 +771,6 @@ items-is-stop-requires : (t : ℕ) → items-lts.Need-is-stop-requires (
 ) (items-at t) items.Post items-Inv-loop items-μ-loop
 items-is-stop-requires t c κs = search needs
 
--- src/walks.rt:51:13
 items-same-length : (t : ℕ) → items-lts.Need-same-length (
   word-at-reads.Asked,
   word-at-reads.Learnt,
@@ -709,7 +783,6 @@ items-same-length : (t : ℕ) → items-lts.Need-same-length (
 ) (items-at t) items.Post items-Inv-loop items-μ-loop
 items-same-length t c = search needs
 
--- src/walks.rt:51:13
 items-same-length-2 : (t : ℕ) → items-lts.Need-same-length-2 (
   word-at-reads.Asked,
   word-at-reads.Learnt,
@@ -722,7 +795,6 @@ items-same-length-2 : (t : ℕ) → items-lts.Need-same-length-2 (
 ) (items-at t) items.Post items-Inv-loop items-μ-loop
 items-same-length-2 t c = search needs
 
--- src/walks.rt:51:13
 items-returns-2 : (t : ℕ) → items-lts.Need-returns-2 (
   word-at-reads.Asked,
   word-at-reads.Learnt,
@@ -733,9 +805,16 @@ items-returns-2 : (t : ℕ) → items-lts.Need-returns-2 (
   item-below t,
   item.Post,
 ) (items-at t) items.Post items-Inv-loop items-μ-loop
-items-returns-2 t c = let a = c .before .before .before .before .before .before .before .before .before .args in let ws = a .words .now in let l = c .before .before .before .before .loop in let g : Page = record { pen = l .w .pen; ms = l .ms; bs = l .bs } in let inner = level (a .depth - 1) (a .d) (a .n) ws in let t = stop-test ws (a .to) (l .w .at) _ _ (c .before .is-stop .result) _ (c .before .before .before .word-at .ensures) (c .before .before .kind .ensures) (c .before .is-stop .ensures) (c .if2 .taken) in (rows-end _ (l .w .at) (l .w .last) g _ (rows-stop inner (a .d) (a .n) ws (l .inv .0) (a .to) (l .w .at) (l .w .last) t) (l .inv .6), l .inv .2)
+items-returns-2 t c =
+    let a = c .before .before .before .before .before .before .before .before .before .args in
+    let ws = a .words .now in
+    let l = c .before .before .before .before .loop in
+    let g : Page = record { pen = l .w .pen; ms = l .ms; bs = l .bs } in
+    let inner = level (a .depth - 1) (a .d) (a .n) ws in
+    let t = stop-test ws (a .to) (l .w .at) _ _ (c .before .is-stop .result) _ (c .before .before .before .word-at .ensures)
+    (c .before .before .kind .ensures) (c .before .is-stop .ensures) (c .if2 .taken) in
+    (rows-end _ (l .w .at) (l .w .last) g _ (rows-stop inner (a .d) (a .n) ws (l .inv .0) (a .to) (l .w .at) (l .w .last) t) (l .inv .6), l .inv .2)
 
--- src/walks.rt:53:46
 items-sub-item : (t : ℕ) → items-lts.Need-sub-item (
   word-at-reads.Asked,
   word-at-reads.Learnt,
@@ -748,7 +827,6 @@ items-sub-item : (t : ℕ) → items-lts.Need-sub-item (
 ) (items-at t) items.Post items-Inv-loop items-μ-loop
 items-sub-item t c = search needs
 
--- src/walks.rt:53:9
 items-item-requires : (t : ℕ) → items-lts.Need-item-requires (
   word-at-reads.Asked,
   word-at-reads.Learnt,
@@ -759,9 +837,18 @@ items-item-requires : (t : ℕ) → items-lts.Need-item-requires (
   item-below t,
   item.Post,
 ) (items-at t) items.Post items-Inv-loop items-μ-loop
-items-item-requires t c κs = let a = c .before .before .before .before .before .before .before .before .before .before .before .args in let ws = a .words .now in let l = c .before .before .before .before .before .before .loop in let g : Page = record { pen = l .w .pen; ms = l .ms; bs = l .bs } in let inner = level (a .depth - 1) (a .d) (a .n) ws in let t = stop-test ws (a .to) (l .w .at) _ _ (c .before .before .before .is-stop .result) _ (c .before .before .before .before .before .word-at .ensures) (c .before .before .before .before .kind .ensures) (c .before .before .before .is-stop .ensures) (c .before .before .if2 .left) in let h = stop-inside ws (a .to) (l .w .at) t in search needs
+items-item-requires t c κs =
+    let a = c .before .before .before .before .before .before .before .before .before .before .before .args in
+    let ws = a .words .now in
+    let l = c .before .before .before .before .before .before .loop in
+    let g : Page = record { pen = l .w .pen; ms = l .ms; bs = l .bs } in
+    let inner = level (a .depth - 1) (a .d) (a .n) ws in
+    let t = stop-test ws (a .to) (l .w .at) _ _ (c .before .before .before .is-stop .result) _
+    (c .before .before .before .before .before .word-at .ensures) (c .before .before .before .before .kind .ensures)
+    (c .before .before .before .is-stop .ensures) (c .before .before .if2 .left) in
+    let h = stop-inside ws (a .to) (l .w .at) t in
+    search needs
 
--- src/walks.rt:48:5
 items-loop-less : (t : ℕ) → items-lts.Need-loop-less (
   word-at-reads.Asked,
   word-at-reads.Learnt,
@@ -772,9 +859,23 @@ items-loop-less : (t : ℕ) → items-lts.Need-loop-less (
   item-below t,
   item.Post,
 ) (items-at t) items.Post items-Inv-loop items-μ-loop
-items-loop-less t c = let a = c .before .before .before .before .before .before .before .before .before .before .before .before .before .before .before .before .args in let ws = a .words .now in let l = c .before .before .before .before .before .before .before .before .before .before .before .loop in let g : Page = record { pen = l .w .pen; ms = l .ms; bs = l .bs } in let inner = level (a .depth - 1) (a .d) (a .n) ws in let t = stop-test ws (a .to) (l .w .at) _ _ (c .before .before .before .before .before .before .before .before .is-stop .result) _ (c .before .before .before .before .before .before .before .before .before .before .word-at .ensures) (c .before .before .before .before .before .before .before .before .before .kind .ensures) (c .before .before .before .before .before .before .before .before .is-stop .ensures) (c .before .before .before .before .before .before .before .if2 .left) in let h = stop-inside ws (a .to) (l .w .at) t in let e = end-onward (l .w .at + 1) _ (itemOf inner (a .d) (a .n) ws (a .to) (l .w .at) (l .w .last)) g (c .before .before .before .before .item .ensures .0) (item-onward inner (a .d) (a .n) ws (a .to) (l .w .at) (l .w .last) (level-onward (a .depth - 1) (a .d) (a .n) ws) t) in omega (arith, e, h)
+items-loop-less t c =
+    let a = c .before .before .before .before .before .before .before .before .before .before .before .before .before .before .before .before .args in
+    let ws = a .words .now in
+    let l = c .before .before .before .before .before .before .before .before .before .before .before .loop in
+    let g : Page = record { pen = l .w .pen; ms = l .ms; bs = l .bs } in
+    let inner = level (a .depth - 1) (a .d) (a .n) ws in
+    let t = stop-test ws (a .to) (l .w .at) _ _ (c .before .before .before .before .before .before .before .before .is-stop .result) _
+    (c .before .before .before .before .before .before .before .before .before .before .word-at .ensures)
+    (c .before .before .before .before .before .before .before .before .before .kind .ensures)
+    (c .before .before .before .before .before .before .before .before .is-stop .ensures)
+    (c .before .before .before .before .before .before .before .if2 .left) in
+    let h = stop-inside ws (a .to) (l .w .at) t in
+    let e = end-onward (l .w .at + 1) _ (itemOf inner (a .d) (a .n) ws (a .to) (l .w .at) (l .w .last)) g
+    (c .before .before .before .before .item .ensures .0)
+    (item-onward inner (a .d) (a .n) ws (a .to) (l .w .at) (l .w .last) (level-onward (a .depth - 1) (a .d) (a .n) ws) t) in
+    omega (arith, e, h)
 
--- src/walks.rt:48:5
 items-loop-again : (t : ℕ) → items-lts.Need-loop-again (
   word-at-reads.Asked,
   word-at-reads.Learnt,
@@ -785,10 +886,32 @@ items-loop-again : (t : ℕ) → items-lts.Need-loop-again (
   item-below t,
   item.Post,
 ) (items-at t) items.Post items-Inv-loop items-μ-loop
-items-loop-again t c = let a = c .before .before .before .before .before .before .before .before .before .before .before .before .before .before .before .before .args in let ws = a .words .now in let l = c .before .before .before .before .before .before .before .before .before .before .before .loop in let g : Page = record { pen = l .w .pen; ms = l .ms; bs = l .bs } in let inner = level (a .depth - 1) (a .d) (a .n) ws in let t = stop-test ws (a .to) (l .w .at) _ _ (c .before .before .before .before .before .before .before .before .is-stop .result) _ (c .before .before .before .before .before .before .before .before .before .before .word-at .ensures) (c .before .before .before .before .before .before .before .before .before .kind .ensures) (c .before .before .before .before .before .before .before .before .is-stop .ensures) (c .before .before .before .before .before .before .before .if2 .left) in let h = stop-inside ws (a .to) (l .w .at) t in let e = end-onward (l .w .at + 1) _ (itemOf inner (a .d) (a .n) ws (a .to) (l .w .at) (l .w .last)) g (c .before .before .before .before .item .ensures .0) (item-onward inner (a .d) (a .n) ws (a .to) (l .w .at) (l .w .last) (level-onward (a .depth - 1) (a .d) (a .n) ws) t) in
-    (l .inv .0 - 1, omega (arith, e, h, l .inv .1), c .before .before .before .before .item .ensures .1, fine-end _ (itemOf inner (a .d) (a .n) ws (a .to) (l .w .at) (l .w .last)) g (c .before .before .before .before .item .ensures .0) (l .inv .3), search needs, search needs, rows-next inner (a .d) (a .n) ws (l .inv .0) (a .to) (l .w .at) (l .w .last) g _ _ (omega (arith, h, l .inv .1)) t (c .before .before .before .before .item .ensures .0) (l .inv .6))
+items-loop-again t c =
+    let a = c .before .before .before .before .before .before .before .before .before .before .before .before .before .before .before .before .args in
+    let ws = a .words .now in
+    let l = c .before .before .before .before .before .before .before .before .before .before .before .loop in
+    let g : Page = record { pen = l .w .pen; ms = l .ms; bs = l .bs } in
+    let inner = level (a .depth - 1) (a .d) (a .n) ws in
+    let t = stop-test ws (a .to) (l .w .at) _ _ (c .before .before .before .before .before .before .before .before .is-stop .result) _
+    (c .before .before .before .before .before .before .before .before .before .before .word-at .ensures)
+    (c .before .before .before .before .before .before .before .before .before .kind .ensures)
+    (c .before .before .before .before .before .before .before .before .is-stop .ensures)
+    (c .before .before .before .before .before .before .before .if2 .left) in
+    let h = stop-inside ws (a .to) (l .w .at) t in
+    let e = end-onward (l .w .at + 1) _ (itemOf inner (a .d) (a .n) ws (a .to) (l .w .at) (l .w .last)) g
+    (c .before .before .before .before .item .ensures .0)
+    (item-onward inner (a .d) (a .n) ws (a .to) (l .w .at) (l .w .last) (level-onward (a .depth - 1) (a .d) (a .n) ws) t) in (
+      l .inv .0 - 1,
+      omega (arith, e, h, l .inv .1),
+      c .before .before .before .before .item .ensures .1,
+      fine-end _ (itemOf inner (a .d) (a .n) ws (a .to) (l .w .at) (l .w .last)) g (c .before .before .before .before .item .ensures .0)
+          (l .inv .3),
+      search needs,
+      search needs,
+      rows-next inner (a .d) (a .n) ws (l .inv .0) (a .to) (l .w .at) (l .w .last) g _ _
+          (omega (arith, h, l .inv .1)) t (c .before .before .before .before .item .ensures .0) (l .inv .6),
+    )
 
--- src/walks.rt:109:9
 jump-stretch-of-requires : (t : ℕ) → jump-lts.Need-stretch-of-requires (
   stretch-of-reads.Asked,
   stretch-of-reads.Learnt,
@@ -797,7 +920,6 @@ jump-stretch-of-requires : (t : ℕ) → jump-lts.Need-stretch-of-requires (
 ) (jump-at t) jump.Post
 jump-stretch-of-requires t c κs = search needs
 
--- src/walks.rt:110:9
 jump-items-requires : (t : ℕ) → jump-lts.Need-items-requires (
   stretch-of-reads.Asked,
   stretch-of-reads.Learnt,
@@ -806,7 +928,6 @@ jump-items-requires : (t : ℕ) → jump-lts.Need-items-requires (
 ) (jump-at t) jump.Post
 jump-items-requires t c κs = search needs
 
--- src/walks.rt:113:13
 jump-add-t18 : (t : ℕ) → jump-lts.Need-add-t18 (
   stretch-of-reads.Asked,
   stretch-of-reads.Learnt,
@@ -815,7 +936,6 @@ jump-add-t18 : (t : ℕ) → jump-lts.Need-add-t18 (
 ) (jump-at t) jump.Post
 jump-add-t18 t c = search needs
 
--- src/walks.rt:93:1
 jump-same-length : (t : ℕ) → jump-lts.Need-same-length (
   stretch-of-reads.Asked,
   stretch-of-reads.Learnt,
@@ -824,7 +944,6 @@ jump-same-length : (t : ℕ) → jump-lts.Need-same-length (
 ) (jump-at t) jump.Post
 jump-same-length t c = search needs
 
--- src/walks.rt:93:1
 jump-same-length-2 : (t : ℕ) → jump-lts.Need-same-length-2 (
   stretch-of-reads.Asked,
   stretch-of-reads.Learnt,
@@ -833,16 +952,24 @@ jump-same-length-2 : (t : ℕ) → jump-lts.Need-same-length-2 (
 ) (jump-at t) jump.Post
 jump-same-length-2 t c = search needs
 
--- src/walks.rt:93:1
 jump-returns : (t : ℕ) → jump-lts.Need-returns (
   stretch-of-reads.Asked,
   stretch-of-reads.Learnt,
   items-below t,
   items.Post,
 ) (jump-at t) jump.Post
-jump-returns t c = let q = c .before .before .before .before .before .before .before .before .before .before .before .before in let a = q .args in let ws = a .words .now in let g : Page = record { pen = a .p; ms = a .ms .now; bs = a .bs .now } in let inner = level (a .depth) (a .d) (a .n) ws in (refer-done inner (a .d) (a .n) ws (a .x) (a .at) (a .last) _ _ g (c .before .before .before .before .before .before .before .before .stretch-of .ensures) (c .before .before .before .before .before .items .ensures .0), c .before .before .before .before .before .items .ensures .1)
+jump-returns t c =
+    let q = c .before .before .before .before .before .before .before .before .before .before .before .before in
+    let a = q .args in
+    let ws = a .words .now in
+    let g : Page = record { pen = a .p; ms = a .ms .now; bs = a .bs .now } in
+    let inner = level (a .depth) (a .d) (a .n) ws in (
+      refer-done inner (a .d) (a .n) ws (a .x) (a .at) (a .last) _ _ g
+          (c .before .before .before .before .before .before .before .before .stretch-of .ensures)
+          (c .before .before .before .before .before .items .ensures .0),
+      c .before .before .before .before .before .items .ensures .1,
+    )
 
--- src/walks.rt:136:9
 loop--items-requires : (t : ℕ) → loop--lts.Need-items-requires (
   items-below t,
   items.Post,
@@ -855,7 +982,6 @@ loop--items-requires : (t : ℕ) → loop--lts.Need-items-requires (
 ) (loop--at t) loop-.Post
 loop--items-requires t c κs = search needs
 
--- src/walks.rt:137:9
 loop--passes-requires : (t : ℕ) → loop--lts.Need-passes-requires (
   items-below t,
   items.Post,
@@ -868,7 +994,6 @@ loop--passes-requires : (t : ℕ) → loop--lts.Need-passes-requires (
 ) (loop--at t) loop-.Post
 loop--passes-requires t c κs = search needs
 
--- src/walks.rt:138:9
 loop--behind-requires : (t : ℕ) → loop--lts.Need-behind-requires (
   items-below t,
   items.Post,
@@ -881,7 +1006,6 @@ loop--behind-requires : (t : ℕ) → loop--lts.Need-behind-requires (
 ) (loop--at t) loop-.Post
 loop--behind-requires t c κs = search needs
 
--- src/walks.rt:139:9
 loop--again-requires : (t : ℕ) → loop--lts.Need-again-requires (
   items-below t,
   items.Post,
@@ -892,9 +1016,26 @@ loop--again-requires : (t : ℕ) → loop--lts.Need-again-requires (
   again-below t,
   again.Post,
 ) (loop--at t) loop-.Post
-loop--again-requires t c κs = let q = c .before .before .before .before .before .before .before .before .before .before .before .before .before .before in let a = q .args in let r = (level (a .depth) (a .d) (a .n) (a .words .now) (a .to) (a .at) (a .last)) in let e = c .before .before .before .before .before .before .before .before .items .ensures .0 in (omega (arith, q .pre .0), (fine-end _ r (record { pen = a .p; ms = a .ms .now; bs = a .bs .now }) e (q .pre .1 .0), q .pre .1 .1, q .pre .1 .2, q .pre .1 .3, record { ms-before = a .ms .now; bs-before = a .bs .now; pass = end-page _ r (record { pen = a .p; ms = a .ms .now; bs = a .bs .now }) e }))
+loop--again-requires t c κs =
+    let q = c .before .before .before .before .before .before .before .before .before .before .before .before .before .before in
+    let a = q .args in
+    let r = (level (a .depth) (a .d) (a .n) (a .words .now) (a .to) (a .at) (a .last)) in
+    let e = c .before .before .before .before .before .before .before .before .items .ensures .0 in (
+      omega (arith, q .pre .0),
+      (
+        fine-end _ r (record { pen = a .p; ms = a .ms .now; bs = a .bs .now }) e (q .pre .1 .0),
+        q .pre .1 .1,
+        q .pre .1 .2,
+        q .pre .1 .3,
+        record {
+          ms-before = a .ms .now;
+          bs-before = a .bs .now;
+          pass =
+              end-page _ r (record { pen = a .p; ms = a .ms .now; bs = a .bs .now }) e;
+        },
+      ),
+    )
 
--- src/walks.rt:120:1
 loop--same-length : (t : ℕ) → loop--lts.Need-same-length (
   items-below t,
   items.Post,
@@ -907,7 +1048,6 @@ loop--same-length : (t : ℕ) → loop--lts.Need-same-length (
 ) (loop--at t) loop-.Post
 loop--same-length t c = search needs
 
--- src/walks.rt:120:1
 loop--same-length-2 : (t : ℕ) → loop--lts.Need-same-length-2 (
   items-below t,
   items.Post,
@@ -920,7 +1060,6 @@ loop--same-length-2 : (t : ℕ) → loop--lts.Need-same-length-2 (
 ) (loop--at t) loop-.Post
 loop--same-length-2 t c = search needs
 
--- src/walks.rt:120:1
 loop--returns : (t : ℕ) → loop--lts.Need-returns (
   items-below t,
   items.Post,
@@ -931,9 +1070,18 @@ loop--returns : (t : ℕ) → loop--lts.Need-returns (
   again-below t,
   again.Post,
 ) (loop--at t) loop-.Post
-loop--returns t c = let a = c .before .before .before .before .before .before .before .before .before .before .before .before .before .before .before .before .before .before .before .args in let ws = a .words .now in let e = c .before .before .before .before .before .before .before .before .before .before .before .before .before .items .ensures in (loop-done (level (a .depth) (a .d) (a .n) ws) (a .d) (a .n) ws (a .to) (a .at) (a .last) _ _ _ (record { pen = a .p; ms = a .ms .now; bs = a .bs .now }) _ (e .0) (c .before .before .before .before .before .before .before .before .passes .ensures .0) (c .before .before .before .before .before .before .before .behind .ensures .0) (c .before .before .before .before .again .ensures), e .1)
+loop--returns t c =
+    let a = c .before .before .before .before .before .before .before .before .before .before .before .before .before .before .before
+    .before .before .before .before .args in
+    let ws = a .words .now in
+    let e = c .before .before .before .before .before .before .before .before .before .before .before .before .before .items .ensures in (
+      loop-done (level (a .depth) (a .d) (a .n) ws) (a .d) (a .n) ws (a .to) (a .at) (a .last) _ _ _
+          (record { pen = a .p; ms = a .ms .now; bs = a .bs .now }) _ (e .0)
+          (c .before .before .before .before .before .before .before .before .passes .ensures .0)
+          (c .before .before .before .before .before .before .before .behind .ensures .0) (c .before .before .before .before .again .ensures),
+      e .1,
+    )
 
--- src/walks.rt:200:8
 once-more-skips-requires : (t : ℕ) → once-more-lts.Need-skips-requires (
   skips-reads.Asked,
   skips-reads.Learnt,
@@ -948,7 +1096,6 @@ once-more-skips-requires : (t : ℕ) → once-more-lts.Need-skips-requires (
 ) (once-more-at t) once-more.Post
 once-more-skips-requires t c κs = search needs
 
--- src/walks.rt:201:9
 once-more-skipped-requires : (t : ℕ) → once-more-lts.Need-skipped-requires (
   skips-reads.Asked,
   skips-reads.Learnt,
@@ -963,7 +1110,6 @@ once-more-skipped-requires : (t : ℕ) → once-more-lts.Need-skipped-requires (
 ) (once-more-at t) once-more.Post
 once-more-skipped-requires t c κs = c .before .skips .ensures (c .if1 .taken)
 
--- src/walks.rt:201:9
 once-more-returns : (t : ℕ) → once-more-lts.Need-returns (
   skips-reads.Asked,
   skips-reads.Learnt,
@@ -976,9 +1122,13 @@ once-more-returns : (t : ℕ) → once-more-lts.Need-returns (
   items-below t,
   items.Post,
 ) (once-more-at t) once-more.Post
-once-more-returns t c = let q = c .before .before .before .before .before .before in let a = q .args in let r = (level (a .depth) (a .d) (a .n) (a .words .now) (a .to) (a .at) (a .last)) in skipped-once (r .row) (a .p) (a .q) _ (a .ms .now) (a .bs .now) (q .pre .1 .4) (c .before .before .skips .ensures (c .before .if1 .taken)) (c .skipped .ensures)
+once-more-returns t c =
+    let q = c .before .before .before .before .before .before in
+    let a = q .args in
+    let r = (level (a .depth) (a .d) (a .n) (a .words .now) (a .to) (a .at) (a .last)) in
+    skipped-once (r .row) (a .p) (a .q) _ (a .ms .now) (a .bs .now) (q .pre .1 .4)
+    (c .before .before .skips .ensures (c .before .if1 .taken)) (c .skipped .ensures)
 
--- src/walks.rt:203:8
 once-more-copies-requires : (t : ℕ) → once-more-lts.Need-copies-requires (
   skips-reads.Asked,
   skips-reads.Learnt,
@@ -993,7 +1143,6 @@ once-more-copies-requires : (t : ℕ) → once-more-lts.Need-copies-requires (
 ) (once-more-at t) once-more.Post
 once-more-copies-requires t c κs = search needs
 
--- src/walks.rt:204:9
 once-more-copied-requires : (t : ℕ) → once-more-lts.Need-copied-requires (
   skips-reads.Asked,
   skips-reads.Learnt,
@@ -1006,9 +1155,13 @@ once-more-copied-requires : (t : ℕ) → once-more-lts.Need-copied-requires (
   items-below t,
   items.Post,
 ) (once-more-at t) once-more.Post
-once-more-copied-requires t c κs = let q = c .before .before .before .before .before .before .before .before .before in let a = q .args in let r = (level (a .depth) (a .d) (a .n) (a .words .now) (a .to) (a .at) (a .last)) in let o = took-onward (r .row) (a .p) (a .q) (a .ms .now) (a .bs .now) (q .pre .1 .4) in (q .pre .1 .0, c .before .before .before .copies .ensures (c .before .before .if2 .taken), o .0, o .1)
+once-more-copied-requires t c κs =
+    let q = c .before .before .before .before .before .before .before .before .before in
+    let a = q .args in
+    let r = (level (a .depth) (a .d) (a .n) (a .words .now) (a .to) (a .at) (a .last)) in
+    let o = took-onward (r .row) (a .p) (a .q) (a .ms .now) (a .bs .now) (q .pre .1 .4) in
+    (q .pre .1 .0, c .before .before .before .copies .ensures (c .before .before .if2 .taken), o .0, o .1)
 
--- src/walks.rt:204:9
 once-more-same-length : (t : ℕ) → once-more-lts.Need-same-length (
   skips-reads.Asked,
   skips-reads.Learnt,
@@ -1023,7 +1176,6 @@ once-more-same-length : (t : ℕ) → once-more-lts.Need-same-length (
 ) (once-more-at t) once-more.Post
 once-more-same-length t c = search needs
 
--- src/walks.rt:204:9
 once-more-same-length-2 : (t : ℕ) → once-more-lts.Need-same-length-2 (
   skips-reads.Asked,
   skips-reads.Learnt,
@@ -1038,7 +1190,6 @@ once-more-same-length-2 : (t : ℕ) → once-more-lts.Need-same-length-2 (
 ) (once-more-at t) once-more.Post
 once-more-same-length-2 t c = search needs
 
--- src/walks.rt:204:9
 once-more-returns-2 : (t : ℕ) → once-more-lts.Need-returns-2 (
   skips-reads.Asked,
   skips-reads.Learnt,
@@ -1051,9 +1202,15 @@ once-more-returns-2 : (t : ℕ) → once-more-lts.Need-returns-2 (
   items-below t,
   items.Post,
 ) (once-more-at t) once-more.Post
-once-more-returns-2 t c = let q = c .before .before .before .before .before .before .before .before .before .before .before .before .before .before in let a = q .args in let r = (level (a .depth) (a .d) (a .n) (a .words .now) (a .to) (a .at) (a .last)) in let e = c .before .before .before .before .copied .ensures in copied-again (r .row) (a .p) (a .q) _ (a .ms .now) (a .bs .now) _ _ (q .pre .1 .0) (q .pre .1 .4) (c .before .before .before .before .before .before .before .before .copies .ensures (c .before .before .before .before .before .before .before .if2 .taken)) (e .0) (e .1 .0) (e .1 .1)
+once-more-returns-2 t c =
+    let q = c .before .before .before .before .before .before .before .before .before .before .before .before .before .before in
+    let a = q .args in
+    let r = (level (a .depth) (a .d) (a .n) (a .words .now) (a .to) (a .at) (a .last)) in
+    let e = c .before .before .before .before .copied .ensures in
+    copied-again (r .row) (a .p) (a .q) _ (a .ms .now) (a .bs .now) _ _ (q .pre .1 .0) (q .pre .1 .4)
+    (c .before .before .before .before .before .before .before .before .copies .ensures
+    (c .before .before .before .before .before .before .before .if2 .taken)) (e .0) (e .1 .0) (e .1 .1)
 
--- src/walks.rt:206:9
 once-more-items-requires : (t : ℕ) → once-more-lts.Need-items-requires (
   skips-reads.Asked,
   skips-reads.Learnt,
@@ -1068,7 +1225,6 @@ once-more-items-requires : (t : ℕ) → once-more-lts.Need-items-requires (
 ) (once-more-at t) once-more.Post
 once-more-items-requires t c κs = search needs
 
--- src/walks.rt:184:1
 once-more-same-length-3 : (t : ℕ) → once-more-lts.Need-same-length-3 (
   skips-reads.Asked,
   skips-reads.Learnt,
@@ -1083,7 +1239,6 @@ once-more-same-length-3 : (t : ℕ) → once-more-lts.Need-same-length-3 (
 ) (once-more-at t) once-more.Post
 once-more-same-length-3 t c = search needs
 
--- src/walks.rt:184:1
 once-more-same-length-4 : (t : ℕ) → once-more-lts.Need-same-length-4 (
   skips-reads.Asked,
   skips-reads.Learnt,
@@ -1098,7 +1253,6 @@ once-more-same-length-4 : (t : ℕ) → once-more-lts.Need-same-length-4 (
 ) (once-more-at t) once-more.Post
 once-more-same-length-4 t c = search needs
 
--- src/walks.rt:184:1
 once-more-returns-3 : (t : ℕ) → once-more-lts.Need-returns-3 (
   skips-reads.Asked,
   skips-reads.Learnt,
@@ -1111,7 +1265,11 @@ once-more-returns-3 : (t : ℕ) → once-more-lts.Need-returns-3 (
   items-below t,
   items.Post,
 ) (once-more-at t) once-more.Post
-once-more-returns-3 t c = let q = c .before .before .before .before .before .before .before .before .before .before .before .before .before .before .before in let a = q .args in let r = (level (a .depth) (a .d) (a .n) (a .words .now) (a .to) (a .at) (a .last)) in end-page _ r (record { pen = a .q; ms = a .ms .now; bs = a .bs .now }) (c .before .before .before .before .before .items .ensures .0)
+once-more-returns-3 t c =
+    let q = c .before .before .before .before .before .before .before .before .before .before .before .before .before .before .before in
+    let a = q .args in
+    let r = (level (a .depth) (a .d) (a .n) (a .words .now) (a .to) (a .at) (a .last)) in
+    end-page _ r (record { pen = a .q; ms = a .ms .now; bs = a .bs .now }) (c .before .before .before .before .before .items .ensures .0)
 
 pub +again+item+items+jump+loop-+once-more-spec : {M : Type 1} → statement M
 +again+item+items+jump+loop-+once-more-spec =

@@ -14,12 +14,14 @@ returns c =
     let lent : Lent = record { keys = a .keys .now; sections = a .sections .now; measures = a .measures .now; beats = a .beats .now; items = a .items .now } in
     let early = c .before .before .before .first-stages in
     let is = early-refused bs (early .result) (early .ensures) (c .before .if1 .taken) in
-    promised-refused bs lent (early .result .number) (early .result .line) (c .refused .result) (refused-with-tables (roomOf lent) bs _ _ is) (c .refused .ensures)
+    promised-refused bs lent (early .result .number) (early .result .line) (c .refused .result)
+    (refused-with-tables (roomOf lent) bs _ _ is) (c .refused .ensures)
 
 read-short-requires : tie.Need-read-short-requires
 read-short-requires c κs =
     let early = c .before .before .before .before .before .before .before .before .first-stages in
-    let clear = first-clear (c .before .before .before .before .before .before .before .before .before .before .before .before .before .before .before .args .text .now) (early .result) (early .ensures) (c .before .before .before .before .before .before .if1 .left) in
+    let clear = first-clear (c .before .before .before .before .before .before .before .before .before .before .before .before .before
+    .before .before .args .text .now) (early .result) (early .ensures) (c .before .before .before .before .before .before .if1 .left) in
     (clear .0, clear .1, c .before .before .before .before .before .if2 .taken)
 
 returns-2 : tie.Need-returns-2

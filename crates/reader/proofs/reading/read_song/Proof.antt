@@ -1,3 +1,4 @@
+-- The later stages refuse, or the room is too small, or the tables are written: each is the answer that is promised.
 use Rattle.songcode.proofs.SongAlone.{refused-with-tables}
 use Rattle.judging.proofs.VerdictLaws.{late-refused, song-accepted}
 use Rattle.reader.proofs.AnswerLaws.{short-refused, roomy-accepted, short-is, long-is, keys-room, tables-room, promised-refused, promised-accepted}
@@ -18,13 +19,15 @@ returns c =
     let bs = a .text .now in
     let lent : Lent = record { keys = a .keys .now; sections = a .sections .now; measures = a .measures .now; beats = a .beats .now; items = a .items .now } in
     let late = c .before .before .before .before .before .before .before .judge .result .totals .refusal in
-    let is = late-refused bs (entry .pre .0) (entry .pre .1) late (c .before .before .before .before .before .before .before .judge .ensures .refusal) (c .before .if1 .taken) in
+    let is = late-refused bs (entry .pre .0) (entry .pre .1) late
+    (c .before .before .before .before .before .before .before .judge .ensures .refusal) (c .before .if1 .taken) in
     promised-refused bs lent (late .number) (late .line) (c .refused .result) (refused-with-tables (roomOf lent) bs _ _ is) (c .refused .ensures)
 
 returns-2 : tie.Need-returns-2
 unfolding roomOf
 returns-2 c =
-    let entry = c .before .before .before .before .before .before .before .before .before .before .before .before .before .before .before .before .before .before in
+    let entry = c .before .before .before .before .before .before .before .before .before .before .before .before .before .before .before
+    .before .before .before in
     let a = entry .args in
     let bs = a .text .now in
     let lent : Lent = record { keys = a .keys .now; sections = a .sections .now; measures = a .measures .now; beats = a .beats .now; items = a .items .now } in
@@ -36,31 +39,44 @@ returns-2 c =
 
 write-tables-requires : tie.Need-write-tables-requires
 write-tables-requires c κs =
-    let entry = c .before .before .before .before .before .before .before .before .before .before .before .before .before .before .before .before .before .before .before .before .before .before .before in
+    let entry = c .before .before .before .before .before .before .before .before .before .before .before .before .before .before .before
+    .before .before .before .before .before .before .before .before in
     let a = entry .args in
     let judge = c .before .before .before .before .before .before .before .before .before .before .before .before .before .before .judge in
     let w = judge .ensures .writable (c .before .before .before .before .before .before .before .before .if1 .left) in
-    let long = sym (c .before .before .before .before .before .before .before .is-short .ensures) ∙ c .before .before .before .before .before .before .if2 .left in (
+    let long = sym (c .before .before .before .before .before .before .before .is-short .ensures)
+    ∙ c .before .before .before .before .before .before .if2 .left in (
       (entry .pre .0, entry .pre .1, w),
       (
-        keys-room (judge .result .totals) (length (a .keys .now)) (length (a .sections .now)) (length (a .measures .now)) (length (a .beats .now)) (length (a .items .now)) long,
-        tables-room (songOf (a .text .now)) (judge .result .totals) (length (a .keys .now)) (a .sections .now) (a .measures .now) (a .beats .now) (a .items .now) (w .holds) long,
+        keys-room (judge .result .totals) (length (a .keys .now)) (length (a .sections .now)) (length (a .measures .now))
+            (length (a .beats .now)) (length (a .items .now)) long,
+        tables-room (songOf (a .text .now)) (judge .result .totals) (length (a .keys .now)) (a .sections .now) (a .measures .now)
+            (a .beats .now) (a .items .now) (w .holds) long,
       ),
     )
 
 returns-3 : tie.Need-returns-3
 unfolding roomOf
 returns-3 c =
-    let entry = c .before .before .before .before .before .before .before .before .before .before .before .before .before .before .before .before .before .before .before .before .before .before .before .before .before .before .before .before .before .before .before .before .before .before .before .before .before in
+    let entry = c .before .before .before .before .before .before .before .before .before .before .before .before .before .before .before
+    .before .before .before .before .before .before .before .before .before .before .before .before .before .before .before .before
+    .before .before .before .before .before .before in
     let a = entry .args in
     let bs = a .text .now in
     let lent : Lent = record { keys = a .keys .now; sections = a .sections .now; measures = a .measures .now; beats = a .beats .now; items = a .items .now } in
-    let judge = c .before .before .before .before .before .before .before .before .before .before .before .before .before .before .before .before .before .before .before .before .before .before .before .before .before .before .before .before .judge in
-    let w = judge .ensures .writable (c .before .before .before .before .before .before .before .before .before .before .before .before .before .before .before .before .before .before .before .before .before .before .if1 .left) in
-    let long = long-is (roomOf lent) (songOf bs) (judge .result .totals) (w .holds) (sym (c .before .before .before .before .before .before .before .before .before .before .before .before .before .before .before .before .before .before .before .before .before .is-short .ensures) ∙ c .before .before .before .before .before .before .before .before .before .before .before .before .before .before .before .before .before .before .before .before .if2 .left) in
+    let judge = c .before .before .before .before .before .before .before .before .before .before .before .before .before .before .before
+    .before .before .before .before .before .before .before .before .before .before .before .before .before .judge in
+    let w = judge .ensures .writable (c .before .before .before .before .before .before .before .before .before .before .before .before
+    .before .before .before .before .before .before .before .before .before .before .if1 .left) in
+    let long = long-is (roomOf lent) (songOf bs) (judge .result .totals) (w .holds)
+    (sym (c .before .before .before .before .before .before .before .before .before .before .before .before .before .before .before
+    .before .before .before .before .before .before .is-short .ensures)
+    ∙ c .before .before .before .before .before .before .before .before .before .before .before .before .before .before .before .before
+    .before .before .before .before .if2 .left) in
     let is = roomy-accepted (roomOf lent) bs (song-accepted bs (entry .pre .0) (entry .pre .1) (w .clear)) long in
     let wrote = c .before .before .before .before .before .before .before .before .before .before .before .before .before .write-tables .ensures in
-    promised-accepted bs lent _ (tables (songOf bs)) (judge .result .totals) (c .accepted .result) is (w .holds) (wrote .0) (wrote .1 .0) (wrote .1 .1 .0) (wrote .1 .1 .1 .0) (wrote .1 .1 .1 .1) (c .accepted .ensures)
+    promised-accepted bs lent _ (tables (songOf bs)) (judge .result .totals) (c .accepted .result) is (w .holds) (wrote .0) (wrote .1 .0)
+    (wrote .1 .1 .0) (wrote .1 .1 .1 .0) (wrote .1 .1 .1 .1) (c .accepted .ensures)
 
 pub read-song-spec : {M : Type 1} → statement M
 read-song-spec =

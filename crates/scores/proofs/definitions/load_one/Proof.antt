@@ -27,7 +27,8 @@ with-definition-requires c κs =
 
 add-next-block : tie.Need-add-next-block
 add-next-block c =
-    let w = c .before .before .before .before .before .before .before .before .before .before .before .before .before .before .before .before .before .pre .0 .small in
+    let w = c .before .before .before .before .before .before .before .before .before .before .before .before .before .before .before
+    .before .before .pre .0 .small in
     let r = c .before .before .before .before .before .before .before .before .before .before .before .before .read-definition .ensures .pattern-placed in
     let a = r .behind in
     let b = r .ends in

@@ -83,7 +83,8 @@ end-line-requires c κs =
 
 lex-line-requires-2 : tie.Need-lex-line-requires-2 Inv-loop μ-loop
 lex-line-requires-2 c κs =
-    let q = c .before .before .before .before .before .before .before .before .before .before .before .before .before .before .before .before .before .before .before .before in
+    let q = c .before .before .before .before .before .before .before .before .before .before .before .before .before .before .before
+    .before .before .before .before .before in
     let v = c .before .before .before .before .before .before .before .before .loop in
     let f = c .before .before .before .before .before .line-at2 .ensures in
     let e = c .before .before .before .end-line in
@@ -98,7 +99,8 @@ lex-line-requires-2 c κs =
 add-line-2 : tie.Need-add-line-2 Inv-loop μ-loop
 add-line-2 c =
     let v = c .before .before .before .before .before .before .before .before .before .before .before .loop in
-    let small = c .before .before .before .before .before .before .before .before .before .before .before .before .before .before .before .before .before .before .before .before .before .before .before .pre .1 in
+    let small = c .before .before .before .before .before .before .before .before .before .before .before .before .before .before .before
+    .before .before .before .before .before .before .before .before .pre .1 in
     let line = v .inv .0 in
     let at = v .inv .1 in
     omega arith

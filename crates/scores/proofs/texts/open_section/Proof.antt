@@ -35,24 +35,31 @@ lay-said-requires-2 c κs =
 
 same-length : tie.Need-same-length
 same-length c =
-    let q = c .before .before .before .before .before .before .before .before .before .before .before .before .before .before .before .before .before .before .before .before .before .before .before .before in
-    let m = c .before .before .before .before .before .before .before .before .before .before .before .before .before .before .before .before .before .before .before .before .before .meet .ensures in
-    let a = c .before .before .before .before .before .before .before .before .before .before .before .before .before .before .before .before .lay-said .ensures in
+    let q = c .before .before .before .before .before .before .before .before .before .before .before .before .before .before .before
+    .before .before .before .before .before .before .before .before .before in
+    let m = c .before .before .before .before .before .before .before .before .before .before .before .before .before .before .before
+    .before .before .before .before .before .before .meet .ensures in
+    let a = c .before .before .before .before .before .before .before .before .before .before .before .before .before .before .before
+    .before .lay-said .ensures in
     let b = c .before .before .before .before .before .before .before .before .before .before .before .before .lay-run .ensures in
     let d = c .before .before .before .before .before .before .before .before .lay-said2 .ensures in
     words-length (q .pre .0) (q .pre .1) (q .pre .2) (q .pre .3) m (a .0) (a .1) (b .0) (b .1) (d .0) (d .1)
 
 returns : tie.Need-returns
 returns c =
-    let q = c .before .before .before .before .before .before .before .before .before .before .before .before .before .before .before .before .before .before .before .before .before .before .before .before in
-    let m = c .before .before .before .before .before .before .before .before .before .before .before .before .before .before .before .before .before .before .before .before .before .meet .ensures in
-    let a = c .before .before .before .before .before .before .before .before .before .before .before .before .before .before .before .before .lay-said .ensures in
+    let q = c .before .before .before .before .before .before .before .before .before .before .before .before .before .before .before
+    .before .before .before .before .before .before .before .before .before in
+    let m = c .before .before .before .before .before .before .before .before .before .before .before .before .before .before .before
+    .before .before .before .before .before .before .meet .ensures in
+    let a = c .before .before .before .before .before .before .before .before .before .before .before .before .before .before .before
+    .before .lay-said .ensures in
     let b = c .before .before .before .before .before .before .before .before .before .before .before .before .lay-run .ensures in
     let d = c .before .before .before .before .before .before .before .before .lay-said2 .ensures in
     let ws = c .before .before .before .before .before .before .before .before .lay-said2 .last .1 .1 .0 in
     let score = q .args .score in
     let x = sectionAt (q .args .s .now) (q .args .p) in
-    let n = c .before .before .before .before .before .before .before .before .before .before .before .before .before .before .before .before .before .before .named-in in
+    let n = c .before .before .before .before .before .before .before .before .before .before .before .before .before .before .before
+    .before .before .before .named-in in
     let ready = ready-again (q .pre .0) (q .pre .1) (q .pre .2) (q .pre .3) m (a .0) (a .1) (b .0) (b .1) (d .0) (d .1) in
     let same = words-length (q .pre .0) (q .pre .1) (q .pre .2) (q .pre .3) m (a .0) (a .1) (b .0) (b .1) (d .0) (d .1) in
     let lead = subst (λ (t : Text). Carries ws (score .definitions) t (sideItems (saidBy beforeSaid (x .modifiers))))

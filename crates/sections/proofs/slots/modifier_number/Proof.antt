@@ -2,26 +2,6 @@ use Rattle.sections.specs.Slots.{modifierNumber}
 use borrow.Author.Needs.{needs}
 use Rattle.sections.proofs.slots.modifier_number.Statement.{statement}
 use Rattle.sections.proofs.slots.modifier_number.Tie as tie
-use Rattle.sections.proofs.slots.modifier_number.Reads as reads
-use Rattle.sections.proofs.slots.modifier_number.Lts as lts
-
-enum-told : tie.Need-enum-told
-enum-told c = search needs
-
-enum-told-2 : tie.Need-enum-told-2
-enum-told-2 c = search needs
-
-enum-told-3 : tie.Need-enum-told-3
-enum-told-3 c = search needs
-
-enum-told-4 : tie.Need-enum-told-4
-enum-told-4 c = search needs
-
-enum-told-5 : tie.Need-enum-told-5
-enum-told-5 c = search needs
-
-enum-told-6 : tie.Need-enum-told-6
-enum-told-6 c = search needs
 
 returns : tie.Need-returns
 unfolding modifierNumber
@@ -50,16 +30,5 @@ returns-6 c = search needs
 pub modifier-number-spec : {M : Type 1} → statement M
 modifier-number-spec =
     tie.close
-    (tie.spec
-    enum-told
-    enum-told-2
-    enum-told-3
-    enum-told-4
-    enum-told-5
-    enum-told-6
-    returns
-    returns-2
-    returns-3
-    returns-4
-    returns-5
-    returns-6)
+    (tie.spec (λ c. search needs) (λ c. search needs) (λ c. search needs) (λ c. search needs) (λ c. search needs) (λ c. search needs)
+    returns returns-2 returns-3 returns-4 returns-5 returns-6)

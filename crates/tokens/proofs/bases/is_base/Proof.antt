@@ -2,27 +2,21 @@ use lib.Dec.{eqb}
 use lib.ListN.{length}
 use Rattle.tokens.proofs.BaseLaws.{base-exactly, base-none}
 use Rattle.tokens.specs.declared.bases.Base.{Base}
-use mathlib.Core.Path.{_≡_, sym, ap, _∙_}
+use mathlib.Core.Path.{sym, ap, _∙_}
 use borrow.Author.Needs.{needs}
 use Rattle.tokens.proofs.bases.is_base.Statement.{statement}
 use Rattle.tokens.proofs.bases.is_base.Tie as tie
-use Rattle.tokens.proofs.bases.is_base.Reads as reads
-use Rattle.tokens.proofs.bases.is_base.Lts as lts
-use Rattle.tokens.proofs.bases.longest_base.Reads as longest-base-reads
 
--- src/bases.rt:82:9
-longest-base-requires : tie.Need-longest-base-requires
-longest-base-requires c κs = search needs
-
--- src/bases.rt:84:9
 returns : tie.Need-returns
 returns c =
-    let e = c .before .before .longest-base .ensures in base-none (c .before .before .before .before .args .w .now) (ap (λ (b : Base). b .length) (sym e) ∙ c .if1 .taken)
+    let e = c .before .before .longest-base .ensures in
+    base-none (c .before .before .before .before .args .w .now) (ap (λ (b : Base). b .length) (sym e) ∙ c .if1 .taken)
 
--- src/bases.rt:79:1
 returns-2 : tie.Need-returns-2
 returns-2 c =
-    let e = ap (λ (b : Base). b .length) (c .before .before .before .longest-base .ensures) in let w = c .before .before .before .before .before .args .w .now in ap (λ l. eqb l (length w)) e ∙ base-exactly w (λ z. c .before .if1 .left (e ∙ z))
+    let e = ap (λ (b : Base). b .length) (c .before .before .before .longest-base .ensures) in
+    let w = c .before .before .before .before .before .args .w .now in
+    ap (λ l. eqb l (length w)) e ∙ base-exactly w (λ z. c .before .if1 .left (e ∙ z))
 
 pub is-base-spec : {M : Type 1} → statement M
-is-base-spec = tie.close (tie.spec longest-base-requires returns returns-2)
+is-base-spec = tie.close (tie.spec (λ c κs. search needs) returns returns-2)

@@ -3,48 +3,30 @@ use Rattle.tokens.specs.Bases.{baseOf, firstOf, rowOf}
 use Rattle.songcode.specs.Chords.{isTaken, longestFrom}
 use mathlib.Core.Option.{none}
 use native.Mathlib.Omega.{arith}
-use mathlib.Core.Path.{_≡_, sym, ap, _∙_}
+use mathlib.Core.Path.{sym, ap, _∙_}
 use Prim.Native.Nat.{_-_}
 use borrow.Author.Needs.{needs}
 use Rattle.tokens.proofs.bases.longest_base.Statement.{statement}
 use Rattle.tokens.proofs.bases.longest_base.Tie as tie
-use Rattle.tokens.proofs.bases.longest_base.Reads as reads
-use Rattle.tokens.proofs.bases.longest_base.Lts as lts
-use Rattle.text.proofs.byte_at.Reads as byte-at-reads
-use Rattle.tokens.proofs.bases.longest_in.Reads as longest-in-reads
 
--- src/bases.rt:68:9
-byte-at-requires : tie.Need-byte-at-requires
-byte-at-requires c κs = search needs
-
--- src/bases.rt:70:9
 returns : tie.Need-returns
 unfolding baseOf
 returns c =
     let e = c .before .byte-at .ensures in ap baseOf (sym (no-row (c .before .before .before .args .w .now) (λ p q. omega arith)))
 
--- src/bases.rt:73:9
 returns-2 : tie.Need-returns-2
 unfolding baseOf
 returns-2 c =
     let e = c .before .before .byte-at .ensures in ap baseOf (sym (no-row (c .before .before .before .before .args .w .now) (λ p q. omega arith)))
 
--- src/bases.rt:75:16
-cast-longest-in : tie.Need-cast-longest-in
-cast-longest-in c = search needs
-
--- src/bases.rt:75:5
-longest-in-requires : tie.Need-longest-in-requires
-longest-in-requires c κs = search needs
-
--- src/bases.rt:65:1
 returns-3 : tie.Need-returns-3
 returns-3 c =
     let e = c .before .before .before .byte-at .ensures in
     let w = c .before .before .before .before .before .args .w .now in
-    c .longest-in .ensures ∙ ap (λ r. baseOf (longestFrom isTaken (firstOf (r - 65)) (rowOf (r - 65)) w none)) e ∙ ap baseOf (sym (row-of w (omega arith) (omega arith)))
+    c .longest-in .ensures ∙ ap (λ r. baseOf (longestFrom isTaken (firstOf (r - 65)) (rowOf (r - 65)) w none)) e
+    ∙ ap baseOf (sym (row-of w (omega arith) (omega arith)))
 
 pub longest-base-spec : {M : Type 1} → statement M
 longest-base-spec =
     tie.close
-    (tie.spec byte-at-requires returns returns-2 cast-longest-in longest-in-requires returns-3)
+    (tie.spec (λ c κs. search needs) returns returns-2 (λ c. search needs) (λ c κs. search needs) returns-3)

@@ -1,3 +1,4 @@
+-- Spelling by spelling of a row: the longest found so far, or a longer one among those that are left, is the longest of the row.
 use Rattle.songcode.specs.Chords.{rows, spellings}
 use Rattle.songcode.specs.Bytes.{ascii}
 use Rattle.tokens.proofs.RowLaws.{table-at, first-fits, better, found, found-more, found-all}
@@ -19,7 +20,8 @@ use Rattle.tokens.proofs.bases.longest_in.Statement.{statement}
 use Rattle.tokens.proofs.bases.longest_in.Tie as tie
 
 abbrev Inv-loop : tie.InvT-loop
-Inv-loop row w names first best₀ j₀ best j = (j ≤ 6) × ((o : Option songcode.Base) × (best ≡ baseOf o) × (found row j w o ≡ longestFrom isTaken (firstOf row) (rowOf row) w none))
+Inv-loop row w names first best₀ j₀ best j =
+    (j ≤ 6) × ((o : Option songcode.Base) × (best ≡ baseOf o) × (found row j w o ≡ longestFrom isTaken (firstOf row) (rowOf row) w none))
 
 abbrev μ-loop : tie.MeasureT-loop
 μ-loop row w names first best₀ j₀ best j = 6 - j
@@ -38,7 +40,8 @@ best-next : (c : tie.Joined1 Inv-loop μ-loop)
     → c .if1 .best
     ≡ better
     (firstOf (c .before .before .before .before .before .before .before .before .args .row) + c .before .before .before .before .before .loop .j)
-    (takenLength (getD (rowOf (c .before .before .before .before .before .before .before .before .args .row)) (c .before .before .before .before .before .loop .j) []) (c .before .before .before .before .before .before .before .before .args .w .now))
+    (takenLength (getD (rowOf (c .before .before .before .before .before .before .before .before .args .row))
+    (c .before .before .before .before .before .loop .j) []) (c .before .before .before .before .before .before .before .before .args .w .now))
     (baseOf (c .before .before .before .before .before .loop .inv .1 .0))
 unfolding better if_then_else_ firstOf rows spellings ascii
 best-next c =
@@ -46,7 +49,8 @@ best-next c =
     let r = q .before .before .before .args .row in
     let w = q .before .before .before .args .w .now in
     let l = c .before .before .taken .ensures ∙ ap (λ s. takenLength s w) (table-at r (q .loop .j) (omega arith) (omega arith)) in
-    let b : c .if1 .best ≡ better (firstOf r + q .loop .j) (c .before .before .taken .result) (q .loop .best) = ⊎-elim (λ v. simp (lt-ltb _ _ (v .0 .taken)) (v .1)) (λ v. simp (le-ltb _ _ (v .0 .left)) (v .1)) (c .if1 .came) in
+    let b : c .if1 .best ≡ better (firstOf r + q .loop .j) (c .before .before .taken .result) (q .loop .best) =
+    ⊎-elim (λ v. simp (lt-ltb _ _ (v .0 .taken)) (v .1)) (λ v. simp (le-ltb _ _ (v .0 .left)) (v .1)) (c .if1 .came) in
     b ∙ ap (λ l. better (firstOf r + q .loop .j) l (q .loop .best)) l ∙ ap (better (firstOf r + q .loop .j) _) (q .loop .inv .1 .1)
 
 loop-again : tie.Need-loop-again Inv-loop μ-loop

@@ -32,9 +32,6 @@ mul-result-2 : tie.Need-mul-result-2
 mul-result-2 c =
     let e = c .row-of .ensures in let s = number-stands (c .before .before .args .number) (omega arith) .row in omega arith
 
-mul-result-3 : tie.Need-mul-result-3
-mul-result-3 c = search needs
-
 index-1-result : tie.Need-index-1-result
 index-1-result c =
     let e = c .row-of .ensures in let s = number-stands (c .before .before .args .number) (omega arith) .row in omega arith
@@ -52,4 +49,4 @@ returns-2 c =
 pub spelling-of-spec : {M : Type 1} → statement M
 spelling-of-spec =
     tie.close
-    (tie.spec returns (λ c κs. search needs) mul-result array-read-result sub-result mul-result-2 mul-result-3 index-1-result index-2-result returns-2)
+    (tie.spec returns (λ c κs. search needs) mul-result array-read-result sub-result mul-result-2 (λ c. search needs) index-1-result index-2-result returns-2)

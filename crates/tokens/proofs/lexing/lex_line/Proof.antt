@@ -1,3 +1,4 @@
+-- Token by token: the words laid so far and those of the tokens that are left are the words of the line.
 use Rattle.tokens.proofs.LaidLaws.{laid-none, laid-next, read-next, read-end}
 use Rattle.tokens.specs.Lexing.{tokensFrom, laid}
 use Rattle.tokens.specs.TokenWords.{tokenWords}
@@ -9,9 +10,6 @@ use Prim.Native.Nat.{ℕ, _<_, _≤_, _+_, _-_}
 use borrow.Author.Needs.{needs}
 use Rattle.tokens.proofs.lexing.lex_line.Statement.{statement}
 use Rattle.tokens.proofs.lexing.lex_line.Tie as tie
-use Rattle.tokens.proofs.lexing.lex_line.Reads as reads
-use Rattle.tokens.proofs.lexing.lex_line.Lts as lts
-use Rattle.tokens.proofs.lexing.next_token.Reads as next-token-reads
 
 abbrev Inv-loop : tie.InvT-loop
 Inv-loop s start stop words₀ n at₀ fill₀ words at fill =
@@ -32,31 +30,20 @@ abbrev μ-loop : tie.MeasureT-loop
 found : (c : tie.After-known-told Inv-loop μ-loop)
     → (c .before .before .before .before .loop .at < c .before .word .given .0 .1 .0)
     × (c .before .word .given .0 .1 .0 ≤ c .before .before .before .before .before .before .before .args .stop)
-    × (tokenWords (tokensFrom (c .before .before .before .before .loop .at) (c .before .before .before .before .before .before .before .args .stop) (c .before .before .before .before .before .before .before .args .s .now)) ≡ c .before .word .given .0 .0 ∷ tokenWords (tokensFrom (c .before .word .given .0 .1 .0) (c .before .before .before .before .before .before .before .args .stop) (c .before .before .before .before .before .before .before .args .s .now)))
-found c = read-next (c .before .before .before .before .before .before .before .args .s .now) (c .before .before .before .before .loop .at) (c .before .before .before .before .before .before .before .args .stop) (c .before .word .given .1) (c .before .before .before .next-token .ensures)
+    × (tokenWords (tokensFrom (c .before .before .before .before .loop .at)
+    (c .before .before .before .before .before .before .before .args .stop)
+    (c .before .before .before .before .before .before .before .args .s .now)) ≡ c .before .word .given .0 .0
+    ∷ tokenWords (tokensFrom (c .before .word .given .0 .1 .0) (c .before .before .before .before .before .before .before .args .stop)
+    (c .before .before .before .before .before .before .before .args .s .now)))
+found c =
+    read-next (c .before .before .before .before .before .before .before .args .s .now) (c .before .before .before .before .loop .at)
+    (c .before .before .before .before .before .before .before .args .stop) (c .before .word .given .1)
+    (c .before .before .before .next-token .ensures)
 
--- src/lexing.rt:92:5
 loop-holds : tie.Need-loop-holds Inv-loop μ-loop
 loop-holds c =
     (omega arith, omega arith, omega arith, refl, ([], laid-none (c .before .before .args .n) (c .before .before .args .words .now), omega arith, refl))
 
--- src/lexing.rt:93:40
-next-token-requires : tie.Need-next-token-requires Inv-loop μ-loop
-next-token-requires c κs = search needs
-
--- src/lexing.rt:93:26
-enum-known-word : tie.Need-enum-known-word Inv-loop μ-loop
-enum-known-word c = search needs
-
--- src/lexing.rt:94:13
-enum-told : tie.Need-enum-told Inv-loop μ-loop
-enum-told c = search needs
-
--- src/lexing.rt:94:13
-same-length : tie.Need-same-length Inv-loop μ-loop
-same-length c = search needs
-
--- src/lexing.rt:94:13
 returns : tie.Need-returns Inv-loop μ-loop
 returns c =
     let i = c .before .before .before .before .before .before .args in
@@ -66,27 +53,22 @@ returns c =
     let d : o .0 ≡ tokenWords (tokensFrom (i .start) (i .stop) (i .s .now)) = sym (append-nil (o .0)) ∙ ap (λ ws. o .0 ++ ws) (sym e) ∙ o .3 in
     (rw (← d) (o .1), (rw (← d) (o .2), omega arith))
 
--- src/lexing.rt:96:9
 mul-words : tie.Need-mul-words Inv-loop μ-loop
 mul-words c =
     let g = found c in omega arith
 
--- src/lexing.rt:96:9
 slice-write-words : tie.Need-slice-write-words Inv-loop μ-loop
 slice-write-words c =
     let g = found c in omega arith
 
--- src/lexing.rt:97:9
 add-fill : tie.Need-add-fill Inv-loop μ-loop
 add-fill c =
     let g = found c in omega arith
 
--- src/lexing.rt:92:5
 loop-less : tie.Need-loop-less Inv-loop μ-loop
 loop-less c =
     let g = found c in omega arith
 
--- src/lexing.rt:92:5
 loop-again : tie.Need-loop-again Inv-loop μ-loop
 loop-again c =
     let i = c .before .before .before .before .before .before .before .args in
@@ -101,17 +83,5 @@ loop-again c =
 pub lex-line-spec : {M : Type 1} → statement M
 lex-line-spec =
     tie.close
-    (tie.spec
-    Inv-loop
-    μ-loop
-    loop-holds
-    next-token-requires
-    enum-known-word
-    enum-told
-    same-length
-    returns
-    mul-words
-    slice-write-words
-    add-fill
-    loop-less
-    loop-again)
+    (tie.spec Inv-loop μ-loop loop-holds (λ c κs. search needs) (λ c. search needs) (λ c. search needs) (λ c. search needs) returns
+    mul-words slice-write-words add-fill loop-less loop-again)

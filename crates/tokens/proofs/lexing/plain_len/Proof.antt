@@ -8,9 +8,6 @@ use Prim.Native.Nat.{_≤_, _+_, _-_}
 use borrow.Author.Needs.{needs}
 use Rattle.tokens.proofs.lexing.plain_len.Statement.{statement}
 use Rattle.tokens.proofs.lexing.plain_len.Tie as tie
-use Rattle.tokens.proofs.lexing.plain_len.Reads as reads
-use Rattle.tokens.proofs.lexing.plain_len.Lts as lts
-use Rattle.tokens.proofs.lexing.is_plain.Reads as is-plain-reads
 
 abbrev Inv-loop : tie.InvT-loop
 Inv-loop w i₀ i =
@@ -20,37 +17,28 @@ abbrev μ-loop : tie.MeasureT-loop
 μ-loop w i₀ i =
     length w - i
 
--- src/lexing.rt:40:5
-loop-holds : tie.Need-loop-holds Inv-loop μ-loop
-loop-holds c = search needs
-
--- src/lexing.rt:41:22
-shared-slice-read-is-plain : tie.Need-shared-slice-read-is-plain Inv-loop μ-loop
-shared-slice-read-is-plain c = search needs
-
--- src/lexing.rt:41:13
-is-plain-requires : tie.Need-is-plain-requires Inv-loop μ-loop
-is-plain-requires c κs = search needs
-
--- src/lexing.rt:42:13
 returns : tie.Need-returns Inv-loop μ-loop
 returns c =
-    let q = c .before .before .before .before in (omega (arith, plain-stop (q .before .before .args .w .now) (q .loop .i) (omega arith) (sym (c .before .is-plain .ensures) ∙ not-true _ (c .if1 .taken))), omega arith)
+    let q = c .before .before .before .before in (
+      omega (
+        arith,
+        plain-stop (q .before .before .args .w .now) (q .loop .i) (omega arith)
+            (sym (c .before .is-plain .ensures) ∙ not-true _ (c .if1 .taken)),
+      ),
+      omega arith,
+    )
 
--- src/lexing.rt:44:9
-add-i : tie.Need-add-i Inv-loop μ-loop
-add-i c = search needs
-
--- src/lexing.rt:40:5
-loop-less : tie.Need-loop-less Inv-loop μ-loop
-loop-less c = search needs
-
--- src/lexing.rt:40:5
 loop-again : tie.Need-loop-again Inv-loop μ-loop
 loop-again c =
-    let q = c .before .before .before .before in (omega arith, omega (arith, plain-more (q .before .before .args .w .now) (q .loop .i) (omega arith) (sym (c .before .is-plain .ensures) ∙ not-false _ (c .if1 .left))))
+    let q = c .before .before .before .before in (
+      omega arith,
+      omega (
+        arith,
+        plain-more (q .before .before .args .w .now) (q .loop .i) (omega arith)
+            (sym (c .before .is-plain .ensures) ∙ not-false _ (c .if1 .left)),
+      ),
+    )
 
--- src/lexing.rt:36:1
 returns-2 : tie.Need-returns-2 Inv-loop μ-loop
 returns-2 c =
     (omega (arith, plain-over (c .before .before .before .args .w .now) (c .before .loop .i) (c .loop-test .left)), omega arith)
@@ -58,14 +46,5 @@ returns-2 c =
 pub plain-len-spec : {M : Type 1} → statement M
 plain-len-spec =
     tie.close
-    (tie.spec
-    Inv-loop
-    μ-loop
-    loop-holds
-    shared-slice-read-is-plain
-    is-plain-requires
-    returns
-    add-i
-    loop-less
-    loop-again
-    returns-2)
+    (tie.spec Inv-loop μ-loop (λ c. search needs) (λ c. search needs) (λ c κs. search needs) returns (λ c. search needs) (λ c. search needs)
+    loop-again returns-2)

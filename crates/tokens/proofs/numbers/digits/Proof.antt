@@ -8,9 +8,6 @@ use Prim.Native.Nat.{_≤_, _-_}
 use borrow.Author.Needs.{needs}
 use Rattle.tokens.proofs.numbers.digits.Statement.{statement}
 use Rattle.tokens.proofs.numbers.digits.Tie as tie
-use Rattle.tokens.proofs.numbers.digits.Reads as reads
-use Rattle.tokens.proofs.numbers.digits.Lts as lts
-use Rattle.tokens.proofs.numbers.digit.Reads as digit-reads
 
 abbrev Inv-loop : tie.InvT-loop
 Inv-loop w v₀ i₀ v i =
@@ -20,55 +17,33 @@ abbrev μ-loop : tie.MeasureT-loop
 μ-loop w v₀ i₀ v i =
     length w - i
 
--- src/numbers.rt:26:5
-loop-holds : tie.Need-loop-holds Inv-loop μ-loop
-loop-holds c = search needs
-
--- src/numbers.rt:27:17
-shared-slice-read-b : tie.Need-shared-slice-read-b Inv-loop μ-loop
-shared-slice-read-b c = search needs
-
--- src/numbers.rt:29:13
 returns : tie.Need-returns Inv-loop μ-loop
 returns c =
-    let q = c .before .before .before in sym (digits-low (q .before .before .args .w .now) (q .loop .i) (q .loop .v) (c .before .before .loop-test .taken) (c .if1 .taken)) ∙ q .loop .inv .2
+    let q = c .before .before .before in
+    sym (digits-low (q .before .before .args .w .now) (q .loop .i) (q .loop .v) (c .before .before .loop-test .taken) (c .if1 .taken)) ∙ q .loop .inv .2
 
--- src/numbers.rt:32:13
 returns-2 : tie.Need-returns-2 Inv-loop μ-loop
 returns-2 c =
-    let q = c .before .before .before .before in sym (digits-high (q .before .before .args .w .now) (q .loop .i) (q .loop .v) (c .before .before .before .loop-test .taken) (c .if2 .taken)) ∙ q .loop .inv .2
+    let q = c .before .before .before .before in
+    sym (digits-high (q .before .before .args .w .now) (q .loop .i) (q .loop .v) (c .before .before .before .loop-test .taken)
+    (c .if2 .taken)) ∙ q .loop .inv .2
 
--- src/numbers.rt:35:13
 returns-3 : tie.Need-returns-3 Inv-loop μ-loop
 returns-3 c =
-    let q = c .before .before .before .before .before in sym (digits-past (q .before .before .args .w .now) (q .loop .i) (q .loop .v) (c .before .before .before .before .loop-test .taken) (c .if3 .taken)) ∙ q .loop .inv .2
+    let q = c .before .before .before .before .before in
+    sym (digits-past (q .before .before .args .w .now) (q .loop .i) (q .loop .v) (c .before .before .before .before .loop-test .taken)
+    (c .if3 .taken)) ∙ q .loop .inv .2
 
--- src/numbers.rt:37:13
-mul-v : tie.Need-mul-v Inv-loop μ-loop
-mul-v c = search needs
-
--- src/numbers.rt:37:22
-digit-requires : tie.Need-digit-requires Inv-loop μ-loop
-digit-requires c κs = search needs
-
--- src/numbers.rt:37:13
-add-v : tie.Need-add-v Inv-loop μ-loop
-add-v c = search needs
-
--- src/numbers.rt:38:9
-add-i : tie.Need-add-i Inv-loop μ-loop
-add-i c = search needs
-
--- src/numbers.rt:26:5
-loop-less : tie.Need-loop-less Inv-loop μ-loop
-loop-less c = search needs
-
--- src/numbers.rt:26:5
 loop-again : tie.Need-loop-again Inv-loop μ-loop
 loop-again c =
-    let e = c .digit .ensures in (omega arith, omega arith, rw e (let q = c .before .before .before .before .before .before in sym (digits-more (q .before .before .args .w .now) (q .loop .i) (q .loop .v) (c .before .before .before .before .before .loop-test .taken) (omega arith) (omega arith)) ∙ q .loop .inv .2))
+    let e = c .digit .ensures in (
+      omega arith,
+      omega arith,
+      rw e (let q = c .before .before .before .before .before .before in sym
+          (digits-more (q .before .before .args .w .now) (q .loop .i) (q .loop .v)
+          (c .before .before .before .before .before .loop-test .taken) (omega arith) (omega arith)) ∙ q .loop .inv .2),
+    )
 
--- src/numbers.rt:21:1
 returns-4 : tie.Need-returns-4 Inv-loop μ-loop
 returns-4 c =
     let q = c .before in sym (digits-over (q .before .before .args .w .now) (q .loop .i) (q .loop .v) (c .loop-test .left) (omega arith)) ∙ q .loop .inv .2
@@ -76,18 +51,5 @@ returns-4 c =
 pub digits-spec : {M : Type 1} → statement M
 digits-spec =
     tie.close
-    (tie.spec
-    Inv-loop
-    μ-loop
-    loop-holds
-    shared-slice-read-b
-    returns
-    returns-2
-    returns-3
-    mul-v
-    digit-requires
-    add-v
-    add-i
-    loop-less
-    loop-again
-    returns-4)
+    (tie.spec Inv-loop μ-loop (λ c. search needs) (λ c. search needs) returns returns-2 returns-3 (λ c. search needs) (λ c κs. search needs)
+    (λ c. search needs) (λ c. search needs) (λ c. search needs) loop-again returns-4)

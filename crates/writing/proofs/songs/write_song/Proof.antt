@@ -38,7 +38,9 @@ abbrev μ-loop : tie.MeasureT-loop
 
 -- The section that is opened is played in its own N.
 meter : (c : tie.After-meter-of Inv-loop μ-loop) → c .meter-of .result
-    ≡ timeOf (songOf (c .before .before .before .before .before .before .before .before .before .before .before .before .before .before .before .args .s .now)) (sectionAt (c .before .before .before .before .before .before .before .before .before .before .before .before .before .before .before .args .s .now) (c .before .before .before .before .before .before .before .before .before .loop .place))
+    ≡ timeOf (songOf (c .before .before .before .before .before .before .before .before .before .before .before .before .before .before
+    .before .args .s .now)) (sectionAt (c .before .before .before .before .before .before .before .before .before .before .before
+    .before .before .before .before .args .s .now) (c .before .before .before .before .before .before .before .before .before .loop .place))
 meter c =
     c .meter-of .ensures ∙ meter-is _ _ (c .before .before .before .before .before .open-section .ensures .0 .met .says .time)
     (c .before .before .before .before .before .before .before .before .before .before .before .before .before .before .before .pre .1 .0 .0)
@@ -49,7 +51,11 @@ room : (c : tie.After-meter-of Inv-loop μ-loop) → c .before .before .before .
 room c =
     let l = c .before .before .before .before .before .before .before .before .before .loop in
     let s = c .before .before .before .before .before .before .before .before .before .before .before .before .before .before .before .args .s .now in
-    sections-left s (l .place) _ (l .m) (c .before .before .before .before .before .before .before .before .before .before .before .before .before .before .before .args .sections .now) (l .k) (l .sections) (c .before .before .before .before .before .open-section .ensures .0 .met .first) (c .before .before .before .before .before .before .before .before .before .before .before .before .before .before .before .pre .1 .1 .1 .0) (l .inv .8)
+    sections-left s (l .place) _ (l .m) (c .before .before .before .before .before .before .before .before .before .before .before .before
+    .before .before .before .args .sections .now) (l .k) (l .sections)
+    (c .before .before .before .before .before .open-section .ensures .0 .met .first)
+    (c .before .before .before .before .before .before .before .before .before .before .before .before .before .before .before .pre .1 .1 .1 .0)
+    (l .inv .8)
 
 loop-holds : tie.Need-loop-holds Inv-loop μ-loop
 loop-holds c = let q = c .before .before .before .before .before in
@@ -94,8 +100,12 @@ section-word-requires c κs = let y = c .before .before .before .before .before 
     let onward = l .inv .0 .onward in
     let small = l .inv .0 .ready .told .small in
     let header = i .met .read .header in
-    let few = meter-range (songOf (y .before .before .before .before .before .before .before .before .before .before .before .before .before .before .before .args .s .now)) (sectionAt (y .before .before .before .before .before .before .before .before .before .before .before .before .before .before .before .args .s .now) (l .place)) .1 in
-    let tempo = tempo-few (x .section .keys .bpm) (y .before .before .before .before .before .before .before .before .before .before .before .before .before .before .before .args .song .bpm) (i .met .read .keys .bpm-fits) (y .before .before .before .before .before .before .before .before .before .before .before .before .before .before .before .pre .1 .0 .3) in (
+    let few = meter-range (songOf (y .before .before .before .before .before .before .before .before .before .before .before .before .before
+    .before .before .args .s .now)) (sectionAt (y .before .before .before .before .before .before .before .before .before .before
+    .before .before .before .before .before .args .s .now) (l .place)) .1 in
+    let tempo = tempo-few (x .section .keys .bpm) (y .before .before .before .before .before .before .before .before .before .before .before
+    .before .before .before .before .args .song .bpm) (i .met .read .keys .bpm-fits)
+    (y .before .before .before .before .before .before .before .before .before .before .before .before .before .before .before .pre .1 .0 .3) in (
       omega (arith, onward .counted, y .before .before .before .before .before .before .before .if1 .taken),
       omega (arith, a .measures, a .few),
       omega (arith, a .measures, a .few),
@@ -105,7 +115,8 @@ section-word-requires c κs = let y = c .before .before .before .before .before 
 
 mul-sections : tie.Need-mul-sections Inv-loop μ-loop
 mul-sections c =
-    let l = c .before .before .before .before .before .before .before .before .before .before .before .before .before .before .before .before .before .before .before .loop in
+    let l = c .before .before .before .before .before .before .before .before .before .before .before .before .before .before .before
+    .before .before .before .before .loop in
     omega (arith, l .inv .5, l .inv .0 .onward .inside, l .inv .0 .ready .told .small)
 
 slice-write-sections : tie.Need-slice-write-sections Inv-loop μ-loop
@@ -115,7 +126,8 @@ slice-write-sections c =
 
 add-k : tie.Need-add-k Inv-loop μ-loop
 add-k c =
-    let l = c .before .before .before .before .before .before .before .before .before .before .before .before .before .before .before .before .before .before .before .loop in
+    let l = c .before .before .before .before .before .before .before .before .before .before .before .before .before .before .before
+    .before .before .before .before .loop in
     omega (arith, l .inv .5, l .inv .0 .onward .inside, l .inv .0 .ready .told .small)
 
 add-m : tie.Need-add-m Inv-loop μ-loop
@@ -146,7 +158,13 @@ add-b c = let y = c .before .before .before .before .before .before .before .bef
 
 loop-less : tie.Need-loop-less Inv-loop μ-loop
 loop-less c =
-    omega (arith, c .before .before .before .before .before .before .before .before .before .before .before .before .before .before .before .before .before .before .open-section .ensures .0 .met .further, c .before .before .before .before .before .before .before .before .before .before .before .before .before .before .before .before .before .before .before .before .if1 .taken)
+    omega (
+      arith,
+      c .before .before .before .before .before .before .before .before .before .before .before .before .before .before .before
+          .before .before .before .open-section .ensures .0 .met .further,
+      c .before .before .before .before .before .before .before .before .before .before .before .before .before .before .before .before
+          .before .before .before .before .if1 .taken,
+    )
 
 loop-again : tie.Need-loop-again Inv-loop μ-loop
 loop-again c = let y = c .before .before .before .before .before .before .before .before .before .before .before .before .before in
