@@ -1,6 +1,6 @@
 -- What is found keeps the promise: where the verdict names no line, and where it names one.
 use Prim.Native.Nat.{ℕ, _≤_}
-use mathlib.Core.Path.{_≡_, sym, ap, subst, _∙_}
+use mathlib.Core.Path.{_≡_, sym, ap, _∙_}
 use mathlib.Core.List.{List}
 use Rattle.songcode.specs.Answer.{refused, songAnswer}
 use Rattle.reader.specs.declared.answers.Answer.{Answer}

@@ -3,14 +3,14 @@ use Prim.Native.Nat.{ℕ, _≤_}
 use lib.ListN.{length}
 use mathlib.Core.Path.{_≡_, refl, sym, ap, subst, _∙_}
 use mathlib.Core.Logic.{⊎-elim}
-use mathlib.Core.List.{List, [], _∷_, _++_, map, List·Memᴰ, List·Memᴰ·head, List·Memᴰ·tail, List·Memᴰ·not-nil, List·Memᴰ·cases-cons}
+use mathlib.Core.List.{List, [], _∷_, map, List·Memᴰ, List·Memᴰ·head, List·Memᴰ·tail, List·Memᴰ·not-nil, List·Memᴰ·cases-cons}
 use mathlib.Core.List.{Memᴰ·append-left, Memᴰ·append-right}
-use Rattle.songcode.specs.Lines.{Line, Block, blocks}
+use Rattle.songcode.specs.Lines.{Line, Block}
 use Rattle.songcode.specs.Song.{LyricLine, Section, Song}
 use Rattle.songcode.specs.Answer.{blocksOf, refused, songAnswer}
 use Rattle.songcode.specs.WrittenText.{WrittenBlocks, no-block, a-blank, a-block}
 use Rattle.songcode.specs.WrittenSection.{Each, none-each, and-each, LyricLines, no-lyrics, with-lyrics, WrittenSection}
-use Rattle.songcode.specs.WrittenSong.{WrittenSong, WrittenChart}
+use Rattle.songcode.specs.WrittenSong.{WrittenSong}
 use Rattle.songcode.proofs.BlocksAgree.{blocks-sound}
 use Rattle.songcode.proofs.AnswerAgree.{of-chart}
 use Rattle.text.specs.declared.lines.Line as text

@@ -7,7 +7,8 @@ returns : tie.Need-returns
 returns c =
     let q = c .before .before .before .before .before .before .args .text .now in
     let a = c .before .before .before .before .count in
-    found-nowhere q (a .result) (a .ensures .answer) (c .before .cause-of .result) (c .before .cause-of .ensures .0) (c .nowhere .result) (c .before .before .if1 .taken) (c .nowhere .ensures)
+    found-nowhere q (a .result) (a .ensures .answer) (c .before .cause-of .result) (c .before .cause-of .ensures .0) (c .nowhere .result)
+    (c .before .before .if1 .taken) (c .nowhere .ensures)
 
 returns-2 : tie.Need-returns-2
 returns-2 c =
@@ -16,7 +17,8 @@ returns-2 c =
     let x = c .before .before .before .slip-in in
     let p = c .before .before .place-at in
     let w = c .before .cause-of2 in
-    found-at q (a .result) (a .ensures .answer) (w .result) (w .ensures .0) (c .at-place .result) (x .result) (x .ensures) (p .result) (p .ensures .0) (p .ensures .1)
+    found-at q (a .result) (a .ensures .answer) (w .result) (w .ensures .0) (c .at-place .result) (x .result) (x .ensures) (p .result)
+    (p .ensures .0) (p .ensures .1)
     (w .ensures .1) (c .before .before .before .before .if1 .left) (c .at-place .ensures)
 
 pub explain-spec : {M : Type 1} → statement M
