@@ -1,35 +1,30 @@
 -- The whole: a chart is accepted exactly where it is a described song that fits its stages and the tables have room; each refusal is given exactly when stated.
-use Prim.Native.Nat.{ℕ, _+_, _<_, _≤_}
+use Prim.Native.Nat.{ℕ, _≤_}
 use mathlib.Core.Path.{_≡_, refl, ap, sym, _∙_, subst}
-use mathlib.Core.Logic.{_↔_, _⊎_}
-use mathlib.Core.List.{List, [], _∷_, _++_, map}
-use mathlib.Core.Bool.{Bool, true, false, _||_}
+use mathlib.Core.Logic.{_↔_}
+use mathlib.Core.List.{List, []}
 use mathlib.Core.Option.{Option, none, some}
 use native.Mathlib.Omega.{arith}
 use lib.Dec.{ltb}
 use lib.ListN.{length}
-use borrow.Author.Tests.{ltb-true, ltb-false, lt-ltb, le-ltb}
+use borrow.Author.Tests.{ltb-false, le-ltb}
 use Rattle.songcode.specs.Lists.{if_then_else_}
 use Rattle.songcode.specs.Bytes.{placed}
 use Rattle.songcode.specs.Characters.{goodBytes}
-use Rattle.songcode.specs.Lines.{Block, lines, blocks}
+use Rattle.songcode.specs.Lines.{lines, blocks}
 use Rattle.songcode.specs.Complaints.{Complaint, complaint, complainIf, verdict}
-use Rattle.songcode.specs.Song.{Section, Song}
-use Rattle.songcode.specs.SongText.{textFaults, songIn}
-use Rattle.songcode.specs.Playing.{played}
+use Rattle.songcode.specs.Song.{Song}
+use Rattle.songcode.specs.SongText.{textFaults}
 use Rattle.songcode.specs.References.{referenceFaults}
 use Rattle.songcode.specs.Meter.{meterFaults, lengthFaults}
 use Rattle.songcode.specs.Lyrics.{countFaults, sumFaults}
 use Rattle.songcode.specs.Tables.{Tables, tables}
-use Rattle.songcode.specs.Answer.{mostBytes, inputFaults, lineOfPlace, blocksOf, songOf, Room, roomFaults, stages, Answer, refused, accepted, answerBy, answer}
+use Rattle.songcode.specs.Answer.{mostBytes, inputFaults, lineOfPlace, blocksOf, songOf, Room, roomFaults, stages, refused, accepted, answerBy, answer}
 use Rattle.songcode.specs.WrittenText.{Characters}
-use Rattle.songcode.specs.WrittenSection.{Each}
 use Rattle.songcode.specs.WrittenSong.{WrittenSong, WrittenChart}
-use Rattle.songcode.specs.Performance.{Parts, PlaysSection, joined}
-use Rattle.songcode.specs.Fits.{Fits}
 use Rattle.songcode.specs.Described.{HasRoom, Described}
 use Rattle.songcode.specs.Given.{Given}
-use Rattle.songcode.proofs.ListLaws.{by-cases, true-is-not-false, none-passes, pass-none, complainIf-nil, nil-complainIf, nil-is-not-cons}
+use Rattle.songcode.proofs.ListLaws.{by-cases, none-passes, pass-none, complainIf-nil, nil-complainIf, nil-is-not-cons}
 use Rattle.songcode.proofs.PlainAgree.{song-plain}
 use Rattle.songcode.proofs.CharactersAgree.{goodBytes-le, good-text}
 use Rattle.songcode.proofs.LinesAgree.{lines-sound, lines-complete}
@@ -89,10 +84,17 @@ room-exact room t = (
       let b = none-passes _ (ltb (room .beats) (length (t .beats))) (a .0) in
       let c = none-passes _ (ltb (room .measures) (length (t .measures))) (b .0) in
       let d = none-passes (ltb (room .keys) (length (t .keys))) (ltb (room .sections) (length (t .sections))) (c .0) in
-      record { keys = ltb-false _ _ (d .0); sections = ltb-false _ _ (d .1); measures = ltb-false _ _ (c .1); beats = ltb-false _ _ (b .1); items = ltb-false _ _ (a .1) }),
+      record {
+        keys = ltb-false _ _ (d .0);
+        sections = ltb-false _ _ (d .1);
+        measures = ltb-false _ _ (c .1);
+        beats = ltb-false _ _ (b .1);
+        items = ltb-false _ _ (a .1);
+      }),
   (λ r.
       nil-complainIf 18 0
-      (pass-none (pass-none (pass-none (pass-none (le-ltb _ _ (r .keys)) (le-ltb _ _ (r .sections))) (le-ltb _ _ (r .measures))) (le-ltb _ _ (r .beats))) (le-ltb _ _ (r .items)))),
+      (pass-none (pass-none (pass-none (pass-none (le-ltb _ _ (r .keys)) (le-ltb _ _ (r .sections))) (le-ltb _ _ (r .measures)))
+      (le-ltb _ _ (r .beats))) (le-ltb _ _ (r .items)))),
 )
 
 -- All eight stages state nothing: what that says.
@@ -110,7 +112,16 @@ passed-by : (room : Room) (bs : List ℕ) → verdict (stages room bs) ≡ none 
 unfolding stages Silent
 passed-by room bs h =
     let s = verdict-silent (stages room bs) h in
-    record { input = s .0; text = s .1 .0; refers = s .1 .1 .0; meter = s .1 .1 .1 .0; long = s .1 .1 .1 .1 .0; counts = s .1 .1 .1 .1 .1 .0; sums = s .1 .1 .1 .1 .1 .1 .0; room-there = s .1 .1 .1 .1 .1 .1 .1 .0 }
+    record {
+      input = s .0;
+      text = s .1 .0;
+      refers = s .1 .1 .0;
+      meter = s .1 .1 .1 .0;
+      long = s .1 .1 .1 .1 .0;
+      counts = s .1 .1 .1 .1 .1 .0;
+      sums = s .1 .1 .1 .1 .1 .1 .0;
+      room-there = s .1 .1 .1 .1 .1 .1 .1 .0;
+    }
 
 by-passed : (room : Room) (bs : List ℕ) → Passed room bs → verdict (stages room bs) ≡ none
 unfolding stages Silent
@@ -187,7 +198,8 @@ refused-exactly room bs number line = (
   (λ g. rw (given-verdict (stages room bs) (complaint number line) g)),
 )
   where
-    go : (o : Option Complaint) → verdict (stages room bs) ≡ o → answerBy o (tables (songOf bs)) ≡ refused number line → Given (stages room bs) (complaint number line)
+    go : (o : Option Complaint) → verdict (stages room bs) ≡ o → answerBy o (tables (songOf bs)) ≡ refused number line
+        → Given (stages room bs) (complaint number line)
     go none e h = let z : _≡_ {A = ℕ} 0 1 = cc in absurd (omega arith)
     go (some c) e h =
         let n : c .number ≡ number = cc in

@@ -1,7 +1,7 @@
 -- What the answer and the description share is also what is described of it in other words.
 use Prim.Native.Nat.{ℕ, _≤_}
-use mathlib.Core.Path.{_≡_, refl, ap, sym, subst, _∙_}
-use mathlib.Core.Logic.{_↔_, _⊎_, inl, inr, ⊎-elim}
+use mathlib.Core.Path.{_≡_, refl, sym, subst, _∙_}
+use mathlib.Core.Logic.{_↔_, inl, inr, ⊎-elim}
 use mathlib.Core.List.{List, [], _∷_, map, List·Memᴰ, List·Memᴰ·not-nil, List·Memᴰ·cases-cons}
 use mathlib.Core.Option.{Option, none, some}
 use native.Mathlib.Omega.{arith}
@@ -23,7 +23,7 @@ use Rattle.songcode.proofs.DecimalAgree.{decimal-exact}
 use Rattle.songcode.proofs.PutInPlain.{PutsPlain, Referring, each-found, each-referring}
 use Rattle.songcode.proofs.PutInAgree.{Known, says-exact}
 use Rattle.songcode.proofs.ReferenceStops.{loop-items, ones}
-use Rattle.songcode.proofs.SaidOnce.{SaidOnce, repeat-said, cut-start-said, cut-end-said, lead-in-said, tail-said}
+use Rattle.songcode.proofs.SaidOnce.{repeat-said, cut-start-said, cut-end-said, lead-in-said, tail-said}
 use Rattle.songcode.proofs.AnswerAgree.{of-chart}
 
 -- "No loop in a loop."

@@ -15,9 +15,11 @@ use Rattle.songcode.specs.Playing.{Beat, Side, lasting, soundCount, posi
 use Rattle.songcode.specs.Tables.{Tables}
 use Rattle.songcode.specs.Answer.{Room}
 use Rattle.songcode.specs.WrittenSection.{Each}
-use Rattle.songcode.specs.Performance.{total, HearsAll, PlaysMeasure, PlaysItem, PlaysItems, CutsFront, CutsBack, CutIf, Parts, PlaysAlone, PlaysSide, PlaysPattern, PlaysSection, joined}
+use Rattle.songcode.specs.Performance.{total, HearsAll, PlaysMeasure, PlaysItem, PlaysItems, CutsFront, CutsBack, CutIf, Parts, PlaysAlone}
+use Rattle.songcode.specs.Performance.{PlaysSide, PlaysPattern, PlaysSection, joined}
 use Rattle.songcode.specs.Described.{Described}
-use Rattle.songcode.specs.EitherOrder.{measureBeats, itemBeats, textBeats, itemWidths, textWidths, namedFront, namedBack, sideBeats, patternBeats, repeatedWidths, beatsWritten, beatsNamed, BeatsCounted}
+use Rattle.songcode.specs.EitherOrder.{measureBeats, itemBeats, textBeats, itemWidths, textWidths, namedFront, namedBack, sideBeats}
+use Rattle.songcode.specs.EitherOrder.{patternBeats, repeatedWidths, beatsWritten, beatsNamed, BeatsCounted}
 use Rattle.songcode.proofs.ListLaws.{sum-append, sum-times}
 use Rattle.songcode.proofs.EachLaws.{each-also}
 use Rattle.songcode.proofs.PlayingAgree.{positions-some}
@@ -169,7 +171,12 @@ module _ {A : Type 0} where
       let w = ends-alike o row shorter (p .rest) (p .stays ++ p .ended) (p .lost) g f (p .written) in
       let t = last-of row (w .0) g (c .whole .measures) (w .1) (p .asMeasures) in
       let a : total shorter ≡ total (p .rest) + (length (p .stays) + length (p .ended) + total (p .lost) + total g) =
-      rw (p .written, total-append (p .rest) (((p .stays ++ p .ended) ∷ p .lost) ++ g), total-append ((p .stays ++ p .ended) ∷ p .lost) g, length-append) refl in
+      rw (
+        p .written,
+        total-append (p .rest) (((p .stays ++ p .ended) ∷ p .lost) ++ g),
+        total-append ((p .stays ++ p .ended) ∷ p .lost) g,
+        length-append,
+      ) refl in
       let b = p .asBeats in
       let s : total kept ≡ total (p .rest) + (length (p .stays) + 0) = rw (p .keeps, total-append (p .rest) (p .stays ∷ [])) refl in
       rw (t, sum-lengths g) (omega arith)

@@ -138,7 +138,16 @@ lone : (v : ℕ) → within 1 0x7F v ≡ true → Characters (v ∷ [])
 unfolding Follows forms
 lone v e =
     let f = form 0x01 0x7F 0 0x80 0xBF in
-    a-character (record { form = f; listed = List·Memᴰ·head refl; first = v; rest = []; spelled = refl; begins = e; asMany = refl; follows = tt }) refl no-character
+    a-character (record {
+      form = f;
+      listed = List·Memᴰ·head refl;
+      first = v;
+      rest = [];
+      spelled = refl;
+      begins = e;
+      asMany = refl;
+      follows = tt;
+    }) refl no-character
 
 record Behind (ws : List (List ℕ)) : Type 0 where
   ins : InV (parted ws)

@@ -15,7 +15,8 @@ use Rattle.songcode.specs.Lines.{Line, Block}
 use Rattle.songcode.specs.Song.{Key, Definition, Section, Song}
 use Rattle.songcode.specs.WrittenPattern.{Number}
 use Rattle.songcode.specs.WrittenSection.{Each, none-each, and-each, Distinct, Absent, KeyLine, WrittenSection}
-use Rattle.songcode.specs.WrittenSong.{BeginsWith, BeginsWithout, linesOf, Metadata, DefinitionHead, DefinitionLines, WrittenDefinition, idOf, SectionBlock, WrittenSong}
+use Rattle.songcode.specs.WrittenSong.{BeginsWith, BeginsWithout, linesOf, Metadata, DefinitionHead, DefinitionLines, WrittenDefinition, idOf}
+use Rattle.songcode.specs.WrittenSong.{SectionBlock, WrittenSong}
 use Rattle.songcode.specs.Performance.{Parts, joined}
 use Rattle.songcode.specs.Flat.{textOf, flatPattern, sectionRows, keyBlock, emptyBlock}
 use Rattle.songcode.specs.FlatDemands.{Within}

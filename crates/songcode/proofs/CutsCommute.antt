@@ -17,7 +17,8 @@ use Rattle.songcode.proofs.ListLaws.{drop-take}
 use Rattle.songcode.proofs.CutFront.{front-cut, cut-front, filled-keep, filled-dropBeats, filled-cutFront}
 use Rattle.songcode.proofs.CutBack.{back-cut, cut-back, filled-cutBack}
 use Rattle.songcode.proofs.TurnedRows.{turned-nil, turned-turned, filled-turned, total-turned}
-use Rattle.songcode.proofs.CutLaws.{lose, stay, beatsBefore, beatsUpTo, lose-keep, stay-keep, stay-none, total-lose, total-take-stay, turned-lose, front-loses, back-stays, take-turned, total-take-le}
+use Rattle.songcode.proofs.CutLaws.{lose, stay, beatsBefore, beatsUpTo, lose-keep, stay-keep, stay-none, total-lose, total-take-stay}
+use Rattle.songcode.proofs.CutLaws.{turned-lose, front-loses, back-stays, take-turned, total-take-le}
 
 none-before : (n l d : ℕ) → n < l → n - l - d ≡ 0
 none-before n l d h = omega arith

@@ -1,17 +1,16 @@
 -- Decimals built digit by digit are those that are read.
 use Prim.Native.Nat.{ℕ, zero, suc, _+_, _-_, _*_, _≤_, _<_}
-use Prim.Native.Char.{code}
 use mathlib.Core.Path.{_≡_, refl, ap, sym, subst, _∙_}
 use mathlib.Core.Logic.{_↔_}
 use mathlib.Core.List.{List, [], _∷_, _++_, append-nil, append-assoc}
-use mathlib.Core.Bool.{Bool, true, false, _&&_, not}
+use mathlib.Core.Bool.{true, false, not}
 use native.Mathlib.Omega.{arith}
 use lib.Dec.{eqb, leb}
-use borrow.Author.Tests.{leb-true, le-leb, eqb-true, eq-eqb, ne-eqb, not-true}
+use borrow.Author.Tests.{leb-true, le-leb, eq-eqb, ne-eqb, not-true}
 use Rattle.songcode.specs.Bytes.{Byte}
 use Rattle.songcode.specs.Numbers.{isDigit, digits, isDecimal, valueFrom}
 use Rattle.songcode.specs.Apart.{Decimal, digit, more-digits}
-use Rattle.songcode.proofs.ListLaws.{by-cases, true-is-not-false, both-pass, pass-both}
+use Rattle.songcode.proofs.ListLaws.{true-is-not-false, both-pass, pass-both}
 
 positive : (k : ℕ) → (k ≡ 0 → ⊥) → 1 ≤ k
 positive zero h = absurd (h refl)

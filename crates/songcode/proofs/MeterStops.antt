@@ -2,19 +2,19 @@
 use Prim.Native.Nat.{ℕ, _*_, _/_, _%_}
 use mathlib.Core.Path.{_≡_, refl, ap, sym, subst, _∙_}
 use mathlib.Core.Logic.{_↔_, _⊎_, inl, inr, ⊎-elim}
-use mathlib.Core.List.{List, [], _∷_, _++_, map, List·Memᴰ, List·Memᴰ·head, List·Memᴰ·tail, List·Memᴰ·not-nil, List·Memᴰ·cases-cons, Memᴰ·append-left}
-use mathlib.Core.List.{Memᴰ·append-right, Memᴰ·map}
+use mathlib.Core.List.{List, [], _∷_, _++_, map, List·Memᴰ, List·Memᴰ·not-nil, List·Memᴰ·cases-cons, Memᴰ·append-left}
+use mathlib.Core.List.{Memᴰ·append-right}
 use mathlib.Core.Bool.{Bool, true, false, _||_, _&&_, not}
 use mathlib.Core.Option.{Option, none, some}
 use native.Mathlib.Nat.{div-add-mod'}
 use native.Mathlib.Omega.{arith}
 use borrow.Author.Tests.{eqb-true, eq-eqb, not-true}
-use Rattle.songcode.specs.Lists.{isSome, firstThere}
+use Rattle.songcode.specs.Lists.{isSome}
 use Rattle.songcode.specs.Lines.{Block}
 use Rattle.songcode.specs.Complaints.{Complaint, complainIf}
 use Rattle.songcode.specs.Chords.{Chord}
-use Rattle.songcode.specs.Song.{Sound, chord, again, silence, Sounds, only, also, Measure, Item, measure, loop, refer, Items, one, next, Modifier}
-use Rattle.songcode.specs.Song.{repeated, cutStart, cutEnd, before, after, Section, Song}
+use Rattle.songcode.specs.Song.{Sound, chord, again, silence, Sounds, only, also, Measure, Item, measure, loop, refer, Items, one, next}
+use Rattle.songcode.specs.Song.{Section, Song}
 use Rattle.songcode.specs.References.{patternItems}
 use Rattle.songcode.specs.Playing.{Side, timeOf, positions, chordAfter, lastSounds, lastItem, lastItems, saidBy, beforeSaid, afterSaid}
 use Rattle.songcode.specs.Meter.{fits, allFitItem, allFit, strays, strayAmong, strayItem, stray, rowFaults, playedFaults, sideFaults, sectionMeter}
@@ -25,9 +25,8 @@ use Rattle.songcode.specs.Fits.{DefinitionsRefer}
 use Rattle.songcode.specs.StoppedSong.{MeasureOf, MeasureIn, soundsWritten, itemWritten, itemsWritten, NoChord, RowStops, undivided, again-first}
 use Rattle.songcode.specs.StoppedSong.{Stops4, of-pattern, of-lead-in, of-tail}
 use Rattle.songcode.proofs.ListLaws.{by-cases, true-is-not-false}
-use Rattle.songcode.proofs.PatternLaws.{none-some}
 use Rattle.songcode.proofs.MemberLaws.{either, in-gather, gather-in, in-complaint, complaint-in}
-use Rattle.songcode.proofs.SaidOnce.{SaidOnce, lead-in-said, tail-said}
+use Rattle.songcode.proofs.SaidOnce.{lead-in-said, tail-said}
 use Rattle.songcode.proofs.PlayingAgree.{positions-some, share-is}
 use Rattle.songcode.proofs.InheritsAgree.{says-meter}
 use Rattle.songcode.proofs.MeterAgree.{PlainSection, PlainSections}

@@ -1,23 +1,22 @@
 -- References put in, over the written text: what a pattern says is what the description says of it.
 use Prim.Native.Nat.{ℕ, zero, suc}
 use mathlib.Core.Path.{_≡_, refl, ap, sym, subst, _∙_}
-use mathlib.Core.Logic.{_↔_, ⊎-elim}
-use mathlib.Core.List.{List, [], _∷_, _++_, map, append-nil, append-assoc, List·Memᴰ, List·Memᴰ·head, List·Memᴰ·tail, List·Memᴰ·not-nil}
-use mathlib.Core.List.{List·Memᴰ·cases-cons, Memᴰ·append-left, Memᴰ·append-right}
+use mathlib.Core.Logic.{_↔_}
+use mathlib.Core.List.{List, [], _∷_, _++_, append-nil, append-assoc, List·Memᴰ, List·Memᴰ·head}
+use mathlib.Core.List.{Memᴰ·append-left, Memᴰ·append-right}
 use mathlib.Core.Option.{Option, none, some}
 use lib.ListN.{replicate}
 use Rattle.songcode.specs.Lists.{orElse, andThen}
 use Rattle.songcode.specs.Song.{Sounds, only, also, Measure, nothing, aLineEnd, Separator, bySemicolon, byLineEnd, byColon, Item, measure, loop, refer}
-use Rattle.songcode.specs.Song.{Items, one, next, Pattern, items, named, Definition, Section, Song}
-use Rattle.songcode.specs.Tokens.{Token, sound, remover, reference, semicolon, colon, lineEnd, opens, closes, wrong}
+use Rattle.songcode.specs.Song.{Items, one, next, Pattern, items, named, Definition}
+use Rattle.songcode.specs.Tokens.{Token, sound, remover, reference, semicolon, colon, lineEnd, opens, closes}
 use Rattle.songcode.specs.PatternText.{referencesI, references, itemsIn}
 use Rattle.songcode.specs.References.{definitionOf, itemsOf, glue, putInItem, putIn, patternItems}
 use Rattle.songcode.specs.WrittenPattern.{writeItems}
 use Rattle.songcode.specs.PatternAppended.{soundsTokens, measureTokens, separatorTokens, itemTokens, itemsTokens}
-use Rattle.songcode.specs.WrittenSong.{WrittenSong}
-use Rattle.songcode.specs.Fits.{DefinitionsRefer, PatternRefers}
+use Rattle.songcode.specs.Fits.{PatternRefers}
 use Rattle.songcode.specs.Apart.{InPlace, its-items, as-it-is, PutIn, all-put, and-put, PatternSays, own-items, names-items, names-nothing}
-use Rattle.songcode.proofs.PatternLaws.{none-some, andThen-some}
+use Rattle.songcode.proofs.PatternLaws.{andThen-some}
 use Rattle.songcode.proofs.ChoiceLaws.{zero-is-not-one}
 use Rattle.songcode.proofs.ItemsAgree.{items-complete}
 use Rattle.songcode.proofs.AppendedAgree.{appended}

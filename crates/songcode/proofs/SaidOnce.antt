@@ -5,7 +5,7 @@ use mathlib.Core.Logic.{⊎-elim}
 use mathlib.Core.List.{List, [], _∷_, map, List·Memᴰ, List·Memᴰ·head, List·Memᴰ·tail, List·Memᴰ·not-nil, List·Memᴰ·cases-cons, Memᴰ·map}
 use mathlib.Core.Option.{Option, none, some}
 use Rattle.songcode.specs.Lists.{firstThere}
-use Rattle.songcode.specs.Song.{Items, Cut, Modifier, repeated, cutStart, cutEnd, before, after}
+use Rattle.songcode.specs.Song.{Cut, Modifier, repeated, cutStart, cutEnd, before, after}
 use Rattle.songcode.specs.Playing.{repeatSaid, cutStartSaid, cutEndSaid, Side, beforeSaid, afterSaid, saidBy}
 use Rattle.songcode.specs.WrittenSection.{Distinct, modifierNumber}
 use Rattle.songcode.proofs.PatternLaws.{none-some}

@@ -13,11 +13,10 @@ use Rattle.songcode.specs.Bytes.{Byte, isByte}
 use Rattle.songcode.specs.Characters.{characters}
 use Rattle.songcode.specs.Lines.{Line, Block}
 use Rattle.songcode.specs.Complaints.{Complaint, complaint, complainIf}
-use Rattle.songcode.specs.Song.{KeyName, name, artist, original, capo, bpm, time, warning, end}
+use Rattle.songcode.specs.Song.{KeyName}
 use Rattle.songcode.specs.Keys.{keyPlace, ofSection}
 use Rattle.songcode.specs.Modifiers.{ModifierName, ofRepeat, ofCutStart, ofCutEnd, ofBefore, ofAfter, modifierPlace}
 use Rattle.songcode.specs.PatternText.{sectionText}
-use Rattle.songcode.specs.Tables.{keyOrder}
 use Rattle.songcode.specs.Sections.{kindOfLine, isPatternLine, notPatternLine, settingOf, keyNameOf, modifierNameOf, twice, keySaid, modifierSaid}
 use Rattle.songcode.specs.Sections.{faults, amongKeys, order, patternRun, patternFaults, headerFaults, notDashes, lyricFaults, body, ending}
 use Rattle.songcode.specs.Sections.{sectionFaults}

@@ -11,7 +11,8 @@ use Rattle.songcode.specs.Lines.{Block}
 use Rattle.songcode.specs.Complaints.{Complaint, complainIf}
 use Rattle.songcode.specs.Song.{Key, Definition, Section, Song}
 use Rattle.songcode.specs.Sections.{sectionFaults, sectionIn}
-use Rattle.songcode.specs.SongText.{metadata, section, blockKind, blockOrder, metadataLines, metadataFaults, definitionBlocks, sectionBlocks, definitionsFaults, definitionIn, orNoSection, textFaults, songIn}
+use Rattle.songcode.specs.SongText.{metadata, section, blockKind, blockOrder, metadataLines, metadataFaults, definitionBlocks, sectionBlocks}
+use Rattle.songcode.specs.SongText.{definitionsFaults, definitionIn, orNoSection, textFaults, songIn}
 use Rattle.songcode.specs.WrittenSection.{Each, KeyLine}
 use Rattle.songcode.specs.WrittenSong.{linesOf, SectionBlock, WrittenSong}
 use Rattle.songcode.proofs.ListLaws.{true-is-not-false, nil-is-not-cons, append-is-nil, gather-nil, nil-gather, complainIf-nil}

@@ -39,7 +39,8 @@ unfolding answerBy stageOr
 refused-too none q t number line h = let z : _≡_ {A = ℕ} 0 1 = cc in absurd (omega arith)
 refused-too (some c) q t number line h = h
 
-refused-before : (o q : Option Complaint) (t : Tables) (number line : ℕ) → ((c : Complaint) → q ≡ some c → c .number ≡ 18) → answerBy (stageOr o q) t ≡ refused number line → (number ≡ 18 → ⊥) → answerBy o t ≡ refused number line
+refused-before : (o q : Option Complaint) (t : Tables) (number line : ℕ) → ((c : Complaint) → q ≡ some c → c .number ≡ 18)
+    → answerBy (stageOr o q) t ≡ refused number line → (number ≡ 18 → ⊥) → answerBy o t ≡ refused number line
 unfolding answerBy stageOr
 refused-before none none t number line last h other = let z : _≡_ {A = ℕ} 0 1 = cc in absurd (omega arith)
 refused-before none (some c) t number line last h other = let n : c .number ≡ number = cc in absurd (other (sym n ∙ last c refl))
@@ -84,24 +85,28 @@ module _ (room : Room) (bs : List ℕ) where
   unfolding answer stages
   answer-is =
       ap (λ o. answerBy o (tables (songOf bs)))
-      (verdict-append (songStages bs) (roomFaults room (tables (songOf bs)) ∷ []) ∙ ap (stageOr (verdict (songStages bs))) (last-stage (roomFaults room (tables (songOf bs)))))
+      (verdict-append (songStages bs) (roomFaults room (tables (songOf bs)) ∷ [])
+      ∙ ap (stageOr (verdict (songStages bs))) (last-stage (roomFaults room (tables (songOf bs)))))
 
   -- What refuses the song alone refuses it whatever is lent; and what is not 18 refuses the song alone.
   pub refused-with-tables : (number line : ℕ) → songAnswer bs ≡ refused number line → answer room bs ≡ refused number line
   unfolding songAnswer
-  refused-with-tables number line h = answer-is ∙ refused-too (verdict (songStages bs)) (earliest (roomFaults room (tables (songOf bs)))) (tables (songOf bs)) number line h
+  refused-with-tables number line h =
+      answer-is ∙ refused-too (verdict (songStages bs)) (earliest (roomFaults room (tables (songOf bs)))) (tables (songOf bs)) number line h
 
   pub refused-without-tables : (number line : ℕ) → answer room bs ≡ refused number line → (number ≡ 18 → ⊥) → songAnswer bs ≡ refused number line
   unfolding songAnswer
   refused-without-tables number line h other =
-      refused-before (verdict (songStages bs)) (earliest (roomFaults room (tables (songOf bs)))) (tables (songOf bs)) number line (room-given room (tables (songOf bs))) (sym answer-is ∙ h) other
+      refused-before (verdict (songStages bs)) (earliest (roomFaults room (tables (songOf bs)))) (tables (songOf bs)) number line
+      (room-given room (tables (songOf bs))) (sym answer-is ∙ h) other
 
   -- A song that nothing refuses alone is judged by the room for its tables.
   pub judged-by-room : (t : Tables) → songAnswer bs ≡ accepted t → answer room bs ≡ answerBy (earliest (roomFaults room t)) t
   unfolding songAnswer
   judged-by-room t h =
       let same : tables (songOf bs) ≡ t = own-tables (verdict (songStages bs)) (tables (songOf bs)) t h in
-      answer-is ∙ by-the-last (verdict (songStages bs)) (earliest (roomFaults room (tables (songOf bs)))) (tables (songOf bs)) t h ∙ ap (λ u. answerBy (earliest (roomFaults room u)) u) same
+      answer-is ∙ by-the-last (verdict (songStages bs)) (earliest (roomFaults room (tables (songOf bs)))) (tables (songOf bs)) t h
+      ∙ ap (λ u. answerBy (earliest (roomFaults room u)) u) same
 
   pub accepted-with-room : (t : Tables) → (answer room bs ≡ accepted t) ↔ ((songAnswer bs ≡ accepted t) × HasRoom room t)
   unfolding songAnswer answerBy earliest

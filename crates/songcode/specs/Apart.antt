@@ -6,13 +6,12 @@ use mathlib.Core.Logic.{_↔_, _⊎_}
 use mathlib.Core.List.{List, [], _∷_, _++_, map, List·Memᴰ}
 use mathlib.Core.Bool.{true}
 use mathlib.Core.Option.{Option, none, some}
-use Rattle.songcode.specs.Lists.{gather}
 use Rattle.songcode.specs.Bytes.{Byte}
 use Rattle.songcode.specs.Numbers.{isDecimal, valueFrom}
 use Rattle.songcode.specs.Song.{Item, measure, loop, refer, Items, one, next, Pattern, items, named, Cut, Modifier, repeated, cutStart, cutEnd, before}
 use Rattle.songcode.specs.Song.{after}
 use Rattle.songcode.specs.Song.{Definition, Section, Song}
-use Rattle.songcode.specs.Tokens.{Token, sound, remover, reference, semicolon, colon, lineEnd, opens, closes, wrong}
+use Rattle.songcode.specs.Tokens.{Token, reference}
 use Rattle.songcode.specs.PatternText.{depth, loopsDeep}
 use Rattle.songcode.specs.References.{patternItems}
 use Rattle.songcode.specs.Playing.{saidBy, cutStartSaid, cutEndSaid, Side, beforeSaid, afterSaid, repeats}
