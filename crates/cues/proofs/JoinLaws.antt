@@ -1,8 +1,8 @@
 -- Tables that join up, record by record: what one record adds, and what stops it.
 use Prim.Native.Nat.{ℕ, suc, _+_, _<_, _≤_}
-use mathlib.Core.Path.{_≡_, refl}
+use mathlib.Core.Path.{_≡_}
 use mathlib.Core.List.{List, _∷_}
-use mathlib.Core.Bool.{Bool, true, false, _&&_}
+use mathlib.Core.Bool.{Bool, true, false, and-false}
 use native.Mathlib.Numerals.{add-one}
 use native.Mathlib.Omega.{arith}
 use lib.Dec.{eqb, leb}
@@ -12,11 +12,6 @@ use borrow.Author.Tests.{eq-eqb, ne-eqb, le-leb, lt-leb}
 use Rattle.songcode.specs.Lists.{every}
 use Rattle.songcode.specs.Joined.{firstBeat, beatCount, endBeat, follows, isShort, measuresJoin, firstMeasure, measureCount, sectionBpm, covers}
 use Rattle.cues.specs.Cues.{isTimed}
-
--- A test that stands second cannot help.
-no-and : (a : Bool) → a && false ≡ false
-no-and true = refl
-no-and false = refl
 
 module _ (beat i : ℕ) (table : List ℕ) (l : i < length table) where
   -- The record at i starts at the beat and has 1 to 32 beats.
@@ -43,7 +38,7 @@ module _ (beat i : ℕ) (table : List ℕ) (l : i < length table) where
 
   pub join-long : 32 < beatCount (getD table i 0) → measuresJoin beat (drop i table) ≡ false
   unfolding measuresJoin every isShort
-  join-long n = rw (drop-cons table i 0 l, lt-leb (beatCount (getD table i 0)) 32 n) (no-and (follows beat (getD table i 0 ∷ drop (suc i) table)))
+  join-long n = rw (drop-cons table i 0 l, lt-leb (beatCount (getD table i 0)) 32 n) (and-false (follows beat (getD table i 0 ∷ drop (suc i) table)))
 
 pub join-over : (beat i : ℕ) (table : List ℕ) → length table ≤ i → measuresJoin beat (drop i table) ≡ true
 unfolding measuresJoin follows every

@@ -1,12 +1,12 @@
 -- The words of what a section plays give its letters: each chord stands in the file at its word's offset.
-use Prim.Native.Nat.{ℕ, zero, suc, _+_, _*_, _^_, _<_, _≤_}
+use Prim.Native.Nat.{ℕ, _+_, _*_, _^_, _<_, _≤_}
 use mathlib.Core.Path.{_≡_, refl, sym, ap, _∙_}
 use mathlib.Core.List.{List, [], _∷_, map, append-nil, head-eq-of-cons-eq, tail-eq-of-cons-eq}
 use mathlib.Core.Bool.{Bool, true, false}
 use mathlib.Core.Option.{Option, none, some}
 use native.Mathlib.Omega.{arith}
 use borrow.Author.Tests.{le-ltb}
-use lib.ListN.{length, getElem?, length-map}
+use lib.ListN.{length, length-map}
 use Rattle.songcode.specs.Lists.{if_then_else_, gather}
 use Rattle.songcode.specs.Bytes.{ascii, placed}
 use Rattle.songcode.specs.Chords.{Chord, bases, spellingOf}
@@ -15,20 +15,14 @@ use Rattle.songcode.specs.Layout.{field}
 use Rattle.songcode.specs.Playing.{Beat}
 use Rattle.songcode.specs.Flat.{letters, lettersOf, ended, flatMeasure, flatPattern}
 use Rattle.songcode.specs.WrittenFlat.{stretchAt}
-use Rattle.songcode.proofs.PatternLaws.{none-some}
 use Rattle.songcode.proofs.Stretches.{stretch-of}
 use Rattle.songcode.proofs.ChordsPlayed.{OfIf, OfAll, OfRow}
 use Rattle.songcode.proofs.SpeltChords.{Known}
 use Rattle.songcode.proofs.CopyWords.{bit-small, beat-offset, beat-length}
 use Rattle.songcode.proofs.CopyBeats.{chord-fits}
+use Rattle.songcode.proofs.FieldsFitProved.{get-before}
 use Rattle.player.specs.Texts.{rowWords}
 use Rattle.flat.specs.Measures.{lettersAt, measureLine, measureLines, patternLines, Heard}
-
--- A base chord has a number below 34.
-found-within : {A : Type 0} (xs : List A) (n : ℕ) (x : A) → getElem? xs n ≡ some x → n < length xs
-found-within [] n x e = none-some refl e
-found-within (y ∷ xs) zero x e = omega arith
-found-within (y ∷ xs) (suc n) x e = let h = found-within xs n x e in omega arith
 
 how-many : length bases ≡ 34
 unfolding bases
@@ -36,7 +30,7 @@ how-many = refl
 
 module _ (s : List ℕ) (small : length s ≤ 65536) where
   base-small : (c : Chord) → Known (placed 0 s) c → c .base ≤ 33
-  base-small c k = let h = found-within bases (c .base) _ (k .spelt .spelled .numbered) in let e = how-many in omega arith
+  base-small c k = let h = get-before bases (c .base) _ (k .spelt .spelled .numbered) in let e = how-many in omega arith
 
   base-at : (b o l h : ℕ) → b < 64 → o < 65536 → l < 32 → h < 2 → field 26 6 (b * 2 ^ 26 + o * 2 ^ 10 + l * 2 ^ 5 + h * 2 ^ 4) ≡ b
   unfolding field

@@ -16,10 +16,9 @@ use Rattle.songcode.specs.Tables.{measureWord}
 use Rattle.songcode.specs.Layout.{field}
 use Rattle.songcode.specs.Flat.{parted, spaced, ended}
 use Rattle.songcode.specs.WrittenFlat.{stretchAt}
-use Rattle.songcode.proofs.ListLaws.{both-pass}
+use Rattle.songcode.proofs.ListLaws.{both-pass, by-cases}
 use Rattle.songcode.proofs.CopyWords.{bit-small}
 use Rattle.text.specs.Spans.{part}
-use Rattle.text.proofs.TestLaws.{by-cases}
 use Rattle.tokens.specs.Bases.{unpadded}
 use Rattle.packing.specs.declared.fields.MeasureFields.{MeasureFields}
 use Rattle.packing.specs.declared.fields.BeatFields.{BeatFields}

@@ -11,8 +11,8 @@ use lib.ListN.{length, drop, getD, set, length-set}
 use lib.Seq.{sets, sets-eq, drop-cons}
 use Rattle.songcode.specs.Lists.{if_then_else_}
 use Rattle.songcode.specs.Answer.{mostBytes}
+use Rattle.songcode.proofs.ListLaws.{by-cases}
 use Rattle.text.specs.Spans.{part}
-use Rattle.text.proofs.TestLaws.{by-cases}
 use Rattle.packing.specs.Written.{written}
 use Rattle.flat.specs.Sheets.{Sheet, putOne, puts}
 

@@ -103,7 +103,8 @@ pub fn put_measures(
     at: usize,
 ) -> usize
     requires { ⌜ k ≤ length (now measures) ⌝ }
-    ensures { λ r. ⌜ Adds (measureLines (now (s .entry)) n (firstMeasures k (now (measures .entry)) (now (beats .entry)))) (now (copy .entry)) at (now (copy .exit)) r ⌝ }
+    ensures { λ r. ⌜ Adds (measureLines (now (s .entry)) n (firstMeasures k (now (measures .entry)) (now (beats .entry))))
+        (now (copy .entry)) at (now (copy .exit)) r ⌝ }
 {
     let mut out = at;
     let mut i = 0;

@@ -26,8 +26,10 @@ pub fn part_of(
 ) -> Counts
     requires { ⌜ PlaysWithin (now words) score n t m 0 × (from ≤ 2097120) ⌝ }
     ensures counts { λ r. ⌜ Counted r (partOfTexts (now (words .entry)) score n t m from (length (now (beats .entry)))) ⌝ }
-    ensures measures { λ r. ⌜ now (measures .exit) ≡ sets (now (measures .entry)) 0 (heads 0 (partOfTexts (now (words .entry)) score n t m from (length (now (beats .entry))))) ⌝ }
-    ensures beats { λ r. ⌜ now (beats .exit) ≡ sets (now (beats .entry)) 0 (flat (partOfTexts (now (words .entry)) score n t m from (length (now (beats .entry))))) ⌝ }
+    ensures measures { λ r. ⌜ now (measures .exit) ≡ sets (now (measures .entry)) 0
+        (heads 0 (partOfTexts (now (words .entry)) score n t m from (length (now (beats .entry))))) ⌝ }
+    ensures beats { λ r. ⌜ now (beats .exit) ≡ sets (now (beats .entry)) 0
+        (flat (partOfTexts (now (words .entry)) score n t m from (length (now (beats .entry))))) ⌝ }
 {
     let lead = t.lead;
     let pattern = t.pattern;

@@ -8,7 +8,7 @@ use lib.Dec.{eqb, leb}
 use Rattle.songcode.specs.Lists.{if_then_else_, isSome}
 use Rattle.songcode.specs.Tokens.{Token, sound, remover, reference, semicolon, colon, lineEnd, opens, closes, wrong}
 use Rattle.songcode.specs.PatternText.{wholeReference, loopsDeep}
-use Rattle.text.proofs.TestLaws.{by-cases}
+use Rattle.songcode.proofs.ListLaws.{by-cases}
 use Rattle.grammar.specs.declared.kinds.Kind.{Kind}
 use Rattle.grammar.specs.declared.checks.Place.{Place}
 use Rattle.grammar.specs.declared.checks.Place.the-variants.{Fresh, Wants, Joins, Sounds, Removed, Alone, Full, Ended, Bad}

@@ -2,7 +2,7 @@
 use Prim.Native.Nat.{ℕ, suc, _+_, max}
 use mathlib.Core.Path.{_≡_, refl, sym, ap, _∙_}
 use mathlib.Core.List.{List, [], _∷_}
-use mathlib.Core.Bool.{Bool, true, false, _&&_, not}
+use mathlib.Core.Bool.{Bool, true, false, _&&_, not, and-true}
 use mathlib.Core.Option.{Option, none, some}
 use native.Mathlib.Omega.{arith}
 use borrow.Author.Tests.{le-leb, lt-leb, ne-eqb}
@@ -14,7 +14,7 @@ use Rattle.songcode.specs.Song.{Item, Items, items}
 use Rattle.songcode.specs.Tokens.{Token, sound, remover, reference, semicolon, colon, lineEnd, opens, closes, wrong, tokensOf}
 use Rattle.songcode.specs.PatternText.{Begun, start, State, wants, has, ended, bad, add, run, done, itemsIn, depth, depthI, loopsDeep, references}
 use Rattle.songcode.specs.PatternText.{noReference, kept, definitionText, wholeReference, patternBy, sectionText}
-use Rattle.text.proofs.TestLaws.{by-cases}
+use Rattle.songcode.proofs.ListLaws.{by-cases}
 use Rattle.grammar.specs.declared.checks.Place.{Place}
 use Rattle.grammar.specs.declared.checks.Check.{Check}
 use Rattle.grammar.specs.Kinds.{kindsOf}
@@ -32,10 +32,6 @@ not-not false = refl
 and-false : (b : Bool) → (b && false) ≡ false
 and-false true = refl
 and-false false = refl
-
-and-true : (b : Bool) → (b && true) ≡ b
-and-true true = refl
-and-true false = refl
 
 -- A verdict that wants an item last, and then what a test says of the references.
 abbrev fine : (Bool → Bool) → Check → Bool

@@ -1,7 +1,7 @@
 // Lead-ins and tails: "one line, not empty, without `:` and `$`".
 use super::check_line;
 use super::start;
-use super::unnamed_fine;
+use super::verdicts::unnamed_fine;
 ghost use mathlib.Core.Path.{_≡_};
 ghost use Prim.Native.Nat.{_≤_};
 ghost use lib.ListN.{length};

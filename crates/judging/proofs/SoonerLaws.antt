@@ -12,9 +12,10 @@ use Rattle.songcode.specs.Lists.{if_then_else_}
 use Rattle.songcode.specs.Complaints.{Complaint, goesFirst, earlier, earliest}
 use Rattle.songcode.specs.Given.{Before}
 use Rattle.songcode.proofs.ListLaws.{by-cases, Each}
+use Rattle.songcode.proofs.VerdictAgree.{goes-first}
 use Rattle.text.specs.Refusals.{refusalOf}
 use Rattle.judging.specs.Meters.{soonerOf}
-use Rattle.scores.proofs.ComplaintLaws.{Numbered, goes-before, before-goes, firstOf, earliest-append, earliest-each}
+use Rattle.scores.proofs.ComplaintLaws.{Numbered, before-goes, firstOf, earliest-append, earliest-each}
 
 -- Two complaints by their lines and numbers.
 not-before : (c d : Complaint) → d .line < c .line → Before c d → ⊥
@@ -33,7 +34,7 @@ behind-number : (c d : Complaint) → c .line ≡ d .line → d .number < c .num
 unfolding Before
 behind-number c d l n =
     by-cases (goesFirst c d) (λ t. absurd (⊎-elim (λ a. let z : ⊥ = omega arith in z) (λ a. let h = a .1 in let z : ⊥ = omega arith in z)
-    (goes-before c d t))) (λ f. f)
+    (goes-first c d t))) (λ f. f)
 
 ordered : (c d : Complaint) → refusalOf (some (earlier c (some d)))
     ≡ (if ltb (d .line) (c .line) then refusalOf (some d)
@@ -44,7 +45,7 @@ ordered c d =
     by-cases (ltb (d .line) (c .line))
     (λ e.
     let l = ltb-true _ _ e in
-    let f : goesFirst c d ≡ false = by-cases (goesFirst c d) (λ t. absurd (not-before c d l (goes-before c d t))) (λ f. f) in
+    let f : goesFirst c d ≡ false = by-cases (goesFirst c d) (λ t. absurd (not-before c d l (goes-first c d t))) (λ f. f) in
     rw (f, e))
     (λ e.
     let l = ltb-false (d .line) (c .line) e in

@@ -1,7 +1,7 @@
 -- The chords of items, and `%` before every chord, as the state tells them.
 use Prim.Native.Nat.{ℕ, zero, suc}
 use mathlib.Core.Path.{_≡_, refl, sym, ap, _∙_}
-use mathlib.Core.Bool.{Bool, true, false, _||_, _&&_, not}
+use mathlib.Core.Bool.{Bool, true, false, _||_, _&&_, not, or-true}
 use mathlib.Core.Option.{Option, none}
 use native.Mathlib.Omega.{arith}
 use borrow.Author.Tests.{ne-eqb, lt-ltb}
@@ -22,15 +22,12 @@ use Rattle.outlines.specs.declared.readings.Outline.{Outline}
 use Rattle.outlines.specs.declared.readings.Reading.{Reading}
 use Rattle.outlines.specs.Readings.{sounded, measured, closed, opened, shut, referred}
 use Rattle.outlines.specs.Told.{Told}
-use Rattle.outlines.proofs.TreeLaws.{heardIn, heardAll, removed, afterItem, after, chord-kind}
+use Rattle.outlines.proofs.TreeLaws.{heardIn, heardAll, removed, afterItem, after}
+use Rattle.player.proofs.SoundLaws.{chord-kind}
 
 pub or-false : (a : Bool) → (a || false) ≡ a
 or-false true = refl
 or-false false = refl
-
-pub or-true : (a : Bool) → (a || true) ≡ true
-or-true true = refl
-or-true false = refl
 
 pub or-assoc : (a b c : Bool) → ((a || b) || c) ≡ (a || (b || c))
 or-assoc true b c = refl

@@ -14,6 +14,7 @@ use Rattle.songcode.specs.References.{glue, putInItem, putIn}
 use Rattle.songcode.specs.Playing.{soundCount, positions}
 use Rattle.songcode.specs.Meter.{fits, allFitItem, allFit, count}
 use Rattle.songcode.proofs.ListLaws.{by-cases, Each, append-each}
+use Rattle.songcode.proofs.PlayingAgree.{sounds-some}
 use Rattle.tokens.specs.TokenWords.{tokenWord}
 use Rattle.player.specs.Signs.{kindOf}
 use Rattle.outlines.specs.declared.readings.Outline.{Outline}
@@ -62,11 +63,6 @@ unfolding removed
 removed-within zero s t p w = let e : p + 0 ≡ p = omega arith in rw e w
 removed-within (suc n) s t p w = let e : p + suc n ≡ suc (p + n) = omega arith in rw e (within-more 61 s (removed n t) (p + n) (removed-within n s t p w))
 
-some-sound : (xs : Sounds) → 1 ≤ soundCount xs
-unfolding soundCount
-some-sound (only x) = omega arith
-some-sound (also xs x) = omega arith
-
 -- A measure, and its end.
 pub record Measured (s t : Reading) (p : ℕ) : Type 0 where
   pub sizes : t .sizes ≡ joined (s .sizes) (min 33 p)
@@ -79,7 +75,7 @@ measure-closed find m s h =
     let t = removed (m .removers) (heardAll (m .sounds) s) in
     let w = removed-within (m .removers) s (heardAll (m .sounds) s) (soundCount (m .sounds)) (all-within (m .sounds) s) in
     let e = w .positions in
-    let k = some-sound (m .sounds) in
+    let k = sounds-some (m .sounds) in
     let g : t .positions ≡ min 33 (soundCount (m .sounds) + m .removers) = omega arith in
     rw (closed-one t (omega arith)) (record { sizes = rw (w .sizes, g); row = rw (w .row); before = w .before })
 

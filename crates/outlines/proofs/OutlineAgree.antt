@@ -2,7 +2,7 @@
 use Prim.Native.Nat.{ℕ, _≤_}
 use mathlib.Core.Path.{_≡_, refl, ap, _∙_}
 use mathlib.Core.List.{List, []}
-use mathlib.Core.Bool.{Bool, true, false, _&&_}
+use mathlib.Core.Bool.{Bool, true, _&&_, and-true}
 use mathlib.Core.Option.{Option, none}
 use native.Mathlib.Omega.{arith}
 use native.Mathlib.Nat.{mod-one}
@@ -30,10 +30,6 @@ use Rattle.outlines.proofs.CountLaws.{items-plays}
 divides-one : (n : ℕ) → divides 1 n ≡ true
 unfolding divides
 divides-one n = eq-eqb _ 0 (mod-one n)
-
-and-true : (b : Bool) → (b && true) ≡ b
-and-true true = refl
-and-true false = refl
 
 -- The end state of the items.
 sum-tells : (find : ℕ → Outline) (f : ℕ → Option Items) (e : Bool) (r : Items) → ItemsFit r → depth r ≤ 1 → Each (Told find f) (references r)

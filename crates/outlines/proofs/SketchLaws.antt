@@ -2,7 +2,7 @@
 use Prim.Native.Nat.{ℕ, zero, suc, _<_, max}
 use mathlib.Core.Path.{_≡_, refl, sym, ap, _∙_}
 use mathlib.Core.List.{List, [], _∷_, _++_}
-use mathlib.Core.Bool.{Bool, false, _||_, not}
+use mathlib.Core.Bool.{Bool, false, _||_, not, or-true}
 use native.Mathlib.Omega.{arith}
 use borrow.Author.Tests.{leb-true, leb-false, le-leb, lt-leb}
 use lib.Dec.{eqb, leb}
@@ -21,7 +21,7 @@ use Rattle.outlines.specs.declared.readings.Reading.{Reading}
 use Rattle.outlines.specs.Readings.{started, sounded, measured, closed, opened, shut, referred, summed, outlined}
 use Rattle.outlines.specs.Told.{Sketches}
 use Rattle.outlines.proofs.TreeLaws.{heardIn, heardAll, removed, afterItem, after}
-use Rattle.outlines.proofs.ChordLaws.{or-false, or-true, or-assoc}
+use Rattle.outlines.proofs.ChordLaws.{or-false, or-assoc}
 use Rattle.outlines.proofs.OutlineAgree.{read-whole}
 
 -- Some token is written.

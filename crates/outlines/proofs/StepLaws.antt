@@ -1,5 +1,5 @@
 -- Steps: of the loop that finds a definition's place, and of a word that is read.
-use Prim.Native.Nat.{ℕ, suc, _+_, _-_, _<_, _≤_}
+use Prim.Native.Nat.{ℕ, _+_, _-_, _<_, _≤_}
 use mathlib.Core.Path.{_≡_, sym, ap, _∙_}
 use mathlib.Core.Bool.{Bool, true, false}
 use mathlib.Core.List.{List}
@@ -14,9 +14,7 @@ use Rattle.outlines.specs.declared.faults.Faults.{Faults}
 use Rattle.outlines.specs.Readings.{sounded, closed, opened, shut, referred, stepOf, wordRead}
 use Rattle.outlines.specs.Faults.{referenceRead, bracketRead, faultsRead}
 use Rattle.outlines.specs.Tables.{placeBy}
-
-some-left : (n i : ℕ) → i < n → n - i ≡ suc (n - (i + 1))
-some-left n i h = omega arith
+use Rattle.player.proofs.StretchLaws.{some-left}
 
 pub place-found : (ids : List ℕ) (n i x : ℕ) → i < n → getD ids i 0 ≡ x → placeBy (n - i) ids i x ≡ i
 unfolding placeBy if_then_else_

@@ -17,6 +17,7 @@ use Rattle.player.specs.Texts.{ChordFits, ChordsFit, ItemFits, ItemsFit}
 use Rattle.outlines.specs.declared.readings.Outline.{Outline}
 use Rattle.outlines.specs.declared.readings.Reading.{Reading}
 use Rattle.outlines.specs.Readings.{sounded, measured, closed, opened, shut, referred, stepOf, wordRead, wordsRead}
+use Rattle.player.proofs.SoundLaws.{chord-kind}
 
 -- What each part of a pattern makes of a state; a measure is left open behind its last position.
 unfoldable pub heardIn : Sound → Reading → Reading
@@ -44,10 +45,6 @@ unfoldable mutual
   pub after : (ℕ → Outline) → Items → Reading → Reading
   after find (one i) s = afterItem find i s
   after find (next r t i) s = afterItem find i (closed (after find r s))
-
--- A word of a chord is a position.
-pub chord-kind : (w : ℕ) → w < 2281701376 → kindOf w < 34
-chord-kind w h = omega arith
 
 read-sound : (find : ℕ → Outline) (x : Sound) (s : Reading) → ChordFits x → wordRead find s (tokenWord (sound x)) ≡ heardIn x s
 unfolding wordRead stepOf isPosition if_then_else_ heardIn tokenWord ChordFits

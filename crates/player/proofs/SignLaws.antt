@@ -56,7 +56,7 @@ none-of : (w : ℕ) (xs : List ℕ) → isPosition (kindOf w) ≡ false → posi
 unfolding positionsOf
 none-of w xs e = rw (e, if_then_else_)
 
-one-of : (w : ℕ) (xs : List ℕ) → isPosition (kindOf w) ≡ true → positionsOf (w ∷ xs) ≡ w ∷ positionsOf xs
+pub one-of : (w : ℕ) (xs : List ℕ) → isPosition (kindOf w) ≡ true → positionsOf (w ∷ xs) ≡ w ∷ positionsOf xs
 unfolding positionsOf
 one-of w xs e = rw (e, if_then_else_)
 

@@ -19,6 +19,7 @@ use Rattle.songcode.proofs.ListLaws.{gather-append}
 use Rattle.tokens.specs.TokenWords.{chordWord, tokenWord, tokenWords}
 use Rattle.player.specs.Signs.{kindOf, isPosition, voiceOf, chordOf, chordsOf, lastingOf, partOf, partsOf, positionsOf}
 use Rattle.player.specs.Texts.{voiceWord, ChordFits, ChordsFit}
+use Rattle.player.proofs.SignLaws.{one-of}
 
 map-replicate : {A B : Type 0} (f : A → B) (n : ℕ) (x : A) → map f (replicate n x) ≡ replicate n (f x)
 map-replicate f zero x = refl
@@ -40,7 +41,7 @@ unfolding lastingOf lasting
 lasting-words zero v = refl
 lasting-words (suc k) v = rw (map-replicate beatWord k (beat v false), ← head-word v, ← plain-word v)
 
-chord-kind : (w : ℕ) → w < 2281701376 → kindOf w < 34
+pub chord-kind : (w : ℕ) → w < 2281701376 → kindOf w < 34
 chord-kind w h = omega arith
 
 low-voice : (last w : ℕ) → kindOf w < 34 → voiceOf last w ≡ w
@@ -112,16 +113,12 @@ unfolding writeSounds tokenWords soundCount
 sounds-length (only s) k = omega arith
 sounds-length (also ss s) k = let h = sounds-length ss (sound s ∷ k) in omega arith
 
-one-position : (w : ℕ) (xs : List ℕ) → isPosition (kindOf w) ≡ true → positionsOf (w ∷ xs) ≡ w ∷ positionsOf xs
-unfolding positionsOf
-one-position w xs e = rw (e, if_then_else_)
-
 sounds-positions : (ss : Sounds) (k j : List Token) → ChordsFit ss → positionsOf (tokenWords k) ≡ tokenWords j
     → positionsOf (tokenWords (writeSounds ss k)) ≡ tokenWords (writeSounds ss j)
 unfolding ChordsFit writeSounds tokenWords
-sounds-positions (only s) k j h e = one-position (tokenWord (sound s)) (tokenWords k) (sound-position s h) ∙ rw e
+sounds-positions (only s) k j h e = one-of (tokenWord (sound s)) (tokenWords k) (sound-position s h) ∙ rw e
 sounds-positions (also ss s) k j h e =
-    sounds-positions ss (sound s ∷ k) (sound s ∷ j) (h .0) (one-position (tokenWord (sound s)) (tokenWords k) (sound-position s (h .1)) ∙ rw e)
+    sounds-positions ss (sound s ∷ k) (sound s ∷ j) (h .0) (one-of (tokenWord (sound s)) (tokenWords k) (sound-position s (h .1)) ∙ rw e)
 
 -- The removers.
 removers-parts : (share l n : ℕ) (k : List Token) → partsOf share l (tokenWords (writeRemovers n k)) ≡ partsOf share l (tokenWords k)
@@ -143,7 +140,7 @@ removers-positions : (n : ℕ) (k j : List Token) → positionsOf (tokenWords k)
     → positionsOf (tokenWords (writeRemovers n k)) ≡ tokenWords (writeRemovers n j)
 unfolding writeRemovers tokenWords tokenWord isPosition
 removers-positions zero k j e = e
-removers-positions (suc n) k j e = removers-positions n (remover ∷ k) (remover ∷ j) (one-position 4093640704 (tokenWords k) refl ∙ rw e)
+removers-positions (suc n) k j e = removers-positions n (remover ∷ k) (remover ∷ j) (one-of 4093640704 (tokenWords k) refl ∙ rw e)
 
 -- What stands behind.
 sounds-drop : (ss : Sounds) (k : List Token) → drop (soundCount ss) (tokenWords (writeSounds ss k)) ≡ tokenWords k

@@ -8,7 +8,7 @@ use lib.ListN.{getD}
 use Rattle.songcode.specs.Lists.{if_then_else_}
 use Rattle.player.specs.Walks.{stretchBy}
 
-some-left : (n i : ℕ) → i < n → n - i ≡ suc (n - (i + 1))
+pub some-left : (n i : ℕ) → i < n → n - i ≡ suc (n - (i + 1))
 some-left n i h = omega arith
 
 pub stretch-found : (ids from to : List ℕ) (n i x : ℕ) → i < n → getD ids i 0 ≡ x

@@ -20,4 +20,3 @@ pub use playing::Plan;
 pub use playing::planned;
 pub use playing::play_part;
 pub use playing::play_section;
-pub use playing::tally;

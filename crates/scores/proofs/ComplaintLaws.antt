@@ -1,31 +1,20 @@
 -- Which complaint is given of two lists put together, and refusals as numbers.
 use Prim.Native.Nat.{ℕ, _<_, _≤_}
-use mathlib.Core.Path.{_≡_, refl, sym, ap, _∙_, subst}
+use mathlib.Core.Path.{_≡_, refl, ap, _∙_, subst}
 use mathlib.Core.List.{List, [], _∷_, _++_}
 use mathlib.Core.Logic.{inl, inr, ⊎-elim}
 use mathlib.Core.Bool.{Bool, true, false}
 use mathlib.Core.Option.{Option, none, some}
 use native.Mathlib.Omega.{arith}
-use lib.Dec.{eqb, leb, ltb}
-use borrow.Author.Tests.{lt-ltb, le-ltb, le-leb, eq-eqb, ltb-true, ltb-false, leb-true, leb-false, eqb-true, eqb-false}
+use borrow.Author.Tests.{lt-ltb, le-ltb, le-leb, eq-eqb}
 use Rattle.songcode.specs.Lists.{if_then_else_, gather, when}
 use Rattle.songcode.specs.Complaints.{Complaint, complainIf, goesFirst, earlier, earliest}
 use Rattle.songcode.specs.Given.{Before}
 use Rattle.songcode.specs.Song.{Section}
 use Rattle.songcode.proofs.ListLaws.{by-cases, true-is-not-false, Each, each-append, each-map}
+use Rattle.songcode.proofs.VerdictAgree.{goes-first, goes-behind}
 use Rattle.text.specs.Refusals.{refusalOf}
 use Rattle.sections.specs.Onward.{Later}
-
--- The test of two complaints by cases on their lines and numbers.
-pub goes-before : (c d : Complaint) → goesFirst c d ≡ true → Before c d
-unfolding goesFirst Before
-goes-before c d e =
-    by-cases (ltb (c .line) (d .line))
-    (λ h. inl (ltb-true _ _ h))
-    (λ h.
-    by-cases (eqb (c .line) (d .line))
-    (λ k. let g : leb (c .number) (d .number) ≡ true = rw (h, k) at e in inr (eqb-true _ _ k, leb-true _ _ g))
-    (λ k. let g : false ≡ true = rw (h, k) at e in true-is-not-false g refl))
 
 pub before-goes : (c d : Complaint) → Before c d → goesFirst c d ≡ true
 unfolding goesFirst Before
@@ -43,24 +32,11 @@ before-trans c d e p q =
     (λ a. ⊎-elim (λ b. inl (let h = a .0 in omega arith)) (λ b. inr (a .0 ∙ b .0, let h = a .1 in let k = b .1 in omega arith)) q)
     p
 
-before-total : (c d : Complaint) → goesFirst c d ≡ false → Before d c
-unfolding goesFirst Before
-before-total c d e =
-    by-cases (ltb (c .line) (d .line))
-    (λ h. let g : true ≡ false = rw h at e in true-is-not-false refl g)
-    (λ h.
-    let l = ltb-false (c .line) (d .line) h in
-    by-cases (eqb (c .line) (d .line))
-    (λ k. let g : leb (c .number) (d .number) ≡ false = rw (h, k) at e in let n = leb-false (c .number) (d .number) g in inr
-    (sym (eqb-true _ _ k), omega arith))
-    (λ k. by-cases (ltb (d .line) (c .line)) (λ m. inl (ltb-true _ _ m))
-    (λ m. let w = ltb-false (d .line) (c .line) m in let z : c .line ≡ d .line = omega arith in absurd (eqb-false _ _ k z))))
-
 -- One that goes behind a second, which goes behind a third, does not go before the third.
 goes-behind-both : (c d e : Complaint) → goesFirst c d ≡ false → goesFirst d e ≡ false → goesFirst c e ≡ false
 goes-behind-both c d e p q =
     by-cases (goesFirst c e)
-    (λ t. let b = before-trans c e d (goes-before c e t) (before-total d e q) in true-is-not-false (before-goes c d b) p)
+    (λ t. let b = before-trans c e d (goes-first c e t) (goes-behind d e q) in true-is-not-false (before-goes c d b) p)
     (λ f. f)
 
 earlier-both : (c d e : Complaint) → earlier c (some (earlier d (some e))) ≡ earlier (earlier c (some d)) (some e)
@@ -68,7 +44,7 @@ unfolding earlier if_then_else_
 earlier-both c d e =
     by-cases (goesFirst c d)
     (λ p. by-cases (goesFirst d e)
-    (λ q. let t = before-goes c e (before-trans c d e (goes-before c d p) (goes-before d e q)) in rw (q, p, t))
+    (λ q. let t = before-goes c e (before-trans c d e (goes-first c d p) (goes-first d e q)) in rw (q, p, t))
     (λ q. rw (q, p)))
     (λ p. by-cases (goesFirst d e)
     (λ q. rw (q, p, q))

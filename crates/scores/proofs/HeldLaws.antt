@@ -12,11 +12,10 @@ use Rattle.songcode.specs.Lists.{if_then_else_, isSome, andThen, orElse, gather
 use Rattle.songcode.specs.Lines.{Line}
 use Rattle.songcode.specs.Song.{Items, named, Definition}
 use Rattle.songcode.specs.PatternText.{references}
-use Rattle.songcode.specs.References.{definitionOf, itemsOf, putInItem, putIn, patternItems, itemsFault, referenceFault, depthFault, definitionReferences}
+use Rattle.songcode.specs.References.{definitionOf, itemsOf, putInItem, putIn, patternItems, referenceFault, depthFault, definitionReferences}
 use Rattle.songcode.specs.Fits.{Refers, ReferAll}
-use Rattle.songcode.proofs.ListLaws.{Each, each-map, append-is-nil, gather-nil, nil-is-not-cons}
-use Rattle.songcode.proofs.PatternAgree.{none-referred}
-use Rattle.songcode.proofs.FaultLaws.{unless-exact}
+use Rattle.songcode.proofs.ListLaws.{Each, each-map, append-is-nil, gather-nil}
+use Rattle.songcode.proofs.ReferencesAgree.{refers-sound}
 use Rattle.tokens.specs.TokenWords.{tokenWords}
 use Rattle.tokens.specs.Lexing.{laid}
 use Rattle.player.specs.declared.leaves.Definitions.{Definitions}
@@ -112,20 +111,10 @@ module _ (ds : List Definition) (ws : List ℕ) (fill : ℕ) where
       items : (i : Option Items) → i ≡ some q → HeldItems ds ws fill at o i → HeldText ds ws fill at o q
       items i g w = let z : HeldItems ds ws fill at o (some q) = rw g at w in z
 
--- The references of a definition without fault are to earlier definitions.
-refers-to : (ds : List Definition) (n head : ℕ) (o : Option Definition) → definitionOf n ds ≡ o → referenceFault o head ≡ [] → Refers ds n
-unfolding referenceFault itemsFault
-refers-to ds n head none e f = nil-is-not-cons (sym f)
-refers-to ds n head (some d) e f = of (d .items) refl f
-  where
-    of : (i : Option Items) → d .items ≡ i → itemsFault i head ≡ [] → Refers ds n
-    of none g h = nil-is-not-cons (sym h)
-    of (some r) g h = record { definition = d; items = r; found = e; filled = g; plain = unless-exact _ 11 head (none-referred r) .0 h }
-
 pub references-right : (ds : List Definition) (r : Items) (head : ℕ) → definitionReferences ds (some r) head ≡ [] → Each (Refers ds) (references r)
 unfolding definitionReferences
 references-right ds r head e =
-    each-map (λ n f. refers-to ds n head (definitionOf n ds) refl f) (references r)
+    each-map (λ n f. refers-sound ds n head (definitionOf n ds) refl f) (references r)
     (gather-nil (λ n. referenceFault (definitionOf n ds) head) (references r)
     (append-is-nil (gather (λ n. referenceFault (definitionOf n ds) head) (references r)) (depthFault ds r head) e .0))
 

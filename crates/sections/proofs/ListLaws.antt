@@ -6,8 +6,7 @@ use mathlib.Core.Bool.{Bool, _&&_}
 use lib.ListN.{take, drop}
 use lib.Seq.{take-add, drop-drop}
 use Rattle.songcode.specs.Lists.{if_then_else_, taken, left}
-use Rattle.songcode.proofs.ListLaws.{Each}
-use Rattle.text.proofs.TestLaws.{by-cases}
+use Rattle.songcode.proofs.ListLaws.{Each, by-cases}
 
 module _ {A : Type 0} where
   module _ (q p : A → Bool) where

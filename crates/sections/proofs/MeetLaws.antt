@@ -11,9 +11,8 @@ use Rattle.songcode.specs.Lines.{Line, Block, shut, join, runs, blocks}
 use Rattle.songcode.specs.Song.{Pattern, named}
 use Rattle.songcode.specs.PatternText.{sectionText}
 use Rattle.songcode.specs.Sections.{sectionFaults, sectionIn, patternIn, patternFaults, patternRun, body}
-use Rattle.songcode.proofs.ListLaws.{Each, each-map, append-is-nil, nil-is-not-cons, complainIf-nil, true-is-not-false}
+use Rattle.songcode.proofs.ListLaws.{Each, each-map, append-is-nil, nil-is-not-cons, complainIf-nil, true-is-not-false, by-cases}
 use Rattle.text.specs.Spans.{lineOf, lineAt, lineText, spansFrom}
-use Rattle.text.proofs.TestLaws.{by-cases}
 use Rattle.sections.specs.declared.blocks.Place.{Place}
 use Rattle.sections.specs.declared.blocks.Parts.{Parts}
 use Rattle.sections.specs.declared.blocks.SectionRead.{SectionRead}

@@ -11,10 +11,9 @@ use Rattle.songcode.specs.Answer.{blocksOf}
 use Rattle.songcode.specs.SongText.{kindOfText, blockKind}
 use Rattle.songcode.specs.Bytes.{placed}
 use Rattle.songcode.specs.WrittenText.{Stops}
-use Rattle.songcode.proofs.ListLaws.{left-stops}
+use Rattle.songcode.proofs.ListLaws.{left-stops, by-cases}
 use Rattle.text.specs.declared.lines.Line as text
 use Rattle.text.specs.Spans.{part, spans, lineAt, lineText, Found}
-use Rattle.text.proofs.TestLaws.{by-cases}
 use Rattle.text.proofs.LineLaws.{blocks-spans}
 use Rattle.settings.specs.declared.kinds.BlockKind.{BlockKind}
 use Rattle.settings.specs.Kinds.{blockKindIs}

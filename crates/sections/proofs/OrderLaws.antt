@@ -15,9 +15,10 @@ use Rattle.songcode.specs.Modifiers.{ModifierName, modifierPlace}
 use Rattle.songcode.specs.Sections.{Kind, keyLine, modifierLine, patternLine, kindOfLine, isPatternLine, notPatternLine, Place, amongKeys}
 use Rattle.songcode.specs.Sections.{inPattern, behind, misplaced, placeAfter, order}
 use Rattle.songcode.proofs.ListLaws.{append-is-nil, nil-is-not-cons}
+use Rattle.songcode.proofs.LineAgree.{by-kind}
 use Rattle.sections.specs.Slots.{slotOf, settingAmong}
 use Rattle.sections.specs.BlockParts.{earlyLines, lateLines}
-use Rattle.sections.proofs.SaidLaws.{by-kind, key-below, modifier-below, slot-pattern-line, key-line-no-modifier, modifier-line-no-key}
+use Rattle.sections.proofs.SaidLaws.{key-below, modifier-below, slot-pattern-line, key-line-no-modifier, modifier-line-no-key}
 
 map-nil : {A B : Type 0} (f : A → B) (xs : List A) → map f xs ≡ [] → xs ≡ []
 map-nil f [] e = refl

@@ -17,17 +17,12 @@ use Rattle.songcode.specs.Modifiers.{ModifierName, ofRepeat, ofCutStart, ofCutE
 use Rattle.songcode.specs.Sections.{Kind, keyLine, modifierLine, patternLine, kindOfLine, keyNameOf, modifierNameOf, settingOf, keyOf, modifierOf}
 use Rattle.songcode.specs.Sections.{keyIn, modifierOn, modifierFaultsBy, modifierFaults, faults}
 use Rattle.songcode.specs.Complaints.{complainIf}
-use Rattle.songcode.proofs.ListLaws.{append-is-nil, complainIf-nil}
+use Rattle.songcode.proofs.ListLaws.{append-is-nil, complainIf-nil, by-cases}
 use Rattle.songcode.proofs.ChoiceLaws.{isSome-some}
 use Rattle.songcode.specs.Playing as playing
 use Rattle.songcode.specs.Playing.{saidBy}
-use Rattle.text.proofs.TestLaws.{by-cases}
+use Rattle.songcode.proofs.LineAgree.{by-kind}
 use Rattle.sections.specs.Slots.{slotBy, slotOf, Setting, settingAmong}
-
-pub by-kind : {X : Type 0} (k : Kind) → (k ≡ keyLine → X) → (k ≡ modifierLine → X) → (k ≡ patternLine → X) → X
-by-kind keyLine f g h = f refl
-by-kind modifierLine f g h = g refl
-by-kind patternLine f g h = h refl
 
 by-option : {A X : Type 0} (o : Option A) → (o ≡ none → X) → ((x : A) → o ≡ some x → X) → X
 by-option none f g = f refl

@@ -11,8 +11,8 @@ use Rattle.songcode.specs.Bytes.{Byte, placed, is, isByte}
 use Rattle.songcode.specs.Keys.{timeIn, bpmIn}
 use Rattle.songcode.specs.Numbers.{repeatIn}
 use Rattle.songcode.specs.Modifiers.{cutIn}
+use Rattle.songcode.proofs.ListLaws.{by-cases}
 use Rattle.text.specs.Spans.{part}
-use Rattle.text.proofs.TestLaws.{by-cases}
 use Rattle.tokens.specs.declared.numbers.Number.{Number}
 use Rattle.tokens.specs.Decimals.{numberOf}
 use Rattle.settings.specs.declared.cuts.CutRead.{CutRead}

@@ -21,7 +21,6 @@ pub use slots::find;
 pub use slots::slot_of;
 pub use values::Keys;
 pub use values::Modifiers;
-pub use values::bpm_said;
 pub use values::keys_of;
 pub use values::modifiers_of;
 pub use values::time_said;

@@ -9,7 +9,7 @@ use Rattle.songcode.specs.Lists.{if_then_else_}
 use Rattle.songcode.specs.Bytes.{placed, isByte, isLetter}
 use Rattle.songcode.specs.Sections.{Kind, keyLine, modifierLine, patternLine, kindOf}
 use Rattle.songcode.specs.SongText.{BlockKind, metadata, definition, section, kindOfText}
-use Rattle.text.proofs.TestLaws.{by-cases}
+use Rattle.songcode.proofs.ListLaws.{by-cases}
 use Rattle.settings.specs.Kinds.{letter}
 
 unfoldable pub kindBy : ℕ → ℕ → Kind

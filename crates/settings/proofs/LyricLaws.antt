@@ -12,9 +12,9 @@ use Rattle.songcode.specs.Lists.{if_then_else_, left}
 use Rattle.songcode.specs.Bytes.{placed, begins, notBlank, isBlank}
 use Rattle.songcode.specs.Lyrics.{bracketed}
 use Rattle.songcode.proofs.ByteLaws.{values-placed, length-placed, placed-append}
+use Rattle.songcode.proofs.ListLaws.{by-cases}
+use Rattle.songcode.proofs.StyleAgree.{values-reverse}
 use Rattle.text.specs.Spans.{blank, part}
-use Rattle.text.proofs.TestLaws.{by-cases}
-use Rattle.settings.proofs.PlaceLaws.{values-reverse}
 
 -- The last byte of a part, and the part without it.
 part-last : (s : List ℕ) (a z : ℕ) → a < z → z ≤ length s → part a z s ≡ part a (z - 1) s ++ (getD s (z - 1) 0 ∷ [])

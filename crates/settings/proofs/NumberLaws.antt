@@ -11,23 +11,12 @@ use lib.Dec.{leb}
 use lib.ListN.{length, drop}
 use Rattle.songcode.specs.Lists.{if_then_else_}
 use Rattle.songcode.specs.Bytes.{Byte, placed, isByte}
-use Rattle.songcode.specs.Numbers.{isDigit, digits, isDecimal, valueFrom, numberIn, countIn, repeatIn}
+use Rattle.songcode.specs.Numbers.{isDecimal, valueFrom, numberIn, countIn, repeatIn}
 use Rattle.songcode.specs.Sections.{behindFirst}
 use Rattle.songcode.specs.Lyrics.{countBehind}
-use Rattle.songcode.proofs.ListLaws.{both-pass}
-use Rattle.text.proofs.TestLaws.{by-cases}
+use Rattle.songcode.proofs.ListLaws.{both-pass, by-cases}
 use Rattle.settings.proofs.PlaceLaws.{Placeless, anywhere}
-
-digits-anywhere : (a b : ℕ) (w : List ℕ) → digits (placed a w) ≡ digits (placed b w)
-unfolding digits placed isDigit
-digits-anywhere a b [] = refl
-digits-anywhere a b (x ∷ w) = rw (digits-anywhere (suc a) (suc b) w)
-
-decimal-anywhere : (a b : ℕ) (w : List ℕ) → isDecimal (placed a w) ≡ isDecimal (placed b w)
-unfolding isDecimal placed isDigit
-decimal-anywhere a b [] = refl
-decimal-anywhere a b (x ∷ []) = refl
-decimal-anywhere a b (x ∷ y ∷ w) = rw (digits-anywhere (suc (suc a)) (suc (suc b)) w)
+use Rattle.tokens.proofs.WordLaws.{decimal-placed}
 
 value-anywhere : (v a b : ℕ) (w : List ℕ) → valueFrom v (placed a w) ≡ valueFrom v (placed b w)
 unfolding valueFrom placed
@@ -36,7 +25,7 @@ value-anywhere v a b (x ∷ w) = value-anywhere (v * 10 + (x - code "0")) (suc a
 
 pub numberIn-placeless : (low high : ℕ) → Placeless (numberIn low high)
 unfolding numberIn
-numberIn-placeless low high a w = rw (decimal-anywhere a 0 w, value-anywhere 0 a 0 w)
+numberIn-placeless low high a w = rw (decimal-placed a 0 w, value-anywhere 0 a 0 w)
 
 pub countIn-placeless : Placeless countIn
 unfolding countIn

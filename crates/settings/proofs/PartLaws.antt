@@ -14,8 +14,7 @@ use Rattle.songcode.specs.Lists.{if_then_else_, taken, left}
 use Rattle.songcode.specs.Bytes.{Byte, placed, same, isBlank, notBlank}
 use Rattle.songcode.specs.Keys.{nameIn, settingIn}
 use Rattle.text.specs.Spans.{blank, part, frontBlanks}
-use Rattle.text.proofs.TestLaws.{by-cases}
-use Rattle.songcode.proofs.ListLaws.{drop-take}
+use Rattle.songcode.proofs.ListLaws.{drop-take, by-cases}
 use Rattle.settings.specs.Parts.{passing, wordLength}
 
 module _ (p : ℕ → Bool) where

@@ -1,21 +1,20 @@
 -- What is said of a text's values alone is the same wherever the text stands.
 use Prim.Native.Nat.{ℕ, zero, suc, _+_}
 use mathlib.Core.Path.{_≡_, refl, sym, ap, _∙_}
-use mathlib.Core.List.{List, [], _∷_, reverse, reverse-cons}
+use mathlib.Core.List.{List, [], _∷_}
 use mathlib.Core.Bool.{Bool, not}
 use native.Mathlib.Omega.{arith}
 use native.Mathlib.Nat.{add-zero}
 use lib.Dec.{eqb}
 use lib.ListN.{take, drop}
 use Rattle.songcode.specs.Lists.{if_then_else_, taken, left}
-use Rattle.songcode.specs.Bytes.{Byte, placed, values, isByte}
+use Rattle.songcode.specs.Bytes.{Byte, placed, isByte}
 use Rattle.songcode.specs.Characters.{isTail, characters}
 use Rattle.songcode.specs.Keys.{isPhrase}
 use Rattle.songcode.specs.Complaints.{complainIf}
 use Rattle.songcode.specs.Lines.{Line}
 use Rattle.songcode.specs.Sections.{headerFaults}
-use Rattle.songcode.proofs.ByteLaws.{values-append}
-use Rattle.text.proofs.TestLaws.{by-cases}
+use Rattle.songcode.proofs.ListLaws.{by-cases}
 use Rattle.settings.specs.Parts.{passing}
 use Rattle.settings.specs.Phrases.{nameCharacters, isHeader}
 use Rattle.settings.proofs.PartLaws.{OfValues, taken-placed, left-placed}
@@ -49,11 +48,6 @@ unfolding placed
 drop-placed zero a w = rw add-zero
 drop-placed (suc k) a [] = refl
 drop-placed (suc k) a (b ∷ w) = let e : a + suc k ≡ suc a + k = omega arith in rw e (drop-placed k (suc a) w)
-
-pub values-reverse : (bs : List Byte) → values (reverse bs) ≡ reverse (values bs)
-unfolding values
-values-reverse [] = refl
-values-reverse (b ∷ bs) = rw (reverse-cons b bs, values-append (reverse bs) (b ∷ []), values-reverse bs, reverse-cons (b .value) (values bs))
 
 characters-anywhere : (a b : ℕ) (w : List ℕ) → characters (placed a w) ≡ characters (placed b w)
 unfolding characters placed if_then_else_

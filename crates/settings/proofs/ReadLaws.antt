@@ -13,7 +13,7 @@ use Rattle.songcode.specs.Keys.{timeIn}
 use Rattle.songcode.specs.Modifiers.{cut, cutIn}
 use Rattle.songcode.specs.Numbers.{numberIn, countIn}
 use Rattle.songcode.specs.Lyrics.{countBehind}
-use Rattle.text.proofs.TestLaws.{by-cases}
+use Rattle.songcode.proofs.ListLaws.{by-cases}
 use Rattle.tokens.specs.Decimals.{numberOf}
 use Rattle.tokens.specs.declared.numbers.Number.{Number}
 use Rattle.tokens.specs.declared.numbers.Number.the-variants.{Is, Not}

@@ -32,8 +32,6 @@ pub use modifiers::ModifierName;
 pub use modifiers::modifier_named;
 pub use modifiers::repeat_in;
 pub use parts::name_end;
-pub use parts::same_text;
 pub use parts::setting_start;
 pub use phrases::characters;
 pub use phrases::header_ok;
-pub use phrases::is_phrase;

@@ -1,5 +1,5 @@
 -- What is found on a line: bytes passed over one by one, and what is found carried into the slip that is told.
-use Prim.Native.Nat.{ℕ, _+_, _<_, _≤_}
+use Prim.Native.Nat.{ℕ, _+_}
 use mathlib.Core.Path.{_≡_}
 use mathlib.Core.List.{List}
 use native.Mathlib.Omega.{arith}

@@ -2,10 +2,8 @@
 use Prim.Native.Nat.{ℕ, suc, _+_, _<_}
 use mathlib.Core.Path.{_≡_, refl, ap, sym, _∙_}
 use mathlib.Core.List.{List, [], _∷_, _++_}
-use native.Mathlib.Omega.{arith}
 use native.Mathlib.Numerals.{add-one}
 use borrow.Author.Tests.{ne-eqb}
-use lib.Dec.{eqb}
 use lib.ListN.{length, take, getD}
 use lib.Seq.{take-suc}
 use Rattle.songcode.specs.Lists.{if_then_else_}
@@ -25,7 +23,8 @@ put-same cr inside b c d h = ap suc h
 abbrev ends : ℕ → List ℕ → ℕ
 ends at bs = length (cutLines (placed at bs) .others)
 
-put-last : (e n : Ending) (b d : Byte) → length (put e inside b (record { first = []; others = [] }) .others) ≡ length (put e inside b (record { first = d ∷ []; others = [] }) .others)
+put-last : (e n : Ending) (b d : Byte) → length (put e inside b (record { first = []; others = [] }) .others)
+    ≡ length (put e inside b (record { first = d ∷ []; others = [] }) .others)
 unfolding put
 put-last inside n b d = refl
 put-last lf n b d = refl
@@ -35,7 +34,9 @@ module _ (b : ℕ) (h : (at : ℕ) → ending (record { place = at; value = b })
   ends-behind : (at : ℕ) (xs : List ℕ) → ends at (xs ++ (b ∷ [])) ≡ ends at xs
   unfolding cutLines placed put endingOf
   ends-behind at [] = rw (h at)
-  ends-behind at (x ∷ []) = rw (h (suc at)) (sym (put-last (ending (record { place = at; value = x })) inside (record { place = at; value = x }) (record { place = suc at; value = b })))
+  ends-behind at (x ∷ []) =
+      rw (h (suc at)) (sym (put-last (ending (record { place = at; value = x })) inside (record { place = at; value = x })
+      (record { place = suc at; value = b })))
   ends-behind at (x ∷ y ∷ ys) =
       put-same (ending (record { place = at; value = x })) (ending (record { place = suc at; value = y })) (record { place = at; value = x })
       (cutLines (placed (suc at) ((y ∷ ys) ++ (b ∷ [])))) (cutLines (placed (suc at) (y ∷ ys))) (ends-behind (suc at) (y ∷ ys))

@@ -2,7 +2,7 @@
 use Prim.Native.Nat.{ℕ, zero, suc, _+_, _-_, _<_, _≤_}
 use mathlib.Core.Path.{_≡_, refl, sym, ap, _∙_, subst}
 use mathlib.Core.List.{List, [], _∷_, List·Memᴰ}
-use mathlib.Core.Bool.{true, false}
+use mathlib.Core.Bool.{true}
 use native.Mathlib.Omega.{arith}
 use native.Mathlib.Numerals.{add-one}
 use native.Mathlib.Nat.{suc-add, add-zero}
@@ -14,7 +14,7 @@ use Rattle.songcode.specs.Lines.{cr, inside, endingOf, put, cutLines}
 use Rattle.songcode.specs.Answer.{lineOfPlace}
 use Rattle.songcode.proofs.ListLaws.{by-cases, true-is-not-false}
 use Rattle.text.specs.declared.lines.Line.{Line}
-use Rattle.text.specs.Spans.{blank, end, longer, lineLength, breakWidth, breakLength, frontBlanks, solidLength, lineOf, lineAt, spans}
+use Rattle.text.specs.Spans.{blank, end, longer, lineLength, breakWidth, breakLength, frontBlanks, lineOf, lineAt, spans}
 use Rattle.text.proofs.SpanLaws.{by-ending}
 use Rattle.text.proofs.WalkLaws.{whole, next-is}
 use Rattle.text.proofs.CutLaws.{ended, unended}

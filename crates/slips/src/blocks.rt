@@ -149,7 +149,8 @@ fn line_behind_pattern(s: &[u8], p: Spot) -> usize
 
 // Refusal 8 on a line of a section behind its header.
 fn body_slip(s: &[u8], p: Spot) -> Slip
-    requires { ⌜ (p .line .start ≤ p .line .stop) × (p .line .stop ≤ length (now s)) × (p .block .number ≤ p .block .at + 1) × (p .block .at ≤ length (now s)) ⌝ }
+    requires { ⌜ (p .line .start ≤ p .line .stop) × (p .line .stop ≤ length (now s)) × (p .block .number ≤ p .block .at + 1)
+        × (p .block .at ≤ length (now s)) ⌝ }
 {
     let l = p.line;
     let block = p.block;
@@ -167,7 +168,8 @@ fn body_slip(s: &[u8], p: Spot) -> Slip
 
 // Refusal 8.
 pub fn line_slip(s: &[u8], p: Spot) -> Slip
-    requires { ⌜ (p .line .start ≤ p .line .stop) × (p .line .stop ≤ length (now s)) × (p .block .number ≤ p .block .at + 1) × (p .block .at ≤ length (now s)) ⌝ }
+    requires { ⌜ (p .line .start ≤ p .line .stop) × (p .line .stop ≤ length (now s)) × (p .block .number ≤ p .block .at + 1)
+        × (p .block .at ≤ length (now s)) ⌝ }
 {
     let l = p.line;
     let block = p.block;

@@ -75,7 +75,8 @@ fn is_empty(s: &[u8], v: Survey, pattern: Run) -> bool
 
 // Refusal 15.
 pub fn cut_slip(s: &[u8], p: Spot) -> Slip
-    requires { ⌜ (p .line .start ≤ p .line .stop) × (p .line .stop ≤ length (now s)) × (1 ≤ p .block .number) × (p .block .number ≤ p .block .at + 1) × (length (now s) ≤ 65536) ⌝ }
+    requires { ⌜ (p .line .start ≤ p .line .stop) × (p .line .stop ≤ length (now s)) × (1 ≤ p .block .number)
+        × (p .block .number ≤ p .block .at + 1) × (length (now s) ≤ 65536) ⌝ }
 {
     let l = p.line;
     let block = p.block;
@@ -282,7 +283,8 @@ fn played_in(s: &[u8], v: Survey, parts: Parts) -> usize
 
 // Refusal 17.
 pub fn sum_slip(s: &[u8], p: Spot) -> Slip
-    requires { ⌜ (p .line .start ≤ p .line .stop) × (p .line .stop ≤ length (now s)) × (1 ≤ p .block .number) × (p .block .number ≤ p .block .at + 1) × (length (now s) ≤ 65536) ⌝ }
+    requires { ⌜ (p .line .start ≤ p .line .stop) × (p .line .stop ≤ length (now s)) × (1 ≤ p .block .number)
+        × (p .block .number ≤ p .block .at + 1) × (length (now s) ≤ 65536) ⌝ }
     ensures { λ r. ⌜ (r .clause ≡ 1) × NameOn (now (s .entry)) (p .line) (r .from) (r .to) ⌝ }
 {
     let l = p.line;

@@ -2,7 +2,6 @@
 use super::signs::CLOSES;
 use super::signs::COLON;
 use super::signs::OPENS;
-use super::signs::REFERENCE;
 use super::signs::REMOVER;
 use super::signs::SEMICOLON;
 use super::signs::WRONG;
@@ -11,7 +10,6 @@ use grammar::Check;
 use grammar::Place;
 use tokens::has_slip;
 use tokens::longest_base;
-ghost use Prim.Native.Nat.{_+_, _≤_, _<_};
 ghost use lib.ListN.{length};
 
 pub const NO_CHORD: usize = 1;

@@ -103,7 +103,8 @@ fn earlier(s: &[u8], p: Spot, slot: usize) -> usize
 
 // Refusal 4.
 pub fn key_slip(s: &[u8], p: Spot) -> Slip
-    requires { ⌜ (p .line .start ≤ p .line .stop) × (p .line .stop ≤ length (now s)) × (p .block .number ≤ p .block .at + 1) × (p .block .at ≤ length (now s)) ⌝ }
+    requires { ⌜ (p .line .start ≤ p .line .stop) × (p .line .stop ≤ length (now s)) × (p .block .number ≤ p .block .at + 1)
+        × (p .block .at ≤ length (now s)) ⌝ }
 {
     let l = p.line;
     let block = p.block;
@@ -140,7 +141,8 @@ pub fn setting_slip(s: &[u8], l: Line) -> Slip
 
 // Refusal 8 on a modifier line.
 pub fn modifier_slip(s: &[u8], p: Spot) -> Slip
-    requires { ⌜ (p .line .start ≤ p .line .stop) × (p .line .stop ≤ length (now s)) × (p .block .number ≤ p .block .at + 1) × (p .block .at ≤ length (now s)) ⌝ }
+    requires { ⌜ (p .line .start ≤ p .line .stop) × (p .line .stop ≤ length (now s)) × (p .block .number ≤ p .block .at + 1)
+        × (p .block .at ≤ length (now s)) ⌝ }
 {
     let l = p.line;
     let block = p.block;

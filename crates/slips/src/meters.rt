@@ -66,7 +66,8 @@ pub fn parts_at(s: &[u8], p: Place) -> Parts
     ensures { λ r. ⌜ (1 ≤ r .early .number) × (r .early .number ≤ r .early .at + 1) × (r .early .at ≤ length (now (s .entry))) ⌝ }
     ensures { λ r. ⌜ (r .pattern .number ≤ r .pattern .at + 1) × (r .pattern .at ≤ length (now (s .entry))) ⌝ }
     ensures { λ r. ⌜ (1 ≤ r .late .number) × (r .late .number ≤ r .late .at + 1) × (r .late .at ≤ length (now (s .entry))) ⌝ }
-    ensures { λ r. ⌜ (1 ≤ r .lyrics .number) × (r .lyrics .number ≤ r .lyrics .at + 1) × (r .lyrics .at ≤ length (now (s .entry))) × (r .lyrics .number + r .lyrics .lines ≤ length (now (s .entry)) + 2) ⌝ }
+    ensures { λ r. ⌜ (1 ≤ r .lyrics .number) × (r .lyrics .number ≤ r .lyrics .at + 1) × (r .lyrics .at ≤ length (now (s .entry)))
+        × (r .lyrics .number + r .lyrics .lines ≤ length (now (s .entry)) + 2) ⌝ }
 {
     let header = line_at(s, p.number, p.at);
     let early = run_from(s, Test::Early, p.number + 1, header.next);
@@ -137,7 +138,8 @@ fn side_meter(s: &[u8], x: Scan, l: Line) -> Scan
 
 // Refusals 12 and 13.
 pub fn meter_slip(s: &[u8], p: Spot, refusal: usize) -> Slip
-    requires { ⌜ (p .line .start ≤ p .line .stop) × (p .line .stop ≤ length (now s)) × (1 ≤ p .block .number) × (p .block .number ≤ p .block .at + 1) × (length (now s) ≤ 65536) ⌝ }
+    requires { ⌜ (p .line .start ≤ p .line .stop) × (p .line .stop ≤ length (now s)) × (1 ≤ p .block .number)
+        × (p .block .number ≤ p .block .at + 1) × (length (now s) ≤ 65536) ⌝ }
 {
     let l = p.line;
     let block = p.block;

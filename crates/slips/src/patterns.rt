@@ -357,7 +357,8 @@ fn side_slip(s: &[u8], p: Spot) -> Slip
 
 // Refusal 7.
 pub fn pattern_slip(s: &[u8], p: Spot) -> Slip
-    requires { ⌜ (p .line .start ≤ p .line .stop) × (p .line .stop ≤ length (now s)) × (p .line .number ≤ p .line .start + 1) × (p .block .at ≤ length (now s)) × (length (now s) ≤ 65536) ⌝ }
+    requires { ⌜ (p .line .start ≤ p .line .stop) × (p .line .stop ≤ length (now s)) × (p .line .number ≤ p .line .start + 1)
+        × (p .block .at ≤ length (now s)) × (length (now s) ≤ 65536) ⌝ }
 {
     let l = p.line;
     let block = p.block;

@@ -21,7 +21,7 @@ use super::survey::index_of;
 use super::survey::lines_of;
 use sections::Run;
 use text::line_at;
-ghost use Prim.Native.Nat.{_+_, _≤_, _<_};
+ghost use Prim.Native.Nat.{_≤_, _<_};
 ghost use lib.ListN.{length};
 
 // What a scan looks for: 12, a measure that does not fit; 13, a stray `%`; 17, nothing, it lays the row.

@@ -45,7 +45,8 @@ fn block_after(b: Open, l: Line, at: usize) -> Open
 
 // The line with this number; the end of the text where there is none.
 pub fn spot_of(s: &[u8], wanted: usize) -> Spot
-    ensures { λ r. ⌜ (r .line .start ≤ r .line .stop) × (r .line .stop ≤ length (now (s .entry))) × (r .line .number ≤ r .line .start + 1) × (1 ≤ r .line .number) ⌝ }
+    ensures { λ r. ⌜ (r .line .start ≤ r .line .stop) × (r .line .stop ≤ length (now (s .entry))) × (r .line .number ≤ r .line .start + 1)
+        × (1 ≤ r .line .number) ⌝ }
     ensures { λ r. ⌜ (1 ≤ r .block .number) × (r .block .number ≤ r .block .at + 1) × (r .block .at ≤ length (now (s .entry))) ⌝ }
     ensures { λ r. ⌜ ((l : Line) → LineOf (now (s .entry)) wanted l → r .line ≡ l) ⌝ }
 {

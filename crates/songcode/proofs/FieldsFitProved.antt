@@ -37,7 +37,7 @@ use Rattle.songcode.proofs.CopyItems.{ItemFits, items-fit}
 use Rattle.songcode.proofs.CopySung.{LyricStands, chart-lyrics, sung-counted}
 use Rattle.songcode.proofs.AnswerAgree.{accepted-exactly}
 
-get-before : {A : Type 0} (xs : List A) (n : ℕ) (x : A) → getElem? xs n ≡ some x → n < length xs
+pub get-before : {A : Type 0} (xs : List A) (n : ℕ) (x : A) → getElem? xs n ≡ some x → n < length xs
 get-before [] n x e = let z : _≡_ {A = ℕ} 0 1 = cc in absurd (omega arith)
 get-before (y ∷ xs) zero x e = omega arith
 get-before (y ∷ xs) (suc n) x e = let h = get-before xs n x e in omega arith

@@ -14,10 +14,10 @@ use Rattle.songcode.specs.Sections.{behindFirst}
 use Rattle.songcode.specs.SongText as songtext
 use Rattle.songcode.specs.SongText.{metadata, definition, section, kindOfText, headIn}
 use Rattle.songcode.proofs.ChoiceLaws.{zero-is-not-one}
+use Rattle.songcode.proofs.ListLaws.{by-cases}
 use Rattle.tokens.specs.Decimals.{numberOf}
 use Rattle.tokens.specs.declared.numbers.Number.{Number}
 use Rattle.text.specs.Spans.{part}
-use Rattle.text.proofs.TestLaws.{by-cases}
 use Rattle.settings.specs.Kinds.{blockKindIs}
 use Rattle.settings.specs.Phrases.{isHeader}
 use Rattle.settings.specs.declared.kinds.BlockKind.{BlockKind}

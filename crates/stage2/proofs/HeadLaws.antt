@@ -16,10 +16,9 @@ use Rattle.songcode.specs.Numbers.{isDecimal, valueFrom, numberIn, countIn}
 use Rattle.songcode.specs.Complaints.{complainIf}
 use Rattle.songcode.specs.Sections.{twiceBy, behindFirst}
 use Rattle.songcode.specs.SongText.{headIn}
-use Rattle.songcode.proofs.ListLaws.{any-append, both-pass}
+use Rattle.songcode.proofs.ListLaws.{any-append, both-pass, by-cases}
 use Rattle.tokens.specs.Decimals.{numberOf}
 use Rattle.settings.specs.KeySettings.{isNumber}
-use Rattle.text.proofs.TestLaws.{by-cases}
 use Rattle.stage2.specs.declared.states.Heads.{Heads}
 use Rattle.stage2.specs.Ranks.{least}
 use Rattle.stage2.specs.States.{hasHead, headAgain, headJudged, orZero, withHead}
@@ -55,10 +54,6 @@ same-line : (t : Bool) (line : ℕ) → min (least (complainIf true 6 line)) (le
 unfolding least complainIf when
 same-line true line = omega arith
 same-line false line = omega arith
-
-or-true : (b : Bool) → (b || true) ≡ true
-or-true true = refl
-or-true false = refl
 
 module _ (h : Heads) (n : ℕ) (seen : List ℕ) (a : HeadsAgree h n seen) where
   beyond : 26 ≤ n → (o : Option ℕ) (l : Line) → headJudged (numberOf o) h (l .number) ≡ min

@@ -17,7 +17,7 @@ use Rattle.songcode.specs.Keys.{keyPlace}
 use Rattle.songcode.specs.Modifiers.{ModifierName, ofRepeat, ofCutStart, ofCutEnd, ofBefore, ofAfter, modifierPlace}
 use Rattle.songcode.specs.Sections.{kindOfLine, keyNameOf, modifierNameOf, keySaid, modifierSaid, twiceBy}
 use Rattle.songcode.proofs.LineAgree.{by-kind}
-use Rattle.text.proofs.TestLaws.{by-cases}
+use Rattle.songcode.proofs.ListLaws.{by-cases}
 use Rattle.stage2.specs.Ranks.{least, none}
 use Rattle.stage2.specs.States.{noMarks, again, marked}
 

@@ -12,9 +12,8 @@ use Rattle.songcode.specs.Lists.{if_then_else_, isEmpty, when}
 use Rattle.songcode.specs.Lines.{Block}
 use Rattle.songcode.specs.Complaints.{Complaint, complainIf, goesFirst, earlier, earliest}
 use Rattle.songcode.specs.SongText.{orNoSection}
-use Rattle.songcode.proofs.ListLaws.{Each}
+use Rattle.songcode.proofs.ListLaws.{Each, by-cases}
 use Rattle.text.specs.Refusals.{refusalOf}
-use Rattle.text.proofs.TestLaws.{by-cases}
 use Rattle.stage2.specs.Ranks.{ranked, rank, noSection, none, Small, least, onlyIf, refusalAt}
 
 pub least-le : (cs : List Complaint) → least cs ≤ none

@@ -11,10 +11,10 @@ use Rattle.songcode.specs.Sections.{Kind, keyLine, modifierLine, patternLine, k
 use Rattle.songcode.specs.Sections.{placeAfter, order, twice, twiceBy, keySaid, modifierSaid, faults, patternRun, patternFaults, headerFaults}
 use Rattle.songcode.specs.Sections.{notDashes, lyricFaults, body, ending, sectionFaults}
 use Rattle.songcode.specs.SongText.{section, blockKind}
+use Rattle.songcode.proofs.ListLaws.{by-cases}
 use Rattle.grammar.specs.Checks.{first}
 use Rattle.grammar.specs.Verdicts.{sectionFine}
 use Rattle.grammar.specs.declared.checks.Check.{Check}
-use Rattle.text.proofs.TestLaws.{by-cases}
 use Rattle.stage2.specs.declared.states.Pending.{Pending}
 use Rattle.stage2.specs.Ranks.{ranked, none, least, unless, onlyIf}
 use Rattle.stage2.specs.Walk.{Known, known, inBody, inLyrics, walkAt, pending, closed, fineAt, late, opens, pendingAfter, orderNote, bodyNote}

@@ -16,9 +16,8 @@ use Rattle.songcode.specs.Sections.{Kind, keyLine, modifierLine, patternLine, k
 use Rattle.songcode.specs.Sections.{modifierFaultsBy, modifierFaults, modifierNameOf, twice, twiceBy, faults, Place, amongKeys, early, inPattern}
 use Rattle.songcode.specs.Sections.{behind, misplaced, placeAfter, order, patternFaults, lyricFaults}
 use Rattle.songcode.specs.SongText.{metadataFault, definitionFaults}
-use Rattle.songcode.proofs.ListLaws.{Each, each-append}
+use Rattle.songcode.proofs.ListLaws.{Each, each-append, by-cases}
 use Rattle.songcode.proofs.LineAgree.{by-kind as by-line-kind}
-use Rattle.text.proofs.TestLaws.{by-cases}
 use Rattle.stage2.specs.Ranks.{Small}
 
 -- A line of a text that is not too long; a block of such lines.

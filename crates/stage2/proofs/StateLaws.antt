@@ -8,9 +8,9 @@ use Rattle.songcode.specs.Lines.{Line}
 use Rattle.songcode.specs.Sections as sections
 use Rattle.songcode.specs.Sections.{amongKeys, early, inPattern, behind, keySaid, modifierSaid, notDashes}
 use Rattle.songcode.specs.SongText.{BlockKind, metadata, definition, section, kindOfText, headIn}
+use Rattle.songcode.proofs.ListLaws.{by-cases}
 use Rattle.grammar.specs.declared.checks.Check.{Check}
 use Rattle.tokens.specs.Decimals.{numberOf}
-use Rattle.text.proofs.TestLaws.{by-cases}
 use Rattle.stage2.specs.declared.states.Place.{Place}
 use Rattle.stage2.specs.declared.states.Place.the-variants.{Between, Metadata, Head, Definition, Body, Lyrics}
 use Rattle.stage2.specs.declared.states.Carried.{Carried}

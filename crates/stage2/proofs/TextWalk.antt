@@ -13,9 +13,8 @@ use Rattle.songcode.specs.Sections.{twice, twiceBy, keySaid, sectionFaults}
 use Rattle.songcode.specs.SongText.{BlockKind, metadata, definition, section, blockKind, turn, blockOrder, linesIf, metadataLines, metadataFault}
 use Rattle.songcode.specs.SongText.{metadataFaults, headIn, definitionIf, sectionIf, definitionBlocks, sectionBlocks, headsFaults, firstLine}
 use Rattle.songcode.specs.SongText.{definitionFaults, definitionsFaults}
-use Rattle.songcode.proofs.ListLaws.{gather-append}
+use Rattle.songcode.proofs.ListLaws.{gather-append, by-cases}
 use Rattle.songcode.proofs.BlockKinds.{by-kind}
-use Rattle.text.proofs.TestLaws.{by-cases}
 use Rattle.stage2.specs.Ranks.{noSection, none, least, onlyIf}
 use Rattle.stage2.specs.Walk.{Known, known, late, headNote, walked, atFirst}
 use Rattle.stage2.proofs.RankLaws.{least-append, least-both, min-assoc, min-swap, min-both}

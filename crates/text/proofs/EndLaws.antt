@@ -13,8 +13,8 @@ use Rattle.songcode.specs.Lists.{if_then_else_}
 use Rattle.songcode.specs.Bytes.{Byte, placed}
 use Rattle.songcode.specs.Lines.{ending, endingOf, Cut, put, cutLines}
 use Rattle.songcode.specs.Answer.{lineOfPlace}
+use Rattle.songcode.proofs.ListLaws.{by-cases}
 use Rattle.text.specs.Ends.{endsLine, lineEnds}
-use Rattle.text.proofs.TestLaws.{by-cases}
 
 -- A line more, if the test says so.
 unfoldable oneIf : Bool → ℕ

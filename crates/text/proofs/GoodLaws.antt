@@ -9,8 +9,10 @@ use lib.ListN.{length, getD, drop, drop-of-length-le, length-drop}
 use lib.Seq.{drop-cons, drop-drop}
 use Rattle.songcode.specs.Lists.{if_then_else_}
 use Rattle.songcode.specs.Characters.{Form, forms, within, isTail, tails, follows, widthBy, goodBytes}
+use Rattle.songcode.proofs.CharactersAgree.{good-some, good-none}
+use Rattle.songcode.proofs.ListLaws.{by-cases}
 use Rattle.text.specs.Leads.{widthAt}
-use Rattle.text.proofs.TestLaws.{by-cases, false-not-true}
+use Rattle.text.proofs.TestLaws.{false-not-true}
 
 -- What follows a first byte stands in the text.
 tails-fit : (n : ℕ) (bs : List ℕ) → tails n bs ≡ true → n ≤ length bs
@@ -56,24 +58,16 @@ good-inside zero bs h = sym (zero-add _)
 good-inside (suc k) [] h = absurd (omega arith)
 good-inside (suc k) (b ∷ bs) h = omega (arith, good-inside k bs (omega arith))
 
-good-here : (b : ℕ) (bs : List ℕ) (k : ℕ) → widthBy forms b bs ≡ suc k → goodBytes 0 (b ∷ bs) ≡ suc (goodBytes k bs)
-unfolding goodBytes
-good-here b bs k e = rw (e, goodBytes)
-
-good-not : (b : ℕ) (bs : List ℕ) → widthBy forms b bs ≡ 0 → goodBytes 0 (b ∷ bs) ≡ 0
-unfolding goodBytes
-good-not b bs e = rw (e, goodBytes)
-
 module _ (s : List ℕ) (i : ℕ) (h : i < length s) where
   pub good-stop : widthAt s i ≡ 0 → goodBytes 0 (drop i s) ≡ 0
-  good-stop e = rw (drop-cons s i 0) (good-not (getD s i 0) (drop (suc i) s) e)
+  good-stop e = rw (drop-cons s i 0) (good-none (getD s i 0) (drop (suc i) s) e)
 
   pub good-more : (w : ℕ) → w ≡ widthAt s i → (w ≡ 0 → ⊥) → goodBytes 0 (drop i s) ≡ w + goodBytes 0 (drop (i + w) s)
   good-more zero e n = absurd (n refl)
   good-more (suc k) e n =
       let fits = width-at-fits s i h in
       let l = length-drop (suc i) s in
-      let here = good-here (getD s i 0) (drop (suc i) s) k (sym e) in
+      let here = good-some (getD s i 0) (drop (suc i) s) k (sym e) in
       let inside = good-inside k (drop (suc i) s) (omega arith) in
       let behind : suc i + k ≡ i + suc k = omega arith in
       let over = drop-drop k (suc i) s ∙ ap (λ (n : ℕ). drop n s) behind in

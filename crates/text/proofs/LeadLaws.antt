@@ -9,10 +9,11 @@ use lib.ListN.{length, getD, take, drop, List·getD-eq-default}
 use lib.Seq.{drop-cons}
 use Rattle.songcode.specs.Lists.{if_then_else_}
 use Rattle.songcode.specs.Characters.{Form, form, forms, within, isTail, tails, follows, widthBy}
+use Rattle.songcode.proofs.ListLaws.{by-cases}
 use Rattle.text.specs.declared.characters.Lead.{Lead}
 use Rattle.text.specs.Leads.{leadBy, leadOf, widthFrom, widthAt}
 use Rattle.text.proofs.ListLaws.{rest-part}
-use Rattle.text.proofs.TestLaws.{by-cases, within-true}
+use Rattle.text.proofs.TestLaws.{within-true}
 
 -- Of a form only the range of the second byte matters behind the first.
 follows-range : (f : Form) (n : ℕ) (bs : List ℕ) → follows (form 0 0 0 (f .secondLow) (f .secondHigh)) n bs ≡ follows f n bs

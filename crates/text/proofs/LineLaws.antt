@@ -15,8 +15,8 @@ use Rattle.songcode.specs.Bytes.{placed}
 use Rattle.songcode.specs.Lines.{Line, cutLines, trimmed, numbered, lines, shut, join, runs, blocks}
 use Rattle.songcode.specs.Answer.{blocksOf}
 use Rattle.text.specs.Spans.{lineLength, frontBlanks, solidLength, lineOf, lineAt, spansFrom, spans, lineText, endsOpen}
-use Rattle.text.proofs.TestLaws.{by-cases, false-not-true}
-use Rattle.songcode.proofs.ListLaws.{drop-take}
+use Rattle.text.proofs.TestLaws.{false-not-true}
+use Rattle.songcode.proofs.ListLaws.{drop-take, by-cases}
 use Rattle.text.proofs.WalkLaws.{whole, next-is, next-further, spans-next}
 use Rattle.text.proofs.CutLaws.{ended, behind, cut-line, open-line, unended}
 use Rattle.text.proofs.TrimLaws.{solid-le, trimmed-placed}

@@ -12,8 +12,8 @@ use lib.ListN.{length, take, getD, drop, drop-of-length-le, List·getD-eq-defaul
 use lib.Seq.{drop-cons, getD-drop, take-suc, length-take-le}
 use Rattle.songcode.specs.Lists.{if_then_else_}
 use Rattle.songcode.specs.Lines.{Ending, lf, cr, inside, ending}
+use Rattle.songcode.proofs.ListLaws.{by-cases}
 use Rattle.text.specs.Spans.{blank, end, longer, lineLength, breakWidth, breakLength, frontBlanks, grown, solidLength}
-use Rattle.text.proofs.TestLaws.{by-cases}
 
 -- What a byte is to lines.
 end-inside : (b : ℕ) → (b ≡ 10 → ⊥) → (b ≡ 13 → ⊥) → end b ≡ inside

@@ -1,18 +1,14 @@
 -- Laws of tests, and of what is computed over a range of numbers.
 use Prim.Native.Nat.{ℕ, zero, suc, _+_, _<_, _≤_}
-use mathlib.Core.Path.{_≡_, refl, sym, ap, _∙_}
+use mathlib.Core.Path.{_≡_, sym, ap, _∙_}
 use mathlib.Core.List.{List, [], _∷_, map, head-eq-of-cons-eq, tail-eq-of-cons-eq}
-use mathlib.Core.Bool.{Bool, true, false}
+use mathlib.Core.Bool.{true, false}
 use native.Mathlib.Omega.{arith}
 use borrow.Author.Tests.{le-leb, eqb-true, eqb-false}
 use lib.Dec.{eqb}
 use lib.ListN.{replicate}
 use Rattle.songcode.specs.Characters.{within}
-
--- Both cases of a test, each with what it says.
-pub by-cases : {X : Type 0} (t : Bool) → (t ≡ true → X) → (t ≡ false → X) → X
-by-cases true f g = f refl
-by-cases false f g = g refl
+use Rattle.songcode.proofs.ListLaws.{by-cases}
 
 pub false-not-true : false ≡ true → ⊥
 false-not-true h = let z : _≡_ {A = ℕ} 0 1 = cc in omega arith

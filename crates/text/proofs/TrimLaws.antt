@@ -9,8 +9,8 @@ use lib.ListN.{length, take, drop}
 use Rattle.songcode.specs.Lists.{if_then_else_, left}
 use Rattle.songcode.specs.Bytes.{Byte, placed, isBlank}
 use Rattle.songcode.specs.Lines.{dropLast, trimmed}
+use Rattle.songcode.proofs.ListLaws.{by-cases}
 use Rattle.text.specs.Spans.{blank, frontBlanks, grown, solidLength}
-use Rattle.text.proofs.TestLaws.{by-cases}
 
 left-placed : (at : ℕ) (bs : List ℕ) → left isBlank (placed at bs) ≡ placed (at + frontBlanks bs) (drop (frontBlanks bs) bs)
 unfolding left placed frontBlanks if_then_else_

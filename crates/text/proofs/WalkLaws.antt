@@ -12,9 +12,9 @@ use lib.Seq.{drop-cons, drop-drop}
 use Rattle.songcode.specs.Lists.{isEmpty}
 use Rattle.songcode.specs.Bytes.{placed}
 use Rattle.songcode.specs.Lines.{Ending, lf, cr, inside}
+use Rattle.songcode.proofs.ListLaws.{by-cases}
 use Rattle.text.specs.declared.lines.Line.{Line}
 use Rattle.text.specs.Spans.{end, part, longer, lineLength, breakWidth, breakLength, frontBlanks, solidLength, lineOf, lineAt, Found, spansFrom}
-use Rattle.text.proofs.TestLaws.{by-cases}
 use Rattle.text.proofs.SpanLaws.{by-ending}
 
 -- A part is as long as its places say.

@@ -6,8 +6,6 @@ mod lines;
 pub use characters::Lead;
 pub use characters::good_bytes;
 pub use characters::is_tail;
-pub use characters::lead_of;
-pub use characters::width_at;
 pub use ends::line_of;
 pub use lines::Line;
 pub use lines::front_blanks;

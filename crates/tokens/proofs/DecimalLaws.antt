@@ -2,7 +2,7 @@
 use Prim.Native.Nat.{ℕ, suc, _+_, _*_, _-_, _<_, _≤_}
 use mathlib.Core.Path.{_≡_, refl, sym, _∙_}
 use mathlib.Core.List.{List, [], _∷_}
-use mathlib.Core.Bool.{Bool, true, false, _&&_}
+use mathlib.Core.Bool.{Bool, true, false, _&&_, and-false}
 use mathlib.Core.Option.{Option, none, some}
 use native.Mathlib.Omega.{arith}
 use native.Mathlib.Numerals.{add-one}
@@ -16,10 +16,6 @@ use Rattle.songcode.specs.Numbers.{isDigit, digits, isDecimal, valueFrom, numbe
 use Rattle.songcode.proofs.NumbersAgree.{number-exact}
 use Rattle.tokens.specs.declared.numbers.Number.the-variants.{Is, Not}
 use Rattle.tokens.specs.Decimals.{numberOf, digitsFrom}
-
-and-false : (t : Bool) → t && false ≡ false
-and-false true = refl
-and-false false = refl
 
 value-grows : (v : ℕ) (bs : List Byte) → v ≤ valueFrom v bs
 unfolding valueFrom

@@ -31,7 +31,7 @@ use Rattle.tokens.proofs.TakenLaws.{slips-placed}
 use Rattle.tokens.proofs.PartLaws.{placed-drop}
 
 -- A number does not depend on the places of its digits.
-digits-placed : (a b : ℕ) (bs : List ℕ) → digits (placed a bs) ≡ digits (placed b bs)
+pub digits-placed : (a b : ℕ) (bs : List ℕ) → digits (placed a bs) ≡ digits (placed b bs)
 unfolding digits placed isDigit
 digits-placed a b [] = refl
 digits-placed a b (x ∷ bs) = rw (digits-placed (suc a) (suc b) bs)
@@ -41,7 +41,7 @@ unfolding valueFrom placed
 value-placed a b v [] = refl
 value-placed a b v (x ∷ bs) = value-placed (suc a) (suc b) (v * 10 + (x - 48)) bs
 
-decimal-placed : (a b : ℕ) (bs : List ℕ) → isDecimal (placed a bs) ≡ isDecimal (placed b bs)
+pub decimal-placed : (a b : ℕ) (bs : List ℕ) → isDecimal (placed a bs) ≡ isDecimal (placed b bs)
 unfolding isDecimal digits placed isDigit
 decimal-placed a b [] = refl
 decimal-placed a b (x ∷ []) = refl

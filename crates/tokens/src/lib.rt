@@ -14,6 +14,4 @@ pub use lexing::lex_line;
 pub use lexing::next_token;
 pub use numbers::Number;
 pub use numbers::number_in;
-pub use words::closing_token;
 pub use words::has_slip;
-pub use words::word_token;

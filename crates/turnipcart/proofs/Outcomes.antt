@@ -31,7 +31,8 @@ pub same-move : {a b : ℤ} (beats before : List ℕ) (r : ℕ) (after : List �
 same-move beats before r after e m = subst (λ (z : ℤ). Moves z beats before r after) e m
 
 -- And nothing else is.
-pub one-read : (text : List ℕ) (before : Lent) (r q : ℕ) (x y : List ℕ) (a b : Lent) → ReadsChart text before r x a → ReadsChart text before q y b → (r ≡ q) × (answerIn x ≡ answerIn y) × (a ≡ b)
+pub one-read : (text : List ℕ) (before : Lent) (r q : ℕ) (x y : List ℕ) (a b : Lent) → ReadsChart text before r x a → ReadsChart text before q y b
+    → (r ≡ q) × (answerIn x ≡ answerIn y) × (a ≡ b)
 one-read text before r q x y a b f g =
     let same = one-outcome text before (answerIn x) (answerIn y) a b (f .promised) (g .promised) in
     (f .returned ∙ ap (λ (z : Answer). z .refusal) (same .0) ∙ sym (g .returned), same .0, same .1)
@@ -59,4 +60,12 @@ one-explained text r q x y f g =
 
 pub outcomes : OneOutcome
 outcomes =
-    record { read = one-read; counted = one-counted; found = one-found; lit = one-lit; moved = demanded .one-outcome; copied = one-copy; explained = one-explained }
+    record {
+      read = one-read;
+      counted = one-counted;
+      found = one-found;
+      lit = one-lit;
+      moved = demanded .one-outcome;
+      copied = one-copy;
+      explained = one-explained;
+    }

@@ -14,8 +14,8 @@ pub record OneOutcome : Type 0 where
   pub counted : (text : List ℕ) (r q : ℕ) (x y : List ℕ) → CountsChart text r x → CountsChart text q y → (r ≡ q) × (answerIn x ≡ answerIn y)
   pub found : (measures : List ℕ) (beat r q : ℕ) (x y : List ℕ) → FindsBeat measures beat r x → FindsBeat measures beat q y
       → (r ≡ q) × (foundIn x ≡ foundIn y)
-  pub lit : (sections measures before : List ℕ) (r q d e : ℕ) (x y : List ℕ) → LightsCues sections measures before r d x → LightsCues sections measures before q e y
-      → (r ≡ q) × (d ≡ e) × (x ≡ y)
+  pub lit : (sections measures before : List ℕ) (r q d e : ℕ) (x y : List ℕ) → LightsCues sections measures before r d x
+      → LightsCues sections measures before q e y → (r ≡ q) × (d ≡ e) × (x ≡ y)
   pub moved : (move : ℤ) (beats before : List ℕ) (r q : ℕ) (x y : List ℕ) → Moves move beats before r x → Moves move beats before q y → (r ≡ q) × (x ≡ y)
   pub copied : (text before : List ℕ) (r q : ℕ) (x y a b : List ℕ) → CopiesChart text before r x a → CopiesChart text before q y b
       → (r ≡ q) × (copiedIn x ≡ copiedIn y) × (a ≡ b)

@@ -13,7 +13,20 @@ pub extern "C" fn turnipcart_read(
     items: &mut [u64],
     answer: &mut [usize; 6],
 ) -> usize
-    ensures { λ r. ⌜ ReadsChart (now (text .entry)) (record { keys = now (keys .entry); sections = now (sections .entry); measures = now (measures .entry); beats = now (beats .entry); items = now (items .entry) }) r (now (answer .exit)) (record { keys = now (keys .exit); sections = now (sections .exit); measures = now (measures .exit); beats = now (beats .exit); items = now (items .exit) }) ⌝ }
+    ensures { λ r. ⌜ ReadsChart (now (text .entry)) (record {
+      keys = now (keys .entry);
+      sections = now (sections .entry);
+      measures = now (measures .entry);
+      beats = now (beats .entry);
+      items = now (items .entry);
+    }) r (now (answer .exit))
+        (record {
+          keys = now (keys .exit);
+          sections = now (sections .exit);
+          measures = now (measures .exit);
+          beats = now (beats .exit);
+          items = now (items .exit);
+        }) ⌝ }
 {
     let a = reader::read(text, keys, sections, measures, beats, items);
     *answer = [a.refusal, a.line, a.sections, a.measures, a.beats, a.items];

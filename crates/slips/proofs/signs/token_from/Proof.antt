@@ -32,7 +32,8 @@ part-front-blanks-end c =
 returns : tie.Need-returns
 returns c =
     let q = c .before .before .before .before .before .before .before in
-    let e = token-ends (q .args .s .now) (q .args .at) (q .args .to) (c .before .before .before .before .before .next-token .ensures) (c .before .before .before .word .given .1) in
+    let e = token-ends (q .args .s .now) (q .args .at) (q .args .to) (c .before .before .before .before .before .next-token .ensures)
+    (c .before .before .before .word .given .1) in
     let a = e .0 in
     let b = e .1 in
     let f = c .front-blanks .ensures .1 in
