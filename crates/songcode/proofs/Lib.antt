@@ -87,6 +87,7 @@ pub mod AnswerAgree
 pub mod RefusalsAgree
 pub mod RefusalNumbers
 pub mod ApartAgree
+pub mod AnsweredAlike
 pub mod AsBeforeProved
 pub mod LayoutLaws
 pub mod SongAlone

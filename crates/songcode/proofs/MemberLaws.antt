@@ -3,9 +3,10 @@ use Prim.Native.Nat.{ℕ}
 use mathlib.Core.Path.{_≡_, refl, ap, sym, subst}
 use mathlib.Core.Logic.{_⊎_, inl, inr, ⊎-elim}
 use mathlib.Core.List.{List, [], _∷_, _++_, List·Memᴰ, List·Memᴰ·head, List·Memᴰ·tail, List·Memᴰ·not-nil, List·Memᴰ·cases-cons, List·Memᴰ·append-cases}
-use mathlib.Core.List.{Memᴰ·append-left, Memᴰ·append-right}
+use mathlib.Core.List.{map, Memᴰ·append-left, Memᴰ·append-right}
 use mathlib.Core.Bool.{Bool, true, false, _||_}
-use Rattle.songcode.specs.Lists.{gather, when}
+use mathlib.Core.Option.{Option}
+use Rattle.songcode.specs.Lists.{gather, collect, when}
 use Rattle.songcode.specs.Complaints.{Complaint, complaint, complainIf}
 
 module _ {A : Type 0} where
@@ -44,6 +45,23 @@ module _ {A B : Type 0} where
   unfolding gather
   gather-in f {xs = y ∷ ys} {c = c} (List·Memᴰ·head e) m = Memᴰ·append-left (gather f ys) (subst (λ z. List·Memᴰ c (f z)) e m)
   gather-in f {xs = y ∷ ys} (List·Memᴰ·tail i) m = Memᴰ·append-right (f y) (gather-in f i m)
+
+-- What gives the same of every element gives the same of the list.
+module _ {A B : Type 0} where
+  pub gather-alike : {f g : A → List B} (xs : List A) → ((x : A) → List·Memᴰ x xs → f x ≡ g x) → gather f xs ≡ gather g xs
+  unfolding gather
+  gather-alike [] h = refl
+  gather-alike (x ∷ xs) h = rw (h x (List·Memᴰ·head refl), gather-alike xs (λ y i. h y (List·Memᴰ·tail i)))
+
+  pub collect-alike : {f g : A → Option B} (xs : List A) → ((x : A) → List·Memᴰ x xs → f x ≡ g x) → collect f xs ≡ collect g xs
+  unfolding collect
+  collect-alike [] h = refl
+  collect-alike (x ∷ xs) h = rw (h x (List·Memᴰ·head refl), collect-alike xs (λ y i. h y (List·Memᴰ·tail i)))
+
+  pub map-alike : {f g : A → B} (xs : List A) → ((x : A) → List·Memᴰ x xs → f x ≡ g x) → map f xs ≡ map g xs
+  unfolding map
+  map-alike [] h = refl
+  map-alike (x ∷ xs) h = rw (h x (List·Memᴰ·head refl), map-alike xs (λ y i. h y (List·Memᴰ·tail i)))
 
 -- One of two tests passes.
 pub either-passes : (a b : Bool) → a || b ≡ true → (a ≡ true) ⊎ (b ≡ true)

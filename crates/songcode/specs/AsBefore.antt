@@ -1,74 +1,74 @@
--- What requests 2 and 4 leave alone: the tokens of a line by the chords of before, and the lines of which they are the tokens of now. All else of a
--- song is read from its tokens, by definitions that have not moved.
+-- What requests 2 and 4 leave alone: a chord as it was read before each, and the songs that are answered as by it, word for word.
 use Prim.Native.Nat.{ℕ}
-use Prim.Native.Char.{code}
 use mathlib.Core.Path.{_≡_}
-use mathlib.Core.List.{List, [], _∷_, _++_}
+use mathlib.Core.List.{List, _++_, reverse, List·Memᴰ}
 use mathlib.Core.Bool.{false}
-use mathlib.Core.Option.{Option, none, some}
+use mathlib.Core.Option.{none, some}
 use lib.ListN.{getElem?}
-use Rattle.songcode.specs.Lists.{if_then_else_, any}
-use Rattle.songcode.specs.Bytes.{Byte, values, ascii, begins, is, isByte}
-use Rattle.songcode.specs.Numbers.{countIn, repeatIn}
-use Rattle.songcode.specs.Chords.{bases, longestFrom, longestBase, Chord, chordBy, isSlip, withoutSlip}
-use Rattle.songcode.specs.Song.{again, silence}
-use Rattle.songcode.specs.Tokens.{Token, sound, remover, semicolon, colon, opens, Class, blank, semi, double, bracket, closing, plain, class}
-use Rattle.songcode.specs.Tokens.{chordToken, referenceToken, closingToken, Lexed, tokens}
-use Rattle.songcode.specs.WrittenPattern.{Plain}
+use Rattle.songcode.specs.Lists.{any}
+use Rattle.songcode.specs.Bytes.{Byte, values, ascii, begins}
+use Rattle.songcode.specs.Lines.{Line, Block}
+use Rattle.songcode.specs.Chords.{bases, longestFrom, longestBase, Chord, Reading, chordBy, isSlip, withoutSlip}
+use Rattle.songcode.specs.Modifiers.{ofBefore, ofAfter}
+use Rattle.songcode.specs.Sections.{modifierLine, kindOfLine, modifierNameOf, settingOf, patternRun, body}
+use Rattle.songcode.specs.SongText.{definitionBlocks, sectionBlocks}
+use Rattle.songcode.specs.Answer.{Room, blocksOf, answerAs, answer, songAnswerAs, songAnswer}
+use Rattle.songcode.specs.WrittenPattern.{Plain, NoPlain}
 
--- A chord before request 2: "the base is the longest that fits".
-unfoldable pub byLongest : List Byte → Option Chord
-unfolding longestFrom begins bases values chordBy withoutSlip
-byLongest w = withoutSlip (chordBy (longestFrom begins 0 bases (values w) none) w)
+-- A chord by document 01, before both: "the base is the longest that fits", "extensions aren't checked".
+unfoldable pub asAtFirst : Reading
+unfolding longestFrom begins bases values chordBy
+asAtFirst w = chordBy (longestFrom begins 0 bases (values w) none) w
 
--- A chord before request 4: "extensions aren't checked".
-unfoldable pub unchecked : List Byte → Option Chord
+-- A chord before request 2, and one before request 4.
+unfoldable pub byLongest : Reading
+unfolding asAtFirst withoutSlip
+byLongest w = withoutSlip (asAtFirst w)
+
+unfoldable pub unchecked : Reading
 unfolding chordBy longestBase
 unchecked w = chordBy (longestBase w) w
 
--- The tokens of a line, as in `Tokens`, by any way to read a chord.
-module _ (read : List Byte → Option Chord) where
-  unfoldable pub wordAs : List Byte → List Token → List Token
-  unfolding if_then_else_ is isByte referenceToken countIn chordToken
-  wordAs [] ts = ts
-  wordAs (b ∷ w) ts =
-      (if is "%" (b ∷ w) then sound again
-      else if is "_" (b ∷ w) then sound silence
-      else if is "=" (b ∷ w) then remover
-      else if isByte (code "$") b then referenceToken (countIn w)
-      else chordToken (read (b ∷ w)))
-      ∷ ts
+-- The texts of a file in which chords stand: the lines of definitions and of sections' patterns, and what is set by `_before` and `_after`.
+-- Nothing is asked of its other bytes: the letters in keys, headers and lyrics are no chords, and a song may be called `Cmaj7`.
+pub data ChordText (bs : List Block) : List Byte → Type 0 where
+  in-definition : (b : Block) (l : Line) → List·Memᴰ b (definitionBlocks bs) → List·Memᴰ l (b .others) → ChordText bs (l .text)
+  in-pattern : (b : Block) (l : Line) → List·Memᴰ b (sectionBlocks bs) → List·Memᴰ l (patternRun (body b)) → ChordText bs (l .text)
+  in-lead-in : (b : Block) (l : Line) → List·Memᴰ b (sectionBlocks bs) → List·Memᴰ l (body b) → kindOfLine l ≡ modifierLine
+      → modifierNameOf l ≡ some ofBefore → ChordText bs (settingOf l)
+  in-tail : (b : Block) (l : Line) → List·Memᴰ b (sectionBlocks bs) → List·Memᴰ l (body b) → kindOfLine l ≡ modifierLine
+      → modifierNameOf l ≡ some ofAfter → ChordText bs (settingOf l)
 
-  unfoldable pub stepAs : Class → Byte → Lexed → Lexed
-  unfolding wordAs closingToken repeatIn
-  stepAs blank b l = record { front = []; rest = wordAs (l .front) (l .rest) }
-  stepAs semi b l = record { front = []; rest = semicolon ∷ wordAs (l .front) (l .rest) }
-  stepAs double b l = record { front = []; rest = colon ∷ wordAs (l .front) (l .rest) }
-  stepAs bracket b l = record { front = []; rest = opens ∷ wordAs (l .front) (l .rest) }
-  stepAs closing b l = record { front = []; rest = closingToken (repeatIn (l .front)) ∷ l .rest }
-  stepAs plain b l = record { front = b ∷ l .front; rest = l .rest }
+-- A word of a text: plain bytes, and none beside them.
+pub record WordOf (text w : List Byte) : Type 0 where
+  pub before : List Byte
+  pub behind : List Byte
+  pub joined : text ≡ before ++ (w ++ behind)
+  pub plainly : Plain w
+  pub noneBefore : NoPlain (reverse before)
+  pub noneBehind : NoPlain behind
 
-  unfoldable pub lexedAs : List Byte → Lexed
-  unfolding stepAs class
-  lexedAs [] = record { front = []; rest = [] }
-  lexedAs (b ∷ bs) = stepAs (class b) b (lexedAs bs)
-
-  unfoldable pub tokensAs : List Byte → List Token
-  unfolding lexedAs wordAs
-  tokensAs bs = wordAs (lexedAs bs .front) (lexedAs bs .rest)
-
--- No `maj` follows a base.
+-- No `maj` follows a base: no word begins with a base and these letters.
 abbrev pub NoMaj : List Byte → Type 0
-NoMaj bs =
-    (front rest base : List ℕ) (n : ℕ) → getElem? bases n ≡ some base → values bs ≡ front ++ (base ++ (ascii "maj" ++ rest)) → ⊥
+NoMaj text = (w : List Byte) → WordOf text w → (base rest : List ℕ) (n : ℕ) → getElem? bases n ≡ some base → values w ≡ base ++ (ascii "maj" ++ rest) → ⊥
 
--- No chord has one of the four bytes in its extension.
+-- None of the four bytes stands in an extension.
 abbrev pub NoSlips : List Byte → Type 0
-NoSlips bs =
-    (front w rest : List Byte) (c : Chord) → bs ≡ front ++ (w ++ rest) → Plain w → unchecked w ≡ some c → any isSlip (c .extension) ≡ false
+NoSlips text = (w : List Byte) → WordOf text w → (c : Chord) → unchecked w ≡ some c → any isSlip (c .extension) ≡ false
+
+-- All texts in which a file's chords stand are so.
+abbrev pub OfChords : (List Byte → Type 0) → List ℕ → Type 0
+OfChords P bs = (text : List Byte) → ChordText (blocksOf bs) text → P text
+
+-- A file is answered as by another way to read a chord, the refusal and its line or every table word: whatever tables are lent, and without any.
+pub record AnsweredAs (read : Reading) (bs : List ℕ) : Type 0 where
+  pub with-tables : (room : Room) → answer room bs ≡ answerAs read room bs
+  pub without-tables : songAnswer bs ≡ songAnswerAs read bs
 
 pub record AsBefore : Type 0 where
-  -- Request 2: what has no `maj` behind a base reads as before.
-  pub without-maj : (bs : List Byte) → NoMaj bs → tokens bs ≡ tokensAs byLongest bs
-  -- Request 4: what has none of the four bytes in an extension reads as before.
-  pub without-slips : (bs : List Byte) → NoSlips bs → tokens bs ≡ tokensAs unchecked bs
+  -- Request 2: a song in which no `maj` follows a base reads as before, word for word.
+  pub without-maj : (bs : List ℕ) → OfChords NoMaj bs → AnsweredAs byLongest bs
+  -- Request 4: a song without the four bytes in extensions reads as before, word for word.
+  pub without-slips : (bs : List ℕ) → OfChords NoSlips bs → AnsweredAs unchecked bs
+  -- Both: a song without either reads as by document 01 alone.
+  pub without-either : (bs : List ℕ) → OfChords NoMaj bs → OfChords NoSlips bs → AnsweredAs asAtFirst bs
