@@ -1,8 +1,10 @@
 -- What is found keeps the promise: where the verdict names no line, and where it names one.
 use Prim.Native.Nat.{ℕ, _≤_}
-use mathlib.Core.Path.{_≡_, sym, ap, _∙_}
+use mathlib.Core.Path.{_≡_, refl, sym, ap, _∙_}
 use mathlib.Core.List.{List}
-use Rattle.songcode.specs.Answer.{refused, songAnswer}
+use Rattle.songcode.specs.Answer as songcode
+use Rattle.songcode.specs.Answer.{refused, accepted, songAnswer}
+use Rattle.songcode.proofs.RefusalNumbers.{song-numbers}
 use Rattle.reader.specs.declared.answers.Answer.{Answer}
 use Rattle.reader.specs.Answers.{answerOf}
 use Rattle.slips.specs.declared.places.Place.{Place}
@@ -18,9 +20,18 @@ use Rattle.explain.proofs.FirstLaws.{not-line-0, as-refused, uncounted-
 use Rattle.explain.proofs.VerdictLines.{lyric-listed, header-listed}
 use native.Mathlib.Omega.{arith}
 
+-- Where no tables are lent a refusal is 1 to 17.
+at-most-17 : (text : List ℕ) → answerOf (songAnswer text) .refusal ≤ 17
+unfolding answerOf
+at-most-17 text = go (songAnswer text) refl
+  where
+    go : (q : songcode.Answer) → songAnswer text ≡ q → answerOf q .refusal ≤ 17
+    go (refused n l) e = song-numbers text n l e .1
+    go (accepted t) e = omega arith
+
 module _ (text : List ℕ) (a : Answer) (h : a ≡ answerOf (songAnswer text)) (cause : ℕ) (b : a .refusal ≤ 17 → Belongs (a .refusal) cause) (r : Explained) where
-  same : r .refusal ≡ a .refusal → r .cause ≡ cause → r .refusal ≤ 17 → Belongs (r .refusal) (r .cause)
-  same e f k = let l : a .refusal ≤ 17 = rw e at k in rw (e, f) (b l)
+  same : r .refusal ≡ a .refusal → r .cause ≡ cause → Belongs (r .refusal) (r .cause)
+  same e f = let l : a .refusal ≤ 17 = rw h (at-most-17 text) in rw (e, f) (b l)
 
   -- A verdict of lines names one.
   unlined : (n : ℕ) → (songAnswer text ≡ refused n 0 → (l : Line) × LineOf text 0 l) → (n ≡ 0 → ⊥) → a .refusal ≡ n → a .line ≡ 0 → ⊥

@@ -128,9 +128,10 @@ module _ (read other : Reading) where
     text-faults : textFaultsAs read bs ≡ textFaultsAs other bs
     unfolding textFaultsAs definitionsFaultsAs
     text-faults =
-        rw
-        (gather-alike (definitionBlocks bs) (λ b i. definition-faults (b .others) (in-text b i)),
-        gather-alike (sectionBlocks bs) (λ b i. section-faults b i))
+        rw (
+          gather-alike (definitionBlocks bs) (λ b i. definition-faults (b .others) (in-text b i)),
+          gather-alike (sectionBlocks bs) (λ b i. section-faults b i),
+        )
 
     song-alike : songInAs read bs ≡ songInAs other bs
     unfolding songInAs

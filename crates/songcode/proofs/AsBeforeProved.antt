@@ -6,7 +6,7 @@ use mathlib.Core.Bool.{Bool, true, false, _&&_, _||_, not}
 use mathlib.Core.Option.{Option, none, some}
 use lib.ListN.{getElem?}
 use Rattle.songcode.specs.Lists.{if_then_else_, any, every}
-use Rattle.songcode.specs.Bytes.{Byte, values, ascii, same, begins}
+use Rattle.songcode.specs.Bytes.{Byte, placed, values, ascii, same, begins}
 use Rattle.songcode.specs.Chords.{bases, Base, endsInM, isPassedOver, isTaken, longestFrom, longestBase, Chord, Reading, chordBy, isSlip, withoutSlip}
 use Rattle.songcode.specs.Chords.{chordIn}
 use Rattle.songcode.specs.Tokens.{Token, Class, blank, semi, double, bracket, closing, plain, class, Lexed, dollarAs, wordTokenAs, wordAs, lexedByAs}
@@ -122,8 +122,12 @@ unfolding chordIn byLongest unchecked
 without-maj bs h = answered byLongest bs (λ text i w o. ap withoutSlip (maj-alike text (h text i) w o))
 
 pub as-before : AsBefore
+unfolding byLongest unchecked asAtFirst placed ascii
 as-before =
     record {
+      came-up-minor = refl;
+      shown-as-chord = refl;
+      both-at-first = refl;
       without-maj = without-maj;
       without-slips = λ bs h. answered unchecked bs (λ text i. slips-alike text (h text i));
       without-either = λ bs h k. answered asAtFirst bs (λ text i w o. slips-alike text (k text i) w o ∙ maj-alike text (h text i) w o);

@@ -6,7 +6,6 @@ use mathlib.Core.List.{List, [], _∷_, _++_, map}
 use mathlib.Core.Bool.{true, false}
 use mathlib.Core.Option.{Option, none, some}
 use native.Mathlib.Omega.{arith}
-use lib.ListN.{length}
 use Rattle.songcode.specs.Lists.{taken, any}
 use Rattle.songcode.specs.Lines.{Line, Block, lines, blocks}
 use Rattle.songcode.specs.Complaints.{Complaint, verdict}
@@ -21,7 +20,7 @@ use Rattle.songcode.specs.WrittenSection.{Each, none-each, and-each, Sec
 use Rattle.songcode.specs.WrittenSong.{SectionBlock, WrittenSong, WrittenChart}
 use Rattle.songcode.specs.Performance.{Parts}
 use Rattle.songcode.specs.Fits.{Fits}
-use Rattle.songcode.specs.Described.{HasRoom, Described}
+use Rattle.songcode.specs.Described.{Described}
 use Rattle.songcode.specs.Flat.{textOf, sectionRows, isKeyLine, flatSection, playsNothing, flatBlocks, flatCopy, copyBytes, copyBy, copyOf}
 use Rattle.songcode.specs.WrittenFlat.{rowsOf, rowsOfAll, silentPart, blocksCopied, Copied}
 use Rattle.songcode.proofs.ListLaws.{taken-is}
@@ -35,6 +34,7 @@ use Rattle.songcode.proofs.MeterAgree.{Performed, parts-performed}
 use Rattle.songcode.proofs.TablesAgree.{tables-exact}
 use Rattle.songcode.proofs.VerdictAgree.{Silent, verdict-silent, silent-verdict, silent-append, append-silent}
 use Rattle.songcode.proofs.AnswerAgree.{accepted-exactly, room-exact}
+use Rattle.songcode.proofs.SongAlone.{ownRoom, own-room}
 use Rattle.songcode.proofs.CopySong.{copied-alike}
 
 -- The key lines of a body are those in front.
@@ -98,14 +98,6 @@ unfolding flatCopy
 copy-flat bs s ps w f = ap (λ x. copyBytes (flatBlocks x)) (chart-blocks w) ∙ ap (λ x. copyBytes x) (blocks-flat (w .blocks) s ps (w .song) f)
 
 -- Stages 1 to 7 pass exactly where the song is accepted in the room of its own tables.
-ownRoom : Tables → Room
-ownRoom t =
-    record { keys = length (t .keys); sections = length (t .sections); measures = length (t .measures); beats = length (t .beats); items = length (t .items) }
-
-own-room : (t : Tables) → HasRoom (ownRoom t) t
-unfolding ownRoom
-own-room t = record { keys = omega arith; sections = omega arith; measures = omega arith; beats = omega arith; items = omega arith }
-
 stages-pass : (bs : List ℕ) → verdict (songStages bs) ≡ none → verdict (stages (ownRoom (tables (songOf bs))) bs) ≡ none
 unfolding stages Silent
 stages-pass bs h =

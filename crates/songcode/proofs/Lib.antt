@@ -85,12 +85,12 @@ pub mod TablesAgree
 -- The whole.
 pub mod AnswerAgree
 pub mod RefusalsAgree
-pub mod RefusalNumbers
 pub mod ApartAgree
 pub mod AnsweredAlike
 pub mod AsBeforeProved
 pub mod LayoutLaws
 pub mod SongAlone
+pub mod RefusalNumbers
 -- The flat copy.
 pub mod CharacterPieces
 pub mod CopyLines

@@ -1,12 +1,14 @@
--- A refusal's number is 1 to 18: every row's is.
+-- A refusal's number is 1 to 18, as every row's is, and where no tables are lent 1 to 17.
 use Prim.Native.Nat.{ℕ, _≤_}
-use mathlib.Core.Path.{_≡_}
-use mathlib.Core.List.{List}
+use mathlib.Core.Path.{_≡_, refl, ap, _∙_}
+use mathlib.Core.Logic.{_⊎_, inl, inr, ⊎-elim}
+use mathlib.Core.List.{List, [], List·Memᴰ·not-nil}
 use native.Mathlib.Omega.{arith}
 use Rattle.songcode.specs.Lines.{Line, Block}
 use Rattle.songcode.specs.Complaints.{Complaint, complaint}
 use Rattle.songcode.specs.Song.{KeyName, Items, Song}
-use Rattle.songcode.specs.Answer.{Room, refused, answer}
+use Rattle.songcode.specs.Tables.{tables}
+use Rattle.songcode.specs.Answer.{Room, songOf, refused, answer, songAnswer}
 use Rattle.songcode.specs.Performance.{Parts}
 use Rattle.songcode.specs.StoppedText.{KeyStops, key-unknown, key-not-allowed, key-setting, KeyDoubled, key-twice, ModifierStops, modifier-unknown}
 use Rattle.songcode.specs.StoppedText.{repeat-setting, cut-start-setting, cut-end-setting, lead-in-text, tail-text, ModifierDoubled, modifier-twice}
@@ -18,11 +20,17 @@ use Rattle.songcode.specs.StoppedSong.{Stops1, over-long, bad-bytes, Sto
 use Rattle.songcode.specs.StoppedSong.{undivided, again-first, Stops4, of-pattern, of-lead-in, of-tail, Stops5, too-long, no-beat, empty-modified}
 use Rattle.songcode.specs.StoppedSong.{Stops6, uncounted, Stops7, sums-not, Stops8, keys-short, sections-short, measures-short, beats-short}
 use Rattle.songcode.specs.StoppedSong.{items-short}
-use Rattle.songcode.specs.Refusals.{Stage, stage1, stage2, stage3, stage4, stage5, stage6, stage7, stage8, Stated}
-use Rattle.songcode.proofs.RefusalsAgree.{refused-as-stated}
+use Rattle.songcode.specs.Refusals.{Stage, stage1, stage2, stage3, stage4, stage5, stage6, stage7, stage8, Stated, complaintsIn}
+use Rattle.songcode.proofs.AnswerAgree.{room-exact}
+use Rattle.songcode.proofs.RefusalsAgree.{stage-as-stated, refused-as-stated}
+use Rattle.songcode.proofs.SongAlone.{ownRoom, own-room, refused-with-tables}
 
+abbrev Within : ℕ → Complaint → Type 0
+Within most c = (1 ≤ c .number) × (c .number ≤ most)
+
+-- What stages 1 to 7 state.
 abbrev Numbered : Complaint → Type 0
-Numbered c = (1 ≤ c .number) × (c .number ≤ 18)
+Numbered c = Within 17 c
 
 of-key-stops : {allowed : KeyName → Type 0} {l : Line} {c : Complaint} → KeyStops allowed l c → Numbered c
 of-key-stops (key-unknown s h) = (omega arith, omega arith)
@@ -111,24 +119,40 @@ of-6 (uncounted l o w n v k) = (omega arith, omega arith)
 of-7 : {s : Song} {c : Complaint} → Stops7 s c → Numbered c
 of-7 (sums-not l w total p has sums pl differ) = (omega arith, omega arith)
 
-of-8 : {room : Room} {s : Song} {ps : List Parts} {c : Complaint} → Stops8 room s ps c → Numbered c
+of-8 : {room : Room} {s : Song} {ps : List Parts} {c : Complaint} → Stops8 room s ps c → Within 18 c
 of-8 (keys-short h) = (omega arith, omega arith)
 of-8 (sections-short t w h) = (omega arith, omega arith)
 of-8 (measures-short t w h) = (omega arith, omega arith)
 of-8 (beats-short t w h) = (omega arith, omega arith)
 of-8 (items-short t w h) = (omega arith, omega arith)
 
-of-stage : (room : Room) (bs : List ℕ) (k : Stage) (c : Complaint) → Stated room bs k c → Numbered c
+of-stage : (room : Room) (bs : List ℕ) (k : Stage) (c : Complaint) → Stated room bs k c → Numbered c ⊎ ((k ≡ stage8) × Within 18 c)
 unfolding Stated
-of-stage room bs stage1 c h = of-1 h
-of-stage room bs stage2 c h = of-2 (h .4)
-of-stage room bs stage3 c h = of-3 (h .2)
-of-stage room bs stage4 c h = of-4 (h .2)
-of-stage room bs stage5 c h = of-5 (h .2)
-of-stage room bs stage6 c h = of-6 (h .2)
-of-stage room bs stage7 c h = of-7 (h .2)
-of-stage room bs stage8 c h = of-8 (h .4)
+of-stage room bs stage1 c h = inl (of-1 h)
+of-stage room bs stage2 c h = inl (of-2 (h .4))
+of-stage room bs stage3 c h = inl (of-3 (h .2))
+of-stage room bs stage4 c h = inl (of-4 (h .2))
+of-stage room bs stage5 c h = inl (of-5 (h .2))
+of-stage room bs stage6 c h = inl (of-6 (h .2))
+of-stage room bs stage7 c h = inl (of-7 (h .2))
+of-stage room bs stage8 c h = inr (refl, of-8 (h .4))
 
 pub refusal-numbers : (room : Room) (bs : List ℕ) (number line : ℕ) → answer room bs ≡ refused number line → (1 ≤ number) × (number ≤ 18)
 refusal-numbers room bs number line e =
-    let r = refused-as-stated room bs number line .0 e in of-stage room bs (r .stage) (complaint number line) (r .stated)
+    let r = refused-as-stated room bs number line .0 e in
+    ⊎-elim (λ n. let most = n .1 in (n .0, omega arith)) (λ h. h .1)
+    (of-stage room bs (r .stage) (complaint number line) (r .stated))
+
+-- In the room of its own tables stage 8 states nothing of a song.
+pub song-numbers : (bs : List ℕ) (number line : ℕ) → songAnswer bs ≡ refused number line → (1 ≤ number) × (number ≤ 17)
+unfolding complaintsIn
+song-numbers bs number line e =
+    let t = tables (songOf bs) in
+    let room = ownRoom t in
+    let c = complaint number line in
+    let r = refused-as-stated room bs number line .0 (refused-with-tables room bs number line e) in
+    let given = stage-as-stated room bs (r .stage) (r .noneEarlier) c .1 (r .stated) in
+    ⊎-elim (λ n. n)
+    (λ h. let empty : complaintsIn room bs (r .stage) ≡ [] = ap (complaintsIn room bs) (h .0) ∙ room-exact room t .1 (own-room t) in
+    absurd (List·Memᴰ·not-nil {a = c} (rw empty at given)))
+    (of-stage room bs (r .stage) c (r .stated))

@@ -80,6 +80,15 @@ room-given room t c h =
     c
     h
 
+-- The room of a song's own tables is enough.
+unfoldable pub ownRoom : Tables → Room
+ownRoom t =
+    record { keys = length (t .keys); sections = length (t .sections); measures = length (t .measures); beats = length (t .beats); items = length (t .items) }
+
+pub own-room : (t : Tables) → HasRoom (ownRoom t) t
+unfolding ownRoom
+own-room t = record { keys = omega arith; sections = omega arith; measures = omega arith; beats = omega arith; items = omega arith }
+
 module _ (room : Room) (bs : List ℕ) where
   answer-is : answer room bs ≡ answerBy (stageOr (verdict (songStages bs)) (earliest (roomFaults room (tables (songOf bs))))) (tables (songOf bs))
   unfolding answer stages

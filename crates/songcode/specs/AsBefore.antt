@@ -1,12 +1,13 @@
 -- What requests 2 and 4 leave alone: a chord as it was read before each, and the songs that are answered as by it, word for word.
 use Prim.Native.Nat.{ℕ}
+use Prim.Native.String.{String}
 use mathlib.Core.Path.{_≡_}
 use mathlib.Core.List.{List, _++_, reverse, List·Memᴰ}
 use mathlib.Core.Bool.{false}
 use mathlib.Core.Option.{none, some}
 use lib.ListN.{getElem?}
 use Rattle.songcode.specs.Lists.{any}
-use Rattle.songcode.specs.Bytes.{Byte, values, ascii, begins}
+use Rattle.songcode.specs.Bytes.{Byte, placed, values, ascii, begins}
 use Rattle.songcode.specs.Lines.{Line, Block}
 use Rattle.songcode.specs.Chords.{bases, longestFrom, longestBase, Chord, Reading, chordBy, isSlip, withoutSlip}
 use Rattle.songcode.specs.Modifiers.{ofBefore, ofAfter}
@@ -65,7 +66,15 @@ pub record AnsweredAs (read : Reading) (bs : List ℕ) : Type 0 where
   pub with-tables : (room : Room) → answer room bs ≡ answerAs read room bs
   pub without-tables : songAnswer bs ≡ songAnswerAs read bs
 
+-- A word at the front of a file.
+abbrev pub wordOf : String → List Byte
+wordOf word = placed 0 (ascii word)
+
 pub record AsBefore : Type 0 where
+  -- Before, `Cmaj7` came up as C minor and `A=` as a chord.
+  pub came-up-minor : byLongest (wordOf "Cmaj7") ≡ some (record { base = 12; extension = placed 2 (ascii "aj7") })
+  pub shown-as-chord : unchecked (wordOf "A=") ≡ some (record { base = 0; extension = placed 1 (ascii "=") })
+  pub both-at-first : asAtFirst (wordOf "Cmaj=") ≡ some (record { base = 12; extension = placed 2 (ascii "aj=") })
   -- Request 2: a song in which no `maj` follows a base reads as before, word for word.
   pub without-maj : (bs : List ℕ) → OfChords NoMaj bs → AnsweredAs byLongest bs
   -- Request 4: a song without the four bytes in extensions reads as before, word for word.
