@@ -1,6 +1,5 @@
 -- What requests 2 and 4 leave alone: a chord as it was read before each, and the songs that are answered as by it, word for word.
 use Prim.Native.Nat.{ℕ}
-use Prim.Native.String.{String}
 use mathlib.Core.Path.{_≡_}
 use mathlib.Core.List.{List, _++_, reverse, List·Memᴰ}
 use mathlib.Core.Bool.{false}
@@ -31,7 +30,7 @@ unfolding chordBy longestBase
 unchecked w = chordBy (longestBase w) w
 
 -- The texts of a file in which chords stand: the lines of definitions and of sections' patterns, and what is set by `_before` and `_after`.
--- Nothing is asked of its other bytes: the letters in keys, headers and lyrics are no chords, and a song may be called `Cmaj7`.
+-- The laws below ask nothing of its other bytes: letters in keys, headers and lyrics are no chords, and a song may be called `Cmaj7`.
 pub data ChordText (bs : List Block) : List Byte → Type 0 where
   in-definition : (b : Block) (l : Line) → List·Memᴰ b (definitionBlocks bs) → List·Memᴰ l (b .others) → ChordText bs (l .text)
   in-pattern : (b : Block) (l : Line) → List·Memᴰ b (sectionBlocks bs) → List·Memᴰ l (patternRun (body b)) → ChordText bs (l .text)
@@ -49,7 +48,7 @@ pub record WordOf (text w : List Byte) : Type 0 where
   pub noneBefore : NoPlain (reverse before)
   pub noneBehind : NoPlain behind
 
--- No `maj` follows a base: no word begins with a base and these letters.
+-- No `maj` follows a base: no word begins with a base and these letters. Further on in a word they are an extension's, as in `A/Cmaj7`.
 abbrev pub NoMaj : List Byte → Type 0
 NoMaj text = (w : List Byte) → WordOf text w → (base rest : List ℕ) (n : ℕ) → getElem? bases n ≡ some base → values w ≡ base ++ (ascii "maj" ++ rest) → ⊥
 
@@ -66,15 +65,11 @@ pub record AnsweredAs (read : Reading) (bs : List ℕ) : Type 0 where
   pub with-tables : (room : Room) → answer room bs ≡ answerAs read room bs
   pub without-tables : songAnswer bs ≡ songAnswerAs read bs
 
--- A word at the front of a file.
-abbrev pub wordOf : String → List Byte
-wordOf word = placed 0 (ascii word)
-
 pub record AsBefore : Type 0 where
   -- Before, `Cmaj7` came up as C minor and `A=` as a chord.
-  pub came-up-minor : byLongest (wordOf "Cmaj7") ≡ some (record { base = 12; extension = placed 2 (ascii "aj7") })
-  pub shown-as-chord : unchecked (wordOf "A=") ≡ some (record { base = 0; extension = placed 1 (ascii "=") })
-  pub both-at-first : asAtFirst (wordOf "Cmaj=") ≡ some (record { base = 12; extension = placed 2 (ascii "aj=") })
+  pub came-up-minor : byLongest (placed 0 (ascii "Cmaj7")) ≡ some (record { base = 12; extension = placed 2 (ascii "aj7") })
+  pub shown-as-chord : unchecked (placed 0 (ascii "A=")) ≡ some (record { base = 0; extension = placed 1 (ascii "=") })
+  pub both-at-first : asAtFirst (placed 0 (ascii "Cmaj=")) ≡ some (record { base = 12; extension = placed 2 (ascii "aj=") })
   -- Request 2: a song in which no `maj` follows a base reads as before, word for word.
   pub without-maj : (bs : List ℕ) → OfChords NoMaj bs → AnsweredAs byLongest bs
   -- Request 4: a song without the four bytes in extensions reads as before, word for word.
