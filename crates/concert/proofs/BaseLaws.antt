@@ -9,7 +9,7 @@ use lib.Dec.{eqb, leb, ltb}
 use lib.IntN.{ℤ}
 use lib.ListN.{getD}
 use Rattle.songcode.specs.Lists.{if_then_else_, any}
-use Rattle.songcode.specs.Chords.{spellingOf, rootOf, isMinor}
+use Rattle.songcode.specs.answer.Chords.{spellingOf, rootOf, isMinor}
 use Rattle.songcode.proofs.ListLaws.{by-cases, both-pass}
 use Rattle.songcode.proofs.EachBelow.{allBelow, each-below}
 use Rattle.concert.specs.Pitches.{movedRoot, sharpBase, movedBase}

@@ -10,7 +10,7 @@ use lib.IntN.{ℤ, pos}
 use lib.ListN.{length}
 use borrow.Author.Tests.{eqb-true, eqb-false}
 use Rattle.songcode.specs.Lists.{any}
-use Rattle.songcode.specs.Chords.{spellingOf, rootOf, isMinor}
+use Rattle.songcode.specs.answer.Chords.{spellingOf, rootOf, isMinor}
 use Rattle.songcode.proofs.ListLaws.{by-cases, none-passes, pass-none}
 use Rattle.concert.specs.Pitches.{movedRoot, movedBase}
 use Rattle.concert.specs.Moves.{baseIn, behindBase, movedWord, movedTable, isOdd}

@@ -7,7 +7,7 @@ use borrow.Author.Tests.{le-leb, lt-leb, eq-eqb, ne-eqb, leb-true, leb-false, eq
 use lib.Dec.{eqb, leb}
 use lib.IntN.{ℤ}
 use Rattle.songcode.specs.Lists.{if_then_else_}
-use Rattle.songcode.specs.Chords.{spellingOf, rootOf, isMinor}
+use Rattle.songcode.specs.answer.Chords.{spellingOf, rootOf, isMinor}
 use Rattle.songcode.proofs.ListLaws.{by-cases, none-passes, true-is-not-false}
 use Rattle.concert.specs.Pitches.{movedRoot, movedBase}
 use Rattle.concert.specs.Moves.{baseIn, behindBase, movedWord, isOdd}

@@ -9,7 +9,7 @@ use lib.IntN.{ℤ, pos, _+ℤ_, _*ℤ_}
 use lib.ListN.{length}
 use Prim.Native.Char.{code}
 use Rattle.songcode.specs.Lists.{any}
-use Rattle.songcode.specs.Chords.{spellingOf, rootOf, isMinor}
+use Rattle.songcode.specs.answer.Chords.{spellingOf, rootOf, isMinor}
 use Rattle.concert.specs.Pitches.{movedRoot, movedBase}
 use Rattle.concert.specs.Moves.{baseIn, behindBase, movedWord, movedTable, isOdd}
 use Rattle.concert.specs.Promises.{Moves}

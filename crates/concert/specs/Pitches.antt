@@ -8,7 +8,7 @@ use lib.Signed.{leZ}
 use lib.ListN.{getD}
 use Rattle.songcode.specs.Lists.{if_then_else_, orElse}
 use Rattle.songcode.specs.Bytes.{ascii}
-use Rattle.songcode.specs.Chords.{spellings, spellingOf, numberOf, rootOf, isMinor}
+use Rattle.songcode.specs.answer.Chords.{spellings, spellingOf, numberOf, rootOf, isMinor}
 
 -- "from -11 to 20"
 unfoldable pub isAllowed : ℤ → Bool

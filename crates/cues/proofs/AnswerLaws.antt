@@ -6,7 +6,7 @@ use mathlib.Core.Bool.{true, false}
 use lib.ListN.{length}
 use borrow.Author.Tests.{le-leb, lt-leb}
 use Rattle.songcode.specs.Lists.{if_then_else_, every}
-use Rattle.songcode.specs.Joined.{joinUp}
+use Rattle.songcode.specs.description.Joined.{joinUp}
 use Rattle.cues.specs.Cues.{isTimed, refusalOf}
 
 module _ (sections measures : List ℕ) (lent : ℕ) where

@@ -10,7 +10,7 @@ use lib.ListN.{length, take, drop, getD, length-drop, length-map, length-append,
 use lib.Seq.{take-all, take-suc, getD-append-add, getD-take, getD-drop, length-take-le}
 use borrow.Author.Tests.{eqb-true, le-leb, ltb-true, ltb-false, lt-ltb, le-ltb}
 use Rattle.songcode.specs.Lists.{sum}
-use Rattle.songcode.specs.Joined.{firstBeat, beatCount, endBeat, follows, firstMeasure, measureCount, sectionBpm, covers, joinUp}
+use Rattle.songcode.specs.description.Joined.{firstBeat, beatCount, endBeat, follows, firstMeasure, measureCount, sectionBpm, covers, joinUp}
 use Rattle.songcode.proofs.ListLaws.{by-cases, both-pass, sum-append}
 use Rattle.songcode.proofs.FollowLaws.{follow-parts, end-is, apart}
 use Rattle.cues.specs.Cues.{beatLength, lengthsAt, lengths}

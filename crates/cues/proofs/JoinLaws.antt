@@ -10,7 +10,7 @@ use lib.ListN.{length, drop, getD, drop-of-length-le}
 use lib.Seq.{drop-cons}
 use borrow.Author.Tests.{eq-eqb, ne-eqb, le-leb, lt-leb}
 use Rattle.songcode.specs.Lists.{every}
-use Rattle.songcode.specs.Joined.{firstBeat, beatCount, endBeat, follows, isShort, measuresJoin, firstMeasure, measureCount, sectionBpm, covers}
+use Rattle.songcode.specs.description.Joined.{firstBeat, beatCount, endBeat, follows, isShort, measuresJoin, firstMeasure, measureCount, sectionBpm, covers}
 use Rattle.cues.specs.Cues.{isTimed}
 
 module _ (beat i : ℕ) (table : List ℕ) (l : i < length table) where

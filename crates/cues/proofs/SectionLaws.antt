@@ -11,7 +11,7 @@ use lib.Seq.{drop-cons, drop-drop, length-take-le}
 use borrow.Rule.Slice.PartMut.{putMid}
 use borrow.Author.Tests.{eqb-true, leb-true, ne-eqb}
 use Rattle.songcode.specs.Lists.{sum, every}
-use Rattle.songcode.specs.Joined.{firstBeat, endBeat, follows, firstMeasure, measureCount, sectionBpm, covers, isShort, measuresJoin, joinUp}
+use Rattle.songcode.specs.description.Joined.{firstBeat, endBeat, follows, firstMeasure, measureCount, sectionBpm, covers, isShort, measuresJoin, joinUp}
 use Rattle.songcode.proofs.ListLaws.{both-pass, sum-append}
 use Rattle.songcode.proofs.FollowLaws.{follow-parts, end-is}
 use Rattle.packing.specs.Written.{written}

@@ -9,16 +9,16 @@ use lib.ListN.{length, length-append}
 use borrow.Author.Tests.{eq-eqb, le-leb}
 use Rattle.songcode.specs.Lists.{orElse, every, gather}
 use Rattle.songcode.specs.Song.{bpm, Key, Section, Song}
-use Rattle.songcode.specs.Playing.{Beat}
-use Rattle.songcode.specs.Tables.{Tables, sectionWord, measureWord, measureWords}
-use Rattle.songcode.specs.Answer.{Room, answer, accepted}
-use Rattle.songcode.specs.WrittenPattern.{Number}
-use Rattle.songcode.specs.WrittenSection.{Each, none-each, and-each}
-use Rattle.songcode.specs.Performance.{Says, Parts, PlaysSection, joined}
-use Rattle.songcode.specs.Fits.{Fits}
-use Rattle.songcode.specs.WrittenTables.{partsWords}
+use Rattle.songcode.specs.answer.Playing.{Beat}
+use Rattle.songcode.specs.answer.Tables.{Tables, sectionWord, measureWord, measureWords}
+use Rattle.songcode.specs.answer.Answer.{Room, answer, accepted}
+use Rattle.songcode.specs.description.WrittenPattern.{Number}
+use Rattle.songcode.specs.description.WrittenSection.{Each, none-each, and-each}
+use Rattle.songcode.specs.description.Performance.{Says, Parts, PlaysSection, joined}
+use Rattle.songcode.specs.description.Fits.{Fits}
+use Rattle.songcode.specs.description.WrittenTables.{partsWords}
 use Rattle.songcode.specs.FlatDemands.{Within}
-use Rattle.songcode.specs.Joined.{firstBeat, beatCount, endBeat, follows, isShort, measuresJoin, firstMeasure, measureCount, covers, joinUp}
+use Rattle.songcode.specs.description.Joined.{firstBeat, beatCount, endBeat, follows, isShort, measuresJoin, firstMeasure, measureCount, covers, joinUp}
 use Rattle.songcode.proofs.AnswerAgree.{accepted-exactly}
 use Rattle.songcode.proofs.CopySong.{Ready}
 use Rattle.songcode.proofs.CopyReady.{ready}

@@ -8,7 +8,7 @@ use native.Mathlib.Nat.{div-le-self}
 use lib.ListN.{length, drop, getD, set, drop-of-length-le}
 use lib.Seq.{drop-cons}
 use Rattle.songcode.specs.Lists.{sum}
-use Rattle.songcode.specs.Joined.{beatCount}
+use Rattle.songcode.specs.description.Joined.{beatCount}
 use Rattle.packing.proofs.WrittenLaws.{Wrote, wrote-put}
 use Rattle.cues.specs.Cues.{beatLength, lengthsAt, starts}
 

@@ -4,7 +4,7 @@ use mathlib.Core.List.{List, [], _∷_}
 use mathlib.Core.Bool.{Bool, _&&_}
 use lib.Dec.{leb, ltb}
 use Rattle.songcode.specs.Lists.{if_then_else_}
-use Rattle.songcode.specs.Joined.{firstBeat, beatCount, firstMeasure, measureCount, sectionBpm}
+use Rattle.songcode.specs.description.Joined.{firstBeat, beatCount, firstMeasure, measureCount, sectionBpm}
 use Rattle.cues.specs.Cues.{beatLength}
 
 -- A number is one of so many from a first on.

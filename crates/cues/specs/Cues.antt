@@ -5,7 +5,7 @@ use mathlib.Core.Bool.{Bool, _||_, _&&_}
 use lib.Dec.{eqb, leb}
 use lib.ListN.{length, take, drop}
 use Rattle.songcode.specs.Lists.{if_then_else_, every}
-use Rattle.songcode.specs.Joined.{beatCount, measureCount, sectionBpm, joinUp}
+use Rattle.songcode.specs.description.Joined.{beatCount, measureCount, sectionBpm, joinUp}
 
 -- "entry 0 is 0, each other is 60,000,000 divided by bpm, rounded down"
 unfoldable pub beatLength : ℕ → ℕ

@@ -6,9 +6,9 @@ use mathlib.Core.List.{List, [], _∷_, map}
 use mathlib.Core.Bool.{true}
 use lib.ListN.{length, take, getD}
 use Rattle.songcode.specs.Lists.{sum}
-use Rattle.songcode.specs.Joined.{firstBeat, beatCount, joinUp}
-use Rattle.songcode.specs.Tables.{Tables}
-use Rattle.songcode.specs.Answer.{Room, answer, accepted}
+use Rattle.songcode.specs.description.Joined.{firstBeat, beatCount, joinUp}
+use Rattle.songcode.specs.answer.Tables.{Tables}
+use Rattle.songcode.specs.answer.Answer.{Room, answer, accepted}
 use Rattle.cues.specs.Cues.{beatLength, lengths, starts, refusalOf}
 use Rattle.cues.specs.Beats.{lasts, sumBefore}
 

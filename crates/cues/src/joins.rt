@@ -1,7 +1,7 @@
 // Whether tables join up, and whether every section with measures has a bpm.
 ghost use mathlib.Core.Path.{_≡_};
 ghost use Rattle.songcode.specs.Lists.{every};
-ghost use Rattle.songcode.specs.Joined.{covers, measuresJoin, joinUp};
+ghost use Rattle.songcode.specs.description.Joined.{covers, measuresJoin, joinUp};
 ghost use Rattle.cues.specs.Cues.{isTimed};
 
 const MOST_BEATS: usize = 32;

@@ -5,7 +5,7 @@ ghost use mathlib.Core.Bool.{true};
 ghost use Prim.Native.Nat.{_+_, _*_, _^_, _≤_};
 ghost use lib.ListN.{length};
 ghost use Rattle.songcode.specs.Lists.{sum, every};
-ghost use Rattle.songcode.specs.Joined.{beatCount, joinUp};
+ghost use Rattle.songcode.specs.description.Joined.{beatCount, joinUp};
 ghost use Rattle.packing.specs.Written.{written};
 ghost use Rattle.cues.specs.Cues.{beatLength, lengthsAt, lengths, starts, isTimed};
 ghost use Rattle.cues.specs.Table.{IsTable};

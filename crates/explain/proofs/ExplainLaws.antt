@@ -2,8 +2,8 @@
 use Prim.Native.Nat.{ℕ, _≤_}
 use mathlib.Core.Path.{_≡_, refl, sym, ap, _∙_}
 use mathlib.Core.List.{List}
-use Rattle.songcode.specs.Answer as songcode
-use Rattle.songcode.specs.Answer.{refused, accepted, songAnswer}
+use Rattle.songcode.specs.answer.Answer as songcode
+use Rattle.songcode.specs.answer.Answer.{refused, accepted, songAnswer}
 use Rattle.songcode.proofs.RefusalNumbers.{song-numbers}
 use Rattle.reader.specs.declared.answers.Answer.{Answer}
 use Rattle.reader.specs.Answers.{answerOf}

@@ -4,8 +4,8 @@ use mathlib.Core.Path.{_≡_, sym, ap, _∙_}
 use mathlib.Core.List.{List}
 use native.Mathlib.Omega.{arith}
 use lib.ListN.{length, getD}
-use Rattle.songcode.specs.Answer as songcode
-use Rattle.songcode.specs.Answer.{refused, accepted, lineOfPlace, songAnswer}
+use Rattle.songcode.specs.answer.Answer as songcode
+use Rattle.songcode.specs.answer.Answer.{refused, accepted, lineOfPlace, songAnswer}
 use Rattle.text.specs.declared.lines.Line.{Line}
 use Rattle.reader.specs.declared.answers.Answer.{Answer}
 use Rattle.reader.specs.Answers.{answerOf}

@@ -5,12 +5,12 @@ use mathlib.Core.Path.{_≡_, refl, sym, ap, subst, _∙_}
 use mathlib.Core.Logic.{⊎-elim}
 use mathlib.Core.List.{List, [], _∷_, map, List·Memᴰ, List·Memᴰ·head, List·Memᴰ·tail, List·Memᴰ·not-nil, List·Memᴰ·cases-cons}
 use mathlib.Core.List.{Memᴰ·append-left, Memᴰ·append-right}
-use Rattle.songcode.specs.Lines.{Line, Block}
+use Rattle.songcode.specs.answer.Lines.{Line, Block}
 use Rattle.songcode.specs.Song.{LyricLine, Section, Song}
-use Rattle.songcode.specs.Answer.{blocksOf, refused, songAnswer}
-use Rattle.songcode.specs.WrittenText.{WrittenBlocks, no-block, a-blank, a-block}
-use Rattle.songcode.specs.WrittenSection.{Each, none-each, and-each, LyricLines, no-lyrics, with-lyrics, WrittenSection}
-use Rattle.songcode.specs.WrittenSong.{WrittenSong}
+use Rattle.songcode.specs.answer.Answer.{blocksOf, refused, songAnswer}
+use Rattle.songcode.specs.description.WrittenText.{WrittenBlocks, no-block, a-blank, a-block}
+use Rattle.songcode.specs.description.WrittenSection.{Each, none-each, and-each, LyricLines, no-lyrics, with-lyrics, WrittenSection}
+use Rattle.songcode.specs.description.WrittenSong.{WrittenSong}
 use Rattle.songcode.proofs.BlocksAgree.{blocks-sound}
 use Rattle.songcode.proofs.AnswerAgree.{of-chart}
 use Rattle.text.specs.declared.lines.Line as text

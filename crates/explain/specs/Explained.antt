@@ -2,7 +2,7 @@
 use Prim.Native.Nat.{ℕ, _+_}
 use mathlib.Core.Path.{_≡_}
 use mathlib.Core.List.{List}
-use Rattle.songcode.specs.Answer.{songAnswer}
+use Rattle.songcode.specs.answer.Answer.{songAnswer}
 use Rattle.reader.specs.Answers.{answerOf}
 use Rattle.text.specs.declared.lines.Line.{Line}
 use Rattle.slips.specs.Places.{OnLine}

@@ -11,10 +11,10 @@ use lib.ListN.{length}
 use borrow.Author.Tests.{lt-ltb, le-ltb}
 use Rattle.songcode.specs.Lists.{when}
 use Rattle.songcode.specs.Complaints.{Complaint, complainIf, earlier, earliest, stageOr, verdict}
-use Rattle.songcode.specs.Tables.{Tables, tables}
-use Rattle.songcode.specs.Answer.{mostBytes, songOf, songStages, answerBy, songAnswer, accepted}
-use Rattle.songcode.specs.Answer as Reading
-use Rattle.songcode.specs.Flat.{refused, copied, flatBy, flatCopy, copyFaults, flatStages, flatAnswer}
+use Rattle.songcode.specs.answer.Tables.{Tables, tables}
+use Rattle.songcode.specs.answer.Answer.{mostBytes, songOf, songStages, answerBy, songAnswer, accepted}
+use Rattle.songcode.specs.answer.Answer as Reading
+use Rattle.songcode.specs.answer.Flat.{refused, copied, flatBy, flatCopy, copyFaults, flatStages, flatAnswer}
 use Rattle.songcode.proofs.ListLaws.{nil-complainIf, pass-none}
 use Rattle.songcode.proofs.VerdictAgree.{verdict-append, last-stage}
 use Rattle.flat.specs.declared.answers.Copied.{Copied}

@@ -9,9 +9,9 @@ use lib.ListN.{length, length-append}
 use borrow.Author.Tests.{ltb-true, not-false}
 use Rattle.songcode.specs.Lists.{if_then_else_, gather, when}
 use Rattle.songcode.specs.Bytes.{ascii}
-use Rattle.songcode.specs.Lines.{Line}
-use Rattle.songcode.specs.Answer.{mostBytes}
-use Rattle.songcode.specs.Flat.{textOf, ended, keyBlock, emptyBlock, furtherRows, copyRows, copyBytes}
+use Rattle.songcode.specs.answer.Lines.{Line}
+use Rattle.songcode.specs.answer.Answer.{mostBytes}
+use Rattle.songcode.specs.answer.Flat.{textOf, endLine, keyBlock, emptyBlock, furtherRows, copyRows, copyBytes}
 use Rattle.songcode.proofs.ListLaws.{by-cases, true-is-not-false, Each, gather-append}
 use Rattle.flat.specs.Sheets.{Sheet, putOne, puts}
 use Rattle.flat.specs.Taken.{lineBytes}
@@ -51,30 +51,30 @@ parted-none x n e = rw e
 pub parted-some : (x : Sheet) (n : ℕ) → (n ≡ 0 → ⊥) → puts (parting n) x ≡ puts (10 ∷ []) x
 parted-some x n h = ap (λ (z : List ℕ). puts z x) (parted-by n (omega arith))
 
-block-further : (b : List (List ℕ)) (n : ℕ) → 1 ≤ n → blockBytes n b ≡ ended [] ++ gather ended b
-unfolding blockBytes ended
+block-further : (b : List (List ℕ)) (n : ℕ) → 1 ≤ n → blockBytes n b ≡ endLine [] ++ gather endLine b
+unfolding blockBytes endLine
 block-further b n h = rw (parted-by n h)
 
 further-bytes : (b : List (List ℕ)) (bs : List (List (List ℕ)))
-    → gather ended (furtherRows (b ∷ bs)) ≡ (ended [] ++ gather ended b) ++ gather ended (furtherRows bs)
+    → gather endLine (furtherRows (b ∷ bs)) ≡ (endLine [] ++ gather endLine b) ++ gather endLine (furtherRows bs)
 unfolding furtherRows gather
-further-bytes b bs = ap (λ (z : List ℕ). ended [] ++ z) (gather-append ended b (furtherRows bs)) ∙ sym (append-assoc (ended []) (gather ended b) _)
+further-bytes b bs = ap (λ (z : List ℕ). endLine [] ++ z) (gather-append endLine b (furtherRows bs)) ∙ sym (append-assoc (endLine []) (gather endLine b) _)
 
-further : (bs : List (List (List ℕ))) (x : Sheet) → 1 ≤ x .at → putBlocks bs x ≡ puts (gather ended (furtherRows bs)) x
+further : (bs : List (List (List ℕ))) (x : Sheet) → 1 ≤ x .at → putBlocks bs x ≡ puts (gather endLine (furtherRows bs)) x
 unfolding putBlocks furtherRows gather puts
 further [] x h = refl
 further (b ∷ bs) x h =
     further bs (puts (blockBytes (x .at) b) x) (kept-at (blockBytes (x .at) b) x h)
-    ∙ sym (puts-append (blockBytes (x .at) b) (gather ended (furtherRows bs)) x)
-    ∙ ap (λ (z : List ℕ). puts (z ++ gather ended (furtherRows bs)) x) (block-further b (x .at) h)
+    ∙ sym (puts-append (blockBytes (x .at) b) (gather endLine (furtherRows bs)) x)
+    ∙ ap (λ (z : List ℕ). puts (z ++ gather endLine (furtherRows bs)) x) (block-further b (x .at) h)
     ∙ ap (λ (z : List ℕ). puts z x) (sym (further-bytes b bs))
 
 -- Every block has a line.
 unfoldable pub Lined : List (List (List ℕ)) → Type 0
 Lined bs = Each (λ b. 1 ≤ length b) bs
 
-rows-some : (b : List (List ℕ)) → 1 ≤ length b → 1 ≤ length (gather ended b)
-unfolding gather ended
+rows-some : (b : List (List ℕ)) → 1 ≤ length b → 1 ≤ length (gather endLine b)
+unfolding gather endLine
 rows-some [] h = absurd (omega arith)
 rows-some (r ∷ b) h = rw (length-append, length-append) (omega arith)
 
@@ -84,9 +84,9 @@ unfolding putBlocks blockBytes parting copyBytes copyRows Lined Each
 copy-blocks [] c h = refl
 copy-blocks (b ∷ bs) c h =
     let x : Sheet = record { copy = c; at = 0 } in
-    further bs (puts (gather ended b) x) (some-at (gather ended b) x (rows-some b (h .0)))
-    ∙ sym (puts-append (gather ended b) (gather ended (furtherRows bs)) x)
-    ∙ ap (λ (z : List ℕ). puts z x) (sym (gather-append ended b (furtherRows bs)))
+    further bs (puts (gather endLine b) x) (some-at (gather endLine b) x (rows-some b (h .0)))
+    ∙ sym (puts-append (gather endLine b) (gather endLine (furtherRows bs)) x)
+    ∙ ap (λ (z : List ℕ). puts z x) (sym (gather-append endLine b (furtherRows bs)))
 
 -- "key lines make one block"
 pub keys-block : (ls : List Line) (c : List ℕ)
@@ -103,5 +103,5 @@ no-empty false x e = refl
 
 pub some-empty : (needed : Bool) (x y z : Sheet) → not needed ≡ false → y ≡ puts (parting (x .at)) x → z ≡ puts (36 ∷ 49 ∷ 10 ∷ []) y
     → z ≡ putBlocks (emptyBlock needed) x
-unfolding putBlocks emptyBlock when blockBytes gather ended ascii
+unfolding putBlocks emptyBlock when blockBytes gather endLine ascii
 some-empty needed x y z e f g = g ∙ ap (puts (36 ∷ 49 ∷ 10 ∷ [])) f ∙ sym (puts-append (parting (x .at)) (36 ∷ 49 ∷ 10 ∷ []) x) ∙ rw (not-false needed e) refl

@@ -9,12 +9,12 @@ use borrow.Author.Tests.{le-ltb}
 use lib.ListN.{length, length-map}
 use Rattle.songcode.specs.Lists.{if_then_else_, gather}
 use Rattle.songcode.specs.Bytes.{ascii, placed}
-use Rattle.songcode.specs.Chords.{Chord, bases, spellingOf}
-use Rattle.songcode.specs.Tables.{offset, headBit, beatBy, beatWord}
-use Rattle.songcode.specs.Layout.{field}
-use Rattle.songcode.specs.Playing.{Beat}
-use Rattle.songcode.specs.Flat.{letters, lettersOf, ended, flatMeasure, flatPattern}
-use Rattle.songcode.specs.WrittenFlat.{stretchAt}
+use Rattle.songcode.specs.answer.Chords.{Chord, bases, spellingOf}
+use Rattle.songcode.specs.answer.Tables.{offset, headBit, beatBy, beatWord}
+use Rattle.songcode.specs.description.Layout.{field}
+use Rattle.songcode.specs.answer.Playing.{Beat}
+use Rattle.songcode.specs.answer.Flat.{letters, lettersOf, endLine, flatMeasure, flatPattern}
+use Rattle.songcode.specs.description.WrittenFlat.{stretchAt}
 use Rattle.songcode.proofs.Stretches.{stretch-of}
 use Rattle.songcode.proofs.ChordsPlayed.{OfIf, OfAll, OfRow}
 use Rattle.songcode.proofs.SpeltChords.{Known}
@@ -77,12 +77,12 @@ module _ (s : List ℕ) (n : ℕ) where
       rw (e, l)
 
   lines-heard : (row : List (List Beat)) → map (map (lettersAt s)) (map (map beatWord) row) ≡ map (map lettersOf) row
-      → measureLines s n (map (map beatWord) row) ≡ gather ended (map (flatMeasure n) row)
+      → measureLines s n (map (map beatWord) row) ≡ gather endLine (map (flatMeasure n) row)
   unfolding measureLines gather
   lines-heard [] e = refl
   lines-heard (m ∷ row) e = rw (measure-heard (map beatWord m) m (head-eq-of-cons-eq e), lines-heard row (tail-eq-of-cons-eq e))
 
-  pub pattern-heard : (row : List (List Beat)) → Heard s row → patternLines s n (rowWords row) ≡ gather ended (flatPattern n row)
+  pub pattern-heard : (row : List (List Beat)) → Heard s row → patternLines s n (rowWords row) ≡ gather endLine (flatPattern n row)
   unfolding Heard rowWords patternLines flatPattern gather
-  pattern-heard [] e = sym (append-nil (ended (ascii "$1")))
+  pattern-heard [] e = sym (append-nil (endLine (ascii "$1")))
   pattern-heard (m ∷ row) e = lines-heard (m ∷ row) e

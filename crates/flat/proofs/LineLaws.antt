@@ -9,10 +9,10 @@ use lib.ListN.{length, take}
 use borrow.Author.Tests.{eqb-true}
 use Rattle.songcode.specs.Lists.{if_then_else_, isEmpty, gather, taken, left}
 use Rattle.songcode.specs.Bytes.{Byte, placed, values, ascii, same, is, isByte}
-use Rattle.songcode.specs.Lines as songcode
-use Rattle.songcode.specs.Sections.{Kind, keyLine, modifierLine, patternLine, kindOf, kindOfLine, notDashes, body, ending}
-use Rattle.songcode.specs.WrittenSong.{BeginsWith}
-use Rattle.songcode.specs.Flat.{textOf, ended, isKeyLine}
+use Rattle.songcode.specs.answer.Lines as songcode
+use Rattle.songcode.specs.answer.Sections.{Kind, keyLine, modifierLine, patternLine, kindOf, kindOfLine, notDashes, body, fromDashes}
+use Rattle.songcode.specs.description.WrittenSong.{BeginsWith}
+use Rattle.songcode.specs.answer.Flat.{textOf, endLine, isKeyLine}
 use Rattle.songcode.proofs.ListLaws.{by-cases, true-is-not-false}
 use Rattle.songcode.proofs.ByteLaws.{values-placed}
 use Rattle.songcode.proofs.LineAgree.{key-at}
@@ -34,11 +34,11 @@ use Rattle.flat.proofs.SheetLaws.{puts-append}
 
 -- A line and those behind it.
 pub line-first : (s : List ℕ) (l : Line) (ls : List songcode.Line) (x : Sheet)
-    → puts (lineBytes (lineText s l ∷ ls)) x ≡ puts (lineBytes ls) (puts (ended (part (l .start) (l .stop) s)) x)
+    → puts (lineBytes (lineText s l ∷ ls)) x ≡ puts (lineBytes ls) (puts (endLine (part (l .start) (l .stop) s)) x)
 unfolding lineBytes gather textOf
 line-first s l ls x =
-    puts-append (ended (values (placed (l .start) (part (l .start) (l .stop) s)))) (lineBytes ls) x
-    ∙ ap (λ (t : List ℕ). puts (lineBytes ls) (puts (ended t) x)) (values-placed (l .start) (part (l .start) (l .stop) s))
+    puts-append (endLine (values (placed (l .start) (part (l .start) (l .stop) s)))) (lineBytes ls) x
+    ∙ ap (λ (t : List ℕ). puts (lineBytes ls) (puts (endLine t) x)) (values-placed (l .start) (part (l .start) (l .stop) s))
 
 -- So many lines from a place on.
 module _ (s : List ℕ) (n at left : ℕ) (x : Sheet) where
@@ -56,13 +56,13 @@ module _ (s : List ℕ) (n at left : ℕ) (x : Sheet) where
 
   lines-more : {l : Line} → Found s n at l → at < length s → (left ≡ 0 → ⊥)
       → puts (lineBytes (take left (textLines s n at))) x
-      ≡ puts (lineBytes (take (left - 1) (textLines s (n + 1) (l .next)))) (puts (ended (part (l .start) (l .stop) s)) x)
+      ≡ puts (lineBytes (take (left - 1) (textLines s (n + 1) (l .next)))) (puts (endLine (part (l .start) (l .stop) s)) x)
   lines-more {l} f h some-left =
       let e : left ≡ suc (left - 1) = omega arith in
       ap (λ (k : ℕ). puts (lineBytes (take k (textLines s n at))) x) e
       ∙ rw (lines-found f h) (line-first s l (take (left - 1) (textLines s (n + 1) (l .next))) x)
 
-  pub lines-step : (y goal : Sheet) {l : Line} → Found s n at l → at < length s → (left ≡ 0 → ⊥) → y ≡ puts (ended (part (l .start) (l .stop) s)) x
+  pub lines-step : (y goal : Sheet) {l : Line} → Found s n at l → at < length s → (left ≡ 0 → ⊥) → y ≡ puts (endLine (part (l .start) (l .stop) s)) x
       → puts (lineBytes (take left (textLines s n at))) x ≡ goal → puts (lineBytes (take (left - 1) (textLines s (n + 1) (l .next)))) y ≡ goal
   lines-step y goal {l} f h some-left e g = ap (puts (lineBytes (take (left - 1) (textLines s (n + 1) (l .next))))) e ∙ sym (lines-more f h some-left) ∙ g
 
@@ -107,8 +107,8 @@ module _ (s : List ℕ) (n at : ℕ) {h : Line} (f : Found s n at h) where
       ∙ taken-within isKeyLine (passing Full) (λ l e. key-body l e .0) ls
       ∙ ap (λ (l : Line). taken isKeyLine (textLines s (n + 1) (l .next))) (sym (f .is))
 
-  pub ending-taken : ending (blockAt s n at) ≡ taken (passing Full) (left (passing Body) (textLines s (n + 1) (h .next)))
-  unfolding ending blockAt
+  pub ending-taken : fromDashes (blockAt s n at) ≡ taken (passing Full) (left (passing Body) (textLines s (n + 1) (h .next)))
+  unfolding fromDashes blockAt
   ending-taken =
       ending-is (textLines s (n + 1) (lineAt s n at .next))
       ∙ ap (λ (l : Line). taken (passing Full) (left (passing Body) (textLines s (n + 1) (l .next)))) (sym (f .is))
@@ -158,13 +158,13 @@ module _ (s : List ℕ) (n at : ℕ) (x : Sheet) where
 
     keys-more : Key ≡ kindIs (kindOf (placed 0 (part (l .start) (l .stop) s)))
         → puts (lineBytes (taken isKeyLine (textLines s n at))) x
-        ≡ puts (lineBytes (taken isKeyLine (textLines s (n + 1) (l .next)))) (puts (ended (part (l .start) (l .stop) s)) x)
+        ≡ puts (lineBytes (taken isKeyLine (textLines s (n + 1) (l .next)))) (puts (endLine (part (l .start) (l .stop) s)) x)
     unfolding taken if_then_else_
     keys-more e =
         let k : isKeyLine (lineText s l) ≡ true = is-key (lineText s l) (kind-here e) in
         rw (lines-found f h) (rw k (line-first s l (taken isKeyLine (textLines s (n + 1) (l .next))) x))
 
-    pub keys-step : (y goal : Sheet) → Key ≡ kindIs (kindOf (placed 0 (part (l .start) (l .stop) s))) → y ≡ puts (ended (part (l .start) (l .stop) s)) x
+    pub keys-step : (y goal : Sheet) → Key ≡ kindIs (kindOf (placed 0 (part (l .start) (l .stop) s))) → y ≡ puts (endLine (part (l .start) (l .stop) s)) x
         → puts (lineBytes (taken isKeyLine (textLines s n at))) x ≡ goal → puts (lineBytes (taken isKeyLine (textLines s (n + 1) (l .next)))) y ≡ goal
     keys-step y goal k e g = ap (puts (lineBytes (taken isKeyLine (textLines s (n + 1) (l .next))))) e ∙ sym (keys-more k) ∙ g
 

@@ -11,11 +11,11 @@ use lib.ListN.{length, take, drop, getD, replicate, length-map, length-drop, dro
 use lib.Seq.{drop-cons, drop-length, take-all}
 use Rattle.songcode.specs.Lists.{if_then_else_, every, gather}
 use Rattle.songcode.specs.Bytes.{ascii}
-use Rattle.songcode.specs.Chords.{bases, spellingOf}
-use Rattle.songcode.specs.Tables.{measureWord}
-use Rattle.songcode.specs.Layout.{field}
-use Rattle.songcode.specs.Flat.{parted, spaced, ended}
-use Rattle.songcode.specs.WrittenFlat.{stretchAt}
+use Rattle.songcode.specs.answer.Chords.{bases, spellingOf}
+use Rattle.songcode.specs.answer.Tables.{measureWord}
+use Rattle.songcode.specs.description.Layout.{field}
+use Rattle.songcode.specs.answer.Flat.{parted, spaced, endLine}
+use Rattle.songcode.specs.description.WrittenFlat.{stretchAt}
 use Rattle.songcode.proofs.ListLaws.{both-pass, by-cases}
 use Rattle.songcode.proofs.CopyWords.{bit-small}
 use Rattle.text.specs.Spans.{part}
@@ -188,8 +188,8 @@ line-is s n bs =
     ∙ ap (λ (k : ℕ). spaced (map (lettersAt s) bs) ++ positions k (replicate (n - length bs) (ascii "="))) e
 
 pub line-put : (s : List ℕ) (n : ℕ) (bs : List ℕ) (x y z w : Sheet) → y ≡ puts (spaced (map (lettersAt s) bs)) x
-    → z ≡ puts (positions (length bs) (replicate (n - length bs) (ascii "="))) y → w ≡ puts (10 ∷ []) z → w ≡ puts (ended (measureLine s n bs)) x
-unfolding ended
+    → z ≡ puts (positions (length bs) (replicate (n - length bs) (ascii "="))) y → w ≡ puts (10 ∷ []) z → w ≡ puts (endLine (measureLine s n bs)) x
+unfolding endLine
 line-put s n bs x y z w e f g =
     rw (line-is s n bs) (puts-two (spaced (map (lettersAt s) bs) ++ positions (length bs) (replicate (n - length bs) (ascii "="))) (10 ∷ []) x z w
     (puts-two (spaced (map (lettersAt s) bs)) (positions (length bs) (replicate (n - length bs) (ascii "="))) x y z e f) g)
@@ -202,7 +202,7 @@ beats-part bs w m first end held p q = let e = measure-fields held in rw (p, q, 
 
 pub measure-next : (s : List ℕ) (n : ℕ) (bs ms : List ℕ) (i k : ℕ) (m : MeasureFields) (first end : ℕ) (x y goal : Sheet) → i < k → k ≤ length ms
     → HoldsMeasure (getD ms i 0) m → first ≡ min (m .first) (length bs) → end ≡ min (m .first + m .beats) (length bs)
-    → y ≡ puts (ended (measureLine s n (part first end bs))) x
+    → y ≡ puts (endLine (measureLine s n (part first end bs))) x
     → puts (measureLines s n (map (beatsIn bs) (take (k - i) (drop i ms)))) x ≡ goal
     → puts (measureLines s n (map (beatsIn bs) (take (k - (i + 1)) (drop (i + 1) ms)))) y ≡ goal
 unfolding measureLines gather
@@ -210,7 +210,7 @@ measure-next s n bs ms i k m first end x y goal h f held p q d g =
     let a : k - i ≡ suc (k - (i + 1)) = omega arith in
     let c : drop i ms ≡ getD ms i 0 ∷ drop (i + 1) ms = rw (add-one i) (drop-cons ms i 0 (omega arith)) in
     let r = measureLines s n (map (beatsIn bs) (take (k - (i + 1)) (drop (i + 1) ms))) in
-    rw (d, beats-part bs (getD ms i 0) m first end held p q) (sym (puts-append (ended (measureLine s n (beatsIn bs (getD ms i 0)))) r x) ∙ (rw (a, c) at g))
+    rw (d, beats-part bs (getD ms i 0) m first end held p q) (sym (puts-append (endLine (measureLine s n (beatsIn bs (getD ms i 0)))) r x) ∙ (rw (a, c) at g))
 
 pub measure-over : (s : List ℕ) (n : ℕ) (bs ms : List ℕ) (i k : ℕ) (x goal : Sheet) → k ≤ i
     → puts (measureLines s n (map (beatsIn bs) (take (k - i) (drop i ms)))) x ≡ goal → x ≡ goal

@@ -7,10 +7,10 @@ use native.Mathlib.Omega.{arith}
 use lib.ListN.{length, take}
 use Rattle.songcode.specs.Lists.{gather}
 use Rattle.songcode.specs.Complaints.{complainIf}
-use Rattle.songcode.specs.Lines.{Line, Block, blocks}
-use Rattle.songcode.specs.SongText.{metadata, section, blockKind, turn, blockOrder, linesIf, metadataLines, textFaults}
-use Rattle.songcode.specs.Answer.{blocksOf}
-use Rattle.songcode.specs.Flat.{textOf, ended}
+use Rattle.songcode.specs.answer.Lines.{Line, Block, blocks}
+use Rattle.songcode.specs.answer.SongText.{metadata, section, blockKind, turn, blockOrder, linesIf, metadataLines, textFaults}
+use Rattle.songcode.specs.answer.Answer.{blocksOf}
+use Rattle.songcode.specs.answer.Flat.{textOf, endLine}
 use Rattle.songcode.proofs.ListLaws.{gather-append, nil-is-not-cons}
 use Rattle.songcode.proofs.BlockKinds.{by-kind}
 use Rattle.songcode.proofs.ChoiceLaws.{zero-is-not-one}
@@ -53,7 +53,7 @@ said-start s p n = ap (λ (bs : List Block). lineBytes (metadataLines bs)) (sym 
 
 lines-append : (a b : List Line) → lineBytes (a ++ b) ≡ lineBytes a ++ lineBytes b
 unfolding lineBytes
-lines-append a b = ap (gather ended) (map-append textOf a b) ∙ gather-append ended (map textOf a) (map textOf b)
+lines-append a b = ap (gather endLine) (map-append textOf a b) ∙ gather-append endLine (map textOf a) (map textOf b)
 
 module _ (s : List ℕ) (p : Place) (c : Begun s p) (inside : p .at < length s) where
   abbrev block : Block

@@ -7,11 +7,11 @@ use native.Mathlib.Nat.{zero-add}
 use lib.ListN.{length, take, drop, getD, length-drop, take-append-drop, List·getD-append}
 use lib.Seq.{sets, sets-eq, length-sets, take-suc, take-all, take-nil, drop-append-le, take-append-le, drop-drop}
 use Rattle.songcode.specs.Bytes.{ascii}
-use Rattle.songcode.specs.Tables.{measureWord}
-use Rattle.songcode.specs.Layout.{field}
-use Rattle.songcode.specs.Performance.{total}
+use Rattle.songcode.specs.answer.Tables.{measureWord}
+use Rattle.songcode.specs.description.Layout.{field}
+use Rattle.songcode.specs.description.Performance.{total}
 use Rattle.songcode.specs.EitherOrder.{Filled}
-use Rattle.songcode.specs.Flat.{ended}
+use Rattle.songcode.specs.answer.Flat.{endLine}
 use Rattle.songcode.proofs.ListLaws.{gather-append}
 use Rattle.songcode.proofs.TurnedRows.{total-append}
 use Rattle.packing.specs.declared.fields.MeasureFields.{MeasureFields}
@@ -109,7 +109,7 @@ rest-is s n (suc k) row h = refl
 
 lines-append : (s : List ℕ) (n : ℕ) (a b : List (List ℕ)) → measureLines s n (a ++ b) ≡ measureLines s n a ++ measureLines s n b
 unfolding measureLines
-lines-append s n a b = gather-append (λ m. ended (measureLine s n m)) a b
+lines-append s n a b = gather-append (λ m. endLine (measureLine s n m)) a b
 
 -- Where the loop stands: at a measure of the row, with what was written before it.
 pub record Stands (s : List ℕ) (n : ℕ) (row : List (List ℕ)) (from : ℕ) (x goal : Sheet) : Type 0 where
@@ -147,7 +147,7 @@ module _ (s : List ℕ) (n : ℕ) (row : List (List ℕ)) (filled : Filled row) 
 
   -- A part without measures: the section plays nothing.
   stands-none : (from : ℕ) (x y goal : Sheet) → Stands s n row from x goal → length (part from) ≡ 0 → y ≡ puts (36 ∷ 49 ∷ 10 ∷ []) x → y ≡ goal
-  unfolding restLines patternLines ended ascii
+  unfolding restLines patternLines endLine ascii
   stands-none from x y goal h e d =
       let p = the-part from x goal h in
       let t = total-short (part from) (short-window from room row short) in

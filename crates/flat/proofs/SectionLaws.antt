@@ -4,11 +4,11 @@ use mathlib.Core.Path.{_≡_, refl, sym, ap, _∙_}
 use mathlib.Core.List.{List, _∷_, _++_, map}
 use lib.ListN.{length}
 use Rattle.songcode.specs.Lists.{gather, taken, left}
-use Rattle.songcode.specs.Lines.{Block, blocks}
-use Rattle.songcode.specs.Sections.{body, ending, sectionIn}
-use Rattle.songcode.specs.Playing.{timeOf, played}
-use Rattle.songcode.specs.Answer.{songOf}
-use Rattle.songcode.specs.Flat.{textOf, ended, isKeyLine, flatPattern, sectionRows, flatSection}
+use Rattle.songcode.specs.answer.Lines.{Block, blocks}
+use Rattle.songcode.specs.answer.Sections.{body, fromDashes, sectionIn}
+use Rattle.songcode.specs.answer.Playing.{timeOf, played}
+use Rattle.songcode.specs.answer.Answer.{songOf}
+use Rattle.songcode.specs.answer.Flat.{textOf, endLine, isKeyLine, flatPattern, sectionRows, flatSection}
 use Rattle.songcode.proofs.ListLaws.{gather-append}
 use Rattle.text.specs.declared.lines.Line.{Line}
 use Rattle.text.specs.Spans.{part, Found}
@@ -29,16 +29,16 @@ use Rattle.flat.proofs.HeardLaws.{pattern-heard}
 
 -- Header, keys, measures and lyrics, one behind the other.
 rows-put : (h : List ℕ) (keys row lyrics : List (List ℕ)) (at : ℕ) (x : Sheet) → puts (blockBytes at (h ∷ (keys ++ (row ++ lyrics)))) x
-    ≡ puts (gather ended lyrics) (puts (gather ended row) (puts (gather ended keys) (puts (ended h) (puts (parting at) x))))
+    ≡ puts (gather endLine lyrics) (puts (gather endLine row) (puts (gather endLine keys) (puts (endLine h) (puts (parting at) x))))
 unfolding blockBytes gather
 rows-put h keys row lyrics at x =
-    let further : gather ended (keys ++ (row ++ lyrics)) ≡ gather ended keys ++ (gather ended row ++ gather ended lyrics) =
-    gather-append ended keys (row ++ lyrics) ∙ ap (λ (z : List ℕ). gather ended keys ++ z) (gather-append ended row lyrics) in
-    puts-append (parting at) (ended h ++ gather ended (keys ++ (row ++ lyrics))) x
-    ∙ puts-append (ended h) (gather ended (keys ++ (row ++ lyrics))) (puts (parting at) x)
-    ∙ ap (λ (z : List ℕ). puts z (puts (ended h) (puts (parting at) x))) further
-    ∙ puts-append (gather ended keys) (gather ended row ++ gather ended lyrics) (puts (ended h) (puts (parting at) x))
-    ∙ puts-append (gather ended row) (gather ended lyrics) (puts (gather ended keys) (puts (ended h) (puts (parting at) x)))
+    let further : gather endLine (keys ++ (row ++ lyrics)) ≡ gather endLine keys ++ (gather endLine row ++ gather endLine lyrics) =
+    gather-append endLine keys (row ++ lyrics) ∙ ap (λ (z : List ℕ). gather endLine keys ++ z) (gather-append endLine row lyrics) in
+    puts-append (parting at) (endLine h ++ gather endLine (keys ++ (row ++ lyrics))) x
+    ∙ puts-append (endLine h) (gather endLine (keys ++ (row ++ lyrics))) (puts (parting at) x)
+    ∙ ap (λ (z : List ℕ). puts z (puts (endLine h) (puts (parting at) x))) further
+    ∙ puts-append (gather endLine keys) (gather endLine row ++ gather endLine lyrics) (puts (endLine h) (puts (parting at) x))
+    ∙ puts-append (gather endLine row) (gather endLine lyrics) (puts (gather endLine keys) (puts (endLine h) (puts (parting at) x)))
 
 same-puts : {a b c d e f g h : List ℕ} (x : Sheet) → a ≡ e → b ≡ f → c ≡ g → d ≡ h → puts d (puts c (puts b (puts a x))) ≡ puts h (puts g (puts f (puts e x)))
 same-puts x p q r s = rw (p, q, r, s) refl
@@ -47,24 +47,24 @@ same-puts x p q r s = rw (p, q, r, s) refl
 module _ (s : List ℕ) (p : Place) {h : Line} (f : Found s (p .number) (p .at) h) (n : ℕ) (row : List (List ℕ))
     (meter : n ≡ timeOf (songOf s) (sectionAt s p)) (is : row ≡ rowWords (played (songOf s) (sectionAt s p)))
     (heard : Heard s (played (songOf s) (sectionAt s p))) where
-  pattern-put : gather ended (flatPattern (timeOf (songOf s) (sectionAt s p)) (played (songOf s) (sectionAt s p))) ≡ patternLines s n row
+  pattern-put : gather endLine (flatPattern (timeOf (songOf s) (sectionAt s p)) (played (songOf s) (sectionAt s p))) ≡ patternLines s n row
   pattern-put = rw (meter, is) (sym (pattern-heard s (timeOf (songOf s) (sectionAt s p)) (played (songOf s) (sectionAt s p)) heard))
 
   pub section-put : (at : ℕ) (x : Sheet) → puts (blockBytes at (flatSection (songOf s) (blockAt s (p .number) (p .at)))) x
       ≡ puts (lineBytes (taken (passing Full) (left (passing Body) (textLines s (p .number + 1) (h .next)))))
       (puts (patternLines s n row)
-      (puts (lineBytes (taken isKeyLine (textLines s (p .number + 1) (h .next)))) (puts (ended (part (h .start) (h .stop) s)) (puts (parting at) x))))
+      (puts (lineBytes (taken isKeyLine (textLines s (p .number + 1) (h .next)))) (puts (endLine (part (h .start) (h .stop) s)) (puts (parting at) x))))
   unfolding flatSection sectionRows lineBytes sectionAt
   section-put at x =
       let b = blockAt s (p .number) (p .at) in
       rows-put (textOf (b .first)) (map textOf (taken isKeyLine (body b))) (flatPattern (timeOf (songOf s) (sectionIn b)) (played (songOf s) (sectionIn b)))
-      (map textOf (ending b)) at x
-      ∙ same-puts (puts (parting at) x) (ap ended (header-text s (p .number) (p .at) f))
-      (ap (λ ls. gather ended (map textOf ls)) (keys-taken s (p .number) (p .at) f)) pattern-put
-      (ap (λ ls. gather ended (map textOf ls)) (ending-taken s (p .number) (p .at) f))
+      (map textOf (fromDashes b)) at x
+      ∙ same-puts (puts (parting at) x) (ap endLine (header-text s (p .number) (p .at) f))
+      (ap (λ ls. gather endLine (map textOf ls)) (keys-taken s (p .number) (p .at) f)) pattern-put
+      (ap (λ ls. gather endLine (map textOf ls)) (ending-taken s (p .number) (p .at) f))
 
   -- The same, call by call.
-  pub section-done : (at : ℕ) (x a b c d e : Sheet) → a ≡ puts (parting at) x → b ≡ puts (ended (part (h .start) (h .stop) s)) a
+  pub section-done : (at : ℕ) (x a b c d e : Sheet) → a ≡ puts (parting at) x → b ≡ puts (endLine (part (h .start) (h .stop) s)) a
       → c ≡ puts (lineBytes (taken isKeyLine (textLines s (p .number + 1) (h .next)))) b → d ≡ puts (patternLines s n row) c
       → e ≡ puts (lineBytes (taken (passing Full) (left (passing Body) (textLines s (p .number + 1) (h .next))))) d
       → e ≡ puts (blockBytes at (flatSection (songOf s) (blockAt s (p .number) (p .at)))) x
@@ -72,7 +72,7 @@ module _ (s : List ℕ) (p : Place) {h : Line} (f : Found s (p .number) (p .at) 
       m
       ∙ ap (puts (lineBytes (taken (passing Full) (left (passing Body) (textLines s (p .number + 1) (h .next))))))
       (l ∙ ap (puts (patternLines s n row))
-      (k ∙ ap (puts (lineBytes (taken isKeyLine (textLines s (p .number + 1) (h .next))))) (j ∙ ap (puts (ended (part (h .start) (h .stop) s))) i)))
+      (k ∙ ap (puts (lineBytes (taken isKeyLine (textLines s (p .number + 1) (h .next))))) (j ∙ ap (puts (endLine (part (h .start) (h .stop) s))) i)))
       ∙ sym (section-put at x)
 
 -- The blocks of the sections from a place on.

@@ -10,7 +10,7 @@ use lib.Dec.{ltb}
 use lib.ListN.{length, drop, getD, set, length-set}
 use lib.Seq.{sets, sets-eq, drop-cons}
 use Rattle.songcode.specs.Lists.{if_then_else_}
-use Rattle.songcode.specs.Answer.{mostBytes}
+use Rattle.songcode.specs.answer.Answer.{mostBytes}
 use Rattle.songcode.proofs.ListLaws.{by-cases}
 use Rattle.text.specs.Spans.{part}
 use Rattle.packing.specs.Written.{written}

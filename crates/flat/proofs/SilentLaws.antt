@@ -9,10 +9,10 @@ use borrow.Author.Tests.{not-false}
 use Rattle.songcode.specs.Lists.{isEmpty, isSome, any}
 use Rattle.songcode.specs.Complaints.{complainIf}
 use Rattle.songcode.specs.Song.{Items, Modifier, Section, Song}
-use Rattle.songcode.specs.References.{patternItems}
-use Rattle.songcode.specs.Playing.{saidBy, beforeSaid, afterSaid, sideMeasures, keptMeasures, timeOf, played}
-use Rattle.songcode.specs.Meter.{sectionCount, mostMeasures, cutFaults, lengthFaults}
-use Rattle.songcode.specs.Flat.{playsNothing}
+use Rattle.songcode.specs.answer.References.{patternItems}
+use Rattle.songcode.specs.answer.Playing.{saidBy, beforeSaid, afterSaid, sideMeasures, keptMeasures, timeOf, played}
+use Rattle.songcode.specs.answer.Meter.{sectionCount, mostMeasures, cutFaults, lengthFaults}
+use Rattle.songcode.specs.answer.Flat.{playsNothing}
 use Rattle.songcode.proofs.ListLaws.{Each, append-is-nil, complainIf-nil, isEmpty-true, true-is-not-false}
 
 -- A list with something in its middle is not empty.

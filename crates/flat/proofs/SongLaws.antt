@@ -9,16 +9,16 @@ use lib.ListN.{length}
 use Rattle.songcode.specs.Lists.{any, when}
 use Rattle.songcode.specs.Bytes.{placed}
 use Rattle.songcode.specs.Complaints.{verdict}
-use Rattle.songcode.specs.Lines.{Block}
+use Rattle.songcode.specs.answer.Lines.{Block}
 use Rattle.songcode.specs.Song.{Section, Song}
-use Rattle.songcode.specs.SongText.{textFaults, metadataLines, sectionBlocks}
-use Rattle.songcode.specs.Playing.{played}
-use Rattle.songcode.specs.Answer.{inputFaults, blocksOf, songOf, songStages}
-use Rattle.songcode.specs.WrittenSection as Written
-use Rattle.songcode.specs.WrittenSection.{none-each, and-each}
-use Rattle.songcode.specs.Performance.{Parts}
-use Rattle.songcode.specs.Flat.{textOf, keyBlock, emptyBlock, sectionRows, flatSection, playsNothing, flatBlocks, flatCopy, copyBy, copyOf}
-use Rattle.songcode.specs.WrittenFlat.{Copied}
+use Rattle.songcode.specs.answer.SongText.{textFaults, metadataLines, sectionBlocks}
+use Rattle.songcode.specs.answer.Playing.{played}
+use Rattle.songcode.specs.answer.Answer.{inputFaults, blocksOf, songOf, songStages}
+use Rattle.songcode.specs.description.WrittenSection as Written
+use Rattle.songcode.specs.description.WrittenSection.{none-each, and-each}
+use Rattle.songcode.specs.description.Performance.{Parts}
+use Rattle.songcode.specs.answer.Flat.{textOf, keyBlock, emptyBlock, sectionRows, flatSection, playsNothing, flatBlocks, flatCopy, copyBy, copyOf}
+use Rattle.songcode.specs.description.WrittenFlat.{Copied}
 use Rattle.songcode.proofs.ListLaws.{Each, each-map, each-append}
 use Rattle.songcode.proofs.VerdictAgree.{Silent, silent-verdict}
 use Rattle.songcode.proofs.AnswerAgree.{of-chart, song-read}

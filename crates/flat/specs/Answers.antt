@@ -3,7 +3,7 @@ use Prim.Native.Nat.{ℕ}
 use mathlib.Core.Path.{_≡_}
 use mathlib.Core.List.{List}
 use lib.ListN.{length}
-use Rattle.songcode.specs.Flat.{FlatAnswer, refused, copied, flatAnswer}
+use Rattle.songcode.specs.answer.Flat.{FlatAnswer, refused, copied, flatAnswer}
 use Rattle.packing.specs.Written.{written}
 use Rattle.flat.specs.declared.answers.Copied.{Copied}
 

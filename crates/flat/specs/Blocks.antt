@@ -3,9 +3,9 @@ use Prim.Native.Nat.{ℕ, zero, suc}
 use mathlib.Core.Path.{_≡_}
 use mathlib.Core.List.{List, [], _∷_, _++_, map}
 use Rattle.songcode.specs.Lists.{gather}
-use Rattle.songcode.specs.Lines.{blocks}
-use Rattle.songcode.specs.Answer.{songOf}
-use Rattle.songcode.specs.Flat.{ended, flatSection}
+use Rattle.songcode.specs.answer.Lines.{blocks}
+use Rattle.songcode.specs.answer.Answer.{songOf}
+use Rattle.songcode.specs.answer.Flat.{endLine, flatSection}
 use Rattle.sections.specs.declared.blocks.Place.{Place}
 use Rattle.sections.specs.Runs.{textLines}
 use Rattle.sections.specs.BlockParts.{blockAt}
@@ -17,8 +17,8 @@ parting zero = []
 parting (suc at) = 10 ∷ []
 
 unfoldable pub blockBytes : ℕ → List (List ℕ) → List ℕ
-unfolding parting gather ended
-blockBytes at rows = parting at ++ gather ended rows
+unfolding parting gather endLine
+blockBytes at rows = parting at ++ gather endLine rows
 
 unfoldable pub putBlocks : List (List (List ℕ)) → Sheet → Sheet
 unfolding puts blockBytes

@@ -6,11 +6,11 @@ use lib.Dec.{ltb}
 use lib.ListN.{length, take, drop, replicate}
 use Rattle.songcode.specs.Lists.{if_then_else_, gather}
 use Rattle.songcode.specs.Bytes.{ascii}
-use Rattle.songcode.specs.Chords.{spellingOf}
-use Rattle.songcode.specs.Layout.{field}
-use Rattle.songcode.specs.Playing.{Beat}
-use Rattle.songcode.specs.Flat.{lettersOf, parted, spaced, ended}
-use Rattle.songcode.specs.WrittenFlat.{stretchAt}
+use Rattle.songcode.specs.answer.Chords.{spellingOf}
+use Rattle.songcode.specs.description.Layout.{field}
+use Rattle.songcode.specs.answer.Playing.{Beat}
+use Rattle.songcode.specs.answer.Flat.{lettersOf, parted, spaced, endLine}
+use Rattle.songcode.specs.description.WrittenFlat.{stretchAt}
 use Rattle.player.specs.Texts.{rowWords}
 
 -- What a beat sounds, by its letters; `_` for silence.
@@ -44,13 +44,13 @@ firstMeasures k ms bs = map (beatsIn bs) (take k ms)
 
 -- "a measure has a line of its own"
 unfoldable pub measureLines : List ℕ → ℕ → List (List ℕ) → List ℕ
-unfolding gather ended measureLine
-measureLines s n row = gather (λ m. ended (measureLine s n m)) row
+unfolding gather endLine measureLine
+measureLines s n row = gather (λ m. endLine (measureLine s n m)) row
 
 -- "An empty pattern stays one, by naming an empty definition `$1`".
 unfoldable pub patternLines : List ℕ → ℕ → List (List ℕ) → List ℕ
-unfolding measureLines ended ascii
-patternLines s n [] = ended (ascii "$1")
+unfolding measureLines endLine ascii
+patternLines s n [] = endLine (ascii "$1")
 patternLines s n (m ∷ row) = measureLines s n (m ∷ row)
 
 -- Small tables for a part of a section: every measure fits the table of beats twice, and there are as many words for measures.

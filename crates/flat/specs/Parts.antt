@@ -3,7 +3,7 @@ use Prim.Native.Nat.{ℕ}
 use mathlib.Core.Path.{_≡_}
 use mathlib.Core.List.{List}
 use lib.ListN.{length}
-use Rattle.songcode.specs.Performance.{total}
+use Rattle.songcode.specs.description.Performance.{total}
 use Rattle.player.specs.declared.playing.Counts.{Counts}
 use Rattle.player.specs.Windows.{window}
 use Rattle.sections.specs.declared.values.Modifiers.{Modifiers}

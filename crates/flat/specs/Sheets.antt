@@ -5,7 +5,7 @@ use mathlib.Core.List.{List, [], _∷_}
 use lib.Dec.{ltb}
 use lib.ListN.{set}
 use Rattle.songcode.specs.Lists.{if_then_else_}
-use Rattle.songcode.specs.Answer.{mostBytes}
+use Rattle.songcode.specs.answer.Answer.{mostBytes}
 
 pub record Sheet : Type 0 where
   pub copy : List ℕ

@@ -2,15 +2,15 @@
 use Prim.Native.Nat.{ℕ}
 use mathlib.Core.List.{List, map}
 use Rattle.songcode.specs.Lists.{taken, left, gather}
-use Rattle.songcode.specs.Lines.{Line}
-use Rattle.songcode.specs.Flat.{textOf, ended, isKeyLine}
+use Rattle.songcode.specs.answer.Lines.{Line}
+use Rattle.songcode.specs.answer.Flat.{textOf, endLine, isKeyLine}
 use Rattle.sections.specs.declared.runs.Test.the-variants.{Full, Body}
 use Rattle.sections.specs.Runs.{textLines, passing}
 
 -- "Lines, trimmed, end in LF"
 unfoldable pub lineBytes : List Line → List ℕ
-unfolding gather ended textOf
-lineBytes ls = gather ended (map textOf ls)
+unfolding gather endLine textOf
+lineBytes ls = gather endLine (map textOf ls)
 
 -- The key lines from a line on; the lines of a section from its `--` on, where the line behind its header stands at a place.
 abbrev pub keysFrom : List ℕ → ℕ → ℕ → List Line

@@ -9,8 +9,8 @@ ghost use mathlib.Core.Path.{_≡_};
 ghost use mathlib.Core.List.{[]};
 ghost use Prim.Native.Nat.{_≤_};
 ghost use lib.ListN.{length};
-ghost use Rattle.songcode.specs.SongText.{textFaults};
-ghost use Rattle.songcode.specs.Answer.{inputFaults, blocksOf};
+ghost use Rattle.songcode.specs.answer.SongText.{textFaults};
+ghost use Rattle.songcode.specs.answer.Answer.{inputFaults, blocksOf};
 ghost use Rattle.judging.specs.Charts.{Writable};
 ghost use Rattle.flat.specs.Answers.{Flattened};
 

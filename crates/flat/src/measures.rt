@@ -9,9 +9,9 @@ ghost use mathlib.Core.List.{map};
 ghost use Prim.Native.Nat.{_-_, _≤_};
 ghost use lib.ListN.{length, replicate};
 ghost use Rattle.songcode.specs.Bytes.{ascii};
-ghost use Rattle.songcode.specs.Flat.{spaced, ended};
+ghost use Rattle.songcode.specs.answer.Flat.{spaced, endLine};
 ghost use Rattle.flat.specs.Sheets.{Adds};
-ghost use Rattle.songcode.specs.Chords.{spellingOf};
+ghost use Rattle.songcode.specs.answer.Chords.{spellingOf};
 ghost use Rattle.flat.specs.Measures.{lettersAt, gap, positions, measureLine, firstMeasures, measureLines};
 
 // The letters of a base chord.
@@ -85,7 +85,7 @@ fn put_missing(from: usize, n: usize, copy: &mut [u8], at: usize) -> usize
 
 // "each as N positions, one a beat, missing beats as removers": the line of a measure.
 fn put_measure(s: &[u8], n: usize, beats: &[u32], copy: &mut [u8], at: usize) -> usize
-    ensures { λ r. ⌜ Adds (ended (measureLine (now (s .entry)) n (now (beats .entry)))) (now (copy .entry)) at (now (copy .exit)) r ⌝ }
+    ensures { λ r. ⌜ Adds (endLine (measureLine (now (s .entry)) n (now (beats .entry)))) (now (copy .entry)) at (now (copy .exit)) r ⌝ }
 {
     let heard = put_beats(s, beats, copy, at);
     let filled = put_missing(beats.len(), n, copy, heard);

@@ -3,7 +3,7 @@
 ghost use mathlib.Core.List.{[], _∷_};
 ghost use Prim.Native.Nat.{_≤_};
 ghost use lib.ListN.{length};
-ghost use Rattle.songcode.specs.Flat.{ended};
+ghost use Rattle.songcode.specs.answer.Flat.{endLine};
 ghost use Rattle.text.specs.Spans.{part};
 ghost use Rattle.flat.specs.Sheets.{Adds};
 
@@ -37,7 +37,7 @@ pub fn put_part(s: &[u8], start: usize, stop: usize, copy: &mut [u8], at: usize)
 // The same as a line of the copy: "Lines, trimmed, end in LF".
 pub fn put_line(s: &[u8], start: usize, stop: usize, copy: &mut [u8], at: usize) -> usize
     requires { ⌜ (start ≤ stop) × (stop ≤ length (now s)) ⌝ }
-    ensures { λ r. ⌜ Adds (ended (part start stop (now (s .entry)))) (now (copy .entry)) at (now (copy .exit)) r ⌝ }
+    ensures { λ r. ⌜ Adds (endLine (part start stop (now (s .entry)))) (now (copy .entry)) at (now (copy .exit)) r ⌝ }
 {
     let written = put_part(s, start, stop, copy, at);
     put(b'\n', copy, written)

@@ -6,8 +6,8 @@ use mathlib.Core.Bool.{Bool, true, false}
 use native.Mathlib.Omega.{arith}
 use lib.Dec.{eqb, leb}
 use Rattle.songcode.specs.Lists.{if_then_else_, isSome}
-use Rattle.songcode.specs.Tokens.{Token, sound, remover, reference, semicolon, colon, lineEnd, opens, closes, wrong}
-use Rattle.songcode.specs.PatternText.{wholeReference, loopsDeep}
+use Rattle.songcode.specs.answer.Tokens.{Token, sound, remover, reference, semicolon, colon, lineEnd, opens, closes, wrong}
+use Rattle.songcode.specs.answer.PatternText.{wholeReference, loopsDeep}
 use Rattle.songcode.proofs.ListLaws.{by-cases}
 use Rattle.grammar.specs.declared.kinds.Kind.{Kind}
 use Rattle.grammar.specs.declared.checks.Place.{Place}

@@ -7,9 +7,9 @@ use native.Mathlib.Omega.{arith}
 use lib.ListN.{length}
 use Rattle.songcode.specs.Lists.{if_then_else_, isSome, any}
 use Rattle.songcode.specs.Bytes.{Byte, placed}
-use Rattle.songcode.specs.Tokens.{tokens}
-use Rattle.songcode.specs.Tokens as songcode
-use Rattle.songcode.specs.PatternText.{barred, sideText}
+use Rattle.songcode.specs.answer.Tokens.{tokens}
+use Rattle.songcode.specs.answer.Tokens as songcode
+use Rattle.songcode.specs.answer.PatternText.{barred, sideText}
 use Rattle.tokens.specs.TokenWords.{tokenWord}
 use Rattle.tokens.specs.Lexing.{Reads}
 use Rattle.tokens.specs.declared.lexing.Lexed.{Lexed}

@@ -9,7 +9,7 @@ use lib.ListN.{length, take, drop, getD}
 use lib.Seq.{drop-cons}
 use Rattle.songcode.specs.Lists.{any}
 use Rattle.songcode.specs.Bytes.{placed, isByte}
-use Rattle.songcode.specs.PatternText.{barred}
+use Rattle.songcode.specs.answer.PatternText.{barred}
 use Rattle.grammar.specs.Sides.{barredByte, anyBarred}
 
 module _ {A : Type 0} (s : List A) (i e : ℕ) where

@@ -10,7 +10,7 @@ use lib.Dec.{leb}
 use lib.ListN.{length}
 use Rattle.songcode.specs.Lists.{if_then_else_, isEmpty}
 use Rattle.songcode.specs.Song.{Separator, Measure, Item, measure, loop, refer}
-use Rattle.songcode.specs.PatternText.{Begun, start, more, add, depthI, depth, loopsDeep, referencesI, references}
+use Rattle.songcode.specs.answer.PatternText.{Begun, start, more, add, depthI, depth, loopsDeep, referencesI, references}
 use Rattle.songcode.proofs.ListLaws.{by-cases}
 use Rattle.grammar.specs.declared.kinds.Kind.{Kind}
 use Rattle.grammar.specs.declared.kinds.Kind.the-variants.{Opens, Closes}

@@ -5,9 +5,9 @@ use mathlib.Core.List.{List, [], _∷_}
 use mathlib.Core.Bool.{Bool}
 use Rattle.songcode.specs.Song as song
 use Rattle.songcode.specs.Song.{nothing, aLineEnd, Separator, bySemicolon, byLineEnd, byColon, Item, measure, loop, refer}
-use Rattle.songcode.specs.Tokens.{Token, sound, remover, reference, semicolon, colon, lineEnd, opens, closes, wrong}
-use Rattle.songcode.specs.PatternText.{depthI, referencesI, Begun, start, more, State, wants, has, ended, bad, add, lineBehind, begin, grown}
-use Rattle.songcode.specs.PatternText.{withSound, withRemover, shut, step, run}
+use Rattle.songcode.specs.answer.Tokens.{Token, sound, remover, reference, semicolon, colon, lineEnd, opens, closes, wrong}
+use Rattle.songcode.specs.answer.PatternText.{depthI, referencesI, Begun, start, more, State, wants, has, ended, bad, add, lineBehind, begin, grown}
+use Rattle.songcode.specs.answer.PatternText.{withSound, withRemover, closeLoop, step, run}
 use Rattle.grammar.specs.declared.kinds.Kind.{Kind}
 use Rattle.grammar.specs.declared.kinds.Kind.the-variants.{Sound, Remover, Reference, Semicolon, Colon, LineEnd, Opens, Closes, Wrong}
 use Rattle.grammar.specs.declared.checks.Place.{Place}
@@ -137,8 +137,8 @@ remover-behind r os (measure m) = item-leads Remover r os (measure m) Removed (p
 remover-behind r os (loop q n) = item-ruins Remover r os (loop q n) Full (λ n b. refl)
 remover-behind r os (refer n) = item-ruins Remover r os (refer n) _ (behind-reference (Ruins Remover) r os n (λ n b. refl) (λ n b. refl))
 
-closed-behind : (r : Begun) (os : List Begun) (i : Item) (n : ℕ) → checkOf (shut (add r i) os n) ≡ checkStep (checkItem (placeBehind r os i) r os i) Closes
-unfolding shut checkOf checkStep placeBehind
+closed-behind : (r : Begun) (os : List Begun) (i : Item) (n : ℕ) → checkOf (closeLoop (add r i) os n) ≡ checkStep (checkItem (placeBehind r os i) r os i) Closes
+unfolding closeLoop checkOf checkStep placeBehind
 closed-behind r [] i n = none-closed _ r i (behind Closing r [] i (λ n b. refl) (λ n b. refl) (λ n b. refl) (λ n b. refl))
 closed-behind r (o ∷ os) i n = row-closed _ r i (behind Closing r (o ∷ os) i (λ n b. refl) (λ n b. refl) (λ n b. refl) (λ n b. refl)) o os n
 

@@ -1,8 +1,8 @@
 -- The check of a text is taken line by line.
 use mathlib.Core.Path.{_≡_, refl, ap, _∙_}
 use mathlib.Core.List.{List, [], _∷_, _++_, append-assoc}
-use Rattle.songcode.specs.Lines.{Line}
-use Rattle.songcode.specs.Tokens.{Token, lineEnd, tokens, tokensOf}
+use Rattle.songcode.specs.answer.Lines.{Line}
+use Rattle.songcode.specs.answer.Tokens.{Token, lineEnd, tokens, tokensOf}
 use Rattle.grammar.specs.declared.kinds.Kind.{Kind}
 use Rattle.grammar.specs.declared.kinds.Kind.the-variants.{LineEnd}
 use Rattle.grammar.specs.declared.checks.Check.{Check}

@@ -9,11 +9,11 @@ use borrow.Author.Tests.{le-leb, lt-leb, ne-eqb}
 use lib.Dec.{leb}
 use lib.ListN.{length}
 use Rattle.songcode.specs.Lists.{if_then_else_, isEmpty, isSome, andThen}
-use Rattle.songcode.specs.Lines.{Line}
+use Rattle.songcode.specs.answer.Lines.{Line}
 use Rattle.songcode.specs.Song.{Item, Items, items}
-use Rattle.songcode.specs.Tokens.{Token, sound, remover, reference, semicolon, colon, lineEnd, opens, closes, wrong, tokensOf}
-use Rattle.songcode.specs.PatternText.{Begun, start, State, wants, has, ended, bad, add, run, done, itemsIn, depth, depthI, loopsDeep, references}
-use Rattle.songcode.specs.PatternText.{noReference, kept, definitionText, wholeReference, patternBy, sectionText}
+use Rattle.songcode.specs.answer.Tokens.{Token, sound, remover, reference, semicolon, colon, lineEnd, opens, closes, wrong, tokensOf}
+use Rattle.songcode.specs.answer.PatternText.{Begun, start, State, wants, has, ended, bad, add, run, done, itemsIn, depth, depthI, loopsDeep, references}
+use Rattle.songcode.specs.answer.PatternText.{noReference, kept, definitionText, wholeReference, patternBy, sectionText}
 use Rattle.songcode.proofs.ListLaws.{by-cases}
 use Rattle.grammar.specs.declared.checks.Place.{Place}
 use Rattle.grammar.specs.declared.checks.Check.{Check}

@@ -5,7 +5,7 @@ use native.Mathlib.Omega.{arith}
 use borrow.Author.Tests.{lt-ltb}
 use Rattle.songcode.specs.Lists.{if_then_else_}
 use Rattle.songcode.specs.Song.{chord, again, silence}
-use Rattle.songcode.specs.Tokens.{Token, sound, remover, reference, semicolon, colon, lineEnd, opens, closes, wrong}
+use Rattle.songcode.specs.answer.Tokens.{Token, sound, remover, reference, semicolon, colon, lineEnd, opens, closes, wrong}
 use Rattle.tokens.specs.TokenWords.{tokenWord}
 use Rattle.tokens.specs.Fitting.{Fit, kind}
 use Rattle.tokens.proofs.KindLaws as words

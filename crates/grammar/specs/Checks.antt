@@ -5,9 +5,9 @@ use mathlib.Core.Bool.{Bool, true, false}
 use lib.Dec.{eqb, leb}
 use Rattle.songcode.specs.Lists.{if_then_else_}
 use Rattle.songcode.specs.Bytes.{Byte}
-use Rattle.songcode.specs.Lines.{Line}
-use Rattle.songcode.specs.Tokens.{tokens, tokensOf}
-use Rattle.songcode.specs.PatternText.{loopsDeep}
+use Rattle.songcode.specs.answer.Lines.{Line}
+use Rattle.songcode.specs.answer.Tokens.{tokens, tokensOf}
+use Rattle.songcode.specs.answer.PatternText.{loopsDeep}
 use Rattle.grammar.specs.declared.kinds.Kind.{Kind}
 use Rattle.grammar.specs.declared.kinds.Kind.the-variants.{Sound, Remover, Reference, Semicolon, Colon, LineEnd, Opens, Closes, Wrong}
 use Rattle.grammar.specs.declared.checks.Place.{Place}

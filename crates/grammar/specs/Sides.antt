@@ -4,7 +4,7 @@ use mathlib.Core.Bool.{Bool}
 use mathlib.Core.List.{List}
 use Rattle.songcode.specs.Lists.{any}
 use Rattle.songcode.specs.Bytes.{placed}
-use Rattle.songcode.specs.PatternText.{barred}
+use Rattle.songcode.specs.answer.PatternText.{barred}
 use Rattle.text.specs.Spans.{part}
 
 -- A byte, wherever it stands, is a `:` or `$`.

@@ -6,7 +6,7 @@ use lib.Dec.{leb}
 use lib.ListN.{length}
 use Rattle.songcode.specs.Lists.{if_then_else_, isEmpty}
 use Rattle.songcode.specs.Song.{nothing, aLineEnd, bySemicolon, byLineEnd, byColon, Item, measure, loop, refer}
-use Rattle.songcode.specs.PatternText.{Begun, start, more, State, wants, has, ended, bad, depthI, depth, loopsDeep, referencesI, references}
+use Rattle.songcode.specs.answer.PatternText.{Begun, start, more, State, wants, has, ended, bad, depthI, depth, loopsDeep, referencesI, references}
 use Rattle.grammar.specs.declared.checks.Place.{Place}
 use Rattle.grammar.specs.declared.checks.Place.the-variants.{Fresh, Wants, Joins, Sounds, Removed, Alone, Full, Ended}
 use Rattle.grammar.specs.declared.checks.Check.{Check}

@@ -7,7 +7,7 @@ ghost use Prim.Native.Nat.{_≤_};
 ghost use lib.ListN.{length};
 ghost use Rattle.songcode.specs.Lists.{isSome};
 ghost use Rattle.songcode.specs.Bytes.{placed};
-ghost use Rattle.songcode.specs.PatternText.{sideText};
+ghost use Rattle.songcode.specs.answer.PatternText.{sideText};
 ghost use Rattle.text.specs.Spans.{part};
 ghost use Rattle.grammar.specs.Sides.{barredByte, anyBarred};
 

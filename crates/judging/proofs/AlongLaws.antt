@@ -6,10 +6,10 @@ use native.Mathlib.Omega.{arith}
 use lib.ListN.{length}
 use Rattle.songcode.specs.Lists.{gather}
 use Rattle.songcode.specs.Song.{Section}
-use Rattle.songcode.specs.Playing.{timeOf, played}
-use Rattle.songcode.specs.Performance.{total}
-use Rattle.songcode.specs.Meter.{sectionMeter, meterFaults, sectionCount, lengthFaults}
-use Rattle.songcode.specs.Answer.{songOf}
+use Rattle.songcode.specs.answer.Playing.{timeOf, played}
+use Rattle.songcode.specs.description.Performance.{total}
+use Rattle.songcode.specs.answer.Meter.{sectionMeter, meterFaults, sectionCount, lengthFaults}
+use Rattle.songcode.specs.answer.Answer.{songOf}
 use Rattle.songcode.proofs.ListLaws.{append-is-nil}
 use Rattle.player.specs.Texts.{rowWords}
 use Rattle.player.proofs.SectionMeaning.{rows-length, rows-total}

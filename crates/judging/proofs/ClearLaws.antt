@@ -10,16 +10,16 @@ use Rattle.songcode.specs.Lists.{gather, andThen, orElse}
 use Rattle.songcode.specs.Bytes.{Byte}
 use Rattle.songcode.specs.Complaints.{Complaint, complainIf, earlier, earliest, stageOr, verdict}
 use Rattle.songcode.specs.Song.{Items, Definition, Song, KeyName, time, bpm}
-use Rattle.songcode.specs.PatternText.{depth, loopsDeep, references, noReference}
-use Rattle.songcode.specs.Keys.{keyPlace, timeIn, bpmIn}
-use Rattle.songcode.specs.References.{putIn, itemsOf, definitionOf, itemsFault, referenceFault, depthFault, definitionReferences}
-use Rattle.songcode.specs.References.{definitionsReferences, referenceFaults}
-use Rattle.songcode.specs.Playing as playing
-use Rattle.songcode.specs.Playing.{timeAmong, bpmAmong}
-use Rattle.songcode.specs.Meter.{meterFaults, lengthFaults}
-use Rattle.songcode.specs.Lyrics.{countFaults, sumFaults}
-use Rattle.songcode.specs.SongText.{metadataLines, songIn}
-use Rattle.songcode.specs.Answer.{blocksOf, songOf}
+use Rattle.songcode.specs.answer.PatternText.{depth, loopsDeep, references, noReference}
+use Rattle.songcode.specs.answer.Keys.{keyPlace, timeIn, bpmIn}
+use Rattle.songcode.specs.answer.References.{putIn, itemsOf, definitionOf, itemsFault, referenceFault, depthFault, definitionReferences}
+use Rattle.songcode.specs.answer.References.{definitionsReferences, referenceFaults}
+use Rattle.songcode.specs.answer.Playing as playing
+use Rattle.songcode.specs.answer.Playing.{timeAmong, bpmAmong}
+use Rattle.songcode.specs.answer.Meter.{meterFaults, lengthFaults}
+use Rattle.songcode.specs.answer.Lyrics.{countFaults, sumFaults}
+use Rattle.songcode.specs.answer.SongText.{metadataLines, songIn}
+use Rattle.songcode.specs.answer.Answer.{blocksOf, songOf}
 use Rattle.songcode.proofs.ListLaws.{Each, each-append}
 use Rattle.text.specs.declared.Refusal.{Refusal}
 use Rattle.text.specs.Refusals.{refusalOf}
@@ -109,7 +109,7 @@ song-clear song z =
 module _ (s : List ℕ) (p : Place) (k : Keys) (ends : MetadataEnds s p) (are : KeysAre (linesOf s (linesBefore p)) k) where
   song-key : (f : List Byte → Option ℕ) (n : KeyName) → keyPlace n < 8
       → andThen (settingAmong (keyPlace n) (linesOf s (linesBefore p))) (λ x. f (x .text))
-      ≡ andThen (playing.settingOf n (songOf s .keys)) f
+      ≡ andThen (playing.settingNamed n (songOf s .keys)) f
   unfolding songOf songIn
   song-key f n h = ap (λ (o : Option Setting). andThen o (λ x. f (x .text))) (ends .keys (keyPlace n) h) ∙ sym (key-among f n (metadataLines (blocksOf s)))
 

@@ -11,9 +11,9 @@ use lib.ListN.{length, length-map}
 use borrow.Author.Tests.{leb-true, leb-false}
 use Rattle.songcode.specs.Lists.{andThen, times}
 use Rattle.songcode.specs.Song.{Items, Section, Song}
-use Rattle.songcode.specs.References.{patternItems}
-use Rattle.songcode.specs.Playing.{Side, saidBy, beforeSaid, afterSaid, repeats, measuresOf}
-use Rattle.songcode.specs.Meter.{countOf, sideCount, sectionCount}
+use Rattle.songcode.specs.answer.References.{patternItems}
+use Rattle.songcode.specs.answer.Playing.{Side, saidBy, beforeSaid, afterSaid, repeats, measuresOf}
+use Rattle.songcode.specs.answer.Meter.{measuresIn, sideCount, sectionCount}
 use Rattle.songcode.proofs.ListLaws.{by-cases, times-length}
 use Rattle.songcode.proofs.RowLaws.{length-items}
 use Rattle.outlines.specs.declared.readings.Outline.{Outline}
@@ -28,23 +28,23 @@ use Rattle.scores.specs.Scores.{Carries, sideItems, TextsAre}
 use Rattle.judging.specs.Lengths.{countOfTexts}
 
 -- A text's measures.
-pub carried-count : (ws : List ℕ) (d : Definitions) (t : Text) (o : Option Items) → Carries ws d t o → t .outline .measures ≡ min 65536 (countOf o)
-unfolding Carries countOf vacant
+pub carried-count : (ws : List ℕ) (d : Definitions) (t : Text) (o : Option Items) → Carries ws d t o → t .outline .measures ≡ min 65536 (measuresIn o)
+unfolding Carries measuresIn vacant
 carried-count ws d t none w = ap (λ (x : Outline). x .measures) (w .0) ∙ omega arith
 carried-count ws d t (some r) w = w .1 .measures
 
 pub carried-fits : (ws : List ℕ) (d : Definitions) (t : Text) (o : Option Items) → Carries ws d t o → t .outline .measures ≤ 65536
 carried-fits ws d t o w = let e = carried-count ws d t o w in omega arith
 
-side-count : (o : Option Side) → countOf (sideItems o) ≡ sideCount o
-unfolding countOf sideItems sideCount andThen
+side-count : (o : Option Side) → measuresIn (sideItems o) ≡ sideCount o
+unfolding measuresIn sideItems sideCount andThen
 side-count none = refl
 side-count (some x) = refl
 
 -- The measures that a text plays, k times over.
 pub played-length : (ws : List ℕ) (d : Definitions) (t : Text) (o : Option Items) (n k : ℕ) → Carries ws d t o
-    → length (times k (rowOf d n ws (t .at))) ≡ k * countOf o
-unfolding Carries countOf rowWords
+    → length (times k (rowOf d n ws (t .at))) ≡ k * measuresIn o
+unfolding Carries measuresIn rowWords
 played-length ws d t none n k w = times-length k (rowOf d n ws (t .at)) ∙ ap (λ (x : ℕ). k * x) (ap length (w .1 n))
 played-length ws d t (some r) n k w =
     times-length k (rowOf d n ws (t .at)) ∙ ap (λ (x : ℕ). k * x) (ap length (w .2 n) ∙ length-map (measuresOf n none r) _ ∙ length-items n none r)
@@ -84,9 +84,9 @@ section-counted song x ws d m t w e h =
     let b = carried-count ws d (t .tail) (sideItems (saidBy afterSaid (x .modifiers))) (w .tail) ∙ ap (min 65536)
     (side-count (saidBy afterSaid (x .modifiers))) in
     rw (a, p, b, ← e) (all-counted (m .repeat) (sideCount (saidBy beforeSaid (x .modifiers)))
-    (countOf (patternItems (song .definitions) (x .pattern))) (sideCount (saidBy afterSaid (x .modifiers))) h)
+    (measuresIn (patternItems (song .definitions) (x .pattern))) (sideCount (saidBy afterSaid (x .modifiers))) h)
 
-pub pattern-within : (song : Song) (x : Section) → repeats (x .modifiers) * countOf (patternItems (song .definitions) (x .pattern)) ≤ sectionCount song x
+pub pattern-within : (song : Song) (x : Section) → repeats (x .modifiers) * measuresIn (patternItems (song .definitions) (x .pattern)) ≤ sectionCount song x
 unfolding sectionCount
 pattern-within song x = omega arith
 

@@ -12,9 +12,9 @@ use borrow.Author.Tests.{eq-eqb, ne-eqb, eqb-true, eqb-false}
 use Rattle.songcode.specs.Lists.{if_then_else_, isEmpty, times}
 use Rattle.songcode.specs.Complaints.{complainIf}
 use Rattle.songcode.specs.Song.{Cut, Items, Modifier}
-use Rattle.songcode.specs.Playing.{Beat, saidBy, cutStartSaid, cutEndSaid, applied, cutRow, repeats, measuresOf, keptMeasures}
-use Rattle.songcode.specs.Performance.{total}
-use Rattle.songcode.specs.Meter.{allFit, count, cutFaults}
+use Rattle.songcode.specs.answer.Playing.{Beat, saidBy, cutStartSaid, cutEndSaid, applied, cutRow, repeats, measuresOf, keptMeasures}
+use Rattle.songcode.specs.description.Performance.{total}
+use Rattle.songcode.specs.answer.Meter.{allFit, count, cutFaults}
 use Rattle.songcode.proofs.ListLaws.{by-cases, true-is-not-false, none-passes, isEmpty-true, times-length}
 use Rattle.songcode.specs.EitherOrder.{Filled}
 use Rattle.songcode.proofs.RowLaws.{filled-items, length-items}

@@ -11,10 +11,10 @@ use Rattle.songcode.specs.Lists.{if_then_else_, andThen, when}
 use Rattle.songcode.specs.Bytes.{placed}
 use Rattle.songcode.specs.Complaints.{Complaint, complaint, complainIf, goesFirst, earlier, earliest}
 use Rattle.songcode.specs.Song.{Items, Section, Song}
-use Rattle.songcode.specs.PatternText.{sideText}
-use Rattle.songcode.specs.References.{patternItems}
-use Rattle.songcode.specs.Playing.{Side, timeOf, saidBy, beforeSaid, afterSaid}
-use Rattle.songcode.specs.Meter.{allFit, stray, rowFaults, playedFaults, sideFaults, sectionMeter}
+use Rattle.songcode.specs.answer.PatternText.{sideText}
+use Rattle.songcode.specs.answer.References.{patternItems}
+use Rattle.songcode.specs.answer.Playing.{Side, timeOf, saidBy, beforeSaid, afterSaid}
+use Rattle.songcode.specs.answer.Meter.{allFit, stray, rowFaults, playedFaults, sideFaults, sectionMeter}
 use Rattle.songcode.proofs.ListLaws.{by-cases, Each, each-append}
 use Rattle.songcode.proofs.PatternLaws.{none-some}
 use Rattle.text.specs.Spans.{part}

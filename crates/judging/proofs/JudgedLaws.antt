@@ -6,9 +6,9 @@ use lib.ListN.{length}
 use Rattle.songcode.specs.Lists.{gather, orElse}
 use Rattle.songcode.specs.Complaints.{Complaint, earliest}
 use Rattle.songcode.specs.Song.{Section}
-use Rattle.songcode.specs.Playing.{timeAmong}
-use Rattle.songcode.specs.Meter.{sectionMeter, meterFaults}
-use Rattle.songcode.specs.Answer.{songOf}
+use Rattle.songcode.specs.answer.Playing.{timeAmong}
+use Rattle.songcode.specs.answer.Meter.{sectionMeter, meterFaults}
+use Rattle.songcode.specs.answer.Answer.{songOf}
 use Rattle.songcode.proofs.ListLaws.{Each, each-append}
 use Rattle.text.specs.declared.Refusal.{Refusal}
 use Rattle.text.specs.Refusals.{refusalOf}

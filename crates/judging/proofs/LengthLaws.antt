@@ -10,9 +10,9 @@ use borrow.Author.Tests.{le-leb, le-ltb, lt-ltb, eq-eqb}
 use Rattle.songcode.specs.Lists.{if_then_else_, isEmpty, when}
 use Rattle.songcode.specs.Complaints.{complaint, complainIf, goesFirst, earlier, earliest}
 use Rattle.songcode.specs.Song.{Items, Modifier, Section, Song}
-use Rattle.songcode.specs.References.{patternItems}
-use Rattle.songcode.specs.Playing.{timeOf, keptMeasures}
-use Rattle.songcode.specs.Meter.{sectionCount, mostMeasures, cutFaults, lengthFaults}
+use Rattle.songcode.specs.answer.References.{patternItems}
+use Rattle.songcode.specs.answer.Playing.{timeOf, keptMeasures}
+use Rattle.songcode.specs.answer.Meter.{sectionCount, mostMeasures, cutFaults, lengthFaults}
 use Rattle.songcode.proofs.ListLaws.{Each, each-append, each-map, nil-is-not-cons}
 use Rattle.text.specs.Refusals.{refusalOf}
 use Rattle.sections.specs.Onward.{Later}

@@ -9,9 +9,9 @@ use lib.ListN.{length}
 use borrow.Author.Tests.{eq-eqb, ne-eqb, ltb-true, ltb-false}
 use Rattle.songcode.specs.Lists.{if_then_else_, orElse}
 use Rattle.songcode.specs.Complaints.{earliest}
-use Rattle.songcode.specs.Playing.{timeAmong}
-use Rattle.songcode.specs.Meter.{meterFaults, lengthFaults}
-use Rattle.songcode.specs.Answer.{songOf}
+use Rattle.songcode.specs.answer.Playing.{timeAmong}
+use Rattle.songcode.specs.answer.Meter.{meterFaults, lengthFaults}
+use Rattle.songcode.specs.answer.Answer.{songOf}
 use Rattle.songcode.proofs.ListLaws.{by-cases}
 use Rattle.text.specs.declared.Refusal.{Refusal}
 use Rattle.text.specs.Refusals.{refusalOf}

@@ -8,10 +8,10 @@ use lib.ListN.{length, take}
 use Rattle.songcode.specs.Lists.{orElse}
 use Rattle.songcode.specs.Bytes.{placed}
 use Rattle.songcode.specs.Song.{LyricLine}
-use Rattle.songcode.specs.Sections.{lyricLine}
-use Rattle.songcode.specs.Lyrics as songcode
-use Rattle.songcode.specs.Lyrics.{wordsOf, countOf, styled, counted, promptsFrom}
-use Rattle.songcode.specs.Tables.{itemWord}
+use Rattle.songcode.specs.answer.Sections.{lyricLine}
+use Rattle.songcode.specs.answer.Lyrics as songcode
+use Rattle.songcode.specs.answer.Lyrics.{wordsOf, countOf, styled, counted, promptsFrom}
+use Rattle.songcode.specs.answer.Tables.{itemWord}
 use Rattle.text.specs.declared.lines.Line.{Line}
 use Rattle.text.specs.Spans.{part, Found}
 use Rattle.settings.specs.declared.lyrics.Words.{Words}

@@ -9,8 +9,8 @@ use borrow.Author.Tests.{ne-eqb}
 use Rattle.songcode.specs.Lists.{if_then_else_, orElse, andThen}
 use Rattle.songcode.specs.Bytes.{Byte}
 use Rattle.songcode.specs.Song.{time, Key, Section, Song}
-use Rattle.songcode.specs.Keys.{timeIn}
-use Rattle.songcode.specs.Playing.{settingOf, timeAmong, timeOf}
+use Rattle.songcode.specs.answer.Keys.{timeIn}
+use Rattle.songcode.specs.answer.Playing.{settingNamed, timeAmong, timeOf}
 use Rattle.songcode.proofs.PatternLaws.{none-some}
 use Rattle.songcode.proofs.SettingAgree.{time-exact}
 use Rattle.judging.specs.Meters.{meterOf}
@@ -18,7 +18,7 @@ use Rattle.judging.specs.Meters.{meterOf}
 -- A time that keys say is from 1 to 32.
 pub time-range : (ks : List Key) (n : ℕ) → timeAmong ks ≡ some n → (1 ≤ n) × (n ≤ 32)
 unfolding timeAmong andThen
-time-range ks n e = go (settingOf time ks) e
+time-range ks n e = go (settingNamed time ks) e
   where
     go : (o : Option (List Byte)) → andThen o timeIn ≡ some n → (1 ≤ n) × (n ≤ 32)
     go none h = none-some refl h

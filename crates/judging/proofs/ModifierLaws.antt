@@ -9,12 +9,12 @@ use lib.Dec.{eqb}
 use lib.ListN.{length}
 use borrow.Author.Tests.{eq-eqb, ne-eqb, eqb-true}
 use Rattle.songcode.specs.Lists.{if_then_else_, isEmpty, gather, andThen, orElse, firstThere}
-use Rattle.songcode.specs.Lines.{Block, blocks}
-use Rattle.songcode.specs.Numbers.{repeatIn}
+use Rattle.songcode.specs.answer.Lines.{Block, blocks}
+use Rattle.songcode.specs.answer.Numbers.{repeatIn}
 use Rattle.songcode.specs.Song.{Modifier, repeated, cutStart, cutEnd, before, after}
-use Rattle.songcode.specs.Modifiers.{ModifierName, ofRepeat, ofBefore, ofAfter, modifierPlace}
-use Rattle.songcode.specs.Sections.{body, sectionFaults, sectionIn}
-use Rattle.songcode.specs.Playing.{Side, saidBy, repeats, repeatSaid, cutStartSaid, cutEndSaid, beforeSaid, afterSaid}
+use Rattle.songcode.specs.answer.Modifiers.{ModifierName, ofRepeat, ofBefore, ofAfter, modifierPlace}
+use Rattle.songcode.specs.answer.Sections.{body, sectionFaults, sectionIn}
+use Rattle.songcode.specs.answer.Playing.{Side, saidBy, repeats, repeatSaid, cutStartSaid, cutEndSaid, beforeSaid, afterSaid}
 use Rattle.songcode.proofs.ListLaws.{by-cases, append-is-nil}
 use Rattle.songcode.proofs.PatternLaws.{none-some}
 use Rattle.settings.specs.Cuts.{cutIs}

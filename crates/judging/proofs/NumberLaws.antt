@@ -7,9 +7,9 @@ use lib.Dec.{ltb}
 use lib.ListN.{length, take}
 use borrow.Author.Tests.{ltb-true, ltb-false}
 use Rattle.songcode.specs.Lists.{taken, left}
-use Rattle.songcode.specs.Lines.{Line}
+use Rattle.songcode.specs.answer.Lines.{Line}
 use Rattle.songcode.specs.Song.{LyricLine}
-use Rattle.songcode.specs.Sections.{lyricLine, notDashes, ending}
+use Rattle.songcode.specs.answer.Sections.{lyricLine, notDashes, fromDashes}
 use Rattle.songcode.proofs.ListLaws.{by-cases, Each, each-map}
 use Rattle.text.specs.Spans.{lineOf, lineAt}
 use Rattle.sections.specs.declared.blocks.Parts.{Parts}
@@ -56,7 +56,7 @@ each-behind P (l ∷ ls) e = e .1
 
 -- A section's lyric lines stand behind its header.
 pub lyrics-behind : (s : List ℕ) (n at : ℕ) (r : Parts) → PartsAt s n at r → 0 < length (linesOf s (r .lyrics)) → n + 1 ≤ r .lyrics .number
-unfolding linesOf blockAt ending
+unfolding linesOf blockAt fromDashes
 lyrics-behind s n at r w h =
     let all = textLines s (n + 1) (lineAt s n at .next) in
     let others = each-taken (From (n + 1)) (passing Full) all (from-lines s (n + 1) (lineAt s n at .next)) in

@@ -11,10 +11,11 @@ use borrow.Author.Tests.{not-false}
 use Rattle.songcode.specs.Lists.{gather, orElse}
 use Rattle.songcode.specs.Complaints.{Complaint, complainIf, earliest}
 use Rattle.songcode.specs.Song.{Items, Section, Song}
-use Rattle.songcode.specs.References.{patternItems}
-use Rattle.songcode.specs.Playing.{timeAmong, timeOf, saidBy, beforeSaid, afterSaid}
-use Rattle.songcode.specs.Meter.{allFit, stray, rowFaults, playedFaults, sideFaults, sectionMeter, meterFaults, sectionCount, countOf, cutFaults, lengthFaults}
-use Rattle.songcode.specs.Answer.{songOf}
+use Rattle.songcode.specs.answer.References.{patternItems}
+use Rattle.songcode.specs.answer.Playing.{timeAmong, timeOf, saidBy, beforeSaid, afterSaid}
+use Rattle.songcode.specs.answer.Meter.{allFit, stray, rowFaults, playedFaults, sideFaults, sectionMeter, meterFaults, sectionCount, measuresIn, cutFaults}
+use Rattle.songcode.specs.answer.Meter.{lengthFaults}
+use Rattle.songcode.specs.answer.Answer.{songOf}
 use Rattle.songcode.proofs.ListLaws.{append-is-nil, complainIf-nil}
 use Rattle.text.specs.Refusals.{refusalOf}
 use Rattle.sections.specs.declared.blocks.Place.{Place}
@@ -107,7 +108,7 @@ module _ (s ws : List ℕ) (p : Place) (score : Score) (r : Opened) (w : Opens s
               let e = all-counted 0 (omega arith) in
               let l = played-length ws (score .definitions) (r .texts .pattern) (patternItems (song .definitions) (x .pattern)) n
               (m .repeat) (w .texts .pattern) in
-              let often = ap (λ (j : ℕ). j * countOf (patternItems (song .definitions) (x .pattern))) (w .met .says .repeat) in
+              let often = ap (λ (j : ℕ). j * measuresIn (patternItems (song .definitions) (x .pattern))) (w .met .says .repeat) in
               let within = pattern-within song x in
               omega arith;
         }

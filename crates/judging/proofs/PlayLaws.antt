@@ -7,11 +7,11 @@ use native.Mathlib.Omega.{arith}
 use lib.ListN.{length}
 use Rattle.songcode.specs.Lists.{times, andThen}
 use Rattle.songcode.specs.Song.{Items, Modifier, Section, Song}
-use Rattle.songcode.specs.References.{patternItems}
-use Rattle.songcode.specs.Playing.{Beat, Side, cutStartSaid, cutEndSaid, saidBy, beforeSaid, afterSaid, repeats, cutRow, measuresOf}
-use Rattle.songcode.specs.Playing.{sideMeasures, keptMeasures, timeOf, played}
-use Rattle.songcode.specs.Performance.{total}
-use Rattle.songcode.specs.Meter.{rowFaults, playedFaults, sideFaults, sectionMeter, countOf, sideCount, sectionCount}
+use Rattle.songcode.specs.answer.References.{patternItems}
+use Rattle.songcode.specs.answer.Playing.{Beat, Side, cutStartSaid, cutEndSaid, saidBy, beforeSaid, afterSaid, repeats, cutRow, measuresOf}
+use Rattle.songcode.specs.answer.Playing.{sideMeasures, keptMeasures, timeOf, played}
+use Rattle.songcode.specs.description.Performance.{total}
+use Rattle.songcode.specs.answer.Meter.{rowFaults, playedFaults, sideFaults, sectionMeter, measuresIn, sideCount, sectionCount}
 use Rattle.songcode.proofs.ListLaws.{append-is-nil, times-length}
 use Rattle.songcode.specs.EitherOrder.{Filled}
 use Rattle.songcode.proofs.RowLaws.{filled-items}
@@ -118,7 +118,7 @@ module _ (s : Song) (x : Section) (ws : List ℕ) (score : Score) (t : Texts) (m
       (rows-length _ ∙ length-side n (saidBy afterSaid (x .modifiers)))
 
   pattern-length : (n : ℕ) → length (times (m .repeat) (rowOf (score .definitions) n ws (t .pattern .at)))
-      ≡ repeats (x .modifiers) * countOf (patternItems (s .definitions) (x .pattern))
+      ≡ repeats (x .modifiers) * measuresIn (patternItems (s .definitions) (x .pattern))
   pattern-length n =
       rw again (played-length ws (score .definitions) (t .pattern) (patternItems (s .definitions) (x .pattern)) n (repeats (x .modifiers))
       (h .pattern))

@@ -11,11 +11,11 @@ use borrow.Author.Tests.{le-leb, ltb-false}
 use Rattle.songcode.specs.Lists.{times}
 use Rattle.songcode.specs.Complaints.{complainIf}
 use Rattle.songcode.specs.Song.{Cut, Items, Modifier, Section, Song}
-use Rattle.songcode.specs.References.{patternItems}
-use Rattle.songcode.specs.Playing.{keep, dropBeats, dropMeasures, cutFront, turned, cutBack, applied, cutRow, cutStartSaid}
-use Rattle.songcode.specs.Playing.{cutEndSaid, saidBy, beforeSaid, afterSaid, repeats, measuresOf, keptMeasures, timeOf}
-use Rattle.songcode.specs.Playing.{played}
-use Rattle.songcode.specs.Meter.{count, countOf, sectionCount, mostMeasures, cutFaults, lengthFaults}
+use Rattle.songcode.specs.answer.References.{patternItems}
+use Rattle.songcode.specs.answer.Playing.{keep, dropBeats, dropMeasures, cutFront, turned, cutBack, applied, cutRow, cutStartSaid}
+use Rattle.songcode.specs.answer.Playing.{cutEndSaid, saidBy, beforeSaid, afterSaid, repeats, measuresOf, keptMeasures, timeOf}
+use Rattle.songcode.specs.answer.Playing.{played}
+use Rattle.songcode.specs.answer.Meter.{count, measuresIn, sectionCount, mostMeasures, cutFaults, lengthFaults}
 use Rattle.songcode.proofs.ListLaws.{append-is-nil, complainIf-nil, times-length}
 use Rattle.songcode.proofs.RowLaws.{length-items}
 use Rattle.songcode.proofs.MeterAgree.{length-side}
@@ -64,8 +64,8 @@ module _ {A : Type 0} where
       let b = applied-short cutBack back-short (saidBy cutEndSaid ms) (applied cutFront (saidBy cutStartSaid ms) row) in
       omega arith
 
-kept-short : (n : ℕ) (ms : List Modifier) (o : Option Items) → length (keptMeasures n ms o) ≤ repeats ms * countOf o
-unfolding keptMeasures countOf
+kept-short : (n : ℕ) (ms : List Modifier) (o : Option Items) → length (keptMeasures n ms o) ≤ repeats ms * measuresIn o
+unfolding keptMeasures measuresIn
 kept-short n ms none = omega arith
 kept-short n ms (some r) =
     let h = cut-short ms (times (repeats ms) (measuresOf n none r)) in

@@ -8,8 +8,8 @@ use native.Mathlib.Omega.{arith}
 use Rattle.songcode.specs.Lists.{isSome, gather}
 use Rattle.songcode.specs.Complaints.{Complaint, complaint, earlier, earliest}
 use Rattle.songcode.specs.Song.{Pattern, items, named, Definition, Section, Song}
-use Rattle.songcode.specs.Sections.{patternIn}
-use Rattle.songcode.specs.References.{definitionOf, namedFault, sectionReference, definitionsReferences, referenceFaults}
+use Rattle.songcode.specs.answer.Sections.{patternIn}
+use Rattle.songcode.specs.answer.References.{definitionOf, namedFault, sectionReference, definitionsReferences, referenceFaults}
 use Rattle.songcode.proofs.ListLaws.{true-is-not-false, Each, each-map}
 use Rattle.text.specs.declared.Refusal.{Refusal}
 use Rattle.text.specs.Refusals.{refusalOf}

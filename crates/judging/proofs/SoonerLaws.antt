@@ -10,7 +10,7 @@ use lib.Dec.{ltb}
 use borrow.Author.Tests.{ne-eqb, ltb-true, ltb-false}
 use Rattle.songcode.specs.Lists.{if_then_else_}
 use Rattle.songcode.specs.Complaints.{Complaint, goesFirst, earlier, earliest}
-use Rattle.songcode.specs.Given.{Before}
+use Rattle.songcode.specs.description.Given.{Before}
 use Rattle.songcode.proofs.ListLaws.{by-cases, Each}
 use Rattle.songcode.proofs.VerdictAgree.{goes-first}
 use Rattle.text.specs.Refusals.{refusalOf}

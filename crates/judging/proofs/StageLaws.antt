@@ -11,12 +11,12 @@ use lib.ListN.{length}
 use Rattle.songcode.specs.Lists.{if_then_else_, gather, isEmpty}
 use Rattle.songcode.specs.Complaints.{Complaint, complaint, complainIf, earliest, stageOr, verdict}
 use Rattle.songcode.specs.Song.{Items, Modifier, Section, Song, LyricLine}
-use Rattle.songcode.specs.Playing.{timeOf, keptMeasures, played}
-use Rattle.songcode.specs.References.{patternItems}
-use Rattle.songcode.specs.Meter.{sectionMeter, meterFaults, sectionCount, mostMeasures, cutFaults, lengthFaults}
-use Rattle.songcode.specs.Lyrics.{isCounted, isPlayed, counted, linesTaken, hasCounts, countFaults, sumFault, sumFaults}
-use Rattle.songcode.specs.Characters.{goodBytes}
-use Rattle.songcode.specs.Answer.{mostBytes, lineOfPlace, inputFaults}
+use Rattle.songcode.specs.answer.Playing.{timeOf, keptMeasures, played}
+use Rattle.songcode.specs.answer.References.{patternItems}
+use Rattle.songcode.specs.answer.Meter.{sectionMeter, meterFaults, sectionCount, mostMeasures, cutFaults, lengthFaults}
+use Rattle.songcode.specs.answer.Lyrics.{isCounted, isPlayed, counted, linesTaken, hasCounts, countFaults, sumFault, sumFaults}
+use Rattle.songcode.specs.answer.Characters.{goodBytes}
+use Rattle.songcode.specs.answer.Answer.{mostBytes, lineOfPlace, inputFaults}
 use Rattle.songcode.proofs.VerdictAgree.{verdict-append}
 use Rattle.songcode.proofs.ListLaws.{by-cases, Each, each-append, nil-is-not-cons}
 use Rattle.text.specs.declared.Refusal.{Refusal}

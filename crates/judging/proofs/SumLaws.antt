@@ -12,16 +12,16 @@ use borrow.Author.Tests.{ne-eqb}
 use Rattle.songcode.specs.Lists.{if_then_else_, isEmpty, isSome, every, gather, when}
 use Rattle.songcode.specs.Complaints.{Complaint, complaint, complainIf, earliest, earlier}
 use Rattle.songcode.specs.Song.{Items, LyricLine, Section, Song}
-use Rattle.songcode.specs.References.{patternItems}
-use Rattle.songcode.specs.Playing.{Beat, played}
-use Rattle.songcode.specs.Performance.{total}
-use Rattle.songcode.specs.Lyrics.{isCounted, isPlayed, linesTaken, hasCounts, counted, sumFault, sumFaults, hasItems, prompts}
-use Rattle.songcode.specs.Tables.{sectionWords, allMeasures, measureWords, beatWord, itemWord, tables}
-use Rattle.songcode.specs.WrittenTables.{lyricsOf}
-use Rattle.songcode.specs.Answer.{songOf}
+use Rattle.songcode.specs.answer.References.{patternItems}
+use Rattle.songcode.specs.answer.Playing.{Beat, played}
+use Rattle.songcode.specs.description.Performance.{total}
+use Rattle.songcode.specs.answer.Lyrics.{isCounted, isPlayed, linesTaken, hasCounts, counted, sumFault, sumFaults, hasItems, prompts}
+use Rattle.songcode.specs.answer.Tables.{sectionWords, allMeasures, measureWords, beatWord, itemWord, tables}
+use Rattle.songcode.specs.description.WrittenTables.{lyricsOf}
+use Rattle.songcode.specs.answer.Answer.{songOf}
 use Rattle.songcode.proofs.ListLaws.{by-cases, both-pass, nil-is-not-cons, Each}
 use Rattle.songcode.proofs.TurnedRows.{total-append}
-use Rattle.songcode.specs.Sections.{lyricLine}
+use Rattle.songcode.specs.answer.Sections.{lyricLine}
 use Rattle.text.specs.Refusals.{refusalOf}
 use Rattle.outlines.specs.Tables.{vacant}
 use Rattle.player.specs.declared.playing.Counts.{Counts}

@@ -10,7 +10,7 @@ use borrow.Author.Tests.{ne-eqb, ltb-true, ltb-false, eqb-true}
 use Rattle.songcode.specs.Lists.{if_then_else_, gather, any, when}
 use Rattle.songcode.specs.Complaints.{Complaint, complaint, complainIf, goesFirst, earlier, earliest}
 use Rattle.songcode.specs.Song.{LyricLine, Section, Song}
-use Rattle.songcode.specs.Lyrics.{isCounted, isPlayed, linesTaken, hasCounts, countFaults}
+use Rattle.songcode.specs.answer.Lyrics.{isCounted, isPlayed, linesTaken, hasCounts, countFaults}
 use Rattle.songcode.proofs.ListLaws.{by-cases, any-append, Each, each-append}
 use Rattle.text.specs.Refusals.{refusalOf}
 use Rattle.judging.specs.declared.lyrics.Tally.{Tally}

@@ -10,7 +10,7 @@ use borrow.Author.Tests.{ne-eqb, eqb-true, ltb-true, ltb-false}
 use Rattle.songcode.specs.Lists.{if_then_else_, isSome, orElse, any}
 use Rattle.songcode.specs.Bytes.{placed}
 use Rattle.songcode.specs.Song.{LyricLine}
-use Rattle.songcode.specs.Lyrics.{wordsOf, countOf, isCounted, counted}
+use Rattle.songcode.specs.answer.Lyrics.{wordsOf, countOf, isCounted, counted}
 use Rattle.songcode.proofs.ListLaws.{by-cases}
 use Rattle.text.specs.declared.lines.Line.{Line}
 use Rattle.text.specs.Spans.{part, Found}

@@ -4,9 +4,9 @@ use mathlib.Core.Path.{_≡_, refl, sym, ap, _∙_}
 use mathlib.Core.List.{List, [], _∷_}
 use mathlib.Core.Option.{Option, none, some}
 use Rattle.songcode.specs.Complaints.{Complaint, complaint, earliest, stageOr, verdict}
-use Rattle.songcode.specs.SongText.{textFaults}
-use Rattle.songcode.specs.Tables.{tables}
-use Rattle.songcode.specs.Answer.{inputFaults, blocksOf, songOf, songStages, refused, accepted, answerBy, songAnswer}
+use Rattle.songcode.specs.answer.SongText.{textFaults}
+use Rattle.songcode.specs.answer.Tables.{tables}
+use Rattle.songcode.specs.answer.Answer.{inputFaults, blocksOf, songOf, songStages, refused, accepted, answerBy, songAnswer}
 use Rattle.songcode.proofs.VerdictAgree.{verdict-append, last-stage}
 use Rattle.text.specs.declared.Refusal.{Refusal}
 use Rattle.text.specs.Refusals.{refusalOf}

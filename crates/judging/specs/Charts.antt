@@ -6,12 +6,12 @@ use lib.ListN.{length}
 use Rattle.songcode.specs.Lists.{orElse}
 use Rattle.songcode.specs.Complaints.{verdict}
 use Rattle.songcode.specs.Song.{Song}
-use Rattle.songcode.specs.Playing.{timeAmong, bpmAmong}
-use Rattle.songcode.specs.References.{referenceFaults}
-use Rattle.songcode.specs.Meter.{meterFaults, lengthFaults}
-use Rattle.songcode.specs.Lyrics.{countFaults, sumFaults}
-use Rattle.songcode.specs.Tables.{Tables, tables}
-use Rattle.songcode.specs.Answer.{songOf}
+use Rattle.songcode.specs.answer.Playing.{timeAmong, bpmAmong}
+use Rattle.songcode.specs.answer.References.{referenceFaults}
+use Rattle.songcode.specs.answer.Meter.{meterFaults, lengthFaults}
+use Rattle.songcode.specs.answer.Lyrics.{countFaults, sumFaults}
+use Rattle.songcode.specs.answer.Tables.{Tables, tables}
+use Rattle.songcode.specs.answer.Answer.{songOf}
 use Rattle.text.specs.Refusals.{refusalOf}
 use Rattle.sections.specs.declared.values.Keys.{Keys}
 use Rattle.judging.specs.declared.charts.Chart.{Chart}

@@ -6,7 +6,7 @@ use lib.Dec.{eqb, ltb}
 use lib.ListN.{length}
 use Rattle.songcode.specs.Lists.{if_then_else_, any}
 use Rattle.songcode.specs.Song.{LyricLine}
-use Rattle.songcode.specs.Lyrics.{isCounted, counted}
+use Rattle.songcode.specs.answer.Lyrics.{isCounted, counted}
 use Rattle.judging.specs.declared.lyrics.Tally.{Tally}
 use Rattle.judging.specs.declared.lyrics.Counted.{Counted}
 

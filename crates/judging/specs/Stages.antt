@@ -2,9 +2,9 @@
 use mathlib.Core.List.{List, [], _∷_}
 use Rattle.songcode.specs.Complaints.{Complaint}
 use Rattle.songcode.specs.Song.{Song}
-use Rattle.songcode.specs.References.{referenceFaults}
-use Rattle.songcode.specs.Meter.{meterFaults, lengthFaults}
-use Rattle.songcode.specs.Lyrics.{countFaults, sumFaults}
+use Rattle.songcode.specs.answer.References.{referenceFaults}
+use Rattle.songcode.specs.answer.Meter.{meterFaults, lengthFaults}
+use Rattle.songcode.specs.answer.Lyrics.{countFaults, sumFaults}
 
 -- Stages 6 and 7; 4 to 7; 3 to 7.
 unfoldable pub lyricFaults : Song → List (List Complaint)

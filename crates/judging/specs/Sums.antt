@@ -6,7 +6,7 @@ use mathlib.Core.List.{List}
 use lib.Dec.{eqb}
 use lib.ListN.{length}
 use Rattle.songcode.specs.Lists.{if_then_else_, times}
-use Rattle.songcode.specs.Tables.{Tables}
+use Rattle.songcode.specs.answer.Tables.{Tables}
 use Rattle.settings.specs.Cuts.{CutFits}
 use Rattle.player.specs.declared.playing.Counts.{Counts}
 use Rattle.player.specs.Walks.{rowOf}

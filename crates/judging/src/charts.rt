@@ -12,8 +12,8 @@ ghost use mathlib.Core.Path.{_≡_};
 ghost use mathlib.Core.List.{[]};
 ghost use Prim.Native.Nat.{_≤_};
 ghost use lib.ListN.{length};
-ghost use Rattle.songcode.specs.Answer.{inputFaults, blocksOf};
-ghost use Rattle.songcode.specs.SongText.{textFaults};
+ghost use Rattle.songcode.specs.answer.Answer.{inputFaults, blocksOf};
+ghost use Rattle.songcode.specs.answer.SongText.{textFaults};
 ghost use Rattle.judging.specs.Charts.{Judges};
 
 // Where the metadata ends, the song's time and bpm, its definitions, where its sections begin, and what its tables will hold.

@@ -14,9 +14,9 @@ ghost use Prim.Native.Nat.{_≤_};
 ghost use lib.ListN.{length};
 ghost use Rattle.songcode.specs.Lists.{orElse};
 ghost use Rattle.songcode.specs.Complaints.{verdict};
-ghost use Rattle.songcode.specs.Playing.{timeAmong};
-ghost use Rattle.songcode.specs.Meter.{meterFaults, lengthFaults};
-ghost use Rattle.songcode.specs.Answer.{songOf};
+ghost use Rattle.songcode.specs.answer.Playing.{timeAmong};
+ghost use Rattle.songcode.specs.answer.Meter.{meterFaults, lengthFaults};
+ghost use Rattle.songcode.specs.answer.Answer.{songOf};
 ghost use Rattle.text.specs.Refusals.{refusalOf};
 ghost use Rattle.scores.specs.Scores.{Ready, Begins};
 

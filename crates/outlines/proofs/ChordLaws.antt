@@ -7,12 +7,12 @@ use native.Mathlib.Omega.{arith}
 use borrow.Author.Tests.{ne-eqb, lt-ltb}
 use lib.Dec.{eqb}
 use Rattle.songcode.specs.Lists.{if_then_else_, isSome}
-use Rattle.songcode.specs.Chords.{Chord}
+use Rattle.songcode.specs.answer.Chords.{Chord}
 use Rattle.songcode.specs.Song.{Sound, chord, again, silence, Sounds, only, also, Separator, Item, measure, loop, refer, Items, one, next}
-use Rattle.songcode.specs.PatternText.{referencesI, references}
-use Rattle.songcode.specs.References.{glue, putInItem, putIn}
-use Rattle.songcode.specs.Playing.{chordAfter, lastSounds, lastItem, lastItems}
-use Rattle.songcode.specs.Meter.{strays, strayAmong, strayItem, stray}
+use Rattle.songcode.specs.answer.PatternText.{referencesI, references}
+use Rattle.songcode.specs.answer.References.{glue, putInItem, putIn}
+use Rattle.songcode.specs.answer.Playing.{chordAfter, lastSounds, lastItem, lastItems}
+use Rattle.songcode.specs.answer.Meter.{strays, strayAmong, strayItem, stray}
 use Rattle.songcode.proofs.ListLaws.{by-cases, Each, append-each}
 use Rattle.tokens.specs.TokenWords.{chordWord, tokenWord}
 use Rattle.player.specs.Signs.{kindOf}

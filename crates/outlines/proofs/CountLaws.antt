@@ -4,10 +4,10 @@ use mathlib.Core.Path.{_≡_, refl, ap, _∙_}
 use mathlib.Core.Option.{Option}
 use native.Mathlib.Omega.{arith}
 use Rattle.songcode.specs.Song.{Measure, Item, measure, loop, refer, Items, one, next}
-use Rattle.songcode.specs.PatternText.{referencesI, references, depthI, depth}
-use Rattle.songcode.specs.References.{putInItem, putIn}
-use Rattle.songcode.specs.Playing.{positions}
-use Rattle.songcode.specs.Meter.{countItem, count}
+use Rattle.songcode.specs.answer.PatternText.{referencesI, references, depthI, depth}
+use Rattle.songcode.specs.answer.References.{putInItem, putIn}
+use Rattle.songcode.specs.answer.Playing.{positions}
+use Rattle.songcode.specs.answer.Meter.{countItem, count}
 use Rattle.songcode.proofs.ListLaws.{Each, append-each}
 use Rattle.outlines.specs.declared.readings.Outline.{Outline}
 use Rattle.outlines.specs.declared.readings.Reading.{Reading}

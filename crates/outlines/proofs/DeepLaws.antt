@@ -9,8 +9,8 @@ use borrow.Author.Tests.{lt-leb, le-leb, leb-true, leb-false}
 use lib.Dec.{leb}
 use Rattle.songcode.specs.Lists.{any}
 use Rattle.songcode.specs.Song.{Separator, Item, measure, loop, refer, Items, one, next}
-use Rattle.songcode.specs.PatternText.{depthI, depth, referencesI, references}
-use Rattle.songcode.specs.References.{glue, putInItem, putIn}
+use Rattle.songcode.specs.answer.PatternText.{depthI, depth, referencesI, references}
+use Rattle.songcode.specs.answer.References.{glue, putInItem, putIn}
 use Rattle.songcode.proofs.ListLaws.{by-cases, any-append}
 use Rattle.outlines.specs.declared.readings.Outline.{Outline}
 use Rattle.outlines.specs.declared.faults.Faults.{Faults}

@@ -11,9 +11,9 @@ use lib.ListN.{take, drop}
 use Rattle.songcode.specs.Lists.{any, gather, andThen, orElse}
 use Rattle.songcode.specs.Complaints.{Complaint, earliest}
 use Rattle.songcode.specs.Song.{Items, one, refer, Definition}
-use Rattle.songcode.specs.PatternText.{depth, depthI, loopsDeep, references}
-use Rattle.songcode.specs.References.{definitionOf, itemsOf, putInItem, putIn, referenceFault, depthFault, definitionReferences}
-use Rattle.songcode.specs.WrittenPattern.{writeItems}
+use Rattle.songcode.specs.answer.PatternText.{depth, depthI, loopsDeep, references}
+use Rattle.songcode.specs.answer.References.{definitionOf, itemsOf, putInItem, putIn, referenceFault, depthFault, definitionReferences}
+use Rattle.songcode.specs.description.WrittenPattern.{writeItems}
 use Rattle.songcode.proofs.ListLaws.{by-cases, none-passes, Each, each-append}
 use Rattle.tokens.specs.TokenWords.{tokenWords}
 use Rattle.player.specs.declared.leaves.Stretch.{Stretch}

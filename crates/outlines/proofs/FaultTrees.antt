@@ -8,9 +8,9 @@ use borrow.Author.Tests.{ne-eqb}
 use Rattle.songcode.specs.Lists.{if_then_else_, any}
 use Rattle.songcode.specs.Song.{Sound, chord, again, silence, Sounds, only, also, nothing, aLineEnd, Separator, bySemicolon, byLineEnd}
 use Rattle.songcode.specs.Song.{byColon, Item, measure, loop, refer, Items, one, next}
-use Rattle.songcode.specs.Tokens.{Token, sound, remover, reference, opens, closes}
-use Rattle.songcode.specs.PatternText.{referencesI, references}
-use Rattle.songcode.specs.WrittenPattern.{writeSounds, writeRemovers, writeMeasure, writeBeside, writeSeparator, writeItem, writeItems}
+use Rattle.songcode.specs.answer.Tokens.{Token, sound, remover, reference, opens, closes}
+use Rattle.songcode.specs.answer.PatternText.{referencesI, references}
+use Rattle.songcode.specs.description.WrittenPattern.{writeSounds, writeRemovers, writeMeasure, writeBeside, writeSeparator, writeItem, writeItems}
 use Rattle.songcode.proofs.ListLaws.{any-append}
 use Rattle.tokens.specs.TokenWords.{chordWord, tokenWord, tokenWords}
 use Rattle.player.specs.Signs.{kindOf}

@@ -11,8 +11,8 @@ use lib.Dec.{eqb}
 use Rattle.songcode.specs.Lists.{if_then_else_, any, isEmpty, when}
 use Rattle.songcode.specs.Complaints.{Complaint, complaint, complainIf, goesFirst, earlier, earliest}
 use Rattle.songcode.specs.Song.{Items, Definition}
-use Rattle.songcode.specs.PatternText.{references, noReference}
-use Rattle.songcode.specs.References.{itemsFault, referenceFault}
+use Rattle.songcode.specs.answer.PatternText.{references, noReference}
+use Rattle.songcode.specs.answer.References.{itemsFault, referenceFault}
 use Rattle.songcode.proofs.ListLaws.{true-is-not-false, any-append, Each}
 use Rattle.outlines.specs.declared.readings.Outline.{Outline}
 use Rattle.outlines.specs.declared.faults.Faults.{Faults}

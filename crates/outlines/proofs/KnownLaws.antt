@@ -8,9 +8,9 @@ use native.Mathlib.Omega.{arith}
 use lib.ListN.{take, drop}
 use Rattle.songcode.specs.Lists.{andThen, orElse}
 use Rattle.songcode.specs.Song.{Items, Definition}
-use Rattle.songcode.specs.PatternText.{depth, references}
-use Rattle.songcode.specs.References.{definitionOf, itemsOf, putInItem}
-use Rattle.songcode.specs.Fits.{Refers, ReferAll}
+use Rattle.songcode.specs.answer.PatternText.{depth, references}
+use Rattle.songcode.specs.answer.References.{definitionOf, itemsOf, putInItem}
+use Rattle.songcode.specs.description.Fits.{Refers, ReferAll}
 use Rattle.songcode.proofs.ListLaws.{Each}
 use Rattle.player.specs.declared.leaves.Stretch.{Stretch}
 use Rattle.player.specs.Texts.{ItemsFit, Stands}

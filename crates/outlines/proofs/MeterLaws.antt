@@ -8,11 +8,11 @@ use borrow.Author.Tests.{eq-eqb, ne-eqb, eqb-true}
 use lib.Dec.{eqb}
 use Rattle.songcode.specs.Lists.{if_then_else_}
 use Rattle.songcode.specs.Song.{Sounds, only, also, Measure, Separator, Item, measure, loop, refer, Items, one, next}
-use Rattle.songcode.specs.Tokens.{sound}
-use Rattle.songcode.specs.PatternText.{referencesI, references}
-use Rattle.songcode.specs.References.{glue, putInItem, putIn}
-use Rattle.songcode.specs.Playing.{soundCount, positions}
-use Rattle.songcode.specs.Meter.{fits, allFitItem, allFit, count}
+use Rattle.songcode.specs.answer.Tokens.{sound}
+use Rattle.songcode.specs.answer.PatternText.{referencesI, references}
+use Rattle.songcode.specs.answer.References.{glue, putInItem, putIn}
+use Rattle.songcode.specs.answer.Playing.{soundCount, positions}
+use Rattle.songcode.specs.answer.Meter.{fits, allFitItem, allFit, count}
 use Rattle.songcode.proofs.ListLaws.{by-cases, Each, append-each}
 use Rattle.songcode.proofs.PlayingAgree.{sounds-some}
 use Rattle.tokens.specs.TokenWords.{tokenWord}

@@ -10,10 +10,10 @@ use borrow.Author.Tests.{eq-eqb}
 use lib.ListN.{take, drop}
 use Rattle.songcode.specs.Lists.{isEmpty}
 use Rattle.songcode.specs.Song.{Items}
-use Rattle.songcode.specs.PatternText.{depth, references}
-use Rattle.songcode.specs.WrittenPattern.{writeItems}
-use Rattle.songcode.specs.References.{putIn}
-use Rattle.songcode.specs.Meter.{allFit, stray}
+use Rattle.songcode.specs.answer.PatternText.{depth, references}
+use Rattle.songcode.specs.description.WrittenPattern.{writeItems}
+use Rattle.songcode.specs.answer.References.{putIn}
+use Rattle.songcode.specs.answer.Meter.{allFit, stray}
 use Rattle.songcode.proofs.ListLaws.{Each}
 use Rattle.tokens.specs.TokenWords.{tokenWords}
 use Rattle.player.specs.declared.leaves.Stretch.{Stretch}

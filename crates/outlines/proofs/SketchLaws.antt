@@ -9,9 +9,9 @@ use lib.Dec.{eqb, leb}
 use lib.ListN.{take, drop}
 use Rattle.songcode.specs.Lists.{if_then_else_, isEmpty}
 use Rattle.songcode.specs.Song.{Sounds, only, also, Item, measure, loop, refer, Items, one, next}
-use Rattle.songcode.specs.Tokens.{Token, sound}
-use Rattle.songcode.specs.PatternText.{depthI, depth, referencesI, references}
-use Rattle.songcode.specs.WrittenPattern.{writeSounds, writeMeasure, writeItem, writeItems}
+use Rattle.songcode.specs.answer.Tokens.{Token, sound}
+use Rattle.songcode.specs.answer.PatternText.{depthI, depth, referencesI, references}
+use Rattle.songcode.specs.description.WrittenPattern.{writeSounds, writeMeasure, writeItem, writeItems}
 use Rattle.songcode.proofs.ListLaws.{by-cases}
 use Rattle.tokens.specs.TokenWords.{tokenWords}
 use Rattle.player.specs.declared.leaves.Stretch.{Stretch}

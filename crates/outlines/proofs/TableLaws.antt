@@ -11,7 +11,7 @@ use lib.ListN.{getD, length-set}
 use lib.Seq.{getD-set-same, getD-set-other}
 use Rattle.songcode.specs.Lists.{if_then_else_}
 use Rattle.songcode.specs.Song.{Definition}
-use Rattle.songcode.specs.References.{definitionOf}
+use Rattle.songcode.specs.answer.References.{definitionOf}
 use Rattle.songcode.proofs.ListLaws.{by-cases, true-is-not-false}
 use Rattle.player.specs.declared.leaves.Definitions.{Definitions}
 use Rattle.outlines.specs.declared.readings.Outline.{Outline}

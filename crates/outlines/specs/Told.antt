@@ -9,10 +9,10 @@ use lib.ListN.{length}
 use Rattle.songcode.specs.Lists.{isEmpty, isSome}
 use Rattle.songcode.specs.Complaints.{Complaint, complaint}
 use Rattle.songcode.specs.Song.{Items, refer, Definition}
-use Rattle.songcode.specs.PatternText.{depth, references}
-use Rattle.songcode.specs.References.{definitionOf, putInItem}
-use Rattle.songcode.specs.Playing.{lastItems}
-use Rattle.songcode.specs.Meter.{allFit, stray, count}
+use Rattle.songcode.specs.answer.PatternText.{depth, references}
+use Rattle.songcode.specs.answer.References.{definitionOf, putInItem}
+use Rattle.songcode.specs.answer.Playing.{lastItems}
+use Rattle.songcode.specs.answer.Meter.{allFit, stray, count}
 use Rattle.outlines.specs.declared.readings.Outline.{Outline}
 use Rattle.outlines.specs.declared.tables.Outlines.{Outlines}
 use Rattle.outlines.specs.Sizes.{divides}

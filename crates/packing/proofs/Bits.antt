@@ -5,7 +5,7 @@ use mathlib.Core.Bool.{Bool, true, false}
 use native.Mathlib.Nat.{div-div-eq-div-mul, div-add-mod'}
 use native.Mathlib.Omega.{arith}
 use lib.Dec.{eqb}
-use Rattle.songcode.specs.Tables.{headBit}
+use Rattle.songcode.specs.answer.Tables.{headBit}
 
 -- What stands from a bit on is one field and, above it, what stands from the next field's bit on.
 pub field-and-above : (word low size : ℕ) → word / low ≡ word / (low * size) * size + word / low % size

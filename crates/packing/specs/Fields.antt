@@ -5,7 +5,7 @@
 use Prim.Native.Nat.{ℕ, _+_, _*_, _^_, _<_, _≤_}
 use mathlib.Core.Path.{_≡_}
 use mathlib.Core.Bool.{Bool}
-use Rattle.songcode.specs.Tables.{sectionWord, measureWord, headBit}
+use Rattle.songcode.specs.answer.Tables.{sectionWord, measureWord, headBit}
 use Rattle.packing.specs.declared.fields.SectionFields.{SectionFields}
 use Rattle.packing.specs.declared.fields.MeasureFields.{MeasureFields}
 use Rattle.packing.specs.declared.fields.BeatFields.{BeatFields}

@@ -5,10 +5,10 @@ use mathlib.Core.Path.{_≡_}
 use mathlib.Core.Bool.{Bool}
 use mathlib.Core.Option.{none, some}
 use lib.ListN.{length}
-use Rattle.songcode.specs.Chords.{Chord}
-use Rattle.songcode.specs.Lyrics.{Prompt}
-use Rattle.songcode.specs.Joined.{firstBeat, beatCount, firstMeasure, measureCount, sectionBpm}
-use Rattle.songcode.specs.Tables.{offset, sectionWord, measureWord, beatBy, itemWord}
+use Rattle.songcode.specs.answer.Chords.{Chord}
+use Rattle.songcode.specs.answer.Lyrics.{Prompt}
+use Rattle.songcode.specs.description.Joined.{firstBeat, beatCount, firstMeasure, measureCount, sectionBpm}
+use Rattle.songcode.specs.answer.Tables.{offset, sectionWord, measureWord, beatBy, itemWord}
 use Rattle.packing.specs.declared.fields.SectionFields.{SectionFields}
 use Rattle.packing.specs.declared.fields.MeasureFields.{MeasureFields}
 use Rattle.packing.specs.declared.fields.BeatFields.{BeatFields}

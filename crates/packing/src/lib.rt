@@ -12,7 +12,7 @@ pub use fields::measure_of;
 pub use fields::section_of;
 ghost use mathlib.Core.Path.{_≡_};
 ghost use Prim.Native.Nat.{_+_, _*_, _^_, _<_};
-ghost use Rattle.songcode.specs.Tables.{sectionWord};
+ghost use Rattle.songcode.specs.answer.Tables.{sectionWord};
 ghost use Rattle.packing.specs.Fields.{packedItem};
 
 // keys: present 1, offset 16, length 9.

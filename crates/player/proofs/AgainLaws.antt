@@ -7,8 +7,8 @@ use native.Mathlib.Omega.{arith}
 use lib.ListN.{length, take, drop-of-length-le}
 use lib.Seq.{sets, take-all, take-nil}
 use Rattle.songcode.specs.Lists.{times}
-use Rattle.songcode.specs.Playing.{keep}
-use Rattle.songcode.specs.Performance.{total}
+use Rattle.songcode.specs.answer.Playing.{keep}
+use Rattle.songcode.specs.description.Performance.{total}
 use Rattle.songcode.proofs.ListLaws.{times-length}
 use Rattle.songcode.proofs.TurnedRows.{total-append}
 use Rattle.player.specs.declared.pens.Pen.{Pen}

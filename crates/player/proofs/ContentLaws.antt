@@ -9,8 +9,8 @@ use borrow.Author.Tests.{eq-eqb, ne-eqb, leb-true, leb-false}
 use lib.Dec.{eqb, leb}
 use lib.ListN.{length, take, drop, set}
 use lib.Seq.{sets, take-nil, drop-nil}
-use Rattle.songcode.specs.Playing.{keep}
-use Rattle.songcode.specs.Performance.{total}
+use Rattle.songcode.specs.answer.Playing.{keep}
+use Rattle.songcode.specs.description.Performance.{total}
 use Rattle.songcode.proofs.ListLaws.{by-cases}
 use Rattle.player.specs.Windows.{window, flat, heads}
 use Rattle.player.specs.declared.pens.Pen.{Pen}

@@ -7,8 +7,8 @@ use borrow.Author.Tests.{leb-true, leb-false}
 use lib.Dec.{leb}
 use lib.ListN.{length, take, drop, set, getD}
 use lib.Seq.{sets, sets-eq, length-sets, set-out, drop-cons, drop-set-add, take-set-le, length-take-le, take-append-seam, drop-at}
-use Rattle.songcode.specs.Tables.{measureWord}
-use Rattle.songcode.specs.Performance.{total}
+use Rattle.songcode.specs.answer.Tables.{measureWord}
+use Rattle.songcode.specs.description.Performance.{total}
 use Rattle.songcode.proofs.ListLaws.{by-cases}
 use Rattle.player.specs.Windows.{heads}
 use Rattle.player.specs.Again.{copyOf, same, later}

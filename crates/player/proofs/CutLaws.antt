@@ -4,7 +4,7 @@ use mathlib.Core.Path.{_≡_, refl, ap, _∙_}
 use mathlib.Core.List.{List, [], _∷_}
 use lib.ListN.{length, drop, length-drop}
 use Rattle.songcode.specs.Song.{Cut}
-use Rattle.songcode.specs.Playing.{dropBeats, dropMeasures, cutFront, turned, cutBack}
+use Rattle.songcode.specs.answer.Playing.{dropBeats, dropMeasures, cutFront, turned, cutBack}
 use Rattle.songcode.specs.EitherOrder.{Filled}
 use Rattle.songcode.proofs.TurnedRows.{turned-turned, filled-turned}
 use Rattle.songcode.proofs.CutFront.{drop-none}

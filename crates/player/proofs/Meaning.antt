@@ -7,12 +7,12 @@ use mathlib.Core.Option.{Option, none}
 use native.Mathlib.Omega.{arith}
 use lib.ListN.{take, drop}
 use Rattle.songcode.specs.Lists.{orElse}
-use Rattle.songcode.specs.Chords.{Chord}
+use Rattle.songcode.specs.answer.Chords.{Chord}
 use Rattle.songcode.specs.Song.{Item, measure, loop, refer, Items, one, next}
-use Rattle.songcode.specs.Tokens.{Token, opens, closes}
-use Rattle.songcode.specs.References.{putInItem, putIn}
-use Rattle.songcode.specs.WrittenPattern.{writeSeparator, writeItem, writeItems}
-use Rattle.songcode.specs.Playing.{Beat, lastItem, lastItems, measuresItem, measuresOf}
+use Rattle.songcode.specs.answer.Tokens.{Token, opens, closes}
+use Rattle.songcode.specs.answer.References.{putInItem, putIn}
+use Rattle.songcode.specs.description.WrittenPattern.{writeSeparator, writeItem, writeItems}
+use Rattle.songcode.specs.answer.Playing.{Beat, lastItem, lastItems, measuresItem, measuresOf}
 use Rattle.tokens.specs.TokenWords.{tokenWord, tokenWords}
 use Rattle.player.specs.declared.leaves.Definitions.{Definitions}
 use Rattle.player.specs.declared.leaves.Stretch.{Stretch}

@@ -7,7 +7,7 @@ use native.Mathlib.Omega.{arith}
 use borrow.Author.Tests.{eq-eqb, ne-eqb}
 use lib.Dec.{eqb}
 use lib.ListN.{length, set, replicate}
-use Rattle.songcode.specs.Tables.{measureWord}
+use Rattle.songcode.specs.answer.Tables.{measureWord}
 use Rattle.player.specs.Signs.{lastingOf}
 use Rattle.player.specs.declared.pens.Pen.{Pen}
 use Rattle.player.specs.Page.{Page, Ink, Fine, beatBy, beatOf, inked, closeBy, closed, onPage, restBy, restOf, rested, lookedAt, measureBy}

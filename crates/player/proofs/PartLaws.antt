@@ -7,9 +7,9 @@ use borrow.Author.Tests.{leb-true, leb-false}
 use lib.Dec.{leb}
 use lib.ListN.{length, take, drop, getD, length-take, length-drop, drop-of-length-le}
 use lib.Seq.{take-all, take-nil, take-take, take-add, take-append-seam, drop-nil, drop-drop, drop-at}
-use Rattle.songcode.specs.Playing.{keep}
-use Rattle.songcode.specs.Performance.{total}
-use Rattle.songcode.specs.Tables.{measureWord}
+use Rattle.songcode.specs.answer.Playing.{keep}
+use Rattle.songcode.specs.description.Performance.{total}
+use Rattle.songcode.specs.answer.Tables.{measureWord}
 use Rattle.songcode.specs.Lists.{times}
 use Rattle.songcode.specs.EitherOrder.{Filled}
 use Rattle.songcode.proofs.ListLaws.{by-cases, drop-take}

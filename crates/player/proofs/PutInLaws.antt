@@ -4,12 +4,12 @@ use mathlib.Core.Path.{_≡_, refl, sym, ap, _∙_}
 use mathlib.Core.List.{List, [], _++_, map, map-append, append-assoc}
 use mathlib.Core.Option.{Option}
 use Rattle.songcode.specs.Lists.{times}
-use Rattle.songcode.specs.Chords.{Chord}
+use Rattle.songcode.specs.answer.Chords.{Chord}
 use Rattle.songcode.specs.Song.{Separator, Item, measure, loop, refer, Items, one, next}
-use Rattle.songcode.specs.PatternText.{references, referencesI}
-use Rattle.songcode.specs.References.{glue, putInItem, putIn}
-use Rattle.songcode.specs.Playing.{Beat, lastItem, lastItems, measuresOf}
-use Rattle.songcode.specs.Tables.{beatWord}
+use Rattle.songcode.specs.answer.PatternText.{references, referencesI}
+use Rattle.songcode.specs.answer.References.{glue, putInItem, putIn}
+use Rattle.songcode.specs.answer.Playing.{Beat, lastItem, lastItems, measuresOf}
+use Rattle.songcode.specs.answer.Tables.{beatWord}
 use Rattle.songcode.proofs.ListLaws.{append-is-nil, nil-is-not-cons}
 use Rattle.player.specs.Texts.{rowWords}
 

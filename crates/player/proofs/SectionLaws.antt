@@ -8,7 +8,7 @@ use lib.Dec.{leb}
 use lib.ListN.{length, take, length-append}
 use lib.Seq.{sets, take-all}
 use Rattle.songcode.specs.Lists.{times}
-use Rattle.songcode.specs.Performance.{total}
+use Rattle.songcode.specs.description.Performance.{total}
 use Rattle.songcode.proofs.TurnedRows.{total-append}
 use Rattle.songcode.proofs.ListLaws.{by-cases}
 use Rattle.songcode.proofs.CutLaws.{total-take-le}

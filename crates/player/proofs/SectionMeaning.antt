@@ -7,9 +7,9 @@ use native.Mathlib.Omega.{arith}
 use lib.ListN.{length, take, drop}
 use Rattle.songcode.specs.Lists.{gather, times}
 use Rattle.songcode.specs.Song.{Cut, Modifier}
-use Rattle.songcode.specs.Playing.{Beat, keep, cutFront, cutBack, cutStartSaid, cutEndSaid, saidBy, applied, cutRow, repeats}
-use Rattle.songcode.specs.Performance.{total}
-use Rattle.songcode.specs.Tables.{beatWord, measureWords}
+use Rattle.songcode.specs.answer.Playing.{Beat, keep, cutFront, cutBack, cutStartSaid, cutEndSaid, saidBy, applied, cutRow, repeats}
+use Rattle.songcode.specs.description.Performance.{total}
+use Rattle.songcode.specs.answer.Tables.{beatWord, measureWords}
 use Rattle.songcode.specs.EitherOrder.{Filled}
 use Rattle.songcode.proofs.RowLaws.{filled-times}
 use Rattle.songcode.proofs.CutFront.{filled-cutFront}

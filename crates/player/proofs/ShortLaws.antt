@@ -6,7 +6,7 @@ use native.Mathlib.Omega.{arith}
 use lib.Dec.{eqb}
 use lib.ListN.{length, take, length-take}
 use Rattle.songcode.specs.Lists.{if_then_else_, times}
-use Rattle.songcode.specs.Performance.{total}
+use Rattle.songcode.specs.description.Performance.{total}
 use Rattle.songcode.proofs.ListLaws.{by-cases}
 use Rattle.player.specs.declared.leaves.Definitions.{Definitions}
 use Rattle.player.specs.declared.leaves.Stretch.{Stretch}

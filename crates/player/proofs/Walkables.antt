@@ -5,7 +5,7 @@ use mathlib.Core.List.{List, [], _∷_}
 use mathlib.Core.Option.{Option}
 use native.Mathlib.Omega.{arith}
 use Rattle.songcode.specs.Song.{Item, measure, loop, refer, Items, one, next}
-use Rattle.songcode.specs.PatternText.{depthI, depth, referencesI, references}
+use Rattle.songcode.specs.answer.PatternText.{depthI, depth, referencesI, references}
 use Rattle.songcode.proofs.ListLaws.{Each, append-each}
 use Rattle.player.specs.declared.leaves.Definitions.{Definitions}
 use Rattle.player.specs.declared.leaves.Stretch.{Stretch}

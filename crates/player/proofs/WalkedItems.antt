@@ -9,11 +9,11 @@ use lib.Dec.{eqb}
 use lib.ListN.{length, take, drop}
 use lib.Seq.{drop-drop}
 use Rattle.songcode.specs.Lists.{if_then_else_, times}
-use Rattle.songcode.specs.Chords.{Chord}
+use Rattle.songcode.specs.answer.Chords.{Chord}
 use Rattle.songcode.specs.Song.{Measure, Beside, nothing, aLineEnd, Separator, bySemicolon, byLineEnd, byColon}
-use Rattle.songcode.specs.Tokens.{Token, reference, semicolon, colon, lineEnd, opens, closes}
-use Rattle.songcode.specs.WrittenPattern.{writeMeasure, writeBeside, writeSeparator}
-use Rattle.songcode.specs.Playing.{Beat, lastSounds, beatsOf, positions}
+use Rattle.songcode.specs.answer.Tokens.{Token, reference, semicolon, colon, lineEnd, opens, closes}
+use Rattle.songcode.specs.description.WrittenPattern.{writeMeasure, writeBeside, writeSeparator}
+use Rattle.songcode.specs.answer.Playing.{Beat, lastSounds, beatsOf, positions}
 use Rattle.tokens.specs.TokenWords.{tokenWord, tokenWords}
 use Rattle.player.specs.declared.leaves.Definitions.{Definitions}
 use Rattle.player.specs.Signs.{kindOf, wordOf, isPosition, isSeparator, isStop, positionsOf, positionsAt}

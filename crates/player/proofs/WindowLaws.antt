@@ -8,8 +8,8 @@ use borrow.Author.Tests.{leb-true, leb-false}
 use lib.Dec.{leb}
 use lib.ListN.{length, take, drop, length-append, length-take, length-drop}
 use lib.Seq.{take-all}
-use Rattle.songcode.specs.Playing.{keep}
-use Rattle.songcode.specs.Performance.{total}
+use Rattle.songcode.specs.answer.Playing.{keep}
+use Rattle.songcode.specs.description.Performance.{total}
 use Rattle.songcode.specs.EitherOrder.{Filled}
 use Rattle.songcode.proofs.CutFront.{keep-some}
 use Rattle.songcode.proofs.CutLaws.{total-keep}

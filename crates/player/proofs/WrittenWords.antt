@@ -10,8 +10,8 @@ use lib.ListN.{length, take, drop, getD, length-take, length-drop}
 use lib.Seq.{getD-drop, drop-drop}
 use Rattle.songcode.specs.Lists.{if_then_else_, times}
 use Rattle.songcode.specs.Song.{nothing, aLineEnd, Separator, bySemicolon, byLineEnd, byColon}
-use Rattle.songcode.specs.Tokens.{Token, reference, closes}
-use Rattle.songcode.specs.WrittenPattern.{writeBeside, writeSeparator}
+use Rattle.songcode.specs.answer.Tokens.{Token, reference, closes}
+use Rattle.songcode.specs.description.WrittenPattern.{writeBeside, writeSeparator}
 use Rattle.tokens.specs.TokenWords.{tokenWord, tokenWords}
 use Rattle.player.specs.Signs.{kindOf, numberOf, wordOf, isPosition, isSeparator, isStop, positionsOf}
 use Rattle.songcode.proofs.ListLaws.{by-cases}

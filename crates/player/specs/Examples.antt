@@ -5,10 +5,10 @@ use mathlib.Core.Option.{Option, none, some}
 use mathlib.Core.Path.{_≡_, refl}
 use lib.ListN.{length}
 use Rattle.songcode.specs.Song.{Sound, chord, again, silence, only, also, bySemicolon, byLineEnd, Item, measure, loop, refer, Items, one, next}
-use Rattle.songcode.specs.WrittenPattern.{writeItems}
-use Rattle.songcode.specs.Playing.{measuresOf}
-use Rattle.songcode.specs.Tables.{beatWord}
-use Rattle.songcode.specs.References.{putIn}
+use Rattle.songcode.specs.description.WrittenPattern.{writeItems}
+use Rattle.songcode.specs.answer.Playing.{measuresOf}
+use Rattle.songcode.specs.answer.Tables.{beatWord}
+use Rattle.songcode.specs.answer.References.{putIn}
 use Rattle.tokens.specs.TokenWords.{tokenWords}
 use Rattle.player.specs.declared.leaves.Definitions.{Definitions}
 use Rattle.player.specs.Walks.{rowOf}

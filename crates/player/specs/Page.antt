@@ -4,7 +4,7 @@ use mathlib.Core.List.{List, [], _∷_}
 use mathlib.Core.Bool.{Bool, true, false}
 use lib.ListN.{set}
 use lib.Dec.{eqb}
-use Rattle.songcode.specs.Tables.{measureWord}
+use Rattle.songcode.specs.answer.Tables.{measureWord}
 use Rattle.player.specs.declared.pens.Pen.{Pen}
 
 -- The pen and the table of beats.

@@ -4,12 +4,12 @@ use mathlib.Core.Path.{_≡_}
 use mathlib.Core.List.{List, [], map}
 use mathlib.Core.Option.{Option, none, some}
 use lib.ListN.{take, drop}
-use Rattle.songcode.specs.Chords.{Chord}
+use Rattle.songcode.specs.answer.Chords.{Chord}
 use Rattle.songcode.specs.Song.{Sound, chord, again, silence, Sounds, only, also, Item, measure, loop, refer, Items, one, next}
-use Rattle.songcode.specs.PatternText.{references}
-use Rattle.songcode.specs.WrittenPattern.{writeItems}
-use Rattle.songcode.specs.Playing.{Beat}
-use Rattle.songcode.specs.Tables.{beatWord}
+use Rattle.songcode.specs.answer.PatternText.{references}
+use Rattle.songcode.specs.description.WrittenPattern.{writeItems}
+use Rattle.songcode.specs.answer.Playing.{Beat}
+use Rattle.songcode.specs.answer.Tables.{beatWord}
 use Rattle.tokens.specs.TokenWords.{chordWord, tokenWords}
 use Rattle.player.specs.declared.leaves.Definitions.{Definitions}
 use Rattle.player.specs.declared.leaves.Stretch.{Stretch}

@@ -5,9 +5,9 @@ use mathlib.Core.Option.{Option, none, some}
 use lib.ListN.{length, take, drop}
 use Rattle.songcode.specs.Lists.{times}
 use Rattle.songcode.specs.Song as Song
-use Rattle.songcode.specs.Tables.{measureWord}
-use Rattle.songcode.specs.Playing.{keep}
-use Rattle.songcode.specs.Performance.{total}
+use Rattle.songcode.specs.answer.Tables.{measureWord}
+use Rattle.songcode.specs.answer.Playing.{keep}
+use Rattle.songcode.specs.description.Performance.{total}
 use Rattle.settings.specs.declared.cuts.Cut.{Cut}
 use Rattle.player.specs.declared.leaves.Definitions.{Definitions}
 use Rattle.player.specs.declared.leaves.Stretch.{Stretch}

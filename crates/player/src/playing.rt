@@ -14,7 +14,7 @@ ghost use Prim.Native.Nat.{_+_, _-_, _*_, _≤_, min};
 ghost use lib.ListN.{length, take};
 ghost use lib.Seq.{sets};
 ghost use Rattle.songcode.specs.Lists.{times};
-ghost use Rattle.songcode.specs.Performance.{total};
+ghost use Rattle.songcode.specs.description.Performance.{total};
 ghost use Rattle.player.specs.Page.{Page, Fine, play};
 ghost use Rattle.player.specs.Walks.{rowOf};
 ghost use Rattle.player.specs.Windows.{window, firstBeat, lastBeat, rowOfSection, flat, heads};

@@ -9,10 +9,10 @@ use lib.ListN.{length}
 use Rattle.songcode.specs.Lists.{when}
 use Rattle.songcode.specs.Complaints.{complaint, complainIf, earlier, earliest}
 use Rattle.songcode.specs.Song.{Song}
-use Rattle.songcode.specs.Tables.{Tables, tables, keyWords, keyOrder}
-use Rattle.songcode.specs.Answer as songcode
-use Rattle.songcode.specs.Answer.{Room, songOf, roomFaults, refused, accepted, answerBy, answer, songAnswer}
-use Rattle.songcode.specs.Described.{HasRoom}
+use Rattle.songcode.specs.answer.Tables.{Tables, tables, keyWords, keyOrder}
+use Rattle.songcode.specs.answer.Answer as songcode
+use Rattle.songcode.specs.answer.Answer.{Room, songOf, roomFaults, refused, accepted, answerBy, answer, songAnswer}
+use Rattle.songcode.specs.description.Described.{HasRoom}
 use Rattle.songcode.proofs.ListLaws.{none-passes}
 use Rattle.songcode.proofs.SongAlone.{refused-with-tables, refused-without-tables, judged-by-room, accepted-with-room}
 use Rattle.judging.specs.Sums.{Holds}

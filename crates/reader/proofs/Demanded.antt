@@ -5,10 +5,10 @@ use mathlib.Core.Logic.{_↔_}
 use mathlib.Core.List.{List}
 use native.Mathlib.Omega.{arith}
 use lib.ListN.{length}
-use Rattle.songcode.specs.Tables.{Tables}
-use Rattle.songcode.specs.Answer as songcode
-use Rattle.songcode.specs.Answer.{Room, refused, accepted, answer, songAnswer}
-use Rattle.songcode.specs.Described.{HasRoom, Described}
+use Rattle.songcode.specs.answer.Tables.{Tables}
+use Rattle.songcode.specs.answer.Answer as songcode
+use Rattle.songcode.specs.answer.Answer.{Room, refused, accepted, answer, songAnswer}
+use Rattle.songcode.specs.description.Described.{HasRoom, Described}
 use Rattle.songcode.proofs.AnswerAgree.{accepted-exactly, refused-exactly}
 use Rattle.songcode.proofs.RefusalsAgree.{refused-as-stated}
 use Rattle.songcode.proofs.RefusalNumbers.{refusal-numbers}

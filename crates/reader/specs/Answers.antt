@@ -3,8 +3,8 @@ use Prim.Native.Nat.{ℕ}
 use mathlib.Core.Path.{_≡_}
 use mathlib.Core.List.{List}
 use lib.ListN.{length}
-use Rattle.songcode.specs.Answer as songcode
-use Rattle.songcode.specs.Answer.{refused, accepted}
+use Rattle.songcode.specs.answer.Answer as songcode
+use Rattle.songcode.specs.answer.Answer.{refused, accepted}
 use Rattle.packing.specs.Written.{written}
 use Rattle.reader.specs.declared.answers.Answer.{Answer}
 

@@ -6,11 +6,11 @@ use mathlib.Core.Logic.{_↔_}
 use mathlib.Core.List.{List}
 use lib.ListN.{length}
 use Rattle.songcode.specs.Complaints.{complaint}
-use Rattle.songcode.specs.Tables.{Tables}
-use Rattle.songcode.specs.Answer.{Room, stages, songStages}
-use Rattle.songcode.specs.Given.{Given}
-use Rattle.songcode.specs.Refusals.{Refused}
-use Rattle.songcode.specs.Described.{HasRoom, Described}
+use Rattle.songcode.specs.answer.Tables.{Tables}
+use Rattle.songcode.specs.answer.Answer.{Room, stages, songStages}
+use Rattle.songcode.specs.description.Given.{Given}
+use Rattle.songcode.specs.description.Refusals.{Refused}
+use Rattle.songcode.specs.description.Described.{HasRoom, Described}
 use Rattle.packing.specs.Written.{written}
 use Rattle.reader.specs.declared.answers.Answer.{Answer}
 use Rattle.reader.specs.Answers.{Lent, roomOf, Promised, Counted}

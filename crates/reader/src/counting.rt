@@ -8,8 +8,8 @@ ghost use mathlib.Core.Path.{_≡_};
 ghost use mathlib.Core.List.{[]};
 ghost use Prim.Native.Nat.{_≤_};
 ghost use lib.ListN.{length};
-ghost use Rattle.songcode.specs.SongText.{textFaults};
-ghost use Rattle.songcode.specs.Answer.{inputFaults, blocksOf};
+ghost use Rattle.songcode.specs.answer.SongText.{textFaults};
+ghost use Rattle.songcode.specs.answer.Answer.{inputFaults, blocksOf};
 ghost use Rattle.reader.specs.Answers.{Counted};
 
 // A chart that stages 1 and 2 have passed; `words` holds its pattern text as token words, at most one for each byte.

@@ -8,10 +8,10 @@ use borrow.Author.Tests.{lt-ltb}
 use lib.Dec.{ltb}
 use Rattle.songcode.specs.Lists.{isEmpty, gather}
 use Rattle.songcode.specs.Complaints.{Complaint, complainIf}
-use Rattle.songcode.specs.Lines.{Block}
-use Rattle.songcode.specs.Sections.{sectionFaults}
-use Rattle.songcode.specs.SongText.{blockKind, turn, blockOrder, metadataFaults, linesIf, metadataLines, definitionBlocks, sectionBlocks}
-use Rattle.songcode.specs.SongText.{definitionsFaults, orNoSection, textFaults}
+use Rattle.songcode.specs.answer.Lines.{Block}
+use Rattle.songcode.specs.answer.Sections.{sectionFaults}
+use Rattle.songcode.specs.answer.SongText.{blockKind, turn, blockOrder, metadataFaults, linesIf, metadataLines, definitionBlocks, sectionBlocks}
+use Rattle.songcode.specs.answer.SongText.{definitionsFaults, orNoSection, textFaults}
 use Rattle.songcode.proofs.ListLaws.{true-is-not-false, nil-is-not-cons, append-is-nil, complainIf-nil}
 use Rattle.songcode.proofs.BlockKinds.{by-kind}
 

@@ -9,7 +9,7 @@ use native.Mathlib.Omega.{arith}
 use borrow.Author.Tests.{lt-ltb, le-ltb, le-leb, eq-eqb}
 use Rattle.songcode.specs.Lists.{if_then_else_, gather, when}
 use Rattle.songcode.specs.Complaints.{Complaint, complainIf, goesFirst, earlier, earliest}
-use Rattle.songcode.specs.Given.{Before}
+use Rattle.songcode.specs.description.Given.{Before}
 use Rattle.songcode.specs.Song.{Section}
 use Rattle.songcode.proofs.ListLaws.{by-cases, true-is-not-false, Each, each-append, each-map}
 use Rattle.songcode.proofs.VerdictAgree.{goes-first, goes-behind}

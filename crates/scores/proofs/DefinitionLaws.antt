@@ -9,17 +9,17 @@ use borrow.Author.Tests.{leb-false, not-false}
 use lib.Dec.{eqb, leb}
 use lib.ListN.{length}
 use Rattle.songcode.specs.Lists.{if_then_else_, any, gather, prepend, isSome, orElse}
-use Rattle.songcode.specs.Lines.{Line, Block, blocks}
+use Rattle.songcode.specs.answer.Lines.{Line, Block, blocks}
 use Rattle.songcode.specs.Complaints.{complainIf}
 use Rattle.songcode.specs.Song.{Items, Definition}
-use Rattle.songcode.specs.Sections.{behindFirst, twiceBy, twice, sectionIn}
-use Rattle.songcode.specs.SongText.{definition, blockKind, turn, blockOrder, definitionIf, definitionBlocks, sectionIf, sectionBlocks}
-use Rattle.songcode.specs.SongText.{headIn, headsFaults, firstLine, definitionItems, definitionFaults, definitionIn}
-use Rattle.songcode.specs.PatternText.{depth, definitionText}
-use Rattle.songcode.specs.Tokens.{tokensOf}
-use Rattle.songcode.specs.References.{definitionOf}
-use Rattle.songcode.specs.WrittenPattern.{writeItems}
-use Rattle.songcode.specs.WrittenSong.{idOf}
+use Rattle.songcode.specs.answer.Sections.{behindFirst, twiceBy, twice, sectionIn}
+use Rattle.songcode.specs.answer.SongText.{definition, blockKind, turn, blockOrder, definitionIf, definitionBlocks, sectionIf, sectionBlocks}
+use Rattle.songcode.specs.answer.SongText.{headIn, headsFaults, firstLine, definitionItems, definitionFaults, definitionIn}
+use Rattle.songcode.specs.answer.PatternText.{depth, definitionText}
+use Rattle.songcode.specs.answer.Tokens.{tokensOf}
+use Rattle.songcode.specs.answer.References.{definitionOf}
+use Rattle.songcode.specs.description.WrittenPattern.{writeItems}
+use Rattle.songcode.specs.description.WrittenSong.{idOf}
 use Rattle.songcode.proofs.ListLaws.{true-is-not-false, none-passes, append-is-nil, complainIf-nil}
 use Rattle.songcode.proofs.ChoiceLaws.{isSome-some}
 use Rattle.songcode.proofs.NumbersAgree.{count-exact}

@@ -9,9 +9,9 @@ use lib.Dec.{leb}
 use Rattle.songcode.specs.Lists.{gather, when}
 use Rattle.songcode.specs.Complaints.{complainIf}
 use Rattle.songcode.specs.Song.{Items, Pattern, items, named, Definition, Section}
-use Rattle.songcode.specs.PatternText.{noReference, depth, loopsDeep, references}
-use Rattle.songcode.specs.References.{definitionOf, itemsOf, putIn, itemsFault, referenceFault, depthFault, definitionReferences}
-use Rattle.songcode.specs.References.{definitionsReferences, namedFault, sectionReference}
+use Rattle.songcode.specs.answer.PatternText.{noReference, depth, loopsDeep, references}
+use Rattle.songcode.specs.answer.References.{definitionOf, itemsOf, putIn, itemsFault, referenceFault, depthFault, definitionReferences}
+use Rattle.songcode.specs.answer.References.{definitionsReferences, namedFault, sectionReference}
 use Rattle.songcode.proofs.ListLaws.{Each, each-append, each-map}
 use Rattle.scores.proofs.ComplaintLaws.{Behind}
 use Rattle.scores.proofs.DefinitionLaws.{LaterHeads}

@@ -11,15 +11,15 @@ use lib.ListN.{length, take, drop, length-take, length-drop, drop-of-length-le}
 use lib.Seq.{take-nil}
 use Rattle.songcode.specs.Lists.{if_then_else_}
 use Rattle.songcode.specs.Bytes.{Byte, placed, is, isByte}
-use Rattle.songcode.specs.Numbers.{countIn, repeatIn}
-use Rattle.songcode.specs.Chords.{Chord, chordIn}
-use Rattle.songcode.specs.Lines.{Line}
+use Rattle.songcode.specs.answer.Numbers.{countIn, repeatIn}
+use Rattle.songcode.specs.answer.Chords.{Chord, chordIn}
+use Rattle.songcode.specs.answer.Lines.{Line}
 use Rattle.songcode.specs.Song.{Sound, chord, again, silence, Sounds, only, also, Beside, nothing, aLineEnd, Separator, bySemicolon}
 use Rattle.songcode.specs.Song.{byLineEnd, byColon, Item, measure, loop, refer, Items, one, next}
-use Rattle.songcode.specs.Tokens.{Token, sound, remover, reference, semicolon, colon, lineEnd, opens, closes, wrong, Class, blank, semi}
-use Rattle.songcode.specs.Tokens.{double, bracket, closing, plain, class, chordToken, referenceToken, closingToken, dollarOr, wordToken}
-use Rattle.songcode.specs.Tokens.{Lexed, word, lexedBy, lexed, tokens, tokensOf}
-use Rattle.songcode.specs.WrittenPattern.{writeSounds, writeRemovers, writeMeasure, writeBeside, writeSeparator, writeItem, writeItems}
+use Rattle.songcode.specs.answer.Tokens.{Token, sound, remover, reference, semicolon, colon, lineEnd, opens, closes, wrong, Class, blank, semi}
+use Rattle.songcode.specs.answer.Tokens.{double, bracket, closing, plain, class, chordToken, referenceToken, closingToken, dollarOr, wordToken}
+use Rattle.songcode.specs.answer.Tokens.{Lexed, word, lexedBy, lexed, tokens, tokensOf}
+use Rattle.songcode.specs.description.WrittenPattern.{writeSounds, writeRemovers, writeMeasure, writeBeside, writeSeparator, writeItem, writeItems}
 use Rattle.songcode.proofs.NumbersAgree.{count-exact, repeat-exact}
 use Rattle.songcode.proofs.ListLaws.{by-cases, Each, each-append}
 use Rattle.text.specs.declared.lines.Line as text

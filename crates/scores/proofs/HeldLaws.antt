@@ -9,11 +9,11 @@ use lib.ListN.{length, take, drop, length-take}
 use lib.Seq.{take-take, take-at, drop-at, take-append-add}
 use Rattle.songcode.specs.Complaints.{earliest}
 use Rattle.songcode.specs.Lists.{if_then_else_, isSome, andThen, orElse, gather}
-use Rattle.songcode.specs.Lines.{Line}
+use Rattle.songcode.specs.answer.Lines.{Line}
 use Rattle.songcode.specs.Song.{Items, named, Definition}
-use Rattle.songcode.specs.PatternText.{references}
-use Rattle.songcode.specs.References.{definitionOf, itemsOf, putInItem, putIn, patternItems, referenceFault, depthFault, definitionReferences}
-use Rattle.songcode.specs.Fits.{Refers, ReferAll}
+use Rattle.songcode.specs.answer.PatternText.{references}
+use Rattle.songcode.specs.answer.References.{definitionOf, itemsOf, putInItem, putIn, patternItems, referenceFault, depthFault, definitionReferences}
+use Rattle.songcode.specs.description.Fits.{Refers, ReferAll}
 use Rattle.songcode.proofs.ListLaws.{Each, each-map, append-is-nil, gather-nil}
 use Rattle.songcode.proofs.ReferencesAgree.{refers-sound}
 use Rattle.tokens.specs.TokenWords.{tokenWords}

@@ -10,8 +10,8 @@ use lib.Seq.{take-nil}
 use mathlib.Core.Option.{none, some}
 use Rattle.songcode.specs.Lists.{if_then_else_}
 use Rattle.songcode.specs.Bytes.{placed}
-use Rattle.songcode.specs.Lines as songcode
-use Rattle.songcode.specs.Tokens.{Token, lineEnd, lexed, word, tokens, tokensOf}
+use Rattle.songcode.specs.answer.Lines as songcode
+use Rattle.songcode.specs.answer.Tokens.{Token, lineEnd, lexed, word, tokens, tokensOf}
 use Rattle.songcode.proofs.ByteLaws.{length-placed}
 use Rattle.songcode.proofs.ListLaws.{by-cases}
 use Rattle.text.specs.declared.lines.Line.{Line}

@@ -6,7 +6,7 @@ use native.Mathlib.Omega.{arith}
 use lib.ListN.{length, take, drop}
 use lib.Seq.{take-at}
 use Rattle.songcode.specs.Lists.{taken, left}
-use Rattle.songcode.specs.Lines.{Line}
+use Rattle.songcode.specs.answer.Lines.{Line}
 use Rattle.songcode.proofs.ListLaws.{taken-left}
 use Rattle.text.specs.Spans.{lineOf, lineText, spansFrom}
 use Rattle.sections.specs.declared.runs.Run.{Run}

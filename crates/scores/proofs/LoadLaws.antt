@@ -10,15 +10,15 @@ use lib.Dec.{eqb}
 use lib.ListN.{length, take, drop}
 use Rattle.songcode.specs.Lists.{if_then_else_, gather, firstThere}
 use Rattle.songcode.specs.Complaints.{Complaint, complaint, complainIf, earliest}
-use Rattle.songcode.specs.Lines.{Block, blocks}
+use Rattle.songcode.specs.answer.Lines.{Block, blocks}
 use Rattle.songcode.specs.Song.{items, Definition}
-use Rattle.songcode.specs.Sections.{twice, sectionFaults, sectionIn}
-use Rattle.songcode.specs.SongText.{definition, blockKind, turn, blockOrder, definitionIf, definitionBlocks, sectionIf, sectionBlocks}
-use Rattle.songcode.specs.SongText.{headIn, headsFaults, firstLine, definitionItems, definitionFaults, definitionsFaults, definitionIn}
-use Rattle.songcode.specs.SongText.{textFaults, songIn}
-use Rattle.songcode.specs.References.{definitionOf, definitionReferences, definitionsReferences, sectionReference, referenceFaults}
-use Rattle.songcode.specs.WrittenSong.{idOf}
-use Rattle.songcode.specs.Answer.{blocksOf, songOf}
+use Rattle.songcode.specs.answer.Sections.{twice, sectionFaults, sectionIn}
+use Rattle.songcode.specs.answer.SongText.{definition, blockKind, turn, blockOrder, definitionIf, definitionBlocks, sectionIf, sectionBlocks}
+use Rattle.songcode.specs.answer.SongText.{headIn, headsFaults, firstLine, definitionItems, definitionFaults, definitionsFaults, definitionIn}
+use Rattle.songcode.specs.answer.SongText.{textFaults, songIn}
+use Rattle.songcode.specs.answer.References.{definitionOf, definitionReferences, definitionsReferences, sectionReference, referenceFaults}
+use Rattle.songcode.specs.description.WrittenSong.{idOf}
+use Rattle.songcode.specs.answer.Answer.{blocksOf, songOf}
 use Rattle.songcode.proofs.ListLaws.{by-cases, nil-is-not-cons, append-is-nil, Each, each-append, each-map}
 use Rattle.songcode.proofs.PatternLaws.{none-some}
 use Rattle.songcode.proofs.BlockKinds.{by-kind}

@@ -11,12 +11,12 @@ use lib.Dec.{eqb}
 use lib.ListN.{length, take}
 use Rattle.songcode.specs.Lists.{if_then_else_, isEmpty, taken, left, gather, firstThere}
 use Rattle.songcode.specs.Bytes.{Byte}
-use Rattle.songcode.specs.Lines.{Line, Block, blocks}
+use Rattle.songcode.specs.answer.Lines.{Line, Block, blocks}
 use Rattle.songcode.specs.Complaints.{complainIf}
-use Rattle.songcode.specs.Answer.{blocksOf}
-use Rattle.songcode.specs.Sections.{kindOfLine, kindOf}
-use Rattle.songcode.specs.SongText.{BlockKind, metadata, definition, section, kindOfText, blockKind, turn, blockOrder, linesIf}
-use Rattle.songcode.specs.SongText.{metadataLines, definitionIf, definitionBlocks, sectionIf, sectionBlocks, textFaults}
+use Rattle.songcode.specs.answer.Answer.{blocksOf}
+use Rattle.songcode.specs.answer.Sections.{kindOfLine, kindOf}
+use Rattle.songcode.specs.answer.SongText.{BlockKind, metadata, definition, section, kindOfText, blockKind, turn, blockOrder, linesIf}
+use Rattle.songcode.specs.answer.SongText.{metadataLines, definitionIf, definitionBlocks, sectionIf, sectionBlocks, textFaults}
 use Rattle.songcode.proofs.ListLaws.{by-cases, true-is-not-false, nil-is-not-cons}
 use Rattle.songcode.proofs.BlockKinds.{by-kind}
 use Rattle.songcode.proofs.ChoiceLaws.{zero-is-not-one}

@@ -10,13 +10,13 @@ use lib.Dec.{ltb}
 use lib.ListN.{length, take}
 use lib.Seq.{take-nil}
 use Rattle.songcode.specs.Lists.{isSome}
-use Rattle.songcode.specs.Lines.{Line}
+use Rattle.songcode.specs.answer.Lines.{Line}
 use Rattle.songcode.specs.Song.{chord, again, silence, Items, Pattern, items, named, Definition}
-use Rattle.songcode.specs.Tokens.{Token, sound, remover, reference, semicolon, colon, lineEnd, opens, closes, wrong}
-use Rattle.songcode.specs.PatternText.{depth, loopsDeep, references}
-use Rattle.songcode.specs.References.{patternItems}
-use Rattle.songcode.specs.Sections.{patternIn}
-use Rattle.songcode.specs.WrittenPattern.{writeItems, WrittenPattern}
+use Rattle.songcode.specs.answer.Tokens.{Token, sound, remover, reference, semicolon, colon, lineEnd, opens, closes, wrong}
+use Rattle.songcode.specs.answer.PatternText.{depth, loopsDeep, references}
+use Rattle.songcode.specs.answer.References.{patternItems}
+use Rattle.songcode.specs.answer.Sections.{patternIn}
+use Rattle.songcode.specs.description.WrittenPattern.{writeItems, WrittenPattern}
 use Rattle.songcode.proofs.ListLaws.{by-cases, Each, nil-is-not-cons}
 use Rattle.songcode.proofs.PatternLaws.{none-some}
 use Rattle.songcode.proofs.PatternAgree.{pattern-sound}

@@ -6,13 +6,13 @@ use mathlib.Core.Option.{Option, none, some}
 use native.Mathlib.Omega.{arith}
 use lib.ListN.{length, take, drop, length-append}
 use Rattle.songcode.specs.Lists.{gather, andThen}
-use Rattle.songcode.specs.Lines.{Line, blocks}
+use Rattle.songcode.specs.answer.Lines.{Line, blocks}
 use Rattle.songcode.specs.Song.{Pattern}
-use Rattle.songcode.specs.Modifiers.{ofBefore, ofAfter, modifierPlace}
-use Rattle.songcode.specs.Sections.{patternIn, patternRun, body, sectionFaults}
-use Rattle.songcode.specs.References.{patternItems}
-use Rattle.songcode.specs.Playing.{saidBy, beforeSaid, afterSaid}
-use Rattle.songcode.specs.Answer.{songOf}
+use Rattle.songcode.specs.answer.Modifiers.{ofBefore, ofAfter, modifierPlace}
+use Rattle.songcode.specs.answer.Sections.{patternIn, patternRun, body, sectionFaults}
+use Rattle.songcode.specs.answer.References.{patternItems}
+use Rattle.songcode.specs.answer.Playing.{saidBy, beforeSaid, afterSaid}
+use Rattle.songcode.specs.answer.Answer.{songOf}
 use Rattle.songcode.proofs.ListLaws.{append-is-nil}
 use Rattle.tokens.specs.TokenWords.{tokenWords}
 use Rattle.tokens.specs.Lexing.{laid}

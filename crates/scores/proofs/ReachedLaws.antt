@@ -9,7 +9,7 @@ use lib.Dec.{ltb, leb}
 use lib.ListN.{length, drop, getD}
 use lib.Seq.{drop-cons}
 use Rattle.songcode.specs.Lists.{if_then_else_, left}
-use Rattle.songcode.specs.Lines.{Line, cr, inside, ending}
+use Rattle.songcode.specs.answer.Lines.{Line, cr, inside, ending}
 use Rattle.songcode.proofs.ListLaws.{by-cases, taken-left, nil-is-not-cons}
 use Rattle.text.specs.Spans.{end, longer, lineLength, breakWidth, breakLength, lineOf, lineAt, lineText, spansFrom}
 use Rattle.text.proofs.SpanLaws.{by-ending}

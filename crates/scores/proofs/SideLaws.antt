@@ -6,11 +6,11 @@ use mathlib.Core.Bool.{Bool, true, false}
 use mathlib.Core.Option.{Option, none, some}
 use lib.Dec.{eqb}
 use Rattle.songcode.specs.Lists.{gather, collect, andThen, firstThere}
-use Rattle.songcode.specs.Lines.{Line}
+use Rattle.songcode.specs.answer.Lines.{Line}
 use Rattle.songcode.specs.Song.{Modifier}
-use Rattle.songcode.specs.Modifiers.{ModifierName, modifierPlace}
-use Rattle.songcode.specs.Sections.{modifierOn, amongKeys, order, faults}
-use Rattle.songcode.specs.Playing.{saidBy}
+use Rattle.songcode.specs.answer.Modifiers.{ModifierName, modifierPlace}
+use Rattle.songcode.specs.answer.Sections.{modifierOn, amongKeys, order, faults}
+use Rattle.songcode.specs.answer.Playing.{saidBy}
 use Rattle.songcode.proofs.PatternLaws.{none-some}
 use Rattle.sections.specs.Slots.{Setting, settingAmong}
 use Rattle.sections.specs.BlockParts.{lateLines}

@@ -7,11 +7,11 @@ use native.Mathlib.Omega.{arith}
 use lib.ListN.{length, take, drop}
 use Rattle.songcode.specs.Lists.{andThen}
 use Rattle.songcode.specs.Song.{Items, Pattern, items, Definition}
-use Rattle.songcode.specs.Tokens.{Token, tokens}
-use Rattle.songcode.specs.PatternText.{depth, loopsDeep, references, sideText}
-use Rattle.songcode.specs.References.{patternItems}
-use Rattle.songcode.specs.Playing.{Side, measuresOf}
-use Rattle.songcode.specs.WrittenPattern.{writeItems}
+use Rattle.songcode.specs.answer.Tokens.{Token, tokens}
+use Rattle.songcode.specs.answer.PatternText.{depth, loopsDeep, references, sideText}
+use Rattle.songcode.specs.answer.References.{patternItems}
+use Rattle.songcode.specs.answer.Playing.{Side, measuresOf}
+use Rattle.songcode.specs.description.WrittenPattern.{writeItems}
 use Rattle.songcode.proofs.ListLaws.{Each}
 use Rattle.songcode.proofs.PatternLaws.{none-some}
 use Rattle.songcode.proofs.SideAgree.{side-references, side-sound}

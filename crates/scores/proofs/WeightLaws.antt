@@ -10,10 +10,10 @@ use lib.Dec.{eqb, ltb}
 use lib.ListN.{length, take, drop, getD, length-append, length-take, length-drop}
 use Rattle.songcode.specs.Lists.{if_then_else_, taken, left}
 use Rattle.songcode.specs.Bytes.{Byte, placed, isBlank, notBlank}
-use Rattle.songcode.specs.Lines.{Line, cr, inside, ending}
-use Rattle.songcode.specs.Keys.{settingIn}
-use Rattle.songcode.specs.Sections.{behindFirst, settingOf, isPatternLine, notPatternLine, patternRun, notDashes, body}
-use Rattle.songcode.specs.Tokens.{Token, Class, blank, semi, double, bracket, closing, plain, class, Lexed, word, lexedBy, lexed, tokens, tokensOf}
+use Rattle.songcode.specs.answer.Lines.{Line, cr, inside, ending}
+use Rattle.songcode.specs.answer.Keys.{settingIn}
+use Rattle.songcode.specs.answer.Sections.{behindFirst, settingOf, isPatternLine, notPatternLine, patternRun, notDashes, body}
+use Rattle.songcode.specs.answer.Tokens.{Token, Class, blank, semi, double, bracket, closing, plain, class, Lexed, word, lexedBy, lexed, tokens, tokensOf}
 use Rattle.songcode.proofs.ByteLaws.{length-placed}
 use Rattle.songcode.proofs.ListLaws.{by-cases, taken-left}
 use Rattle.text.specs.Spans.{end, part, longer, lineLength, breakWidth, breakLength, frontBlanks, solidLength, lineOf, lineAt, lineText}

@@ -4,9 +4,9 @@ use mathlib.Core.Path.{_≡_}
 use mathlib.Core.List.{List, [], _∷_}
 use mathlib.Core.Option.{Option, none, some}
 use lib.ListN.{length}
-use Rattle.songcode.specs.Lines.{Line}
+use Rattle.songcode.specs.answer.Lines.{Line}
 use Rattle.songcode.specs.Song.{Pattern, items, named}
-use Rattle.songcode.specs.Tokens.{Token, tokens, tokensOf}
+use Rattle.songcode.specs.answer.Tokens.{Token, tokens, tokensOf}
 use Rattle.sections.specs.Slots.{Setting}
 
 -- A line end stands between neighbours.

@@ -7,15 +7,15 @@ use mathlib.Core.Option.{Option, none, some}
 use lib.ListN.{length}
 use Rattle.songcode.specs.Lists.{gather, firstThere}
 use Rattle.songcode.specs.Complaints.{earliest}
-use Rattle.songcode.specs.Lines.{Block, blocks}
+use Rattle.songcode.specs.answer.Lines.{Block, blocks}
 use Rattle.songcode.specs.Song.{Items, Definition}
-use Rattle.songcode.specs.Sections.{twice}
-use Rattle.songcode.specs.SongText.{blockOrder, definitionBlocks, sectionBlocks, headIn, headsFaults, firstLine, definitionFaults, definitionIn}
-use Rattle.songcode.specs.PatternText.{depth, references}
-use Rattle.songcode.specs.References.{definitionOf, itemsOf, putIn, definitionsReferences, referenceFaults}
-use Rattle.songcode.specs.Fits.{ReferAll}
-use Rattle.songcode.specs.WrittenSong.{idOf}
-use Rattle.songcode.specs.Answer.{blocksOf, songOf}
+use Rattle.songcode.specs.answer.Sections.{twice}
+use Rattle.songcode.specs.answer.SongText.{blockOrder, definitionBlocks, sectionBlocks, headIn, headsFaults, firstLine, definitionFaults, definitionIn}
+use Rattle.songcode.specs.answer.PatternText.{depth, references}
+use Rattle.songcode.specs.answer.References.{definitionOf, itemsOf, putIn, definitionsReferences, referenceFaults}
+use Rattle.songcode.specs.description.Fits.{ReferAll}
+use Rattle.songcode.specs.description.WrittenSong.{idOf}
+use Rattle.songcode.specs.answer.Answer.{blocksOf, songOf}
 use Rattle.text.specs.Refusals.{refusalOf}
 use Rattle.player.specs.declared.leaves.Definitions.{Definitions}
 use Rattle.player.specs.declared.leaves.Stretch.{Stretch}

@@ -4,9 +4,9 @@ use mathlib.Core.Path.{_≡_}
 use mathlib.Core.List.{List, [], _∷_, _++_}
 use lib.ListN.{length}
 use Rattle.songcode.specs.Lists.{taken}
-use Rattle.songcode.specs.Lines.{blocks}
-use Rattle.songcode.specs.Answer.{blocksOf}
-use Rattle.songcode.specs.SongText.{blockOrder, metadataLines, definitionBlocks, sectionBlocks}
+use Rattle.songcode.specs.answer.Lines.{blocks}
+use Rattle.songcode.specs.answer.Answer.{blocksOf}
+use Rattle.songcode.specs.answer.SongText.{blockOrder, metadataLines, definitionBlocks, sectionBlocks}
 use Rattle.sections.specs.declared.blocks.Place.{Place}
 use Rattle.sections.specs.declared.runs.Run.{Run}
 use Rattle.sections.specs.declared.runs.Test.the-variants.{Empty}

@@ -8,12 +8,12 @@ use lib.Dec.{leb}
 use lib.ListN.{length, take, set}
 use Rattle.songcode.specs.Lists.{if_then_else_, isSome, andThen}
 use Rattle.songcode.specs.Complaints.{earliest}
-use Rattle.songcode.specs.Lines.{blocks}
+use Rattle.songcode.specs.answer.Lines.{blocks}
 use Rattle.songcode.specs.Song.{Items, named, Definition, Section}
-use Rattle.songcode.specs.References.{definitionOf, patternItems, definitionsReferences, referenceFaults}
-use Rattle.songcode.specs.Playing.{Side, saidBy, beforeSaid, afterSaid, measuresOf}
-use Rattle.songcode.specs.SongText.{sectionBlocks}
-use Rattle.songcode.specs.Answer.{blocksOf, songOf}
+use Rattle.songcode.specs.answer.References.{definitionOf, patternItems, definitionsReferences, referenceFaults}
+use Rattle.songcode.specs.answer.Playing.{Side, saidBy, beforeSaid, afterSaid, measuresOf}
+use Rattle.songcode.specs.answer.SongText.{sectionBlocks}
+use Rattle.songcode.specs.answer.Answer.{blocksOf, songOf}
 use Rattle.text.specs.Refusals.{refusalOf}
 use Rattle.player.specs.declared.leaves.Definitions.{Definitions}
 use Rattle.player.specs.declared.leaves.Stretch.{Stretch}

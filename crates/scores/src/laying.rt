@@ -13,7 +13,7 @@ ghost use mathlib.Core.Option.{some};
 ghost use Prim.Native.Nat.{_+_, _≤_, _-_};
 ghost use lib.ListN.{length};
 ghost use Rattle.songcode.specs.Song.{Pattern};
-ghost use Rattle.songcode.specs.Sections.{patternIn};
+ghost use Rattle.songcode.specs.answer.Sections.{patternIn};
 ghost use Rattle.tokens.specs.TokenWords.{tokenWords};
 ghost use Rattle.tokens.specs.Lexing.{laid};
 ghost use Rattle.sections.specs.Runs.{linesOf};

@@ -9,8 +9,8 @@ ghost use mathlib.Core.Path.{_≡_};
 ghost use mathlib.Core.List.{[]};
 ghost use Prim.Native.Nat.{_+_, _≤_};
 ghost use lib.ListN.{length};
-ghost use Rattle.songcode.specs.Answer.{blocksOf};
-ghost use Rattle.songcode.specs.SongText.{textFaults};
+ghost use Rattle.songcode.specs.answer.Answer.{blocksOf};
+ghost use Rattle.songcode.specs.answer.SongText.{textFaults};
 ghost use Rattle.scores.specs.Metadata.{linesBefore, Skips, MetadataEnds};
 
 // Where the next block begins, from a line on, behind the blank lines; the end of the text where there is none.

@@ -6,12 +6,12 @@ use mathlib.Core.Option.{Option}
 use native.Mathlib.Omega.{arith}
 use lib.ListN.{length, take}
 use Rattle.songcode.specs.Lists.{taken, left, orElse}
-use Rattle.songcode.specs.Lines as songcode
-use Rattle.songcode.specs.Sections.{behindFirst, patternRun, body, ending, notDashes}
+use Rattle.songcode.specs.answer.Lines as songcode
+use Rattle.songcode.specs.answer.Sections.{behindFirst, patternRun, body, fromDashes, notDashes}
 use Rattle.text.specs.declared.lines.Line.{Line}
 use Rattle.songcode.specs.Bytes as bytes
-use Rattle.songcode.specs.Numbers.{countIn}
-use Rattle.songcode.specs.SongText.{headIn}
+use Rattle.songcode.specs.answer.Numbers.{countIn}
+use Rattle.songcode.specs.answer.SongText.{headIn}
 use Rattle.text.specs.Spans.{part, lineText, Found}
 use Rattle.tokens.specs.declared.numbers.Number.{Number}
 use Rattle.tokens.specs.Decimals.{numberOf}
@@ -94,8 +94,8 @@ module _ (s : List ℕ) (n at : ℕ) (one : 1 ≤ n) (fits : n ≤ at + 1) (with
   unfolding body
   body-are = ap (taken notDashes) others-are ∙ body-is rest
 
-  ending-are : ending (blockAt s n at) ≡ taken (passing Full) (left (passing Body) rest)
-  unfolding ending
+  ending-are : fromDashes (blockAt s n at) ≡ taken (passing Full) (left (passing Body) rest)
+  unfolding fromDashes
   ending-are = ap (left notDashes) others-are ∙ ending-is rest
 
   module _ (early pattern late lyrics : Run)

@@ -7,10 +7,10 @@ use mathlib.Core.Option.{Option, none, some}
 use native.Mathlib.Omega.{arith}
 use lib.ListN.{length, drop}
 use Rattle.songcode.specs.Lists.{isEmpty, gather, isSome, orElse}
-use Rattle.songcode.specs.Lines.{Line, Block, shut, join, runs, blocks}
+use Rattle.songcode.specs.answer.Lines.{Line, Block, shut, join, runs, blocks}
 use Rattle.songcode.specs.Song.{Pattern, named}
-use Rattle.songcode.specs.PatternText.{sectionText}
-use Rattle.songcode.specs.Sections.{sectionFaults, sectionIn, patternIn, patternFaults, patternRun, body}
+use Rattle.songcode.specs.answer.PatternText.{sectionText}
+use Rattle.songcode.specs.answer.Sections.{sectionFaults, sectionIn, patternIn, patternFaults, patternRun, body}
 use Rattle.songcode.proofs.ListLaws.{Each, each-map, append-is-nil, nil-is-not-cons, complainIf-nil, true-is-not-false, by-cases}
 use Rattle.text.specs.Spans.{lineOf, lineAt, lineText, spansFrom}
 use Rattle.sections.specs.declared.blocks.Place.{Place}

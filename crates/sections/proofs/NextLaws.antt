@@ -6,11 +6,11 @@ use mathlib.Core.Bool.{false}
 use native.Mathlib.Omega.{arith}
 use lib.ListN.{length}
 use Rattle.songcode.specs.Lists.{if_then_else_, isEmpty, taken, left}
-use Rattle.songcode.specs.Lines.{Line, shut, join, runs, blocks}
-use Rattle.songcode.specs.Answer.{blocksOf}
-use Rattle.songcode.specs.SongText.{kindOfText, blockKind}
+use Rattle.songcode.specs.answer.Lines.{Line, shut, join, runs, blocks}
+use Rattle.songcode.specs.answer.Answer.{blocksOf}
+use Rattle.songcode.specs.answer.SongText.{kindOfText, blockKind}
 use Rattle.songcode.specs.Bytes.{placed}
-use Rattle.songcode.specs.WrittenText.{Stops}
+use Rattle.songcode.specs.description.WrittenText.{Stops}
 use Rattle.songcode.proofs.ListLaws.{left-stops, by-cases}
 use Rattle.text.specs.declared.lines.Line as text
 use Rattle.text.specs.Spans.{part, spans, lineAt, lineText, Found}

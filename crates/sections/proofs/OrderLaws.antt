@@ -7,13 +7,13 @@ use mathlib.Core.Option.{none}
 use native.Mathlib.Omega.{arith}
 use borrow.Author.Tests.{ne-eqb}
 use Rattle.songcode.specs.Lists.{if_then_else_, taken, left}
-use Rattle.songcode.specs.Lines.{Line}
+use Rattle.songcode.specs.answer.Lines.{Line}
 use Rattle.songcode.specs.Complaints.{complaint}
 use Rattle.songcode.specs.Song.{KeyName}
-use Rattle.songcode.specs.Keys.{keyPlace}
-use Rattle.songcode.specs.Modifiers.{ModifierName, modifierPlace}
-use Rattle.songcode.specs.Sections.{Kind, keyLine, modifierLine, patternLine, kindOfLine, isPatternLine, notPatternLine, Place, amongKeys}
-use Rattle.songcode.specs.Sections.{inPattern, behind, misplaced, placeAfter, order}
+use Rattle.songcode.specs.answer.Keys.{keyPlace}
+use Rattle.songcode.specs.answer.Modifiers.{ModifierName, modifierPlace}
+use Rattle.songcode.specs.answer.Sections.{Kind, keyLine, modifierLine, patternLine, kindOfLine, isPatternLine, notPatternLine, Place, amongKeys}
+use Rattle.songcode.specs.answer.Sections.{inPattern, behind, misplaced, placeAfter, order}
 use Rattle.songcode.proofs.ListLaws.{append-is-nil, nil-is-not-cons}
 use Rattle.songcode.proofs.LineAgree.{by-kind}
 use Rattle.sections.specs.Slots.{slotOf, settingAmong}

@@ -2,8 +2,8 @@
 use mathlib.Core.Path.{_≡_, ap, _∙_}
 use mathlib.Core.List.{List}
 use Rattle.songcode.specs.Lists.{taken, left}
-use Rattle.songcode.specs.Lines.{Line}
-use Rattle.songcode.specs.Sections.{kindOfLine, isPatternLine, notPatternLine, notDashes, patternRun}
+use Rattle.songcode.specs.answer.Lines.{Line}
+use Rattle.songcode.specs.answer.Sections.{kindOfLine, isPatternLine, notPatternLine, notDashes, patternRun}
 use Rattle.sections.specs.declared.runs.Test.the-variants.{Full, Body, Early, Pattern}
 use Rattle.sections.specs.Runs.{passing, passes, inBody, isPatternText, isPatternKind}
 use Rattle.sections.specs.BlockParts.{earlyLines, lateLines}

@@ -9,18 +9,18 @@ use lib.Dec.{eqb}
 use borrow.Author.Tests.{eq-eqb, ne-eqb, eqb-true, eqb-false, not-false}
 use Rattle.songcode.specs.Lists.{if_then_else_, prepend, collect, gather, andThen, firstThere, isSome}
 use Rattle.songcode.specs.Bytes.{Byte}
-use Rattle.songcode.specs.Lines.{Line}
+use Rattle.songcode.specs.answer.Lines.{Line}
 use Rattle.songcode.specs.Song as song
 use Rattle.songcode.specs.Song.{Key, Modifier}
-use Rattle.songcode.specs.Keys.{keyPlace}
-use Rattle.songcode.specs.Modifiers.{ModifierName, ofRepeat, ofCutStart, ofCutEnd, ofBefore, ofAfter, modifierPlace, modifierIn, settingRefusal}
-use Rattle.songcode.specs.Sections.{Kind, keyLine, modifierLine, patternLine, kindOfLine, keyNameOf, modifierNameOf, settingOf, keyOf, modifierOf}
-use Rattle.songcode.specs.Sections.{keyIn, modifierOn, modifierFaultsBy, modifierFaults, faults}
+use Rattle.songcode.specs.answer.Keys.{keyPlace}
+use Rattle.songcode.specs.answer.Modifiers.{ModifierName, ofRepeat, ofCutStart, ofCutEnd, ofBefore, ofAfter, modifierPlace, modifierIn, settingRefusal}
+use Rattle.songcode.specs.answer.Sections.{Kind, keyLine, modifierLine, patternLine, kindOfLine, keyNameOf, modifierNameOf, settingOf, keyOf, modifierOf}
+use Rattle.songcode.specs.answer.Sections.{keyIn, modifierOn, modifierFaultsBy, modifierFaults, faults}
 use Rattle.songcode.specs.Complaints.{complainIf}
 use Rattle.songcode.proofs.ListLaws.{append-is-nil, complainIf-nil, by-cases}
 use Rattle.songcode.proofs.ChoiceLaws.{isSome-some}
-use Rattle.songcode.specs.Playing as playing
-use Rattle.songcode.specs.Playing.{saidBy}
+use Rattle.songcode.specs.answer.Playing as playing
+use Rattle.songcode.specs.answer.Playing.{saidBy}
 use Rattle.songcode.proofs.LineAgree.{by-kind}
 use Rattle.sections.specs.Slots.{slotBy, slotOf, Setting, settingAmong}
 
@@ -118,8 +118,8 @@ module _ (l : Line) where
 
 -- The first setting of a key.
 pub key-among : {B : Type 0} (f : List Byte → Option B) (k : song.KeyName) (ls : List Line)
-    → andThen (playing.settingOf k (collect keyIn ls)) f ≡ andThen (settingAmong (keyPlace k) ls) (λ x. f (x .text))
-unfolding andThen playing.settingOf collect prepend settingAmong if_then_else_
+    → andThen (playing.settingNamed k (collect keyIn ls)) f ≡ andThen (settingAmong (keyPlace k) ls) (λ x. f (x .text))
+unfolding andThen playing.settingNamed collect prepend settingAmong if_then_else_
 key-among f k [] = refl
 key-among f k (l ∷ ls) =
     by-key

@@ -5,16 +5,17 @@ use mathlib.Core.List.{List, [], _∷_, map}
 use mathlib.Core.Option.{Option}
 use Rattle.songcode.specs.Lists.{gather, collect, andThen, orElse}
 use Rattle.songcode.specs.Bytes.{Byte}
-use Rattle.songcode.specs.Lines.{Line, Block}
+use Rattle.songcode.specs.answer.Lines.{Line, Block}
 use Rattle.songcode.specs.Song as song
-use Rattle.songcode.specs.Keys.{keyPlace, timeIn, bpmIn}
-use Rattle.songcode.specs.Numbers.{repeatIn}
-use Rattle.songcode.specs.Modifiers.{ModifierName, ofRepeat, ofCutStart, ofCutEnd, ofBefore, ofAfter, modifierPlace, cutIn}
-use Rattle.songcode.specs.Sections.{keyIn, modifierOn, body, ending, headerFaults, amongKeys, order, twice, keySaid, modifierSaid, faults, patternRun}
-use Rattle.songcode.specs.Sections.{patternFaults, lyricFaults, sectionFaults, patternIn, lyricLine, lyricsIn, sectionIn}
-use Rattle.songcode.specs.SongText.{definitionItems, definitionIn}
-use Rattle.songcode.specs.Playing as playing
-use Rattle.songcode.specs.Playing.{timeAmong, bpmAmong, saidBy, repeats, repeatSaid, cutStartSaid, cutEndSaid, beforeSaid, afterSaid}
+use Rattle.songcode.specs.answer.Keys.{keyPlace, timeIn, bpmIn}
+use Rattle.songcode.specs.answer.Numbers.{repeatIn}
+use Rattle.songcode.specs.answer.Modifiers.{ModifierName, ofRepeat, ofCutStart, ofCutEnd, ofBefore, ofAfter, modifierPlace, cutIn}
+use Rattle.songcode.specs.answer.Sections.{keyIn, modifierOn, body, fromDashes, headerFaults, amongKeys, order, twice, keySaid, modifierSaid, faults}
+use Rattle.songcode.specs.answer.Sections.{patternRun}
+use Rattle.songcode.specs.answer.Sections.{patternFaults, lyricFaults, sectionFaults, patternIn, lyricLine, lyricsIn, sectionIn}
+use Rattle.songcode.specs.answer.SongText.{definitionItems, definitionIn}
+use Rattle.songcode.specs.answer.Playing as playing
+use Rattle.songcode.specs.answer.Playing.{timeAmong, bpmAmong, saidBy, repeats, repeatSaid, cutStartSaid, cutEndSaid, beforeSaid, afterSaid}
 use Rattle.songcode.proofs.ListLaws.{append-is-nil}
 use Rattle.text.specs.Spans.{lineOf}
 use Rattle.settings.specs.Cuts.{cutIs}
@@ -36,7 +37,7 @@ pub clean-order : (b : Block) → sectionFaults b ≡ [] → (order amongKeys (b
     × (patternFaults (b .first .number) (patternRun (body b)) ≡ [])
 unfolding sectionFaults
 clean-order b h =
-    let v = append-is-nil _ (lyricFaults (ending b)) h .0 in
+    let v = append-is-nil _ (lyricFaults (fromDashes b)) h .0 in
     let p = append-is-nil _ (patternFaults (b .first .number) (patternRun (body b))) v in
     let g = append-is-nil _ (gather faults (body b)) (p .0) in
     let m = append-is-nil _ (twice 8 modifierSaid [] (body b)) (g .0) .0 in
@@ -45,7 +46,7 @@ clean-order b h =
 
 module _ (ls : List Line) (ordered : order amongKeys ls ≡ []) (clean : gather faults ls ≡ []) where
   key-said : (f : List Byte → Option ℕ) (k : song.KeyName) → andThen (settingAmong (keyPlace k) (earlyLines ls)) (λ x. f (x .text)) ≡ andThen
-      (playing.settingOf k (collect keyIn ls)) f
+      (playing.settingNamed k (collect keyIn ls)) f
   key-said f k = ap (λ (o : Option Setting). andThen o (λ x. f (x .text))) (keys-early k ls ordered) ∙ sym (key-among f k ls)
 
   modifier-said : {B : Type 0} (m : ModifierName) (g : song.Modifier → Option B) (said : Setting → Option B) → Tells m g said
@@ -67,7 +68,7 @@ unfolding sectionIn
 parts-say s n at r w =
     record {
       header = w .header ∙ sym (first-number s n at);
-      lyrics = ap (map lyricLine) (w .lyrics) ∙ lyrics-said (ending (blockAt s n at));
+      lyrics = ap (map lyricLine) (w .lyrics) ∙ lyrics-said (fromDashes (blockAt s n at));
     }
 
 pub parts-read : (s : List ℕ) (n at : ℕ) (p : Parts) (r : SectionRead) → PartsAt s n at p → PartsRead s p r → SectionAt s n at r
@@ -105,7 +106,7 @@ section-says s n at r w h =
           ∙ modifier-said ls (o .0) (o .1) ofBefore beforeSaid sideSaid before-tells;
       after = ap (λ (x : Option Setting). andThen x sideSaid) (w .modifiers .after) ∙ modifier-said ls (o .0) (o .1) ofAfter afterSaid sideSaid after-tells;
       pattern = ap (λ (x : List Line). orElse (patternIn x) (song.named 0)) (w .pattern);
-      lyrics = ap (map lyricLine) (w .lyrics) ∙ lyrics-said (ending (blockAt s n at));
+      lyrics = ap (map lyricLine) (w .lyrics) ∙ lyrics-said (fromDashes (blockAt s n at));
     }
 
 pub definition-says : (s : List ℕ) (n at : ℕ) (r : DefinitionRead) → DefinitionAt s n at r

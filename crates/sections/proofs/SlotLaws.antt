@@ -9,11 +9,11 @@ use lib.ListN.{length, take}
 use Rattle.songcode.specs.Lists.{if_then_else_}
 use Rattle.songcode.specs.Bytes.{placed}
 use Rattle.songcode.specs.Song as song
-use Rattle.songcode.specs.Keys.{nameIn, settingIn, keyNamed, keyPlace}
-use Rattle.songcode.specs.Modifiers as modifiers
-use Rattle.songcode.specs.Modifiers.{modifierNamed, modifierPlace}
-use Rattle.songcode.specs.Sections.{kindOf, keyLine, modifierLine, patternLine, kindOfLine, keyNameOf, modifierNameOf, settingOf}
-use Rattle.songcode.specs.Lines.{Line}
+use Rattle.songcode.specs.answer.Keys.{nameIn, settingIn, keyNamed, keyPlace}
+use Rattle.songcode.specs.answer.Modifiers as modifiers
+use Rattle.songcode.specs.answer.Modifiers.{modifierNamed, modifierPlace}
+use Rattle.songcode.specs.answer.Sections.{kindOf, keyLine, modifierLine, patternLine, kindOfLine, keyNameOf, modifierNameOf, settingOf}
+use Rattle.songcode.specs.answer.Lines.{Line}
 use Rattle.text.specs.declared.lines.Line as text
 use Rattle.text.specs.Spans.{part, Found}
 use Rattle.settings.specs.declared.keys.KeyName.{KeyName}

@@ -9,7 +9,7 @@ use lib.Dec.{eqb}
 use borrow.Author.Tests.{eq-eqb, ne-eqb}
 use Rattle.songcode.specs.Lists.{isEmpty}
 use Rattle.songcode.specs.Bytes.{Byte, placed, is}
-use Rattle.songcode.specs.Sections as sections
+use Rattle.songcode.specs.answer.Sections as sections
 use Rattle.settings.specs.declared.kinds.Kind.{Kind}
 use Rattle.settings.specs.declared.kinds.Kind.the-variants as kind
 use Rattle.settings.specs.Kinds.{kindIs}

@@ -8,9 +8,9 @@ use native.Mathlib.Omega.{arith}
 use Prim.Native.Char.{code}
 use Rattle.songcode.specs.Lists.{if_then_else_, taken, left, andThen, orElse}
 use Rattle.songcode.specs.Bytes.{Byte, placed, is, isByte}
-use Rattle.songcode.specs.Keys.{timeIn, bpmIn}
-use Rattle.songcode.specs.Numbers.{repeatIn}
-use Rattle.songcode.specs.Modifiers.{cutIn}
+use Rattle.songcode.specs.answer.Keys.{timeIn, bpmIn}
+use Rattle.songcode.specs.answer.Numbers.{repeatIn}
+use Rattle.songcode.specs.answer.Modifiers.{cutIn}
 use Rattle.songcode.proofs.ListLaws.{by-cases}
 use Rattle.text.specs.Spans.{part}
 use Rattle.tokens.specs.declared.numbers.Number.{Number}

@@ -4,9 +4,9 @@ use mathlib.Core.Path.{_≡_}
 use mathlib.Core.List.{List, [], _∷_}
 use lib.ListN.{length}
 use Rattle.songcode.specs.Lists.{taken, left, orElse}
-use Rattle.songcode.specs.Lines.{Line, Block, blocks}
-use Rattle.songcode.specs.Sections.{isPatternLine, notPatternLine, patternRun, body, ending}
-use Rattle.songcode.specs.SongText.{headIn}
+use Rattle.songcode.specs.answer.Lines.{Line, Block, blocks}
+use Rattle.songcode.specs.answer.Sections.{isPatternLine, notPatternLine, patternRun, body, fromDashes}
+use Rattle.songcode.specs.answer.SongText.{headIn}
 use Rattle.text.specs.Spans.{lineAt, lineText}
 use Rattle.sections.specs.declared.runs.Run.{Run}
 use Rattle.sections.specs.declared.runs.Test.the-variants.{Full}
@@ -68,7 +68,7 @@ pub record PartsAt (s : List ℕ) (n at : ℕ) (r : Parts) : Type 0 where
   pub late-placed : Placed s (r .late)
   pub late : linesOf s (r .late) ≡ lateLines (body (blockAt s n at))
   pub lyrics-placed : Placed s (r .lyrics)
-  pub lyrics : linesOf s (r .lyrics) ≡ behindDashes (ending (blockAt s n at))
+  pub lyrics : linesOf s (r .lyrics) ≡ behindDashes (fromDashes (blockAt s n at))
   pub past : linesBehind s (r .lyrics) ≡ linesPast s n at
   pub onward : at + 1 ≤ r .lyrics .next
 
@@ -88,7 +88,7 @@ pub record SectionAt (s : List ℕ) (n at : ℕ) (r : SectionRead) : Type 0 wher
   pub pattern-placed : Placed s (r .pattern)
   pub pattern : linesOf s (r .pattern) ≡ patternRun (body (blockAt s n at))
   pub lyrics-placed : Placed s (r .lyrics)
-  pub lyrics : linesOf s (r .lyrics) ≡ behindDashes (ending (blockAt s n at))
+  pub lyrics : linesOf s (r .lyrics) ≡ behindDashes (fromDashes (blockAt s n at))
   pub past : linesBehind s (r .lyrics) ≡ linesPast s n at
   pub onward : at + 1 ≤ r .lyrics .next
 

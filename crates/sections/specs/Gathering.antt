@@ -4,7 +4,7 @@ use mathlib.Core.Path.{_≡_}
 use mathlib.Core.List.{List}
 use lib.Dec.{eqb}
 use Rattle.songcode.specs.Lists.{if_then_else_, firstThere}
-use Rattle.songcode.specs.Lines.{Line}
+use Rattle.songcode.specs.answer.Lines.{Line}
 use Rattle.sections.specs.declared.slots.Said.{Said}
 use Rattle.sections.specs.declared.gathering.Gathered.{Gathered}
 use Rattle.sections.specs.Slots.{settingAmong, settingAt}

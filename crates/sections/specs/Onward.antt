@@ -5,9 +5,9 @@ use mathlib.Core.List.{List, [], _∷_, map}
 use mathlib.Core.Option.{some}
 use lib.ListN.{length}
 use Rattle.songcode.specs.Lists.{gather}
-use Rattle.songcode.specs.Lines.{blocks}
+use Rattle.songcode.specs.answer.Lines.{blocks}
 use Rattle.songcode.specs.Song.{Section}
-use Rattle.songcode.specs.Sections.{sectionFaults, sectionIn, patternIn}
+use Rattle.songcode.specs.answer.Sections.{sectionFaults, sectionIn, patternIn}
 use Rattle.sections.specs.declared.blocks.Place.{Place}
 use Rattle.sections.specs.declared.walking.Passed.{Passed}
 use Rattle.sections.specs.declared.walking.Met.{Met}

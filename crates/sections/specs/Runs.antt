@@ -6,8 +6,8 @@ use mathlib.Core.Bool.{Bool, true, false, _&&_, not}
 use lib.ListN.{length, take, drop}
 use Rattle.songcode.specs.Lists.{isEmpty, taken, left}
 use Rattle.songcode.specs.Bytes.{Byte, is}
-use Rattle.songcode.specs.Lines.{Line}
-use Rattle.songcode.specs.Sections.{Kind, kindOf, keyLine, modifierLine, patternLine}
+use Rattle.songcode.specs.answer.Lines.{Line}
+use Rattle.songcode.specs.answer.Sections.{Kind, kindOf, keyLine, modifierLine, patternLine}
 use Rattle.text.specs.Spans.{spansFrom, lineText}
 use Rattle.sections.specs.declared.runs.Run.{Run}
 use Rattle.sections.specs.declared.runs.Test.{Test}

@@ -5,9 +5,9 @@ use mathlib.Core.List.{List, map}
 use mathlib.Core.Option.{Option, some}
 use Rattle.songcode.specs.Lists.{andThen, orElse}
 use Rattle.songcode.specs.Song.{Items, named, Section}
-use Rattle.songcode.specs.PatternText.{sideText}
-use Rattle.songcode.specs.Sections.{patternIn, lyricLine}
-use Rattle.songcode.specs.Playing.{timeAmong, bpmAmong, saidBy, repeats, cutStartSaid, cutEndSaid, Side, beforeSaid, afterSaid}
+use Rattle.songcode.specs.answer.PatternText.{sideText}
+use Rattle.songcode.specs.answer.Sections.{patternIn, lyricLine}
+use Rattle.songcode.specs.answer.Playing.{timeAmong, bpmAmong, saidBy, repeats, cutStartSaid, cutEndSaid, Side, beforeSaid, afterSaid}
 use Rattle.settings.specs.Cuts.{cutIs}
 use Rattle.sections.specs.declared.blocks.Parts.{Parts}
 use Rattle.sections.specs.declared.blocks.SectionRead.{SectionRead}

@@ -7,11 +7,11 @@ use lib.Dec.{eqb}
 use lib.ListN.{length}
 use Rattle.songcode.specs.Lists.{if_then_else_}
 use Rattle.songcode.specs.Bytes.{Byte, placed}
-use Rattle.songcode.specs.Lines.{Line}
+use Rattle.songcode.specs.answer.Lines.{Line}
 use Rattle.songcode.specs.Song as song
-use Rattle.songcode.specs.Keys.{keyPlace}
-use Rattle.songcode.specs.Modifiers as modifiers
-use Rattle.songcode.specs.Sections.{Kind, keyLine, modifierLine, patternLine, kindOfLine, keyNameOf, modifierNameOf, settingOf}
+use Rattle.songcode.specs.answer.Keys.{keyPlace}
+use Rattle.songcode.specs.answer.Modifiers as modifiers
+use Rattle.songcode.specs.answer.Sections.{Kind, keyLine, modifierLine, patternLine, kindOfLine, keyNameOf, modifierNameOf, settingOf}
 use Rattle.text.specs.Spans.{part}
 use Rattle.settings.specs.declared.keys.KeyName.{KeyName}
 use Rattle.settings.specs.declared.keys.KeyName.the-variants.{Name, Artist, Original, Capo, Bpm, Time, Warning, End}

@@ -5,10 +5,10 @@ use mathlib.Core.List.{List}
 use mathlib.Core.Option.{Option}
 use lib.ListN.{length}
 use Rattle.songcode.specs.Lists.{andThen, orElse}
-use Rattle.songcode.specs.Keys.{timeIn, bpmIn}
-use Rattle.songcode.specs.Numbers.{repeatIn}
-use Rattle.songcode.specs.Modifiers.{cutIn}
-use Rattle.songcode.specs.Lines.{Line}
+use Rattle.songcode.specs.answer.Keys.{timeIn, bpmIn}
+use Rattle.songcode.specs.answer.Numbers.{repeatIn}
+use Rattle.songcode.specs.answer.Modifiers.{cutIn}
+use Rattle.songcode.specs.answer.Lines.{Line}
 use Rattle.tokens.specs.declared.numbers.Number.{Number}
 use Rattle.tokens.specs.declared.numbers.Number.the-variants.{Is, Not}
 use Rattle.settings.specs.declared.cuts.CutRead.{CutRead}

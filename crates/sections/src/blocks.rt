@@ -14,7 +14,7 @@ use text::line_at;
 ghost use mathlib.Core.Path.{_≡_};
 ghost use Prim.Native.Nat.{_+_, _≤_, _<_};
 ghost use lib.ListN.{length};
-ghost use Rattle.songcode.specs.SongText.{blockKind};
+ghost use Rattle.songcode.specs.answer.SongText.{blockKind};
 ghost use Rattle.settings.specs.Kinds.{blockKindIs};
 ghost use Rattle.sections.specs.BlockParts.{blockAt, Placed, NextAt, LyricsAt, PartsAt, PartsRead, DefinitionAt};
 

@@ -5,8 +5,8 @@ use mathlib.Core.List.{List}
 use mathlib.Core.Option.{Option, none, some}
 use native.Mathlib.Omega.{arith}
 use lib.ListN.{length, getD}
-use Rattle.songcode.specs.Joined.{firstBeat, endBeat}
-use Rattle.songcode.specs.Finding.{half, jumpTo}
+use Rattle.songcode.specs.description.Joined.{firstBeat, endBeat}
+use Rattle.songcode.specs.answer.Finding.{half, jumpTo}
 use Rattle.songcode.specs.Jumps.{Holds, Halves, empty, held, before, past}
 use Rattle.songcode.proofs.JumpsProved.{jumps-proved}
 use Rattle.seek.specs.Answers.{foundAs, foundOf}

@@ -1,6 +1,6 @@
 // The second call: the record of a measure table that holds a beat, searched for by halving.
 ghost use mathlib.Core.Path.{_≡_};
-ghost use Rattle.songcode.specs.Finding.{jumpTo};
+ghost use Rattle.songcode.specs.answer.Finding.{jumpTo};
 ghost use Rattle.seek.specs.Answers.{foundOf};
 
 // "for a table over 65,535 records": more are not searched, so that 16 probes are enough.

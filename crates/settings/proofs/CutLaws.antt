@@ -11,8 +11,8 @@ use lib.ListN.{length, getD, take, drop, drop-of-length-le}
 use lib.Seq.{take-all, drop-cons, length-take-le}
 use Rattle.songcode.specs.Lists.{taken, left, andThen}
 use Rattle.songcode.specs.Bytes.{Byte, placed, isByte}
-use Rattle.songcode.specs.Numbers.{countIn}
-use Rattle.songcode.specs.Modifiers.{isDash, cut, cutBy, cutIn}
+use Rattle.songcode.specs.answer.Numbers.{countIn}
+use Rattle.songcode.specs.answer.Modifiers.{isDash, cut, cutBy, cutIn}
 use Rattle.settings.specs.Parts.{lengthBefore}
 use Rattle.settings.specs.Cuts.{cutIs, CutFits, cutPair}
 use Rattle.settings.proofs.PartLaws.{OfValues, taken-placed, left-placed}

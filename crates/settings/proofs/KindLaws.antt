@@ -7,8 +7,8 @@ use lib.Dec.{eqb}
 use lib.ListN.{getD}
 use Rattle.songcode.specs.Lists.{if_then_else_}
 use Rattle.songcode.specs.Bytes.{placed, isByte, isLetter}
-use Rattle.songcode.specs.Sections.{Kind, keyLine, modifierLine, patternLine, kindOf}
-use Rattle.songcode.specs.SongText.{BlockKind, metadata, definition, section, kindOfText}
+use Rattle.songcode.specs.answer.Sections.{Kind, keyLine, modifierLine, patternLine, kindOf}
+use Rattle.songcode.specs.answer.SongText.{BlockKind, metadata, definition, section, kindOfText}
 use Rattle.songcode.proofs.ListLaws.{by-cases}
 use Rattle.settings.specs.Kinds.{letter}
 

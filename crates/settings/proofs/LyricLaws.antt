@@ -10,7 +10,7 @@ use lib.ListN.{length, getD, drop, length-drop, length-reverse, List·getD-appen
 use lib.Seq.{take-suc, getD-drop, getD-at, length-take-le}
 use Rattle.songcode.specs.Lists.{if_then_else_, left}
 use Rattle.songcode.specs.Bytes.{placed, begins, notBlank, isBlank}
-use Rattle.songcode.specs.Lyrics.{bracketed}
+use Rattle.songcode.specs.answer.Lyrics.{bracketed}
 use Rattle.songcode.proofs.ByteLaws.{values-placed, length-placed, placed-append}
 use Rattle.songcode.proofs.ListLaws.{by-cases}
 use Rattle.songcode.proofs.StyleAgree.{values-reverse}

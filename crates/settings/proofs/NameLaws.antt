@@ -8,8 +8,8 @@ use mathlib.Core.Option.{Option, none, some}
 use Rattle.songcode.specs.Lists.{if_then_else_}
 use Rattle.songcode.specs.Bytes.{Byte, placed, ascii, same, is}
 use Rattle.songcode.specs.Song.{KeyName, name, artist, original, capo, bpm, time, warning, end}
-use Rattle.songcode.specs.Keys.{keyNamed}
-use Rattle.songcode.specs.Modifiers.{ModifierName, ofRepeat, ofCutStart, ofCutEnd, ofBefore, ofAfter, modifierNamed}
+use Rattle.songcode.specs.answer.Keys.{keyNamed}
+use Rattle.songcode.specs.answer.Modifiers.{ModifierName, ofRepeat, ofCutStart, ofCutEnd, ofBefore, ofAfter, modifierNamed}
 use Rattle.songcode.proofs.ByteLaws.{values-placed}
 
 -- Whether a text is a word, wherever it stands, by what a comparison says.

@@ -11,9 +11,9 @@ use lib.Dec.{leb}
 use lib.ListN.{length, drop}
 use Rattle.songcode.specs.Lists.{if_then_else_}
 use Rattle.songcode.specs.Bytes.{Byte, placed, isByte}
-use Rattle.songcode.specs.Numbers.{isDecimal, valueFrom, numberIn, countIn, repeatIn}
-use Rattle.songcode.specs.Sections.{behindFirst}
-use Rattle.songcode.specs.Lyrics.{countBehind}
+use Rattle.songcode.specs.answer.Numbers.{isDecimal, valueFrom, numberIn, countIn, repeatIn}
+use Rattle.songcode.specs.answer.Sections.{behindFirst}
+use Rattle.songcode.specs.answer.Lyrics.{countBehind}
 use Rattle.songcode.proofs.ListLaws.{both-pass, by-cases}
 use Rattle.settings.proofs.PlaceLaws.{Placeless, anywhere}
 use Rattle.tokens.proofs.WordLaws.{decimal-placed}

@@ -4,12 +4,12 @@ use mathlib.Core.Path.{_≡_, refl, sym, _∙_}
 use mathlib.Core.List.{List, [], _∷_}
 use lib.ListN.{drop}
 use Rattle.songcode.specs.Bytes.{Byte, placed}
-use Rattle.songcode.specs.Lines.{Line}
-use Rattle.songcode.specs.Keys.{nameIn, settingIn, keyNamed}
-use Rattle.songcode.specs.Modifiers.{modifierNamed}
-use Rattle.songcode.specs.Numbers.{countIn}
-use Rattle.songcode.specs.Sections.{behindFirst, nameOf, settingOf, keyNameOf, modifierNameOf}
-use Rattle.songcode.specs.SongText.{headIn}
+use Rattle.songcode.specs.answer.Lines.{Line}
+use Rattle.songcode.specs.answer.Keys.{nameIn, settingIn, keyNamed}
+use Rattle.songcode.specs.answer.Modifiers.{modifierNamed}
+use Rattle.songcode.specs.answer.Numbers.{countIn}
+use Rattle.songcode.specs.answer.Sections.{behindFirst, nameOf, settingOf, keyNameOf, modifierNameOf}
+use Rattle.songcode.specs.answer.SongText.{headIn}
 use Rattle.text.specs.Spans.{part}
 use Rattle.settings.proofs.PartLaws.{part-back}
 use Rattle.settings.proofs.PlaceLaws.{Placeless, drop-placed}

@@ -12,7 +12,7 @@ use lib.ListN.{length, getD, take, drop, drop-of-length-le}
 use lib.Seq.{drop-cons, take-take, drop-drop}
 use Rattle.songcode.specs.Lists.{if_then_else_, taken, left}
 use Rattle.songcode.specs.Bytes.{Byte, placed, same, isBlank, notBlank}
-use Rattle.songcode.specs.Keys.{nameIn, settingIn}
+use Rattle.songcode.specs.answer.Keys.{nameIn, settingIn}
 use Rattle.text.specs.Spans.{blank, part, frontBlanks}
 use Rattle.songcode.proofs.ListLaws.{drop-take, by-cases}
 use Rattle.settings.specs.Parts.{passing, wordLength}

@@ -11,7 +11,7 @@ use lib.ListN.{length, getD, take, drop, drop-of-length-le}
 use lib.Seq.{drop-cons}
 use Rattle.songcode.specs.Lists.{if_then_else_}
 use Rattle.songcode.specs.Bytes.{placed}
-use Rattle.songcode.specs.Characters.{isTail, characters}
+use Rattle.songcode.specs.answer.Characters.{isTail, characters}
 use Rattle.settings.specs.Parts.{lengthBefore}
 use Rattle.settings.specs.Phrases.{nameCharacters}
 use Rattle.settings.proofs.PartLaws.{taken-placed}

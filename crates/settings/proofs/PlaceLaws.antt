@@ -9,11 +9,11 @@ use lib.Dec.{eqb}
 use lib.ListN.{take, drop}
 use Rattle.songcode.specs.Lists.{if_then_else_, taken, left}
 use Rattle.songcode.specs.Bytes.{Byte, placed, isByte}
-use Rattle.songcode.specs.Characters.{isTail, characters}
-use Rattle.songcode.specs.Keys.{isPhrase}
+use Rattle.songcode.specs.answer.Characters.{isTail, characters}
+use Rattle.songcode.specs.answer.Keys.{isPhrase}
 use Rattle.songcode.specs.Complaints.{complainIf}
-use Rattle.songcode.specs.Lines.{Line}
-use Rattle.songcode.specs.Sections.{headerFaults}
+use Rattle.songcode.specs.answer.Lines.{Line}
+use Rattle.songcode.specs.answer.Sections.{headerFaults}
 use Rattle.songcode.proofs.ListLaws.{by-cases}
 use Rattle.settings.specs.Parts.{passing}
 use Rattle.settings.specs.Phrases.{nameCharacters, isHeader}

@@ -9,10 +9,10 @@ use borrow.Author.Tests.{eq-eqb, ne-eqb}
 use lib.ListN.{getD, take, drop}
 use Rattle.songcode.specs.Lists.{if_then_else_, isSome, andThen}
 use Rattle.songcode.specs.Bytes.{Byte, placed, ascii, same, isByte}
-use Rattle.songcode.specs.Keys.{timeIn}
-use Rattle.songcode.specs.Modifiers.{cut, cutIn}
-use Rattle.songcode.specs.Numbers.{numberIn, countIn}
-use Rattle.songcode.specs.Lyrics.{countBehind}
+use Rattle.songcode.specs.answer.Keys.{timeIn}
+use Rattle.songcode.specs.answer.Modifiers.{cut, cutIn}
+use Rattle.songcode.specs.answer.Numbers.{numberIn, countIn}
+use Rattle.songcode.specs.answer.Lyrics.{countBehind}
 use Rattle.songcode.proofs.ListLaws.{by-cases}
 use Rattle.tokens.specs.Decimals.{numberOf}
 use Rattle.tokens.specs.declared.numbers.Number.{Number}

@@ -10,7 +10,7 @@ use lib.ListN.{length, getD, drop, length-drop, length-reverse}
 use lib.Seq.{length-take-le}
 use Rattle.songcode.specs.Lists.{if_then_else_}
 use Rattle.songcode.specs.Bytes.{Byte, placed, ascii, begins}
-use Rattle.songcode.specs.Lyrics.{bracketed, between, styled}
+use Rattle.songcode.specs.answer.Lyrics.{bracketed, between, styled}
 use Rattle.songcode.proofs.ByteLaws.{length-placed}
 use Rattle.songcode.proofs.ListLaws.{both-pass}
 use Rattle.text.specs.Spans.{part}

@@ -3,13 +3,13 @@ use Prim.Native.String.{String}
 use mathlib.Core.Path.{sym, ap, _∙_}
 use Rattle.songcode.specs.Lists.{isSome}
 use Rattle.songcode.specs.Bytes.{placed, is}
-use Rattle.songcode.specs.Chords.{isBase}
+use Rattle.songcode.specs.answer.Chords.{isBase}
 use Rattle.songcode.specs.Song.{KeyName, name, artist, original, capo, bpm, time, warning, end}
-use Rattle.songcode.specs.Keys.{keyNamed, bpmIn, timeIn, isSetting}
-use Rattle.songcode.specs.Modifiers.{modifierNamed}
-use Rattle.songcode.specs.Numbers.{numberIn}
-use Rattle.songcode.specs.Sections.{kindOf}
-use Rattle.songcode.specs.SongText.{kindOfText}
+use Rattle.songcode.specs.answer.Keys.{keyNamed, bpmIn, timeIn, isSetting}
+use Rattle.songcode.specs.answer.Modifiers.{modifierNamed}
+use Rattle.songcode.specs.answer.Numbers.{numberIn}
+use Rattle.songcode.specs.answer.Sections.{kindOf}
+use Rattle.songcode.specs.answer.SongText.{kindOfText}
 use Rattle.songcode.proofs.ByteLaws.{values-placed}
 use Rattle.settings.proofs.PlaceLaws.{Placeless, not-byte-values, taken-placeless, left-placeless, isPhrase-placeless}
 use Rattle.settings.proofs.KindLaws.{kind-by, block-kind-by}

@@ -8,8 +8,8 @@ use lib.ListN.{length, drop, length-drop, take-append-drop}
 use lib.Seq.{length-take-le}
 use Rattle.songcode.specs.Lists.{taken, left}
 use Rattle.songcode.specs.Bytes.{placed, isBlank, notBlank}
-use Rattle.songcode.specs.Lines.{dropLast}
-use Rattle.songcode.specs.Lyrics.{countBehind, wordsBy, wordsOf}
+use Rattle.songcode.specs.answer.Lines.{dropLast}
+use Rattle.songcode.specs.answer.Lyrics.{countBehind, wordsBy, wordsOf}
 use Rattle.songcode.proofs.ByteLaws.{placed-append}
 use Rattle.songcode.proofs.ListLaws.{taken-left}
 use Rattle.text.specs.Spans.{part, solidLength}

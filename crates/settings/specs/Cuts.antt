@@ -3,7 +3,7 @@ use Prim.Native.Nat.{ℕ, _≤_}
 use mathlib.Core.Option.{Option, none, some}
 use Rattle.songcode.specs.Lists.{andThen}
 use Rattle.songcode.specs.Song as song
-use Rattle.songcode.specs.Modifiers.{cut}
+use Rattle.songcode.specs.answer.Modifiers.{cut}
 use Rattle.tokens.specs.declared.numbers.Number.{Number}
 use Rattle.tokens.specs.declared.numbers.Number.the-variants.{Is, Not}
 use Rattle.settings.specs.declared.cuts.Cut.{Cut}

@@ -3,7 +3,7 @@ use mathlib.Core.List.{List}
 use mathlib.Core.Bool.{Bool, true, false}
 use Rattle.songcode.specs.Bytes.{Byte}
 use Rattle.songcode.specs.Song as song
-use Rattle.songcode.specs.Keys.{isSetting}
+use Rattle.songcode.specs.answer.Keys.{isSetting}
 use Rattle.tokens.specs.declared.numbers.Number.{Number}
 use Rattle.tokens.specs.declared.numbers.Number.the-variants.{Is, Not}
 use Rattle.settings.specs.declared.keys.KeyName.{KeyName}

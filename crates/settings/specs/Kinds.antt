@@ -2,8 +2,8 @@
 use Prim.Native.Nat.{ℕ}
 use mathlib.Core.Bool.{Bool}
 use Rattle.songcode.specs.Bytes.{isLetter}
-use Rattle.songcode.specs.Sections as sections
-use Rattle.songcode.specs.SongText as songtext
+use Rattle.songcode.specs.answer.Sections as sections
+use Rattle.songcode.specs.answer.SongText as songtext
 use Rattle.settings.specs.declared.kinds.Kind.{Kind}
 use Rattle.settings.specs.declared.kinds.Kind.the-variants.{Key, Modifier, Pattern}
 use Rattle.settings.specs.declared.kinds.BlockKind.{BlockKind}

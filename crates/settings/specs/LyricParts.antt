@@ -3,7 +3,7 @@ use Prim.Native.Nat.{ℕ, zero, suc}
 use mathlib.Core.List.{List}
 use mathlib.Core.Option.{Option, none, some}
 use Rattle.songcode.specs.Bytes.{placed}
-use Rattle.songcode.specs.Lyrics as lyrics
+use Rattle.songcode.specs.answer.Lyrics as lyrics
 use Rattle.text.specs.Spans.{part}
 use Rattle.settings.specs.declared.lyrics.Styled.{Styled}
 use Rattle.settings.specs.declared.lyrics.Words.{Words}

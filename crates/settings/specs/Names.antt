@@ -1,7 +1,7 @@
 -- The names that the code answers, case by case as songcode has them.
 use mathlib.Core.Option.{Option, none, some}
 use Rattle.songcode.specs.Song as song
-use Rattle.songcode.specs.Modifiers as modifiers
+use Rattle.songcode.specs.answer.Modifiers as modifiers
 use Rattle.settings.specs.declared.keys.KeyName.{KeyName}
 use Rattle.settings.specs.declared.keys.KeyName.the-variants.{Name, Artist, Original, Capo, Bpm, Time, Warning, End}
 use Rattle.settings.specs.declared.keys.KeyName.the-variants as key

@@ -6,7 +6,7 @@ use mathlib.Core.Bool.{Bool, _&&_, not}
 use lib.Dec.{leb}
 use Rattle.songcode.specs.Lists.{taken}
 use Rattle.songcode.specs.Bytes.{Byte, isByte}
-use Rattle.songcode.specs.Characters.{characters}
+use Rattle.songcode.specs.answer.Characters.{characters}
 
 -- "name of 1 to 50 characters up to the first `!`"
 unfoldable pub nameCharacters : List Byte → ℕ

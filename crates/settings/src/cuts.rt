@@ -4,7 +4,7 @@ use tokens::Number;
 use tokens::number_in;
 ghost use mathlib.Core.Path.{_≡_};
 ghost use Rattle.songcode.specs.Bytes.{placed};
-ghost use Rattle.songcode.specs.Modifiers.{cutIn};
+ghost use Rattle.songcode.specs.answer.Modifiers.{cutIn};
 ghost use Rattle.settings.specs.Cuts.{cutIs, cutRead, CutFits};
 
 // A count of measures; a count of beats. Neither stands for the other.

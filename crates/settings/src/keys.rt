@@ -7,7 +7,7 @@ use tokens::is_base;
 use tokens::number_in;
 ghost use mathlib.Core.Path.{_≡_};
 ghost use Rattle.songcode.specs.Bytes.{placed};
-ghost use Rattle.songcode.specs.Keys.{keyNamed, bpmIn, timeIn};
+ghost use Rattle.songcode.specs.answer.Keys.{keyNamed, bpmIn, timeIn};
 ghost use Rattle.settings.specs.Names.{keyIs};
 ghost use Rattle.settings.specs.KeySettings.{isNumber, isSettingOf};
 ghost use Rattle.tokens.specs.Decimals.{numberOf};

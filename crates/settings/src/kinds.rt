@@ -5,9 +5,9 @@ use tokens::Number;
 use tokens::number_in;
 ghost use mathlib.Core.Path.{_≡_};
 ghost use Rattle.songcode.specs.Bytes.{placed, is};
-ghost use Rattle.songcode.specs.Sections.{kindOf, behindFirst};
-ghost use Rattle.songcode.specs.Numbers.{countIn};
-ghost use Rattle.songcode.specs.SongText.{kindOfText};
+ghost use Rattle.songcode.specs.answer.Sections.{kindOf, behindFirst};
+ghost use Rattle.songcode.specs.answer.Numbers.{countIn};
+ghost use Rattle.songcode.specs.answer.SongText.{kindOfText};
 ghost use Rattle.tokens.specs.Decimals.{numberOf};
 ghost use Rattle.settings.specs.Kinds.{letter, kindIs, blockKindIs};
 

@@ -10,7 +10,7 @@ ghost use Prim.Native.Nat.{_≤_};
 ghost use lib.ListN.{length};
 ghost use Rattle.songcode.specs.Lists.{left};
 ghost use Rattle.songcode.specs.Bytes.{placed, begins, notBlank};
-ghost use Rattle.songcode.specs.Lyrics.{bracketed, countBehind, styled, wordsOf};
+ghost use Rattle.songcode.specs.answer.Lyrics.{bracketed, countBehind, styled, wordsOf};
 ghost use Rattle.text.specs.Spans.{part};
 ghost use Rattle.settings.specs.LyricParts.{styledFrom, wordsFrom};
 ghost use Rattle.tokens.specs.Decimals.{numberOf};

@@ -4,8 +4,8 @@ use tokens::Number;
 use tokens::number_in;
 ghost use mathlib.Core.Path.{_≡_};
 ghost use Rattle.songcode.specs.Bytes.{placed};
-ghost use Rattle.songcode.specs.Modifiers.{modifierNamed};
-ghost use Rattle.songcode.specs.Numbers.{repeatIn};
+ghost use Rattle.songcode.specs.answer.Modifiers.{modifierNamed};
+ghost use Rattle.songcode.specs.answer.Numbers.{repeatIn};
 ghost use Rattle.tokens.specs.Decimals.{numberOf};
 ghost use Rattle.settings.specs.Names.{modifierIs};
 

@@ -5,7 +5,7 @@ ghost use mathlib.Core.Path.{_≡_};
 ghost use Prim.Native.Nat.{_≤_};
 ghost use lib.ListN.{length};
 ghost use Rattle.songcode.specs.Bytes.{placed, same};
-ghost use Rattle.songcode.specs.Keys.{nameIn, settingIn};
+ghost use Rattle.songcode.specs.answer.Keys.{nameIn, settingIn};
 ghost use Rattle.text.specs.Spans.{part};
 ghost use Rattle.settings.specs.Parts.{wordLength, lengthBefore};
 

@@ -5,8 +5,8 @@ ghost use mathlib.Core.Path.{_≡_};
 ghost use Prim.Native.Nat.{_≤_};
 ghost use lib.ListN.{length};
 ghost use Rattle.songcode.specs.Bytes.{placed};
-ghost use Rattle.songcode.specs.Characters as songcode;
-ghost use Rattle.songcode.specs.Keys.{isPhrase};
+ghost use Rattle.songcode.specs.answer.Characters as songcode;
+ghost use Rattle.songcode.specs.answer.Keys.{isPhrase};
 ghost use Rattle.settings.specs.Phrases.{isHeader};
 
 // How many characters a text has: each byte that is no tail begins one.

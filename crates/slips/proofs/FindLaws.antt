@@ -7,7 +7,7 @@ use borrow.Author.Tests.{ltb-true, ltb-false}
 use lib.Dec.{ltb}
 use lib.ListN.{getD}
 use Rattle.songcode.specs.Lists.{if_then_else_}
-use Rattle.songcode.specs.Lines.{lf, cr, inside, ending}
+use Rattle.songcode.specs.answer.Lines.{lf, cr, inside, ending}
 use Rattle.songcode.proofs.ListLaws.{by-cases}
 use Rattle.text.specs.declared.lines.Line.{Line}
 use Rattle.text.specs.Spans.{end}

@@ -8,11 +8,11 @@ use lib.ListN.{length, take, getD}
 use lib.Seq.{take-suc}
 use Rattle.songcode.specs.Lists.{if_then_else_}
 use Rattle.songcode.specs.Bytes.{Byte, placed}
-use Rattle.songcode.specs.Lines.{Ending, lf, cr, inside, ending, endingOf, Cut, put, cutLines}
-use Rattle.songcode.specs.Answer.{lineOfPlace}
+use Rattle.songcode.specs.answer.Lines.{Ending, lf, cr, inside, ending, endingOf, LineCut, put, cutLines}
+use Rattle.songcode.specs.answer.Answer.{lineOfPlace}
 
 -- As many lines behind the first, whatever the first is.
-put-same : (e n : Ending) (b : Byte) (c d : Cut) → length (c .others) ≡ length (d .others) → length (put e n b c .others) ≡ length (put e n b d .others)
+put-same : (e n : Ending) (b : Byte) (c d : LineCut) → length (c .others) ≡ length (d .others) → length (put e n b c .others) ≡ length (put e n b d .others)
 unfolding put
 put-same inside n b c d h = h
 put-same lf n b c d h = ap suc h

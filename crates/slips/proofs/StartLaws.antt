@@ -10,8 +10,8 @@ use lib.ListN.{length, getD, take, drop, length-take, length-drop}
 use lib.Seq.{drop-drop, getD-drop}
 use Rattle.songcode.specs.Lists.{if_then_else_}
 use Rattle.songcode.specs.Bytes.{placed}
-use Rattle.songcode.specs.Lines.{cr, inside, endingOf, put, cutLines}
-use Rattle.songcode.specs.Answer.{lineOfPlace}
+use Rattle.songcode.specs.answer.Lines.{cr, inside, endingOf, put, cutLines}
+use Rattle.songcode.specs.answer.Answer.{lineOfPlace}
 use Rattle.songcode.proofs.ListLaws.{by-cases, true-is-not-false}
 use Rattle.text.specs.declared.lines.Line.{Line}
 use Rattle.text.specs.Spans.{blank, end, longer, lineLength, breakWidth, breakLength, frontBlanks, lineOf, lineAt, spans}

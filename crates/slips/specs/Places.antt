@@ -4,8 +4,8 @@ use mathlib.Core.Path.{_≡_}
 use mathlib.Core.List.{List}
 use lib.ListN as lists
 use lib.ListN.{getD}
-use Rattle.songcode.specs.Lines.{inside}
-use Rattle.songcode.specs.Answer.{lineOfPlace}
+use Rattle.songcode.specs.answer.Lines.{inside}
+use Rattle.songcode.specs.answer.Answer.{lineOfPlace}
 use Rattle.text.specs.Spans.{end}
 use Rattle.slips.specs.declared.places.Place.{Place}
 

@@ -3,7 +3,7 @@ use text::line_of;
 ghost use mathlib.Core.Path.{_≡_};
 ghost use Prim.Native.Nat.{_≤_};
 ghost use lib.ListN.{length};
-ghost use Rattle.songcode.specs.Answer.{lineOfPlace};
+ghost use Rattle.songcode.specs.answer.Answer.{lineOfPlace};
 ghost use Rattle.slips.specs.Places.{OnLine, Unended, Covers};
 
 // The number of the line, the first byte, and how many bytes.

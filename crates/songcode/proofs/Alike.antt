@@ -5,15 +5,15 @@ use mathlib.Core.Path.{_≡_, refl, ap, sym, _∙_}
 use mathlib.Core.List.{List, [], _∷_, _++_, map}
 use lib.ListN.{length}
 use Rattle.songcode.specs.Bytes.{Byte, values, isBlank, isByte}
-use Rattle.songcode.specs.Characters.{characters}
-use Rattle.songcode.specs.Lines.{Line}
-use Rattle.songcode.specs.Numbers.{isDigit, digits, isDecimal, valueFrom}
+use Rattle.songcode.specs.answer.Characters.{characters}
+use Rattle.songcode.specs.answer.Lines.{Line}
+use Rattle.songcode.specs.answer.Numbers.{isDigit, digits, isDecimal, valueFrom}
 use Rattle.songcode.specs.Song.{KeyName, name, artist, original, capo, bpm, time, warning, end, Key}
-use Rattle.songcode.specs.WrittenText.{All, Stops}
-use Rattle.songcode.specs.WrittenPattern.{Number}
-use Rattle.songcode.specs.WrittenSection.{Each, none-each, and-each, Signed, Phrase, TimeText}
-use Rattle.songcode.specs.WrittenSection.{Setting, KeyLine, keyNumber, keySpelling, Unmarked, Marked, Header}
-use Rattle.songcode.specs.Flat.{textOf}
+use Rattle.songcode.specs.description.WrittenText.{All, Stops}
+use Rattle.songcode.specs.description.WrittenPattern.{Number}
+use Rattle.songcode.specs.description.WrittenSection.{Each, none-each, and-each, Signed, Phrase, TimeText}
+use Rattle.songcode.specs.description.WrittenSection.{Setting, KeyLine, keyNumber, keySpelling, Unmarked, CommentMarked, Header}
+use Rattle.songcode.specs.answer.Flat.{textOf}
 use Rattle.songcode.proofs.ListLaws.{nil-is-not-cons}
 
 -- Two texts of the same values, byte for byte.
@@ -191,9 +191,9 @@ unmarked-alike : (a b : List Byte) → values a ≡ values b → Unmarked b → 
 unfolding Unmarked
 unmarked-alike a b e = alike (λ a b. Unmarked b → Unmarked a) (λ h. tt) (λ x y a b v w f h. (byte-alike (code "!") x y v ∙ h .0, f (h .1))) a b e
 
-marked-alike : (a b : List Byte) → values a ≡ values b → Marked b → Marked a
-unfolding Marked
-marked-alike a b e = alike (λ a b. Marked b → Marked a) (λ h. tt) (λ x y a b v w f h. byte-alike (code "!") x y v ∙ h) a b e
+marked-alike : (a b : List Byte) → values a ≡ values b → CommentMarked b → CommentMarked a
+unfolding CommentMarked
+marked-alike a b e = alike (λ a b. CommentMarked b → CommentMarked a) (λ h. tt) (λ x y a b v w f h. byte-alike (code "!") x y v ∙ h) a b e
 
 pub header-alike : (a b : List Byte) → values a ≡ values b → Header b → Header a
 header-alike a b e h =

@@ -10,20 +10,21 @@ use lib.ListN.{length}
 use borrow.Author.Tests.{ltb-false, le-ltb}
 use Rattle.songcode.specs.Lists.{if_then_else_}
 use Rattle.songcode.specs.Bytes.{placed}
-use Rattle.songcode.specs.Characters.{goodBytes}
-use Rattle.songcode.specs.Lines.{lines, blocks}
+use Rattle.songcode.specs.answer.Characters.{goodBytes}
+use Rattle.songcode.specs.answer.Lines.{lines, blocks}
 use Rattle.songcode.specs.Complaints.{Complaint, complaint, complainIf, verdict}
 use Rattle.songcode.specs.Song.{Song}
-use Rattle.songcode.specs.SongText.{textFaults}
-use Rattle.songcode.specs.References.{referenceFaults}
-use Rattle.songcode.specs.Meter.{meterFaults, lengthFaults}
-use Rattle.songcode.specs.Lyrics.{countFaults, sumFaults}
-use Rattle.songcode.specs.Tables.{Tables, tables}
-use Rattle.songcode.specs.Answer.{mostBytes, inputFaults, lineOfPlace, blocksOf, songOf, Room, roomFaults, stages, refused, accepted, answerBy, answer}
-use Rattle.songcode.specs.WrittenText.{Characters}
-use Rattle.songcode.specs.WrittenSong.{WrittenSong, WrittenChart}
-use Rattle.songcode.specs.Described.{HasRoom, Described}
-use Rattle.songcode.specs.Given.{Given}
+use Rattle.songcode.specs.answer.SongText.{textFaults}
+use Rattle.songcode.specs.answer.References.{referenceFaults}
+use Rattle.songcode.specs.answer.Meter.{meterFaults, lengthFaults}
+use Rattle.songcode.specs.answer.Lyrics.{countFaults, sumFaults}
+use Rattle.songcode.specs.answer.Tables.{Tables, tables}
+use Rattle.songcode.specs.answer.Answer.{mostBytes, inputFaults, lineOfPlace, blocksOf, songOf, Room, roomFaults, stages, refused, accepted, answerBy}
+use Rattle.songcode.specs.answer.Answer.{answer}
+use Rattle.songcode.specs.description.WrittenText.{Characters}
+use Rattle.songcode.specs.description.WrittenSong.{WrittenSong, WrittenChart}
+use Rattle.songcode.specs.description.Described.{HasRoom, Described}
+use Rattle.songcode.specs.description.Given.{Given}
 use Rattle.songcode.proofs.ListLaws.{by-cases, none-passes, pass-none, complainIf-nil, nil-complainIf, nil-is-not-cons}
 use Rattle.songcode.proofs.PlainAgree.{song-plain}
 use Rattle.songcode.proofs.CharactersAgree.{goodBytes-le, good-text}

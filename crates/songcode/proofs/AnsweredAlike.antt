@@ -4,17 +4,19 @@ use mathlib.Core.Path.{_≡_, refl}
 use mathlib.Core.List.{List, [], _∷_, List·Memᴰ, List·Memᴰ·head, List·Memᴰ·tail}
 use mathlib.Core.Option.{Option, none, some}
 use Rattle.songcode.specs.Bytes.{Byte}
-use Rattle.songcode.specs.Lines.{Line, Block}
-use Rattle.songcode.specs.Chords.{Reading}
-use Rattle.songcode.specs.Tokens.{tokensAs, tokensOfAs}
-use Rattle.songcode.specs.PatternText.{definitionTextAs, sectionTextAs, sideTextAs}
-use Rattle.songcode.specs.Modifiers.{ModifierName, ofRepeat, ofCutStart, ofCutEnd, ofBefore, ofAfter, modifierInAs}
-use Rattle.songcode.specs.Sections.{Kind, keyLine, modifierLine, patternLine, kindOfLine, modifierNameOf, settingOf, modifierOfAs, modifierFaultsByAs}
-use Rattle.songcode.specs.Sections.{modifierFaultsAs, faultsByAs, faultsAs, patternRun, patternInAs, patternFaultsAs, body, sectionFaultsAs, modifierByAs}
-use Rattle.songcode.specs.Sections.{modifierOnAs, sectionInAs}
-use Rattle.songcode.specs.SongText.{definitionBlocks, sectionBlocks, definitionItemsAs, definitionFaultsAs, definitionsFaultsAs, textFaultsAs}
-use Rattle.songcode.specs.SongText.{definitionInAs, songInAs}
-use Rattle.songcode.specs.Answer.{Room, blocksOf, songOfAs, songStagesAs, stagesAs, answerAs, songAnswerAs}
+use Rattle.songcode.specs.answer.Lines.{Line, Block}
+use Rattle.songcode.specs.answer.Chords.{Reading}
+use Rattle.songcode.specs.answer.Tokens.{tokensAs, tokensOfAs}
+use Rattle.songcode.specs.answer.PatternText.{definitionTextAs, sectionTextAs, sideTextAs}
+use Rattle.songcode.specs.answer.Modifiers.{ModifierName, ofRepeat, ofCutStart, ofCutEnd, ofBefore, ofAfter, modifierInAs}
+use Rattle.songcode.specs.answer.Sections.{Kind, keyLine, modifierLine, patternLine, kindOfLine, modifierNameOf, settingOf, modifierOfAs}
+use Rattle.songcode.specs.answer.Sections.{modifierFaultsByAs}
+use Rattle.songcode.specs.answer.Sections.{modifierFaultsAs, faultsByAs, faultsAs, patternRun, patternInAs, patternFaultsAs, body, sectionFaultsAs}
+use Rattle.songcode.specs.answer.Sections.{modifierByAs}
+use Rattle.songcode.specs.answer.Sections.{modifierOnAs, sectionInAs}
+use Rattle.songcode.specs.answer.SongText.{definitionBlocks, sectionBlocks, definitionItemsAs, definitionFaultsAs, definitionsFaultsAs, textFaultsAs}
+use Rattle.songcode.specs.answer.SongText.{definitionInAs, songInAs}
+use Rattle.songcode.specs.answer.Answer.{Room, blocksOf, songOfAs, songStagesAs, stagesAs, answerAs, songAnswerAs}
 use Rattle.songcode.specs.AsBefore.{ChordText, in-definition, in-pattern, in-lead-in, in-tail}
 use Rattle.songcode.proofs.MemberLaws.{gather-alike, collect-alike, map-alike}
 

@@ -8,14 +8,14 @@ use native.Mathlib.Omega.{arith}
 use lib.Dec.{leb}
 use borrow.Author.Tests.{leb-true, leb-false}
 use Rattle.songcode.specs.Lists.{orElse}
-use Rattle.songcode.specs.Lines.{Block}
+use Rattle.songcode.specs.answer.Lines.{Block}
 use Rattle.songcode.specs.Song.{Item, measure, loop, refer, Items, one, next, Modifier, repeated, Definition, Song}
-use Rattle.songcode.specs.PatternText.{depthI, depth, loopsDeep, references}
-use Rattle.songcode.specs.References.{definitionOf, itemsOf}
-use Rattle.songcode.specs.Playing.{repeatSaid, saidBy, repeats}
-use Rattle.songcode.specs.WrittenSection.{Distinct, modifierNumber}
-use Rattle.songcode.specs.WrittenSong.{WrittenSong}
-use Rattle.songcode.specs.Fits.{DefinitionsRefer}
+use Rattle.songcode.specs.answer.PatternText.{depthI, depth, loopsDeep, references}
+use Rattle.songcode.specs.answer.References.{definitionOf, itemsOf}
+use Rattle.songcode.specs.answer.Playing.{repeatSaid, saidBy, repeats}
+use Rattle.songcode.specs.description.WrittenSection.{Distinct, modifierNumber}
+use Rattle.songcode.specs.description.WrittenSong.{WrittenSong}
+use Rattle.songcode.specs.description.Fits.{DefinitionsRefer}
 use Rattle.songcode.specs.Apart.{SimpleItem, Simple, Repeats, Apart}
 use Rattle.songcode.proofs.ListLaws.{by-cases, Each}
 use Rattle.songcode.proofs.PatternLaws.{none-some}

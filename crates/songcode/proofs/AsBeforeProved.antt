@@ -7,12 +7,14 @@ use mathlib.Core.Option.{Option, none, some}
 use lib.ListN.{getElem?}
 use Rattle.songcode.specs.Lists.{if_then_else_, any, every}
 use Rattle.songcode.specs.Bytes.{Byte, placed, values, ascii, same, begins}
-use Rattle.songcode.specs.Chords.{bases, Base, endsInM, isPassedOver, isTaken, longestFrom, longestBase, Chord, Reading, chordBy, isSlip, withoutSlip}
-use Rattle.songcode.specs.Chords.{chordIn}
-use Rattle.songcode.specs.Tokens.{Token, Class, blank, semi, double, bracket, closing, plain, class, Lexed, dollarAs, wordTokenAs, wordAs, lexedByAs}
-use Rattle.songcode.specs.Tokens.{lexedAs, lexed, tokensAs}
-use Rattle.songcode.specs.Answer.{answer, songAnswer}
-use Rattle.songcode.specs.WrittenPattern.{NoPlain}
+use Rattle.songcode.specs.answer.Chords.{bases, Base, endsInM, isPassedOver, isTaken, longestFrom, longestBase, Chord, Reading, chordBy, isSlip}
+use Rattle.songcode.specs.answer.Chords.{withoutSlip}
+use Rattle.songcode.specs.answer.Chords.{chordIn}
+use Rattle.songcode.specs.answer.Tokens.{Token, Class, blank, semi, double, bracket, closing, plain, class, Lexed, dollarAs, wordTokenAs, wordAs}
+use Rattle.songcode.specs.answer.Tokens.{lexedByAs}
+use Rattle.songcode.specs.answer.Tokens.{lexedAs, lexed, tokensAs}
+use Rattle.songcode.specs.answer.Answer.{answer, songAnswer}
+use Rattle.songcode.specs.description.WrittenPattern.{NoPlain}
 use Rattle.songcode.specs.AsBefore.{asAtFirst, byLongest, unchecked, WordOf, NoMaj, NoSlips, OfChords, AnsweredAs, AsBefore}
 use Rattle.songcode.proofs.ListLaws.{by-cases, both-pass}
 use Rattle.songcode.proofs.PatternLaws.{every-at, any-where}

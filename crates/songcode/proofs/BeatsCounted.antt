@@ -8,16 +8,16 @@ use native.Mathlib.Nat.{mul-assoc, mul-div-cancel}
 use lib.ListN.{length, take, drop, length-append}
 use lib.Seq.{drop-at, take-append-seam}
 use Rattle.songcode.specs.Lists.{gather, times, sum}
-use Rattle.songcode.specs.Chords.{Chord}
+use Rattle.songcode.specs.answer.Chords.{Chord}
 use Rattle.songcode.specs.Song.{Sounds, only, also, Measure, Item, measure, loop, refer, Items, one, next, Cut, Modifier, Section, Song}
-use Rattle.songcode.specs.References.{patternItems}
-use Rattle.songcode.specs.Playing.{Beat, Side, lasting, soundCount, positions, saidBy, beforeSaid, afterSaid, cutStartSaid, cutEndSaid, repeats}
-use Rattle.songcode.specs.Tables.{Tables}
-use Rattle.songcode.specs.Answer.{Room}
-use Rattle.songcode.specs.WrittenSection.{Each}
-use Rattle.songcode.specs.Performance.{total, HearsAll, PlaysMeasure, PlaysItem, PlaysItems, CutsFront, CutsBack, CutIf, Parts, PlaysAlone}
-use Rattle.songcode.specs.Performance.{PlaysSide, PlaysPattern, PlaysSection, joined}
-use Rattle.songcode.specs.Described.{Described}
+use Rattle.songcode.specs.answer.References.{patternItems}
+use Rattle.songcode.specs.answer.Playing.{Beat, Side, lasting, soundCount, positions, saidBy, beforeSaid, afterSaid, cutStartSaid, cutEndSaid, repeats}
+use Rattle.songcode.specs.answer.Tables.{Tables}
+use Rattle.songcode.specs.answer.Answer.{Room}
+use Rattle.songcode.specs.description.WrittenSection.{Each}
+use Rattle.songcode.specs.description.Performance.{total, HearsAll, PlaysMeasure, PlaysItem, PlaysItems, CutsFront, CutsBack, CutIf, Parts, PlaysAlone}
+use Rattle.songcode.specs.description.Performance.{PlaysSide, PlaysPattern, PlaysSection, joined}
+use Rattle.songcode.specs.description.Described.{Described}
 use Rattle.songcode.specs.EitherOrder.{measureBeats, itemBeats, textBeats, itemWidths, textWidths, namedFront, namedBack, sideBeats}
 use Rattle.songcode.specs.EitherOrder.{patternBeats, repeatedWidths, beatsWritten, beatsNamed, BeatsCounted}
 use Rattle.songcode.proofs.ListLaws.{sum-append, sum-times}

@@ -9,8 +9,8 @@ use lib.ListN.{length}
 use borrow.Author.Tests.{leb-true}
 use Rattle.songcode.specs.Lists.{if_then_else_, every}
 use Rattle.songcode.specs.Bytes.{placed}
-use Rattle.songcode.specs.Characters.{Form, form, forms, isTail, widthBy, goodBytes, characters}
-use Rattle.songcode.specs.WrittenText.{Character}
+use Rattle.songcode.specs.answer.Characters.{Form, form, forms, isTail, widthBy, goodBytes, characters}
+use Rattle.songcode.specs.description.WrittenText.{Character}
 use Rattle.songcode.proofs.ListLaws.{by-cases, true-is-not-false, every-all, all-member}
 use Rattle.songcode.proofs.FormLaws.{first-is-no-tail}
 use Rattle.songcode.proofs.WidthsAgree.{width-sound}

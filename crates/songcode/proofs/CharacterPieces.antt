@@ -8,8 +8,8 @@ use lib.Dec.{ltb, eqb}
 use lib.ListN.{length}
 use borrow.Author.Tests.{ltb-true, eqb-true}
 use Rattle.songcode.specs.Lists.{every}
-use Rattle.songcode.specs.Characters.{Form, forms, isTail}
-use Rattle.songcode.specs.WrittenText.{All, Character, Characters, no-character, a-character}
+use Rattle.songcode.specs.answer.Characters.{Form, forms, isTail}
+use Rattle.songcode.specs.description.WrittenText.{All, Character, Characters, no-character, a-character}
 use Rattle.songcode.proofs.ListLaws.{by-cases, true-is-not-false, nil-is-not-cons, append-is-nil, append-cases, append-all, every-all, all-member}
 use Rattle.songcode.proofs.FormLaws.{within-low, beneath, rest-are-tails}
 

@@ -9,7 +9,7 @@ use borrow.Author.Tests.{not-true}
 use lib.ListN.{length, getD}
 use Rattle.songcode.specs.Lists.{if_then_else_, any}
 use Rattle.songcode.specs.Bytes.{same}
-use Rattle.songcode.specs.Chords.{bases, spellingOf, numberFrom, numberOf}
+use Rattle.songcode.specs.answer.Chords.{bases, spellingOf, numberFrom, numberOf}
 use Rattle.songcode.proofs.ListLaws.{by-cases, both-pass, none-passes}
 use Rattle.songcode.proofs.Spellings.{same-true, same-refl, distinct}
 

@@ -6,15 +6,15 @@ use mathlib.Core.Bool.{false}
 use mathlib.Core.Option.{Option, none, some}
 use lib.ListN.{replicate}
 use Rattle.songcode.specs.Lists.{gather, times, orElse}
-use Rattle.songcode.specs.Chords.{Chord}
+use Rattle.songcode.specs.answer.Chords.{Chord}
 use Rattle.songcode.specs.Song.{Sound, chord, again, silence, Sounds, only, also, nothing, aLineEnd, Separator}
 use Rattle.songcode.specs.Song.{bySemicolon, byLineEnd, byColon, Item, measure, loop, refer, Items, one, next, Cut}
-use Rattle.songcode.specs.Tokens.{Token, sound, remover, reference, semicolon, colon, lineEnd, opens, closes, wrong}
-use Rattle.songcode.specs.References.{glue, putInItem, putIn}
-use Rattle.songcode.specs.Playing.{Beat, beat, chordAfter, heard, lastSounds, lastItem}
-use Rattle.songcode.specs.Playing.{lastItems, voices, lasting, positions, beatsOf, measuresItem, measuresOf}
-use Rattle.songcode.specs.WrittenPattern.{writeSounds, writeRemovers, writeMeasure, writeBeside, writeSeparator, writeItem, writeItems}
-use Rattle.songcode.specs.Performance.{CutsFront, CutsBack, CutIf}
+use Rattle.songcode.specs.answer.Tokens.{Token, sound, remover, reference, semicolon, colon, lineEnd, opens, closes, wrong}
+use Rattle.songcode.specs.answer.References.{glue, putInItem, putIn}
+use Rattle.songcode.specs.answer.Playing.{Beat, beat, chordAfter, heard, lastSounds, lastItem}
+use Rattle.songcode.specs.answer.Playing.{lastItems, voices, lasting, positions, beatsOf, measuresItem, measuresOf}
+use Rattle.songcode.specs.description.WrittenPattern.{writeSounds, writeRemovers, writeMeasure, writeBeside, writeSeparator, writeItem, writeItems}
+use Rattle.songcode.specs.description.Performance.{CutsFront, CutsBack, CutIf}
 
 module _ (Q : Chord → Type 0) where
   unfoldable pub OfIf : Option Chord → Type 0

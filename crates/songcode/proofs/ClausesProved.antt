@@ -3,7 +3,7 @@ use mathlib.Core.Path.{_≡_, refl}
 use mathlib.Core.List.{map}
 use mathlib.Core.Option.{none, some}
 use Rattle.songcode.specs.Complaints.{complaint, verdict}
-use Rattle.songcode.specs.Answer.{stages}
+use Rattle.songcode.specs.answer.Answer.{stages}
 use Rattle.songcode.specs.Edges.{ample}
 use Rattle.songcode.specs.Clauses.{clauses}
 

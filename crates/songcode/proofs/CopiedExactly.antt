@@ -7,22 +7,22 @@ use mathlib.Core.Bool.{true, false}
 use mathlib.Core.Option.{Option, none, some}
 use native.Mathlib.Omega.{arith}
 use Rattle.songcode.specs.Lists.{taken, any}
-use Rattle.songcode.specs.Lines.{Line, Block, lines, blocks}
+use Rattle.songcode.specs.answer.Lines.{Line, Block, lines, blocks}
 use Rattle.songcode.specs.Complaints.{Complaint, verdict}
 use Rattle.songcode.specs.Song.{Key, Section, Song}
-use Rattle.songcode.specs.Sections.{keyLine, patternLine, kindOfLine, body}
-use Rattle.songcode.specs.SongText.{sectionBlocks}
-use Rattle.songcode.specs.Playing.{Beat, timeOf, played}
-use Rattle.songcode.specs.Tables.{Tables, tables}
-use Rattle.songcode.specs.Answer.{songStages, blocksOf, songOf, Room, stages, answer, accepted, answerBy, roomFaults}
-use Rattle.songcode.specs.WrittenText.{All, Stops}
-use Rattle.songcode.specs.WrittenSection.{Each, none-each, and-each, SectionKey, PatternLine, PatternLines, WrittenSection}
-use Rattle.songcode.specs.WrittenSong.{SectionBlock, WrittenSong, WrittenChart}
-use Rattle.songcode.specs.Performance.{Parts}
-use Rattle.songcode.specs.Fits.{Fits}
-use Rattle.songcode.specs.Described.{Described}
-use Rattle.songcode.specs.Flat.{textOf, sectionRows, isKeyLine, flatSection, playsNothing, flatBlocks, flatCopy, copyBytes, copyBy, copyOf}
-use Rattle.songcode.specs.WrittenFlat.{rowsOf, rowsOfAll, silentPart, blocksCopied, Copied}
+use Rattle.songcode.specs.answer.Sections.{keyLine, patternLine, kindOfLine, body}
+use Rattle.songcode.specs.answer.SongText.{sectionBlocks}
+use Rattle.songcode.specs.answer.Playing.{Beat, timeOf, played}
+use Rattle.songcode.specs.answer.Tables.{Tables, tables}
+use Rattle.songcode.specs.answer.Answer.{songStages, blocksOf, songOf, Room, stages, answer, accepted, answerBy, roomFaults}
+use Rattle.songcode.specs.description.WrittenText.{All, Stops}
+use Rattle.songcode.specs.description.WrittenSection.{Each, none-each, and-each, SectionKey, PatternLine, PatternLines, WrittenSection}
+use Rattle.songcode.specs.description.WrittenSong.{SectionBlock, WrittenSong, WrittenChart}
+use Rattle.songcode.specs.description.Performance.{Parts}
+use Rattle.songcode.specs.description.Fits.{Fits}
+use Rattle.songcode.specs.description.Described.{Described}
+use Rattle.songcode.specs.answer.Flat.{textOf, sectionRows, isKeyLine, flatSection, playsNothing, flatBlocks, flatCopy, copyBytes, copyBy, copyOf}
+use Rattle.songcode.specs.description.WrittenFlat.{rowsOf, rowsOfAll, silentPart, blocksCopied, Copied}
 use Rattle.songcode.proofs.ListLaws.{taken-is}
 use Rattle.songcode.proofs.LinesAgree.{lines-complete}
 use Rattle.songcode.proofs.BlocksAgree.{blocks-complete}

@@ -9,12 +9,12 @@ use lib.Dec.{ltb}
 use lib.ListN.{length}
 use borrow.Author.Tests.{ltb-false, le-ltb}
 use Rattle.songcode.specs.Complaints.{Complaint, complaint, verdict}
-use Rattle.songcode.specs.Answer.{songStages, mostBytes, roomFaults, songOf, Room, stages, answer}
-use Rattle.songcode.specs.Answer as Reading
-use Rattle.songcode.specs.Tables.{tables}
-use Rattle.songcode.specs.Given.{Given, in-this, in-later}
-use Rattle.songcode.specs.Flat.{flatCopy, copyBy, copyOf, copyFaults, flatStages, refused, copied, flatBy, flatAnswer}
-use Rattle.songcode.specs.WrittenFlat.{Copied}
+use Rattle.songcode.specs.answer.Answer.{songStages, mostBytes, roomFaults, songOf, Room, stages, answer}
+use Rattle.songcode.specs.answer.Answer as Reading
+use Rattle.songcode.specs.answer.Tables.{tables}
+use Rattle.songcode.specs.description.Given.{Given, in-this, in-later}
+use Rattle.songcode.specs.answer.Flat.{flatCopy, copyBy, copyOf, copyFaults, flatStages, refused, copied, flatBy, flatAnswer}
+use Rattle.songcode.specs.description.WrittenFlat.{Copied}
 use Rattle.songcode.specs.FlatDemands.{FlatDemands}
 use Rattle.songcode.proofs.ListLaws.{none-passes, pass-none, complainIf-nil, nil-complainIf}
 use Rattle.songcode.proofs.VerdictAgree.{verdict-given, given-verdict, Silent, verdict-silent, silent-verdict, silent-append, append-silent}

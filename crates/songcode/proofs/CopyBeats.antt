@@ -8,14 +8,14 @@ use native.Mathlib.Omega.{arith}
 use lib.ListN.{length, replicate}
 use Rattle.songcode.specs.Lists.{gather}
 use Rattle.songcode.specs.Bytes.{Byte, placed, values}
-use Rattle.songcode.specs.Chords.{Chord}
-use Rattle.songcode.specs.Playing.{Beat}
-use Rattle.songcode.specs.Tables.{offset, measureWords, headBit, beatBy, beatWord}
-use Rattle.songcode.specs.WrittenSection.{Each, none-each, and-each}
-use Rattle.songcode.specs.Flat.{lettersOf, flatMeasure}
+use Rattle.songcode.specs.answer.Chords.{Chord}
+use Rattle.songcode.specs.answer.Playing.{Beat}
+use Rattle.songcode.specs.answer.Tables.{offset, measureWords, headBit, beatBy, beatWord}
+use Rattle.songcode.specs.description.WrittenSection.{Each, none-each, and-each}
+use Rattle.songcode.specs.answer.Flat.{lettersOf, flatMeasure}
 use Rattle.songcode.specs.FlatDemands.{Within}
-use Rattle.songcode.specs.Layout.{field, without}
-use Rattle.songcode.specs.WrittenFlat.{stretchAt}
+use Rattle.songcode.specs.description.Layout.{field, without}
+use Rattle.songcode.specs.description.WrittenFlat.{stretchAt}
 use Rattle.songcode.proofs.ByteLaws.{values-placed}
 use Rattle.songcode.proofs.EachLaws.{each-length}
 use Rattle.songcode.proofs.Alike.{length-alike}

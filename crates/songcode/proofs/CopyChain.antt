@@ -3,18 +3,18 @@ use Prim.Native.Nat.{ℕ, suc, _≤_}
 use mathlib.Core.Path.{_≡_, refl, ap, sym, subst, _∙_}
 use mathlib.Core.List.{List, [], _∷_, map}
 use lib.ListN.{length}
-use Rattle.songcode.specs.Lines.{lines, blocks}
+use Rattle.songcode.specs.answer.Lines.{lines, blocks}
 use Rattle.songcode.specs.Song.{Section, Song}
-use Rattle.songcode.specs.Tables.{Tables}
-use Rattle.songcode.specs.Answer.{mostBytes, Room, answer, accepted}
-use Rattle.songcode.specs.WrittenSection.{Each, none-each, and-each}
-use Rattle.songcode.specs.WrittenSong.{WrittenChart}
-use Rattle.songcode.specs.Performance.{Parts, PlaysSection}
-use Rattle.songcode.specs.Fits.{Fits}
-use Rattle.songcode.specs.WrittenTables.{WrittenTables}
-use Rattle.songcode.specs.Described.{HasRoom}
-use Rattle.songcode.specs.Flat.{copyRows, copyBytes}
-use Rattle.songcode.specs.WrittenFlat.{blocksCopied, Copied, ReadsBack}
+use Rattle.songcode.specs.answer.Tables.{Tables}
+use Rattle.songcode.specs.answer.Answer.{mostBytes, Room, answer, accepted}
+use Rattle.songcode.specs.description.WrittenSection.{Each, none-each, and-each}
+use Rattle.songcode.specs.description.WrittenSong.{WrittenChart}
+use Rattle.songcode.specs.description.Performance.{Parts, PlaysSection}
+use Rattle.songcode.specs.description.Fits.{Fits}
+use Rattle.songcode.specs.description.WrittenTables.{WrittenTables}
+use Rattle.songcode.specs.description.Described.{HasRoom}
+use Rattle.songcode.specs.answer.Flat.{copyRows, copyBytes}
+use Rattle.songcode.specs.description.WrittenFlat.{blocksCopied, Copied, ReadsBack}
 use Rattle.songcode.proofs.AnswerAgree.{accepted-exactly, one-reading}
 use Rattle.songcode.proofs.CopyLines.{fileLines, blocksAt, rows-written, copy-written, copy-clean}
 use Rattle.songcode.proofs.CopySong.{FlatSong, flatParts, song-again}

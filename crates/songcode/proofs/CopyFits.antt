@@ -11,18 +11,18 @@ use lib.ListN.{length, length-append}
 use Rattle.songcode.specs.Lists.{if_then_else_, isEmpty, any, when, times, andThen, orElse}
 use Rattle.songcode.specs.Bytes.{Byte, values}
 use Rattle.songcode.specs.Song.{KeyName, bpm, time, Key, Items, items, named, Cut, Modifier, LyricLine, Definition, Section, Song}
-use Rattle.songcode.specs.Keys.{keyPlace}
-use Rattle.songcode.specs.References.{definitionOf, itemsOf, patternItems}
-use Rattle.songcode.specs.Playing.{Beat, settingOf, saidBy, beforeSaid, afterSaid, cutStartSaid, cutEndSaid, repeats}
-use Rattle.songcode.specs.WrittenPattern.{Number}
-use Rattle.songcode.specs.WrittenSection.{Each, none-each, and-each, TimeText}
-use Rattle.songcode.specs.Performance.{total, CutsFront, CutsBack, CutIf, Says, Inherits}
-use Rattle.songcode.specs.Performance.{Parts, PlaysAlone, PlaysSide, PlaysPattern, PlaysSection, joined, uncut}
-use Rattle.songcode.specs.Fits.{DefinitionRefers, DefinitionsRefer, PatternRefers, SectionsRefer, uncutLength, Counted, none-counted}
-use Rattle.songcode.specs.Fits.{and-counted, Uncounted, SumsBy, AllSum, UncountedBy, NoneCounted, Fits}
+use Rattle.songcode.specs.answer.Keys.{keyPlace}
+use Rattle.songcode.specs.answer.References.{definitionOf, itemsOf, patternItems}
+use Rattle.songcode.specs.answer.Playing.{Beat, settingNamed, saidBy, beforeSaid, afterSaid, cutStartSaid, cutEndSaid, repeats}
+use Rattle.songcode.specs.description.WrittenPattern.{Number}
+use Rattle.songcode.specs.description.WrittenSection.{Each, none-each, and-each, TimeText}
+use Rattle.songcode.specs.description.Performance.{total, CutsFront, CutsBack, CutIf, Says, Inherits}
+use Rattle.songcode.specs.description.Performance.{Parts, PlaysAlone, PlaysSide, PlaysPattern, PlaysSection, joined, uncut}
+use Rattle.songcode.specs.description.Fits.{DefinitionRefers, DefinitionsRefer, PatternRefers, SectionsRefer, uncutLength, Counted, none-counted}
+use Rattle.songcode.specs.description.Fits.{and-counted, Uncounted, SumsBy, AllSum, UncountedBy, NoneCounted, Fits}
 use Rattle.songcode.specs.FlatDemands.{Within}
-use Rattle.songcode.specs.WrittenFlat.{silentPart}
-use Rattle.songcode.specs.WrittenLyrics.{CountedLine}
+use Rattle.songcode.specs.description.WrittenFlat.{silentPart}
+use Rattle.songcode.specs.description.WrittenLyrics.{CountedLine}
 use Rattle.songcode.proofs.ListLaws.{by-cases, nil-is-not-cons}
 use Rattle.songcode.proofs.MeterAgree.{plays-section}
 use Rattle.songcode.proofs.CopyMeasure.{measureHeads}
@@ -48,8 +48,8 @@ OptAlike none (some b) = ⊥
 OptAlike (some a) none = ⊥
 OptAlike (some a) (some b) = values a ≡ values b
 
-pub setting-of : (k : KeyName) {js ks : List Key} → Each AlikeKey js ks → OptAlike (settingOf k js) (settingOf k ks)
-unfolding settingOf OptAlike if_then_else_
+pub setting-of : (k : KeyName) {js ks : List Key} → Each AlikeKey js ks → OptAlike (settingNamed k js) (settingNamed k ks)
+unfolding settingNamed OptAlike if_then_else_
 setting-of k none-each = tt
 setting-of k (and-each {x = j} {y = i} a more) =
     by-cases (eqb (keyPlace (i .key)) (keyPlace k)) (λ e. rw (a .key, e) (a .setting)) (λ e. rw (a .key, e) (setting-of k more))
@@ -57,15 +57,15 @@ setting-of k (and-each {x = j} {y = i} a more) =
 module _ (k : KeyName) (meaning : List Byte → ℕ → Type 0) (moves : (a b : List Byte) (n : ℕ) → values a ≡ values b → meaning b n → meaning a n) where
   says-alike : {js ks : List Key} → Each AlikeKey js ks → (o : Option ℕ) → Says k meaning ks o → Says k meaning js o
   unfolding Says OptAlike
-  says-alike {js} {ks} a none h = go (settingOf k js) (setting-of k a)
+  says-alike {js} {ks} a none h = go (settingNamed k js) (setting-of k a)
     where
-      go : (q : Option (List Byte)) → OptAlike q (settingOf k ks) → q ≡ none
+      go : (q : Option (List Byte)) → OptAlike q (settingNamed k ks) → q ≡ none
       go none r = refl
       go (some b) r = absurd (subst (λ x. OptAlike (some b) x) h r)
-  says-alike {js} {ks} a (some n) h = go (settingOf k js) refl (setting-of k a)
+  says-alike {js} {ks} a (some n) h = go (settingNamed k js) refl (setting-of k a)
     where
-      go : (q : Option (List Byte)) → settingOf k js ≡ q → OptAlike q (settingOf k ks)
-          → (setting : List Byte) × (settingOf k js ≡ some setting) × meaning setting n
+      go : (q : Option (List Byte)) → settingNamed k js ≡ q → OptAlike q (settingNamed k ks)
+          → (setting : List Byte) × (settingNamed k js ≡ some setting) × meaning setting n
       go none e r = absurd (subst (λ x. OptAlike none x) (h .1) r)
       go (some b) e r = (b, e, moves b (h .0) n (subst (λ x. OptAlike (some b) x) (h .1) r) (h .2))
 

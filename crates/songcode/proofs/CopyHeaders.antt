@@ -7,19 +7,20 @@ use native.Mathlib.Omega.{arith}
 use lib.ListN.{length, length-append}
 use Rattle.songcode.specs.Lists.{orElse}
 use Rattle.songcode.specs.Bytes.{Byte}
-use Rattle.songcode.specs.Lines.{Line, Block}
+use Rattle.songcode.specs.answer.Lines.{Line, Block}
 use Rattle.songcode.specs.Song.{KeyName, bpm, time, Section, Song}
-use Rattle.songcode.specs.Playing.{repeats}
-use Rattle.songcode.specs.Tables.{sectionWord}
-use Rattle.songcode.specs.WrittenText.{Cuts, last-line, ends-lf, ends-cr, ends-crlf, Counts, no-line, a-line, WrittenBlocks, no-block, a-blank, a-block}
-use Rattle.songcode.specs.WrittenPattern.{Number}
-use Rattle.songcode.specs.WrittenSection.{none-each, and-each, TimeText}
-use Rattle.songcode.specs.WrittenSection as Written
-use Rattle.songcode.specs.WrittenSong.{SectionBlock, WrittenChart}
-use Rattle.songcode.specs.Performance.{Says, Inherits, Parts, PlaysSection, joined}
-use Rattle.songcode.specs.Fits.{uncutLength, Fits}
-use Rattle.songcode.specs.WrittenTables.{partsWords}
-use Rattle.songcode.specs.Layout.{without}
+use Rattle.songcode.specs.answer.Playing.{repeats}
+use Rattle.songcode.specs.answer.Tables.{sectionWord}
+use Rattle.songcode.specs.description.WrittenText.{Cuts, last-line, ends-lf, ends-cr, ends-crlf, Counts, no-line, a-line, WrittenBlocks, no-block}
+use Rattle.songcode.specs.description.WrittenText.{a-blank, a-block}
+use Rattle.songcode.specs.description.WrittenPattern.{Number}
+use Rattle.songcode.specs.description.WrittenSection.{none-each, and-each, TimeText}
+use Rattle.songcode.specs.description.WrittenSection as Written
+use Rattle.songcode.specs.description.WrittenSong.{SectionBlock, WrittenChart}
+use Rattle.songcode.specs.description.Performance.{Says, Inherits, Parts, PlaysSection, joined}
+use Rattle.songcode.specs.description.Fits.{uncutLength, Fits}
+use Rattle.songcode.specs.description.WrittenTables.{partsWords}
+use Rattle.songcode.specs.description.Layout.{without}
 use Rattle.songcode.proofs.ByteLaws.{length-placed}
 use Rattle.songcode.proofs.ListLaws.{Each, append-each}
 use Rattle.songcode.proofs.CopySong.{Ready, FlatSections, no-flat, a-flat, partsAt, flatParts}

@@ -7,16 +7,16 @@ use native.Mathlib.Omega.{arith}
 use lib.ListN.{length, length-append}
 use Rattle.songcode.specs.Bytes.{Byte, placed, values}
 use Rattle.songcode.specs.Song.{LyricLine}
-use Rattle.songcode.specs.Lyrics.{Prompt}
-use Rattle.songcode.specs.Tables.{offset, itemWord}
-use Rattle.songcode.specs.WrittenSection.{none-each, and-each}
-use Rattle.songcode.specs.WrittenSection as Written
-use Rattle.songcode.specs.WrittenLyrics.{CountedLine, Marked, StyledText, informs, for-crew, is-plain}
-use Rattle.songcode.specs.Fits.{Counted, none-counted, and-counted}
-use Rattle.songcode.specs.Performance.{joined}
-use Rattle.songcode.specs.WrittenTables.{ItemsFrom}
-use Rattle.songcode.specs.Layout.{without}
-use Rattle.songcode.specs.WrittenFlat.{stretchAt}
+use Rattle.songcode.specs.answer.Lyrics.{Prompt}
+use Rattle.songcode.specs.answer.Tables.{offset, itemWord}
+use Rattle.songcode.specs.description.WrittenSection.{none-each, and-each}
+use Rattle.songcode.specs.description.WrittenSection as Written
+use Rattle.songcode.specs.description.WrittenLyrics.{CountedLine, Marked, StyledText, informs, for-crew, is-plain}
+use Rattle.songcode.specs.description.Fits.{Counted, none-counted, and-counted}
+use Rattle.songcode.specs.description.Performance.{joined}
+use Rattle.songcode.specs.description.WrittenTables.{ItemsFrom}
+use Rattle.songcode.specs.description.Layout.{without}
+use Rattle.songcode.specs.description.WrittenFlat.{stretchAt}
 use Rattle.songcode.proofs.ListLaws.{Each}
 use Rattle.songcode.proofs.LyricLineAgree.{count-exact}
 use Rattle.songcode.proofs.Alike.{split, length-alike}

@@ -10,21 +10,21 @@ use lib.ListN.{length, length-append}
 use borrow.Author.Tests.{leb-true}
 use Rattle.songcode.specs.Lists.{if_then_else_, every}
 use Rattle.songcode.specs.Bytes.{Byte, placed, values, ascii}
-use Rattle.songcode.specs.Characters.{goodBytes, characters}
-use Rattle.songcode.specs.Chords.{bases}
-use Rattle.songcode.specs.Lines.{Line}
+use Rattle.songcode.specs.answer.Characters.{goodBytes, characters}
+use Rattle.songcode.specs.answer.Chords.{bases}
+use Rattle.songcode.specs.answer.Lines.{Line}
 use Rattle.songcode.specs.Song.{KeyName, name, artist, original, capo, bpm, time, warning, end, Key, Song}
-use Rattle.songcode.specs.Keys.{keyPlace}
-use Rattle.songcode.specs.Playing.{settingOf}
-use Rattle.songcode.specs.Tables.{offset, keyWord}
-use Rattle.songcode.specs.WrittenText.{Characters}
-use Rattle.songcode.specs.WrittenPattern.{Number}
-use Rattle.songcode.specs.WrittenSection.{Phrase, Setting, KeyLine}
-use Rattle.songcode.specs.WrittenSection.{none-each, and-each}
-use Rattle.songcode.specs.WrittenSection as Written
-use Rattle.songcode.specs.WrittenSong.{WrittenChart}
-use Rattle.songcode.specs.Layout.{field, without}
-use Rattle.songcode.specs.WrittenFlat.{stretchAt}
+use Rattle.songcode.specs.answer.Keys.{keyPlace}
+use Rattle.songcode.specs.answer.Playing.{settingNamed}
+use Rattle.songcode.specs.answer.Tables.{offset, keyWord}
+use Rattle.songcode.specs.description.WrittenText.{Characters}
+use Rattle.songcode.specs.description.WrittenPattern.{Number}
+use Rattle.songcode.specs.description.WrittenSection.{Phrase, Setting, KeyLine}
+use Rattle.songcode.specs.description.WrittenSection.{none-each, and-each}
+use Rattle.songcode.specs.description.WrittenSection as Written
+use Rattle.songcode.specs.description.WrittenSong.{WrittenChart}
+use Rattle.songcode.specs.description.Layout.{field, without}
+use Rattle.songcode.specs.description.WrittenFlat.{stretchAt}
 use Rattle.songcode.proofs.ListLaws.{by-cases, Each}
 use Rattle.songcode.proofs.ByteLaws.{values-placed, length-values}
 use Rattle.songcode.proofs.NumbersAgree.{decimal-short}
@@ -100,8 +100,8 @@ unfoldable pub SaidStands : List ℕ → Option (List Byte) → Type 0
 SaidStands bs none = Unit {0}
 SaidStands bs (some text) = Stands (placed 0 bs) text × (length text < 512)
 
-pub said-stands : (bs : List ℕ) (k : KeyName) (ks : List Key) → Each (KeyStands bs) ks → SaidStands bs (settingOf k ks)
-unfolding settingOf Each SaidStands if_then_else_
+pub said-stands : (bs : List ℕ) (k : KeyName) (ks : List Key) → Each (KeyStands bs) ks → SaidStands bs (settingNamed k ks)
+unfolding settingNamed Each SaidStands if_then_else_
 said-stands bs k [] f = tt
 said-stands bs k (j ∷ ks) f =
     by-cases (eqb (keyPlace (j .key)) (keyPlace k)) (λ e. rw e (f .0 .stands, f .0 .short)) (λ e. rw e (said-stands bs k ks (f .1)))
@@ -142,15 +142,15 @@ module _ (bs copy : List ℕ) (small : length bs ≤ 65536) (brief : length copy
 
   keys-by : {X : Type 0} (f g : ℕ → X) → ((a b : Option (List Byte)) → OptAlike a b → SaidStands copy a → SaidStands bs b → f (keyWord a) ≡ g (keyWord b))
       → {js ks : List Key} → Written.Each AlikeKey js ks → Each (KeyStands copy) js → Each (KeyStands bs) ks → (order : List KeyName)
-      → map f (map (λ k. keyWord (settingOf k js)) order) ≡ map g (map (λ k. keyWord (settingOf k ks)) order)
+      → map f (map (λ k. keyWord (settingNamed k js)) order) ≡ map g (map (λ k. keyWord (settingNamed k ks)) order)
   keys-by f g h a p q [] = refl
   keys-by f g h {js} {ks} a p q (k ∷ order) =
-      rw (h (settingOf k js) (settingOf k ks) (setting-of k a) (said-stands copy k js p) (said-stands bs k ks q), keys-by f g h a p q order)
+      rw (h (settingNamed k js) (settingNamed k ks) (setting-of k a) (said-stands copy k js p) (said-stands bs k ks q), keys-by f g h a p q order)
 
   module _ {js ks : List Key} (a : Written.Each AlikeKey js ks) (p : Each (KeyStands copy) js) (q : Each (KeyStands bs) ks) (order : List KeyName) where
-    pub keys-kept : map (without 15 16) (map (λ k. keyWord (settingOf k js)) order) ≡ map (without 15 16) (map (λ k. keyWord (settingOf k ks)) order)
+    pub keys-kept : map (without 15 16) (map (λ k. keyWord (settingNamed k js)) order) ≡ map (without 15 16) (map (λ k. keyWord (settingNamed k ks)) order)
     keys-kept = keys-by _ _ keeps-key a p q order
 
-    pub settings-kept : map (stretchAt 15 16 6 9 copy) (map (λ k. keyWord (settingOf k js)) order)
-        ≡ map (stretchAt 15 16 6 9 bs) (map (λ k. keyWord (settingOf k ks)) order)
+    pub settings-kept : map (stretchAt 15 16 6 9 copy) (map (λ k. keyWord (settingNamed k js)) order)
+        ≡ map (stretchAt 15 16 6 9 bs) (map (λ k. keyWord (settingNamed k ks)) order)
     settings-kept = keys-by _ _ same-setting a p q order

@@ -6,11 +6,11 @@ use native.Mathlib.Omega.{arith}
 use lib.ListN.{length, replicate, length-append}
 use Rattle.songcode.specs.Lists.{gather, times}
 use Rattle.songcode.specs.Bytes.{ascii}
-use Rattle.songcode.specs.Playing.{Beat}
-use Rattle.songcode.specs.Performance.{total}
-use Rattle.songcode.specs.Flat.{lettersOf, parted, spaced, flatMeasure, flatPattern, ended}
+use Rattle.songcode.specs.answer.Playing.{Beat}
+use Rattle.songcode.specs.description.Performance.{total}
+use Rattle.songcode.specs.answer.Flat.{lettersOf, parted, spaced, flatMeasure, flatPattern, endLine}
 use Rattle.songcode.specs.FlatDemands.{Within}
-use Rattle.songcode.specs.WrittenFlat.{linesLength, lettersLength, rowLength, patternLength}
+use Rattle.songcode.specs.description.WrittenFlat.{linesLength, lettersLength, rowLength, patternLength}
 use Rattle.songcode.proofs.ListLaws.{times-length}
 use Rattle.songcode.proofs.TurnedRows.{total-append}
 
@@ -35,8 +35,8 @@ removers-lines zero = refl
 removers-lines (suc k) = let h = removers-lines k in omega arith
 
 measure-length : (n : ℕ) (b : Beat) (m : List Beat) → length (b ∷ m) ≤ n
-    → length (ended (flatMeasure n (b ∷ m))) ≡ lettersLength (b ∷ m) + (n - length (b ∷ m)) + n
-unfolding ended flatMeasure spaced lettersLength
+    → length (endLine (flatMeasure n (b ∷ m))) ≡ lettersLength (b ∷ m) + (n - length (b ∷ m)) + n
+unfolding endLine flatMeasure spaced lettersLength
 measure-length n b m h =
     let k = n - length (b ∷ m) in
     let a = length-append (lettersOf b ++ parted (map lettersOf m ++ replicate k (ascii "="))) (10 ∷ []) in
@@ -52,12 +52,12 @@ measuresLength : ℕ → List (List Beat) → ℕ
 measuresLength n [] = 0
 measuresLength n (m ∷ row) = lettersLength m + (n - length m) + n + measuresLength n row
 
-each-length : (n : ℕ) (row : List (List Beat)) → Within n row → length (gather ended (map (flatMeasure n) row)) ≡ measuresLength n row
+each-length : (n : ℕ) (row : List (List Beat)) → Within n row → length (gather endLine (map (flatMeasure n) row)) ≡ measuresLength n row
 unfolding gather measuresLength Within
 each-length n [] w = refl
 each-length n ([] ∷ row) w = absurd (let h = w .0 in omega arith)
 each-length n ((b ∷ m) ∷ row) w =
-    rw (length-append (ended (flatMeasure n (b ∷ m))) (gather ended (map (flatMeasure n) row)), measure-length n b m (w .1), each-length n row (w .2))
+    rw (length-append (endLine (flatMeasure n (b ∷ m))) (gather endLine (map (flatMeasure n) row)), measure-length n b m (w .1), each-length n row (w .2))
 
 total-most : (n : ℕ) (row : List (List Beat)) → Within n row → total row ≤ n * length row
 unfolding total Within
@@ -69,8 +69,8 @@ unfolding measuresLength rowLength total Within
 by-counts n [] w = omega arith
 by-counts n (m ∷ row) w = let h = by-counts n row (w .2) in let k = total-most n row (w .2) in let l = w .1 in omega arith
 
-pub pattern-length : (n : ℕ) (row : List (List Beat)) → Within n row → length (gather ended (flatPattern n row)) ≡ patternLength n row
-unfolding flatPattern patternLength gather ended ascii
+pub pattern-length : (n : ℕ) (row : List (List Beat)) → Within n row → length (gather endLine (flatPattern n row)) ≡ patternLength n row
+unfolding flatPattern patternLength gather endLine ascii
 pattern-length n [] w = refl
 pattern-length n (m ∷ row) w = each-length n (m ∷ row) w ∙ by-counts n (m ∷ row) w
 

@@ -8,16 +8,16 @@ use native.Mathlib.Omega.{arith}
 use lib.ListN.{length, getD, getElem?, replicate}
 use Rattle.songcode.specs.Lists.{if_then_else_, gather}
 use Rattle.songcode.specs.Bytes.{Byte, placed, values, ascii, isBlank, isByte}
-use Rattle.songcode.specs.Chords.{Chord, bases}
+use Rattle.songcode.specs.answer.Chords.{Chord, bases}
 use Rattle.songcode.specs.Song.{Sound, chord, silence, Sounds, only, also, Measure}
-use Rattle.songcode.specs.Tokens.{Token, sound, remover, class}
-use Rattle.songcode.specs.Playing.{Beat, beat, lasting, soundCount, positions}
-use Rattle.songcode.specs.WrittenPattern.{Begins, PassedOver, SpelledChord, Word, spells-silence, spells-remover, spells-chord}
-use Rattle.songcode.specs.WrittenPattern.{Plain, NoPlain, Text, t-end, t-blank, t-word, writeMeasure}
-use Rattle.songcode.specs.WrittenText.{Inside, Characters}
-use Rattle.songcode.specs.Performance.{Hears, HearsAll, PlaysMeasure}
-use Rattle.songcode.specs.Flat.{letters, lettersOf, parted, spaced, flatMeasure}
-use Rattle.songcode.specs.PatternAppended.{soundsTokens, measureTokens}
+use Rattle.songcode.specs.answer.Tokens.{Token, sound, remover, class}
+use Rattle.songcode.specs.answer.Playing.{Beat, beat, lasting, soundCount, positions}
+use Rattle.songcode.specs.description.WrittenPattern.{Begins, PassedOver, SpelledChord, Word, spells-silence, spells-remover, spells-chord}
+use Rattle.songcode.specs.description.WrittenPattern.{Plain, NoPlain, Text, t-end, t-blank, t-word, writeMeasure}
+use Rattle.songcode.specs.description.WrittenText.{Inside, Characters}
+use Rattle.songcode.specs.description.Performance.{Hears, HearsAll, PlaysMeasure}
+use Rattle.songcode.specs.answer.Flat.{letters, lettersOf, parted, spaced, flatMeasure}
+use Rattle.songcode.specs.description.PatternAppended.{soundsTokens, measureTokens}
 use Rattle.songcode.proofs.ByteLaws.{values-placed, values-append, length-placed, length-values, placed-append}
 use Rattle.songcode.proofs.PatternLaws.{none-some}
 use Rattle.songcode.proofs.AppendedAgree.{measure-appended}

@@ -5,16 +5,16 @@ use mathlib.Core.List.{List, [], _∷_, _++_, map, append-assoc, append-nil}
 use mathlib.Core.Option.{Option, none}
 use native.Mathlib.Omega.{arith}
 use Rattle.songcode.specs.Bytes.{placed}
-use Rattle.songcode.specs.Chords.{Chord}
-use Rattle.songcode.specs.Lines.{Line}
+use Rattle.songcode.specs.answer.Chords.{Chord}
+use Rattle.songcode.specs.answer.Lines.{Line}
 use Rattle.songcode.specs.Song.{byLineEnd, measure, Items, one, next, items}
-use Rattle.songcode.specs.Tokens.{Token, lineEnd}
-use Rattle.songcode.specs.PatternText.{depthI, depth, loopsDeep, referencesI, references}
-use Rattle.songcode.specs.PatternAppended.{measureTokens, separatorTokens, itemTokens, itemsTokens}
-use Rattle.songcode.specs.Playing.{Beat}
-use Rattle.songcode.specs.WrittenPattern.{Text, TextLines, one-line, more-lines, writeMeasure, writeItems, WrittenPattern}
-use Rattle.songcode.specs.Performance.{PlaysItem, PlaysItems, PlaysAlone}
-use Rattle.songcode.specs.Flat.{flatMeasure}
+use Rattle.songcode.specs.answer.Tokens.{Token, lineEnd}
+use Rattle.songcode.specs.answer.PatternText.{depthI, depth, loopsDeep, referencesI, references}
+use Rattle.songcode.specs.description.PatternAppended.{measureTokens, separatorTokens, itemTokens, itemsTokens}
+use Rattle.songcode.specs.answer.Playing.{Beat}
+use Rattle.songcode.specs.description.WrittenPattern.{Text, TextLines, one-line, more-lines, writeMeasure, writeItems, WrittenPattern}
+use Rattle.songcode.specs.description.Performance.{PlaysItem, PlaysItems, PlaysAlone}
+use Rattle.songcode.specs.answer.Flat.{flatMeasure}
 use Rattle.songcode.specs.FlatDemands.{Within}
 use Rattle.songcode.proofs.AppendedAgree.{measure-appended, appended}
 use Rattle.songcode.proofs.CopyLines.{behind, rowLines}

@@ -12,21 +12,21 @@ use lib.ListN.{length, length-append}
 use borrow.Author.Tests.{eqb-true}
 use Rattle.songcode.specs.Lists.{if_then_else_, times, andThen, firstThere}
 use Rattle.songcode.specs.Bytes.{Byte, placed, values, isBlank}
-use Rattle.songcode.specs.Chords.{Chord}
-use Rattle.songcode.specs.Lines.{Line, Block}
+use Rattle.songcode.specs.answer.Chords.{Chord}
+use Rattle.songcode.specs.answer.Lines.{Line, Block}
 use Rattle.songcode.specs.Song.{Sounds, only, also, Measure, Item, measure, loop, refer, Items, one, next, Pattern}
 use Rattle.songcode.specs.Song.{items, named, Cut, Modifier, repeated, cutStart, cutEnd, before, after, Definition, Section, Song}
-use Rattle.songcode.specs.References.{definitionOf, itemsOf, putIn, patternItems}
-use Rattle.songcode.specs.Playing.{Beat, Side, voices, soundCount, positions, beatsOf, lastItems}
-use Rattle.songcode.specs.Playing.{measuresItem, measuresOf, saidBy, beforeSaid, afterSaid, cutStartSaid, cutEndSaid, repeats}
-use Rattle.songcode.specs.Meter.{fits, allFitItem, allFit}
-use Rattle.songcode.specs.WrittenText.{All, Inside, Characters}
-use Rattle.songcode.specs.WrittenPattern.{WrittenPattern, WrittenSide}
-use Rattle.songcode.specs.WrittenSection.{none-each, and-each, Signed, modifierSpelling, ModifierSetting, ModifierLine, WrittenSection}
-use Rattle.songcode.specs.WrittenSection as Written
-use Rattle.songcode.specs.WrittenSong.{DefinitionLines, WrittenDefinition, SectionBlock, WrittenSong, WrittenChart}
-use Rattle.songcode.specs.Performance.{CutsFront, CutsBack, CutIf, Parts, PlaysAlone, PlaysSide, PlaysPattern, PlaysSection, joined}
-use Rattle.songcode.specs.Fits.{Fits}
+use Rattle.songcode.specs.answer.References.{definitionOf, itemsOf, putIn, patternItems}
+use Rattle.songcode.specs.answer.Playing.{Beat, Side, voices, soundCount, positions, beatsOf, lastItems}
+use Rattle.songcode.specs.answer.Playing.{measuresItem, measuresOf, saidBy, beforeSaid, afterSaid, cutStartSaid, cutEndSaid, repeats}
+use Rattle.songcode.specs.answer.Meter.{fits, allFitItem, allFit}
+use Rattle.songcode.specs.description.WrittenText.{All, Inside, Characters}
+use Rattle.songcode.specs.description.WrittenPattern.{WrittenPattern, WrittenSide}
+use Rattle.songcode.specs.description.WrittenSection.{none-each, and-each, Signed, modifierSpelling, ModifierSetting, ModifierLine, WrittenSection}
+use Rattle.songcode.specs.description.WrittenSection as Written
+use Rattle.songcode.specs.description.WrittenSong.{DefinitionLines, WrittenDefinition, SectionBlock, WrittenSong, WrittenChart}
+use Rattle.songcode.specs.description.Performance.{CutsFront, CutsBack, CutIf, Parts, PlaysAlone, PlaysSide, PlaysPattern, PlaysSection, joined}
+use Rattle.songcode.specs.description.Fits.{Fits}
 use Rattle.songcode.specs.FlatDemands.{Within}
 use Rattle.songcode.proofs.ListLaws.{by-cases, Each, append-each, both-pass}
 use Rattle.songcode.proofs.ByteLaws.{values-placed}

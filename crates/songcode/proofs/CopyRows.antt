@@ -8,23 +8,23 @@ use native.Mathlib.Omega.{arith}
 use lib.ListN.{length, replicate}
 use Rattle.songcode.specs.Lists.{if_then_else_, isEmpty, gather, when, any}
 use Rattle.songcode.specs.Bytes.{Byte, placed, values, ascii, isBlank}
-use Rattle.songcode.specs.Chords.{Chord}
-use Rattle.songcode.specs.Characters.{forms, form, within}
-use Rattle.songcode.specs.Lines.{Line, Block, ending, inside}
+use Rattle.songcode.specs.answer.Chords.{Chord}
+use Rattle.songcode.specs.answer.Characters.{forms, form, within}
+use Rattle.songcode.specs.answer.Lines.{Line, Block, ending, inside}
 use Rattle.songcode.specs.Song.{Section, Song}
-use Rattle.songcode.specs.Tokens.{class, blank, plain}
-use Rattle.songcode.specs.Playing.{Beat}
-use Rattle.songcode.specs.WrittenText.{Follows, Solid, lastOf, Inside, Characters, no-character, a-character, isBlankLine}
-use Rattle.songcode.specs.WrittenPattern.{Plain}
-use Rattle.songcode.specs.WrittenSection as Written
-use Rattle.songcode.specs.WrittenSection.{none-each, and-each, WrittenSection}
-use Rattle.songcode.specs.WrittenSong.{linesOf, SectionBlock, WrittenChart}
-use Rattle.songcode.specs.Performance.{Parts, joined}
-use Rattle.songcode.specs.Fits.{Fits}
-use Rattle.songcode.specs.Flat.{textOf, letters, lettersOf, parted, spaced, flatMeasure, flatPattern}
-use Rattle.songcode.specs.Flat.{sectionRows, keyBlock, emptyBlock, ended, furtherRows, copyRows, copyBytes}
+use Rattle.songcode.specs.answer.Tokens.{class, blank, plain}
+use Rattle.songcode.specs.answer.Playing.{Beat}
+use Rattle.songcode.specs.description.WrittenText.{Follows, Solid, lastOf, Inside, Characters, no-character, a-character, isBlankLine}
+use Rattle.songcode.specs.description.WrittenPattern.{Plain}
+use Rattle.songcode.specs.description.WrittenSection as Written
+use Rattle.songcode.specs.description.WrittenSection.{none-each, and-each, WrittenSection}
+use Rattle.songcode.specs.description.WrittenSong.{linesOf, SectionBlock, WrittenChart}
+use Rattle.songcode.specs.description.Performance.{Parts, joined}
+use Rattle.songcode.specs.description.Fits.{Fits}
+use Rattle.songcode.specs.answer.Flat.{textOf, letters, lettersOf, parted, spaced, flatMeasure, flatPattern}
+use Rattle.songcode.specs.answer.Flat.{sectionRows, keyBlock, emptyBlock, endLine, furtherRows, copyRows, copyBytes}
 use Rattle.songcode.specs.FlatDemands.{Within}
-use Rattle.songcode.specs.WrittenFlat.{rowsOf, rowsOfAll, silentPart, blocksCopied}
+use Rattle.songcode.specs.description.WrittenFlat.{rowsOf, rowsOfAll, silentPart, blocksCopied}
 use Rattle.songcode.proofs.ListLaws.{by-cases, true-is-not-false, Each, each-append, append-each}
 use Rattle.songcode.proofs.ByteLaws.{length-values}
 use Rattle.songcode.proofs.CharacterPieces.{characters-append}
@@ -308,18 +308,18 @@ pub printed : (bs : List ℕ) (s : Song) (ps : List Parts) (w : WrittenChart bs 
 printed bs s ps w f = blocks-printed (blocksCopied (w .song) ps) (copied-rows bs s ps w f)
 
 -- Whole characters.
-rows-whole : (rs : List (List ℕ)) (more : List (List ℕ)) → Each RowFine rs → Characters (gather ended more) → Characters (gather ended (rs ++ more))
-unfolding Each gather ended within
+rows-whole : (rs : List (List ℕ)) (more : List (List ℕ)) → Each RowFine rs → Characters (gather endLine more) → Characters (gather endLine (rs ++ more))
+unfolding Each gather endLine within
 rows-whole [] more f c = c
 rows-whole (r ∷ rs) more f c = characters-append (characters-append (f .0 .whole) (lone 10 refl)) (rows-whole rs more (f .1) c)
 
-block-whole : (b : List (List ℕ)) (more : List (List ℕ)) → BlockRows b → Characters (gather ended more) → Characters (gather ended (b ++ more))
+block-whole : (b : List (List ℕ)) (more : List (List ℕ)) → BlockRows b → Characters (gather endLine more) → Characters (gather endLine (b ++ more))
 unfolding BlockRows Each
 block-whole [] more f c = absurd f
 block-whole (r ∷ rs) more f c = rows-whole (r ∷ rs) more f c
 
-further-whole : (bs : List (List (List ℕ))) → Each BlockRows bs → Characters (gather ended (furtherRows bs))
-unfolding Each furtherRows gather ended within
+further-whole : (bs : List (List (List ℕ))) → Each BlockRows bs → Characters (gather endLine (furtherRows bs))
+unfolding Each furtherRows gather endLine within
 further-whole [] f = no-character
 further-whole (b ∷ bs) f = characters-append (lone 10 refl) (block-whole b (furtherRows bs) (f .0) (further-whole bs (f .1)))
 

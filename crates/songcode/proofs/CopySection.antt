@@ -10,17 +10,17 @@ use borrow.Author.Tests.{not-true, eq-eqb}
 use lib.ListN.{length, getElem?, replicate}
 use Rattle.songcode.specs.Lists.{if_then_else_, every}
 use Rattle.songcode.specs.Bytes.{placed, values, ascii, isByte, isLetter, isBlank}
-use Rattle.songcode.specs.Chords.{Chord, bases}
-use Rattle.songcode.specs.Numbers.{isDigit, digits, isDecimal, valueFrom}
-use Rattle.songcode.specs.Lines.{Line, Block}
+use Rattle.songcode.specs.answer.Chords.{Chord, bases}
+use Rattle.songcode.specs.answer.Numbers.{isDigit, digits, isDecimal, valueFrom}
+use Rattle.songcode.specs.answer.Lines.{Line, Block}
 use Rattle.songcode.specs.Song.{Key, Pattern, items, named, LyricLine, Section}
-use Rattle.songcode.specs.Tokens.{reference, class}
-use Rattle.songcode.specs.Playing.{Beat}
-use Rattle.songcode.specs.WrittenPattern.{Number, Plain, NoPlain, spells-reference, Text, t-end, t-word, one-line, WrittenPattern}
-use Rattle.songcode.specs.WrittenSection.{Each, none-each, and-each, Distinct, SectionKey, OfSection}
-use Rattle.songcode.specs.WrittenSection.{PatternBytes, PatternLine, PatternLines, LyricLines, no-lyrics, with-lyrics, WrittenSection}
-use Rattle.songcode.specs.Performance.{Parts, joined}
-use Rattle.songcode.specs.Flat.{textOf, letters, lettersOf, parted, spaced, flatMeasure, flatPattern}
+use Rattle.songcode.specs.answer.Tokens.{reference, class}
+use Rattle.songcode.specs.answer.Playing.{Beat}
+use Rattle.songcode.specs.description.WrittenPattern.{Number, Plain, NoPlain, spells-reference, Text, t-end, t-word, one-line, WrittenPattern}
+use Rattle.songcode.specs.description.WrittenSection.{Each, none-each, and-each, Distinct, SectionKey, OfSection}
+use Rattle.songcode.specs.description.WrittenSection.{PatternBytes, PatternLine, PatternLines, LyricLines, no-lyrics, with-lyrics, WrittenSection}
+use Rattle.songcode.specs.description.Performance.{Parts, joined}
+use Rattle.songcode.specs.answer.Flat.{textOf, letters, lettersOf, parted, spaced, flatMeasure, flatPattern}
 use Rattle.songcode.specs.FlatDemands.{Within}
 use Rattle.songcode.proofs.ListLaws.{true-is-not-false, nil-is-not-cons, both-pass}
 use Rattle.songcode.proofs.PatternLaws.{none-some}

@@ -10,17 +10,17 @@ use lib.ListN.{length}
 use borrow.Author.Tests.{eq-eqb}
 use Rattle.songcode.specs.Lists.{isEmpty, when, any}
 use Rattle.songcode.specs.Bytes.{Byte, placed, values, ascii, isByte}
-use Rattle.songcode.specs.Numbers.{isDigit, digits, isDecimal, valueFrom}
-use Rattle.songcode.specs.Lines.{Line, Block}
+use Rattle.songcode.specs.answer.Numbers.{isDigit, digits, isDecimal, valueFrom}
+use Rattle.songcode.specs.answer.Lines.{Line, Block}
 use Rattle.songcode.specs.Song.{Key, Definition, Section, Song}
-use Rattle.songcode.specs.WrittenPattern.{Number}
-use Rattle.songcode.specs.WrittenSection.{Each, none-each, and-each, Distinct, Absent, KeyLine, WrittenSection}
-use Rattle.songcode.specs.WrittenSong.{BeginsWith, BeginsWithout, linesOf, Metadata, DefinitionHead, DefinitionLines, WrittenDefinition, idOf}
-use Rattle.songcode.specs.WrittenSong.{SectionBlock, WrittenSong}
-use Rattle.songcode.specs.Performance.{Parts, joined}
-use Rattle.songcode.specs.Flat.{textOf, flatPattern, sectionRows, keyBlock, emptyBlock}
+use Rattle.songcode.specs.description.WrittenPattern.{Number}
+use Rattle.songcode.specs.description.WrittenSection.{Each, none-each, and-each, Distinct, Absent, KeyLine, WrittenSection}
+use Rattle.songcode.specs.description.WrittenSong.{BeginsWith, BeginsWithout, linesOf, Metadata, DefinitionHead, DefinitionLines, WrittenDefinition, idOf}
+use Rattle.songcode.specs.description.WrittenSong.{SectionBlock, WrittenSong}
+use Rattle.songcode.specs.description.Performance.{Parts, joined}
+use Rattle.songcode.specs.answer.Flat.{textOf, flatPattern, sectionRows, keyBlock, emptyBlock}
 use Rattle.songcode.specs.FlatDemands.{Within}
-use Rattle.songcode.specs.WrittenFlat.{rowsOf, rowsOfAll, silentPart, blocksCopied}
+use Rattle.songcode.specs.description.WrittenFlat.{rowsOf, rowsOfAll, silentPart, blocksCopied}
 use Rattle.songcode.proofs.ByteLaws.{values-placed}
 use Rattle.songcode.proofs.CopyLines.{behind, behindAll, rowLines, blocksAt}
 use Rattle.songcode.proofs.CopyPattern.{SpeltRow, rowHeads}

@@ -9,18 +9,18 @@ use native.Mathlib.Omega.{arith}
 use lib.ListN.{length}
 use Rattle.songcode.specs.Lists.{isEmpty, gather}
 use Rattle.songcode.specs.Bytes.{Byte, placed}
-use Rattle.songcode.specs.Lines.{Line, Block}
+use Rattle.songcode.specs.answer.Lines.{Line, Block}
 use Rattle.songcode.specs.Song.{Items, named, LyricLine, Section, Song}
-use Rattle.songcode.specs.References.{patternItems}
-use Rattle.songcode.specs.Playing.{Beat}
-use Rattle.songcode.specs.WrittenSection.{none-each, and-each, LyricLines, no-lyrics, with-lyrics}
-use Rattle.songcode.specs.WrittenSection as Written
-use Rattle.songcode.specs.WrittenSong.{SectionBlock, WrittenChart}
-use Rattle.songcode.specs.Fits.{Counted, none-counted, and-counted, Uncounted, SumsBy, AllSum, UncountedBy, NoneCounted, Fits}
-use Rattle.songcode.specs.Performance.{Parts, PlaysPattern, PlaysSection, joined, total}
-use Rattle.songcode.specs.WrittenTables.{Sung, AllSung, lyricsOf}
+use Rattle.songcode.specs.answer.References.{patternItems}
+use Rattle.songcode.specs.answer.Playing.{Beat}
+use Rattle.songcode.specs.description.WrittenSection.{none-each, and-each, LyricLines, no-lyrics, with-lyrics}
+use Rattle.songcode.specs.description.WrittenSection as Written
+use Rattle.songcode.specs.description.WrittenSong.{SectionBlock, WrittenChart}
+use Rattle.songcode.specs.description.Fits.{Counted, none-counted, and-counted, Uncounted, SumsBy, AllSum, UncountedBy, NoneCounted, Fits}
+use Rattle.songcode.specs.description.Performance.{Parts, PlaysPattern, PlaysSection, joined, total}
+use Rattle.songcode.specs.description.WrittenTables.{Sung, AllSung, lyricsOf}
 use Rattle.songcode.specs.FlatDemands.{Within}
-use Rattle.songcode.specs.WrittenFlat.{silentPart}
+use Rattle.songcode.specs.description.WrittenFlat.{silentPart}
 use Rattle.songcode.proofs.ListLaws.{Each, each-append, append-each}
 use Rattle.songcode.proofs.PatternLaws.{none-some}
 use Rattle.songcode.proofs.EachLaws.{each-behind, each-length}

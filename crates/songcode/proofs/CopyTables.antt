@@ -7,14 +7,14 @@ use lib.ListN.{length}
 use Rattle.songcode.specs.Lists.{any, gather}
 use Rattle.songcode.specs.Bytes.{placed}
 use Rattle.songcode.specs.Song.{Section, Song}
-use Rattle.songcode.specs.Tables.{Tables, keyOrder, keyWords, measureWords, beatWord, itemWord}
-use Rattle.songcode.specs.WrittenSection.{Each, none-each}
-use Rattle.songcode.specs.WrittenSong.{WrittenChart}
-use Rattle.songcode.specs.Performance.{Parts, joined}
-use Rattle.songcode.specs.Fits.{Fits}
-use Rattle.songcode.specs.WrittenTables.{partsWords, WrittenItems, items-there, no-items, WrittenTables}
-use Rattle.songcode.specs.Layout.{without}
-use Rattle.songcode.specs.WrittenFlat.{silentPart, stretchAt, ReadsBack}
+use Rattle.songcode.specs.answer.Tables.{Tables, keyOrder, keyWords, measureWords, beatWord, itemWord}
+use Rattle.songcode.specs.description.WrittenSection.{Each, none-each}
+use Rattle.songcode.specs.description.WrittenSong.{WrittenChart}
+use Rattle.songcode.specs.description.Performance.{Parts, joined}
+use Rattle.songcode.specs.description.Fits.{Fits}
+use Rattle.songcode.specs.description.WrittenTables.{partsWords, WrittenItems, items-there, no-items, WrittenTables}
+use Rattle.songcode.specs.description.Layout.{without}
+use Rattle.songcode.specs.description.WrittenFlat.{silentPart, stretchAt, ReadsBack}
 use Rattle.songcode.proofs.EachLaws.{each-behind}
 use Rattle.songcode.proofs.CopySong.{FlatSections, no-flat, a-flat, partsAt, flatParts, joined-at, FlatSong}
 use Rattle.songcode.proofs.CopyReady.{Good, KnownParts, known, ready}

@@ -3,8 +3,8 @@ use Prim.Native.Nat.{ℕ, _+_, _*_, _^_, _<_}
 use mathlib.Core.Path.{_≡_}
 use mathlib.Core.Bool.{Bool, true, false}
 use native.Mathlib.Omega.{arith}
-use Rattle.songcode.specs.Tables.{headBit}
-use Rattle.songcode.specs.Layout.{field, without}
+use Rattle.songcode.specs.answer.Tables.{headBit}
+use Rattle.songcode.specs.description.Layout.{field, without}
 
 -- A key: offset o, length l.
 module _ (o l : ℕ) (near : o < 65536) (short : l < 512) where

@@ -9,8 +9,8 @@ use lib.Dec.{leb}
 use lib.ListN.{length, take, drop, length-take, length-drop, length-reverse, drop-of-length-le, take-append-drop}
 use lib.Seq.{take-nil, drop-nil, drop-drop, drop-at, take-append-seam}
 use Rattle.songcode.specs.Song.{Cut}
-use Rattle.songcode.specs.Playing.{keep, dropBeats, dropMeasures, cutFront, turned, cutBack}
-use Rattle.songcode.specs.Performance.{total}
+use Rattle.songcode.specs.answer.Playing.{keep, dropBeats, dropMeasures, cutFront, turned, cutBack}
+use Rattle.songcode.specs.description.Performance.{total}
 use Rattle.songcode.specs.EitherOrder.{Filled}
 use Rattle.songcode.proofs.CutFront.{keep-some, drop-none}
 use Rattle.songcode.proofs.TurnedRows.{turned-nil, turned-cons, turned-append, filled-turned, total-append, total-turned, length-turned}

@@ -10,8 +10,8 @@ use lib.Dec.{leb}
 use lib.ListN.{length, take, drop, length-append, length-take, length-drop}
 use lib.Seq.{drop-nil}
 use Rattle.songcode.specs.Song.{Cut}
-use Rattle.songcode.specs.Playing.{keep, dropBeats, dropMeasures, cutFront, turned, cutBack}
-use Rattle.songcode.specs.Performance.{total, CutsFront, CutsBack}
+use Rattle.songcode.specs.answer.Playing.{keep, dropBeats, dropMeasures, cutFront, turned, cutBack}
+use Rattle.songcode.specs.description.Performance.{total, CutsFront, CutsBack}
 use Rattle.songcode.specs.EitherOrder.{Filled, FrontFirst, BackFirst}
 use Rattle.songcode.proofs.ListLaws.{drop-take}
 use Rattle.songcode.proofs.CutFront.{front-cut, cut-front, filled-keep, filled-dropBeats, filled-cutFront}

@@ -8,7 +8,7 @@ use native.Mathlib.Omega.{arith}
 use lib.Dec.{eqb, leb}
 use borrow.Author.Tests.{leb-true, le-leb, eq-eqb, ne-eqb, not-true}
 use Rattle.songcode.specs.Bytes.{Byte}
-use Rattle.songcode.specs.Numbers.{isDigit, digits, isDecimal, valueFrom}
+use Rattle.songcode.specs.answer.Numbers.{isDigit, digits, isDecimal, valueFrom}
 use Rattle.songcode.specs.Apart.{Decimal, digit, more-digits}
 use Rattle.songcode.proofs.ListLaws.{true-is-not-false, both-pass, pass-both}
 

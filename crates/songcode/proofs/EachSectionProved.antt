@@ -7,12 +7,12 @@ use native.Mathlib.Omega.{arith}
 use lib.ListN.{length, length-append}
 use Rattle.songcode.specs.Lists.{gather}
 use Rattle.songcode.specs.Song.{Section, Song}
-use Rattle.songcode.specs.Playing.{Beat}
-use Rattle.songcode.specs.Tables.{Tables, sectionWord, measureWord, measureWords, beatWord}
-use Rattle.songcode.specs.Answer.{Room, accepted, answer}
-use Rattle.songcode.specs.WrittenSection.{Each, none-each, and-each}
-use Rattle.songcode.specs.Performance.{Parts, PlaysSection, joined, total}
-use Rattle.songcode.specs.WrittenTables.{partsWords, WrittenTables}
+use Rattle.songcode.specs.answer.Playing.{Beat}
+use Rattle.songcode.specs.answer.Tables.{Tables, sectionWord, measureWord, measureWords, beatWord}
+use Rattle.songcode.specs.answer.Answer.{Room, accepted, answer}
+use Rattle.songcode.specs.description.WrittenSection.{Each, none-each, and-each}
+use Rattle.songcode.specs.description.Performance.{Parts, PlaysSection, joined, total}
+use Rattle.songcode.specs.description.WrittenTables.{partsWords, WrittenTables}
 use Rattle.songcode.specs.EachSection.{Stretch, EachSection}
 use Rattle.songcode.proofs.ListLaws.{gather-append, nil-is-not-cons}
 use Rattle.songcode.proofs.LayoutLaws.{words-laid}

@@ -1,8 +1,8 @@
 -- Both statements on the two cuts, and the waltz: it is run, and what the run shows is said by the description.
 use mathlib.Core.Path.{refl}
 use Rattle.songcode.specs.Bytes.{ascii}
-use Rattle.songcode.specs.Tables.{allMeasures}
-use Rattle.songcode.specs.Answer.{answer}
+use Rattle.songcode.specs.answer.Tables.{allMeasures}
+use Rattle.songcode.specs.answer.Answer.{answer}
 use Rattle.songcode.specs.Starred.{shownMeasure, plays}
 use Rattle.songcode.specs.EitherOrder.{waltz, waltzMeasures, EitherOrder}
 use Rattle.songcode.proofs.CutsCommute.{cuts-commute, either-order}

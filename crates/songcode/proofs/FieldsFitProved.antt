@@ -8,20 +8,20 @@ use native.Mathlib.Omega.{arith}
 use lib.ListN.{length, getElem?, length-append}
 use Rattle.songcode.specs.Lists.{gather}
 use Rattle.songcode.specs.Bytes.{Byte, placed}
-use Rattle.songcode.specs.Chords.{Chord, bases}
+use Rattle.songcode.specs.answer.Chords.{Chord, bases}
 use Rattle.songcode.specs.Song.{KeyName, Key, Section, Song}
-use Rattle.songcode.specs.Playing.{settingOf, Beat}
-use Rattle.songcode.specs.Lyrics.{Prompt}
-use Rattle.songcode.specs.Tables.{Tables, offset, keyWord, keyOrder, keyWords, headBit, beatBy, beatWord, itemWord, measureWords}
-use Rattle.songcode.specs.Answer.{Room, accepted, answer}
-use Rattle.songcode.specs.WrittenSection.{none-each, and-each}
-use Rattle.songcode.specs.WrittenSection as Written
-use Rattle.songcode.specs.WrittenSong.{WrittenChart}
-use Rattle.songcode.specs.Performance.{Parts, PlaysSection, joined}
-use Rattle.songcode.specs.Fits.{Fits}
-use Rattle.songcode.specs.WrittenTables.{partsWords, WrittenItems, items-there, no-items, WrittenTables}
+use Rattle.songcode.specs.answer.Playing.{settingNamed, Beat}
+use Rattle.songcode.specs.answer.Lyrics.{Prompt}
+use Rattle.songcode.specs.answer.Tables.{Tables, offset, keyWord, keyOrder, keyWords, headBit, beatBy, beatWord, itemWord, measureWords}
+use Rattle.songcode.specs.answer.Answer.{Room, accepted, answer}
+use Rattle.songcode.specs.description.WrittenSection.{none-each, and-each}
+use Rattle.songcode.specs.description.WrittenSection as Written
+use Rattle.songcode.specs.description.WrittenSong.{WrittenChart}
+use Rattle.songcode.specs.description.Performance.{Parts, PlaysSection, joined}
+use Rattle.songcode.specs.description.Fits.{Fits}
+use Rattle.songcode.specs.description.WrittenTables.{partsWords, WrittenItems, items-there, no-items, WrittenTables}
 use Rattle.songcode.specs.FlatDemands.{Within}
-use Rattle.songcode.specs.Layout.{keysRow, sectionsRow, measuresRow, beatsRow, itemsRow, Fit}
+use Rattle.songcode.specs.description.Layout.{keysRow, sectionsRow, measuresRow, beatsRow, itemsRow, Fit}
 use Rattle.songcode.specs.FieldsFit.{WordOf, FieldsFit}
 use Rattle.songcode.proofs.ListLaws.{Each, each-append}
 use Rattle.songcode.proofs.LayoutLaws.{words-laid}
@@ -52,10 +52,10 @@ module _ (bs : List ℕ) (small : length bs ≤ 65536) where
       let l = s .1 in
       record { fields = 1 ∷ offset text ∷ length text ∷ []; fit = (omega arith, (omega arith, (omega arith, tt))); made = words-laid .present-key text }
 
-  key-words : (ks : List Key) → Each (KeyStands bs) ks → (order : List KeyName) → Each (WordOf keysRow) (map (λ k. keyWord (settingOf k ks)) order)
+  key-words : (ks : List Key) → Each (KeyStands bs) ks → (order : List KeyName) → Each (WordOf keysRow) (map (λ k. keyWord (settingNamed k ks)) order)
   unfolding Each
   key-words ks f [] = tt
-  key-words ks f (k ∷ order) = (key-word (settingOf k ks) (said-stands bs k ks f), key-words ks f order)
+  key-words ks f (k ∷ order) = (key-word (settingNamed k ks) (said-stands bs k ks f), key-words ks f order)
 
   -- beats
   beat-word : (o : Option Chord) (head : Bool) → OfIf (Known (placed 0 bs)) o → WordOf beatsRow (beatBy o head)

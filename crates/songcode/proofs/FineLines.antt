@@ -9,9 +9,10 @@ use lib.Dec.{eqb}
 use borrow.Author.Tests.{eqb-true}
 use Rattle.songcode.specs.Lists.{if_then_else_}
 use Rattle.songcode.specs.Bytes.{Byte, values, isBlank}
-use Rattle.songcode.specs.Lines.{lf, cr, inside, ending, Line, Block}
-use Rattle.songcode.specs.WrittenText.{All, Solid, Inside, Characters, Cuts, last-line, ends-lf, ends-cr, ends-crlf, Trims}
-use Rattle.songcode.specs.WrittenText.{Counts, no-line, a-line, WrittenLines, isBlankLine, NotBlank, WrittenBlocks, no-block, a-blank, a-block}
+use Rattle.songcode.specs.answer.Lines.{lf, cr, inside, ending, Line, Block}
+use Rattle.songcode.specs.description.WrittenText.{All, Solid, Inside, Characters, Cuts, last-line, ends-lf, ends-cr, ends-crlf, Trims}
+use Rattle.songcode.specs.description.WrittenText.{Counts, no-line, a-line, WrittenLines, isBlankLine, NotBlank, WrittenBlocks, no-block, a-blank}
+use Rattle.songcode.specs.description.WrittenText.{a-block}
 use Rattle.songcode.proofs.ListLaws.{by-cases, Each, append-each}
 use Rattle.songcode.proofs.ByteLaws.{values-append}
 use Rattle.songcode.proofs.Stretches.{Stands, stands-itself, stands-parts, stands-more}

@@ -3,7 +3,7 @@ use mathlib.Core.Path.{_≡_, refl}
 use mathlib.Core.List.{map}
 use mathlib.Core.Option.{some}
 use Rattle.songcode.specs.Bytes.{ascii}
-use Rattle.songcode.specs.Flat.{copyOf}
+use Rattle.songcode.specs.answer.Flat.{copyOf}
 use Rattle.songcode.specs.FlatCharts.{flatCharts}
 
 pub charts-copied : map (λ c. copyOf (ascii (c .song))) flatCharts ≡ map (λ c. some (ascii (c .copy))) flatCharts

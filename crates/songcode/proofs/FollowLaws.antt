@@ -7,7 +7,7 @@ use native.Mathlib.Omega.{arith}
 use lib.Dec.{eqb, leb, ltb}
 use lib.ListN.{length, getD}
 use borrow.Author.Tests.{eqb-true, leb-true, ltb-true, ltb-false}
-use Rattle.songcode.specs.Joined.{firstBeat, beatCount, endBeat, follows}
+use Rattle.songcode.specs.description.Joined.{firstBeat, beatCount, endBeat, follows}
 use Rattle.songcode.specs.Jumps.{Holds}
 use Rattle.songcode.proofs.ListLaws.{by-cases, both-pass}
 

@@ -8,8 +8,8 @@ use lib.Dec.{leb, ltb}
 use lib.ListN.{getD}
 use borrow.Author.Tests.{leb-true, leb-false, ltb-true, ltb-false, le-leb, lt-leb, lt-ltb, le-ltb}
 use Rattle.songcode.specs.Lists.{if_then_else_}
-use Rattle.songcode.specs.Joined.{firstBeat, endBeat}
-use Rattle.songcode.specs.Finding.{Jump, nowhere, probed, isBefore, isPast, half, halving}
+use Rattle.songcode.specs.description.Joined.{firstBeat, endBeat}
+use Rattle.songcode.specs.answer.Finding.{Jump, nowhere, probed, isBefore, isPast, half, halving}
 use Rattle.songcode.specs.Jumps.{Holds, Halves, empty, held, before, past}
 use Rattle.songcode.proofs.ListLaws.{by-cases}
 use Rattle.songcode.proofs.FollowLaws.{end-is}

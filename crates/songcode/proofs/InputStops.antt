@@ -9,12 +9,12 @@ use lib.Seq.{take-append-seam}
 use borrow.Author.Tests.{ltb-true, ltb-false, lt-ltb, le-ltb}
 use Rattle.songcode.specs.Lists.{if_then_else_}
 use Rattle.songcode.specs.Bytes.{placed}
-use Rattle.songcode.specs.Characters.{goodBytes}
-use Rattle.songcode.specs.Lines.{cutLines}
+use Rattle.songcode.specs.answer.Characters.{goodBytes}
+use Rattle.songcode.specs.answer.Lines.{cutLines}
 use Rattle.songcode.specs.Complaints.{Complaint, complaint, complainIf}
-use Rattle.songcode.specs.Answer.{mostBytes, lineOfPlace, inputFaults}
-use Rattle.songcode.specs.WrittenText.{FirstBad}
-use Rattle.songcode.specs.StoppedSong.{Stops1, over-long, bad-bytes}
+use Rattle.songcode.specs.answer.Answer.{mostBytes, lineOfPlace, inputFaults}
+use Rattle.songcode.specs.description.WrittenText.{FirstBad}
+use Rattle.songcode.specs.description.StoppedSong.{Stops1, over-long, bad-bytes}
 use Rattle.songcode.proofs.ListLaws.{by-cases}
 use Rattle.songcode.proofs.MemberLaws.{only-one, in-complaint, complaint-in}
 use Rattle.songcode.proofs.CharactersAgree.{first-bad}

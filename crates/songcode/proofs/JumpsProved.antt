@@ -11,8 +11,8 @@ use lib.Dec.{leb, ltb}
 use lib.ListN.{length, getD, replicate, length-replicate}
 use borrow.Author.Tests.{lt-ltb, le-ltb, leb-true, leb-false, ltb-true, ltb-false}
 use Rattle.songcode.specs.Lists.{if_then_else_}
-use Rattle.songcode.specs.Joined.{firstBeat, beatCount, endBeat, follows}
-use Rattle.songcode.specs.Finding.{Jump, half, nowhere, halving, mostRecords, jumpTo}
+use Rattle.songcode.specs.description.Joined.{firstBeat, beatCount, endBeat, follows}
+use Rattle.songcode.specs.answer.Finding.{Jump, half, nowhere, halving, mostRecords, jumpTo}
 use Rattle.songcode.specs.Jumps.{Holds, Halves, empty, held, before, past, FirstHolding, trials, Jumps}
 use Rattle.songcode.proofs.ListLaws.{by-cases}
 use Rattle.songcode.proofs.PatternLaws.{none-some}

@@ -6,9 +6,10 @@ use native.Mathlib.Nat.{pow-zero, pow-suc, zero-add, add-zero, suc-add, suc-mul,
 use native.Mathlib.Nat.{mul-add-mod-self-right, mod-eq-of-lt, div-eq-of-lt, div-add-mod', mod-lt, div-lt-iff-lt-mul, add-assoc}
 use native.Mathlib.Omega.{arith}
 use Rattle.songcode.specs.Lists.{sum}
-use Rattle.songcode.specs.Tables.{offset, keyWord, sectionWord, measureWord, headBit, beatBy, itemWord}
-use Rattle.songcode.specs.Joined.{firstBeat, beatCount}
-use Rattle.songcode.specs.Layout.{keysRow, sectionsRow, measuresRow, beatsRow, itemsRow, spare, packed, laid, field, unpacked, fieldsOf, Fit, Laid}
+use Rattle.songcode.specs.answer.Tables.{offset, keyWord, sectionWord, measureWord, headBit, beatBy, itemWord}
+use Rattle.songcode.specs.description.Joined.{firstBeat, beatCount}
+use Rattle.songcode.specs.description.Layout.{keysRow, sectionsRow, measuresRow, beatsRow, itemsRow, spare, packed, laid, field, unpacked, fieldsOf, Fit}
+use Rattle.songcode.specs.description.Layout.{Laid}
 
 power-sum : (a b : ℕ) → 2 ^ (a + b) ≡ 2 ^ a * 2 ^ b
 power-sum zero b = rw (zero-add b, pow-zero 2) (omega arith)

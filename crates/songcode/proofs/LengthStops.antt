@@ -12,14 +12,14 @@ use borrow.Author.Tests.{leb-true, le-leb, ltb-true, lt-ltb}
 use Rattle.songcode.specs.Lists.{sum, isEmpty, gather}
 use Rattle.songcode.specs.Complaints.{Complaint, complaint, complainIf}
 use Rattle.songcode.specs.Song.{Items, Modifier, Section, Song}
-use Rattle.songcode.specs.PatternText.{references}
-use Rattle.songcode.specs.References.{patternItems}
-use Rattle.songcode.specs.Playing.{Beat, timeOf, measuresOf, saidBy, beforeSaid, afterSaid, sideMeasures, keptMeasures}
-use Rattle.songcode.specs.Meter.{playedFaults, sideFaults, sectionMeter, meterFaults, countOf, sideCount, sectionCount, mostMeasures, cutFaults}
-use Rattle.songcode.specs.Meter.{lengthFaults}
-use Rattle.songcode.specs.WrittenSection.{Each, none-each, and-each}
-use Rattle.songcode.specs.Performance.{PlaysAlone, PlaysPattern}
-use Rattle.songcode.specs.StoppedSong.{PlaysPass, Uncut, Stops5, too-long, no-beat, empty-modified}
+use Rattle.songcode.specs.answer.PatternText.{references}
+use Rattle.songcode.specs.answer.References.{patternItems}
+use Rattle.songcode.specs.answer.Playing.{Beat, timeOf, measuresOf, saidBy, beforeSaid, afterSaid, sideMeasures, keptMeasures}
+use Rattle.songcode.specs.answer.Meter.{playedFaults, sideFaults, sectionMeter, meterFaults, measuresIn, sideCount, sectionCount, mostMeasures, cutFaults}
+use Rattle.songcode.specs.answer.Meter.{lengthFaults}
+use Rattle.songcode.specs.description.WrittenSection.{Each, none-each, and-each}
+use Rattle.songcode.specs.description.Performance.{PlaysAlone, PlaysPattern}
+use Rattle.songcode.specs.description.StoppedSong.{PlaysPass, Uncut, Stops5, too-long, no-beat, empty-modified}
 use Rattle.songcode.proofs.ListLaws.{by-cases, true-is-not-false, both-pass, pass-both, append-is-nil, complainIf-nil, nil-complainIf}
 use Rattle.songcode.proofs.MemberLaws.{either, in-complaint, complaint-in}
 use Rattle.songcode.proofs.InheritsAgree.{says-meter}
@@ -85,7 +85,7 @@ unfolding sectionCount
 uncut-once s x k u =
     let n = u .meter in
     let a : length (u .leadIn) ≡ sideCount (saidBy beforeSaid (x .modifiers)) = ap length (plays-side n _ (u .leadIn) (u .leads) .1) ∙ length-side n _ in
-    let b : length (u .pass) ≡ countOf (patternItems (s .definitions) (x .pattern)) = ap length (pass-once n _ (u .pass) (u .passes)) ∙ length-pass n _ in
+    let b : length (u .pass) ≡ measuresIn (patternItems (s .definitions) (x .pattern)) = ap length (pass-once n _ (u .pass) (u .passes)) ∙ length-pass n _ in
     let c : length (u .tail) ≡ sideCount (saidBy afterSaid (x .modifiers)) = ap length (plays-side n _ (u .tail) (u .tails) .1) ∙ length-side n _ in
     u .counts ∙ rw (a, b, c)
 

@@ -9,19 +9,20 @@ use mathlib.Core.Option.{Option, none, some}
 use borrow.Author.Tests.{eqb-true, not-true}
 use Rattle.songcode.specs.Lists.{if_then_else_, taken, left, isSome, andThen}
 use Rattle.songcode.specs.Bytes.{Byte, isByte, isBlank, notBlank, isLetter}
-use Rattle.songcode.specs.Lines.{Line}
-use Rattle.songcode.specs.Numbers.{repeatIn}
+use Rattle.songcode.specs.answer.Lines.{Line}
+use Rattle.songcode.specs.answer.Numbers.{repeatIn}
 use Rattle.songcode.specs.Complaints.{Complaint, complaint, complainIf}
 use Rattle.songcode.specs.Song.{KeyName, repeated, cutStart, cutEnd, before, after}
-use Rattle.songcode.specs.Keys.{nameIn, settingIn, isSetting}
-use Rattle.songcode.specs.Modifiers.{ModifierName, ofRepeat, ofCutStart, ofCutEnd, ofBefore, ofAfter, cutIn, modifierIn, settingRefusal}
-use Rattle.songcode.specs.PatternText.{sideText}
-use Rattle.songcode.specs.Sections.{keyLine, modifierLine, patternLine, kindOf, kindOfLine, behindFirst, nameOf, settingOf, keyNameOf, keyFaultsBy}
-use Rattle.songcode.specs.Sections.{keyFaults, modifierNameOf, modifierFaultsBy, modifierFaults}
-use Rattle.songcode.specs.WrittenSong.{BeginsWith}
-use Rattle.songcode.specs.StoppedText.{UnderLetter, IsKey, IsModifier, IsPattern, Worded, CallsKey, modifierWord, CallsModifier, KeyStops, key-unknown}
-use Rattle.songcode.specs.StoppedText.{key-not-allowed, key-setting, ModifierStops, modifier-unknown, repeat-setting, cut-start-setting}
-use Rattle.songcode.specs.StoppedText.{cut-end-setting, lead-in-text, tail-text}
+use Rattle.songcode.specs.answer.Keys.{nameIn, settingIn, isSetting}
+use Rattle.songcode.specs.answer.Modifiers.{ModifierName, ofRepeat, ofCutStart, ofCutEnd, ofBefore, ofAfter, cutIn, modifierIn, settingRefusal}
+use Rattle.songcode.specs.answer.PatternText.{sideText}
+use Rattle.songcode.specs.answer.Sections.{keyLine, modifierLine, patternLine, kindOf, kindOfLine, behindFirst, nameOf, settingOf, keyNameOf, keyFaultsBy}
+use Rattle.songcode.specs.answer.Sections.{keyFaults, modifierNameOf, modifierFaultsBy, modifierFaults}
+use Rattle.songcode.specs.description.WrittenSong.{BeginsWith}
+use Rattle.songcode.specs.description.StoppedText.{UnderLetter, IsKey, IsModifier, IsPattern, Worded, CallsKey, modifierWord, CallsModifier, KeyStops}
+use Rattle.songcode.specs.description.StoppedText.{key-unknown}
+use Rattle.songcode.specs.description.StoppedText.{key-not-allowed, key-setting, ModifierStops, modifier-unknown, repeat-setting, cut-start-setting}
+use Rattle.songcode.specs.description.StoppedText.{cut-end-setting, lead-in-text, tail-text}
 use Rattle.songcode.proofs.ListLaws.{by-cases, true-is-not-false, both-pass, taken-left, taken-all, left-stops, taken-is, left-is}
 use Rattle.songcode.proofs.PatternLaws.{none-some}
 use Rattle.songcode.proofs.ChoiceLaws.{zero-is-not-one, second-chosen, isSome-exact}

@@ -9,11 +9,11 @@ use borrow.Author.Tests.{eqb-true, eq-eqb, not-true, not-false}
 use Rattle.songcode.specs.Lists.{if_then_else_, isEmpty, any, gather, isSome}
 use Rattle.songcode.specs.Complaints.{Complaint, complainIf}
 use Rattle.songcode.specs.Song.{LyricLine, Section, Song}
-use Rattle.songcode.specs.References.{patternItems}
-use Rattle.songcode.specs.Playing.{played}
-use Rattle.songcode.specs.Lyrics.{isCounted, isPlayed, linesTaken, hasCounts, countFaults, counted, sumFault, sumFaults}
-use Rattle.songcode.specs.Performance.{PlaysSection, joined}
-use Rattle.songcode.specs.StoppedSong.{Taken, HasCount, Stops6, uncounted, Stops7, sums-not}
+use Rattle.songcode.specs.answer.References.{patternItems}
+use Rattle.songcode.specs.answer.Playing.{played}
+use Rattle.songcode.specs.answer.Lyrics.{isCounted, isPlayed, linesTaken, hasCounts, countFaults, counted, sumFault, sumFaults}
+use Rattle.songcode.specs.description.Performance.{PlaysSection, joined}
+use Rattle.songcode.specs.description.StoppedSong.{Taken, HasCount, Stops6, uncounted, Stops7, sums-not}
 use Rattle.songcode.proofs.ListLaws.{by-cases, true-is-not-false, both-pass, pass-both, complainIf-nil}
 use Rattle.songcode.proofs.ChoiceLaws.{isSome-some, some-isSome}
 use Rattle.songcode.proofs.MemberLaws.{in-gather, gather-in, in-complaint, complaint-in}

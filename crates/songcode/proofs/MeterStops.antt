@@ -10,20 +10,21 @@ use native.Mathlib.Nat.{div-add-mod'}
 use native.Mathlib.Omega.{arith}
 use borrow.Author.Tests.{eqb-true, eq-eqb, not-true}
 use Rattle.songcode.specs.Lists.{isSome}
-use Rattle.songcode.specs.Lines.{Block}
+use Rattle.songcode.specs.answer.Lines.{Block}
 use Rattle.songcode.specs.Complaints.{Complaint, complainIf}
-use Rattle.songcode.specs.Chords.{Chord}
+use Rattle.songcode.specs.answer.Chords.{Chord}
 use Rattle.songcode.specs.Song.{Sound, chord, again, silence, Sounds, only, also, Measure, Item, measure, loop, refer, Items, one, next}
 use Rattle.songcode.specs.Song.{Section, Song}
-use Rattle.songcode.specs.References.{patternItems}
-use Rattle.songcode.specs.Playing.{Side, timeOf, positions, chordAfter, lastSounds, lastItem, lastItems, saidBy, beforeSaid, afterSaid}
-use Rattle.songcode.specs.Meter.{fits, allFitItem, allFit, strays, strayAmong, strayItem, stray, rowFaults, playedFaults, sideFaults, sectionMeter}
-use Rattle.songcode.specs.Meter.{meterFaults}
-use Rattle.songcode.specs.WrittenSection.{Each, none-each, and-each, Distinct, modifierNumber}
-use Rattle.songcode.specs.WrittenSong.{WrittenSong}
-use Rattle.songcode.specs.Fits.{DefinitionsRefer}
-use Rattle.songcode.specs.StoppedSong.{MeasureOf, MeasureIn, soundsWritten, itemWritten, itemsWritten, NoChord, RowStops, undivided, again-first}
-use Rattle.songcode.specs.StoppedSong.{Stops4, of-pattern, of-lead-in, of-tail}
+use Rattle.songcode.specs.answer.References.{patternItems}
+use Rattle.songcode.specs.answer.Playing.{Side, timeOf, positions, chordAfter, lastSounds, lastItem, lastItems, saidBy, beforeSaid, afterSaid}
+use Rattle.songcode.specs.answer.Meter.{fits, allFitItem, allFit, strays, strayAmong, strayItem, stray, rowFaults, playedFaults, sideFaults, sectionMeter}
+use Rattle.songcode.specs.answer.Meter.{meterFaults}
+use Rattle.songcode.specs.description.WrittenSection.{Each, none-each, and-each, Distinct, modifierNumber}
+use Rattle.songcode.specs.description.WrittenSong.{WrittenSong}
+use Rattle.songcode.specs.description.Fits.{DefinitionsRefer}
+use Rattle.songcode.specs.description.StoppedSong.{MeasureOf, MeasureIn, soundsWritten, itemWritten, itemsWritten, NoChord, RowStops, undivided}
+use Rattle.songcode.specs.description.StoppedSong.{again-first}
+use Rattle.songcode.specs.description.StoppedSong.{Stops4, of-pattern, of-lead-in, of-tail}
 use Rattle.songcode.proofs.ListLaws.{by-cases, true-is-not-false}
 use Rattle.songcode.proofs.MemberLaws.{either, in-gather, gather-in, in-complaint, complaint-in}
 use Rattle.songcode.proofs.SaidOnce.{lead-in-said, tail-said}

@@ -9,11 +9,12 @@ use mathlib.Core.Option.{Option, none, some}
 use lib.Dec.{eqb}
 use borrow.Author.Tests.{eqb-true, eq-eqb}
 use Rattle.songcode.specs.Lists.{any, prepend}
-use Rattle.songcode.specs.Lines.{Line}
+use Rattle.songcode.specs.answer.Lines.{Line}
 use Rattle.songcode.specs.Complaints.{Complaint, complaint}
-use Rattle.songcode.specs.Sections.{Kind, keyLine, modifierLine, patternLine, kindOfLine, twiceBy, twice, Place, amongKeys, early, inPattern, behind}
-use Rattle.songcode.specs.Sections.{misplaced, placeAfter, order}
-use Rattle.songcode.specs.StoppedText.{IsKey, IsModifier, IsPattern, Past, PlaceStops, key-after, modifier-before, pattern-past}
+use Rattle.songcode.specs.answer.Sections.{Kind, keyLine, modifierLine, patternLine, kindOfLine, twiceBy, twice, Place, amongKeys, early, inPattern}
+use Rattle.songcode.specs.answer.Sections.{behind}
+use Rattle.songcode.specs.answer.Sections.{misplaced, placeAfter, order}
+use Rattle.songcode.specs.description.StoppedText.{IsKey, IsModifier, IsPattern, Past, PlaceStops, key-after, modifier-before, pattern-past}
 use Rattle.songcode.proofs.ListLaws.{by-cases}
 use Rattle.songcode.proofs.ChoiceLaws.{zero-is-not-one}
 use Rattle.songcode.proofs.MemberLaws.{either, only-one, in-complaint, complaint-in}

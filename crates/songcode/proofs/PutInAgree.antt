@@ -9,12 +9,12 @@ use lib.ListN.{replicate}
 use Rattle.songcode.specs.Lists.{orElse, andThen}
 use Rattle.songcode.specs.Song.{Sounds, only, also, Measure, nothing, aLineEnd, Separator, bySemicolon, byLineEnd, byColon, Item, measure, loop, refer}
 use Rattle.songcode.specs.Song.{Items, one, next, Pattern, items, named, Definition}
-use Rattle.songcode.specs.Tokens.{Token, sound, remover, reference, semicolon, colon, lineEnd, opens, closes}
-use Rattle.songcode.specs.PatternText.{referencesI, references, itemsIn}
-use Rattle.songcode.specs.References.{definitionOf, itemsOf, glue, putInItem, putIn, patternItems}
-use Rattle.songcode.specs.WrittenPattern.{writeItems}
-use Rattle.songcode.specs.PatternAppended.{soundsTokens, measureTokens, separatorTokens, itemTokens, itemsTokens}
-use Rattle.songcode.specs.Fits.{PatternRefers}
+use Rattle.songcode.specs.answer.Tokens.{Token, sound, remover, reference, semicolon, colon, lineEnd, opens, closes}
+use Rattle.songcode.specs.answer.PatternText.{referencesI, references, itemsIn}
+use Rattle.songcode.specs.answer.References.{definitionOf, itemsOf, glue, putInItem, putIn, patternItems}
+use Rattle.songcode.specs.description.WrittenPattern.{writeItems}
+use Rattle.songcode.specs.description.PatternAppended.{soundsTokens, measureTokens, separatorTokens, itemTokens, itemsTokens}
+use Rattle.songcode.specs.description.Fits.{PatternRefers}
 use Rattle.songcode.specs.Apart.{InPlace, its-items, as-it-is, PutIn, all-put, and-put, PatternSays, own-items, names-items, names-nothing}
 use Rattle.songcode.proofs.PatternLaws.{andThen-some}
 use Rattle.songcode.proofs.ChoiceLaws.{zero-is-not-one}

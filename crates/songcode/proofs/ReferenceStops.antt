@@ -12,14 +12,15 @@ use borrow.Author.Tests.{eqb-true, eq-eqb, not-true, leb-true, leb-false, lt-leb
 use Rattle.songcode.specs.Lists.{if_then_else_, gather, orElse, andThen}
 use Rattle.songcode.specs.Complaints.{Complaint, complaint}
 use Rattle.songcode.specs.Song.{Separator, Item, measure, loop, refer, Items, one, next, Pattern, items, named, Definition, Section, Song}
-use Rattle.songcode.specs.PatternText.{depthI, depth, loopsDeep, referencesI, references, noReference}
-use Rattle.songcode.specs.References.{definitionOf, itemsOf, glue, putInItem, putIn, itemsFault, referenceFault, depthFault, definitionReferences}
-use Rattle.songcode.specs.References.{definitionsReferences, namedFault, sectionReference, referenceFaults}
-use Rattle.songcode.specs.WrittenSection.{Each, none-each, and-each, Absent, Distinct}
-use Rattle.songcode.specs.WrittenSong.{idOf, DefinitionLines, WrittenDefinition, WrittenSong}
-use Rattle.songcode.specs.Lines.{Line, Block}
-use Rattle.songcode.specs.StoppedSong.{InLoopItem, InLoop, IsLoop, HoldsLoop, Refers, Stops3, undefined, undefined-named, too-deep, loop-in-loop}
-use Rattle.songcode.specs.StoppedSong.{to-empty}
+use Rattle.songcode.specs.answer.PatternText.{depthI, depth, loopsDeep, referencesI, references, noReference}
+use Rattle.songcode.specs.answer.References.{definitionOf, itemsOf, glue, putInItem, putIn, itemsFault, referenceFault, depthFault, definitionReferences}
+use Rattle.songcode.specs.answer.References.{definitionsReferences, namedFault, sectionReference, referenceFaults}
+use Rattle.songcode.specs.description.WrittenSection.{Each, none-each, and-each, Absent, Distinct}
+use Rattle.songcode.specs.description.WrittenSong.{idOf, DefinitionLines, WrittenDefinition, WrittenSong}
+use Rattle.songcode.specs.answer.Lines.{Line, Block}
+use Rattle.songcode.specs.description.StoppedSong.{InLoopItem, InLoop, IsLoop, HoldsLoop, RefersTo, Stops3, undefined, undefined-named, too-deep}
+use Rattle.songcode.specs.description.StoppedSong.{loop-in-loop}
+use Rattle.songcode.specs.description.StoppedSong.{to-empty}
 use Rattle.songcode.proofs.ListLaws.{by-cases, true-is-not-false}
 use Rattle.songcode.proofs.PatternLaws.{none-some, andThen-some}
 use Rattle.songcode.proofs.MemberLaws.{either, only-one, in-gather, gather-in, in-complaint, complaint-in}
@@ -269,7 +270,7 @@ module _ (s : Song) (only-ones : One (s .definitions)) (shallow : Shallow (s .de
   found-before : (e : Definition) → List·Memᴰ e xs → definitionOf (e .id) earlier ≡ some e
   found-before e m = there earlier (λ a b i j h. only-ones a b (among a (is-before a i)) (among b (is-before b j)) h) e (before-is e m)
 
-  refers : (r : Items) → d .items ≡ some r → Refers s d r xs
+  refers : (r : Items) → d .items ≡ some r → RefersTo s d r xs
   refers r e = record { behind = ys; written = w; text = e }
 
   items-in : (e : Definition) (n : ℕ) → List·Memᴰ e xs → (r : Items) → d .items ≡ some r → List·Memᴰ (e .id) (references r) → (o : Option Items)
@@ -402,7 +403,7 @@ module _ (s : Song) {bs : List Block} (w : WrittenSong bs s) where
       (g .0 .pattern) refl (g .2))
       m
 
-  of-definition : {d : Definition} {r : Items} {xs : List Definition} {c : Complaint} → (v : Refers s d r xs)
+  of-definition : {d : Definition} {r : Items} {xs : List Definition} {c : Complaint} → (v : RefersTo s d r xs)
       → List·Memᴰ c (definitionReferences (onto [] xs) (d .items) (d .head)) → List·Memᴰ c (referenceFaults s)
   unfolding referenceFaults
   of-definition {d} {r} {xs} {c} v m =

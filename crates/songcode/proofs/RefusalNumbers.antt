@@ -4,23 +4,29 @@ use mathlib.Core.Path.{_≡_, refl, ap, _∙_}
 use mathlib.Core.Logic.{_⊎_, inl, inr, ⊎-elim}
 use mathlib.Core.List.{List, [], List·Memᴰ·not-nil}
 use native.Mathlib.Omega.{arith}
-use Rattle.songcode.specs.Lines.{Line, Block}
+use Rattle.songcode.specs.answer.Lines.{Line, Block}
 use Rattle.songcode.specs.Complaints.{Complaint, complaint}
 use Rattle.songcode.specs.Song.{KeyName, Items, Song}
-use Rattle.songcode.specs.Tables.{tables}
-use Rattle.songcode.specs.Answer.{Room, songOf, refused, answer, songAnswer}
-use Rattle.songcode.specs.Performance.{Parts}
-use Rattle.songcode.specs.StoppedText.{KeyStops, key-unknown, key-not-allowed, key-setting, KeyDoubled, key-twice, ModifierStops, modifier-unknown}
-use Rattle.songcode.specs.StoppedText.{repeat-setting, cut-start-setting, cut-end-setting, lead-in-text, tail-text, ModifierDoubled, modifier-twice}
-use Rattle.songcode.specs.StoppedText.{PlaceStops, key-after, modifier-before, pattern-past, SectionStops, name-wrong, out-of-place, key-doubled}
-use Rattle.songcode.specs.StoppedText.{modifier-doubled, key-stops, modifier-stops, pattern-text, no-pattern, no-lyrics, MetadataStops, of-key, of-keys}
-use Rattle.songcode.specs.StoppedText.{no-key, DefinitionStops, head-malformed, head-twice, head-27th, definition-text, TextStops, kind-late}
-use Rattle.songcode.specs.StoppedText.{in-metadata, in-definition, in-section, Stops2, stated, no-section}
-use Rattle.songcode.specs.StoppedSong.{Stops1, over-long, bad-bytes, Stops3, undefined, undefined-named, too-deep, loop-in-loop, to-empty, RowStops}
-use Rattle.songcode.specs.StoppedSong.{undivided, again-first, Stops4, of-pattern, of-lead-in, of-tail, Stops5, too-long, no-beat, empty-modified}
-use Rattle.songcode.specs.StoppedSong.{Stops6, uncounted, Stops7, sums-not, Stops8, keys-short, sections-short, measures-short, beats-short}
-use Rattle.songcode.specs.StoppedSong.{items-short}
-use Rattle.songcode.specs.Refusals.{Stage, stage1, stage2, stage3, stage4, stage5, stage6, stage7, stage8, Stated, complaintsIn}
+use Rattle.songcode.specs.answer.Tables.{tables}
+use Rattle.songcode.specs.answer.Answer.{Room, songOf, refused, answer, songAnswer}
+use Rattle.songcode.specs.description.Performance.{Parts}
+use Rattle.songcode.specs.description.StoppedText.{KeyStops, key-unknown, key-not-allowed, key-setting, KeyDoubled, key-twice, ModifierStops}
+use Rattle.songcode.specs.description.StoppedText.{modifier-unknown}
+use Rattle.songcode.specs.description.StoppedText.{repeat-setting, cut-start-setting, cut-end-setting, lead-in-text, tail-text, ModifierDoubled}
+use Rattle.songcode.specs.description.StoppedText.{modifier-twice}
+use Rattle.songcode.specs.description.StoppedText.{PlaceStops, key-after, modifier-before, pattern-past, SectionStops, name-wrong, out-of-place}
+use Rattle.songcode.specs.description.StoppedText.{key-doubled}
+use Rattle.songcode.specs.description.StoppedText.{modifier-doubled, key-stops, modifier-stops, pattern-text, no-pattern, no-lyrics, MetadataStops}
+use Rattle.songcode.specs.description.StoppedText.{of-key, of-keys}
+use Rattle.songcode.specs.description.StoppedText.{no-key, DefinitionStops, head-malformed, head-twice, head-27th, definition-text, TextStops, kind-late}
+use Rattle.songcode.specs.description.StoppedText.{in-metadata, in-definition, in-section, Stops2, stated, no-section}
+use Rattle.songcode.specs.description.StoppedSong.{Stops1, over-long, bad-bytes, Stops3, undefined, undefined-named, too-deep, loop-in-loop, to-empty}
+use Rattle.songcode.specs.description.StoppedSong.{RowStops}
+use Rattle.songcode.specs.description.StoppedSong.{undivided, again-first, Stops4, of-pattern, of-lead-in, of-tail, Stops5, too-long, no-beat}
+use Rattle.songcode.specs.description.StoppedSong.{empty-modified}
+use Rattle.songcode.specs.description.StoppedSong.{Stops6, uncounted, Stops7, sums-not, Stops8, keys-short, sections-short, measures-short, beats-short}
+use Rattle.songcode.specs.description.StoppedSong.{items-short}
+use Rattle.songcode.specs.description.Refusals.{Stage, stage1, stage2, stage3, stage4, stage5, stage6, stage7, stage8, Stated, complaintsIn}
 use Rattle.songcode.proofs.AnswerAgree.{room-exact}
 use Rattle.songcode.proofs.RefusalsAgree.{stage-as-stated, refused-as-stated}
 use Rattle.songcode.proofs.SongAlone.{ownRoom, own-room, refused-with-tables}

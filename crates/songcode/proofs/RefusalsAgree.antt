@@ -8,25 +8,27 @@ use lib.Dec.{ltb}
 use lib.ListN.{length}
 use borrow.Author.Tests.{ltb-true, lt-ltb}
 use Rattle.songcode.specs.Bytes.{placed}
-use Rattle.songcode.specs.Lines.{lines, blocks}
+use Rattle.songcode.specs.answer.Lines.{lines, blocks}
 use Rattle.songcode.specs.Complaints.{Complaint, complaint}
 use Rattle.songcode.specs.Song.{Section, Song}
-use Rattle.songcode.specs.SongText.{textFaults}
-use Rattle.songcode.specs.References.{referenceFaults}
-use Rattle.songcode.specs.Meter.{meterFaults, lengthFaults}
-use Rattle.songcode.specs.Lyrics.{countFaults, sumFaults}
-use Rattle.songcode.specs.Tables.{keyWords, keyOrder, Tables, tables}
-use Rattle.songcode.specs.Answer.{inputFaults, blocksOf, songOf, Room, roomFaults, stages, refused, answer}
-use Rattle.songcode.specs.WrittenSection.{Each, none-each, and-each}
-use Rattle.songcode.specs.WrittenSong.{WrittenSong, WrittenChart}
-use Rattle.songcode.specs.Performance.{Parts, PlaysSection}
-use Rattle.songcode.specs.Fits.{Fits}
-use Rattle.songcode.specs.WrittenTables.{WrittenTables}
-use Rattle.songcode.specs.Given.{Before, FirstOf, Given, in-this, in-later}
-use Rattle.songcode.specs.StoppedSong.{Stops3, Stops4, Stops5, Stops6, Stops7, Stops8, keys-short, sections-short, measures-short, beats-short}
-use Rattle.songcode.specs.StoppedSong.{items-short}
-use Rattle.songcode.specs.Refusals.{Stage, stage1, stage2, stage3, stage4, stage5, stage6, stage7, stage8, Stated, Nothing, before, NothingIn}
-use Rattle.songcode.specs.Refusals.{complaintsIn, Refused}
+use Rattle.songcode.specs.answer.SongText.{textFaults}
+use Rattle.songcode.specs.answer.References.{referenceFaults}
+use Rattle.songcode.specs.answer.Meter.{meterFaults, lengthFaults}
+use Rattle.songcode.specs.answer.Lyrics.{countFaults, sumFaults}
+use Rattle.songcode.specs.answer.Tables.{keyWords, keyOrder, Tables, tables}
+use Rattle.songcode.specs.answer.Answer.{inputFaults, blocksOf, songOf, Room, roomFaults, stages, refused, answer}
+use Rattle.songcode.specs.description.WrittenSection.{Each, none-each, and-each}
+use Rattle.songcode.specs.description.WrittenSong.{WrittenSong, WrittenChart}
+use Rattle.songcode.specs.description.Performance.{Parts, PlaysSection}
+use Rattle.songcode.specs.description.Fits.{Fits}
+use Rattle.songcode.specs.description.WrittenTables.{WrittenTables}
+use Rattle.songcode.specs.description.Given.{Before, FirstOf, Given, in-this, in-later}
+use Rattle.songcode.specs.description.StoppedSong.{Stops3, Stops4, Stops5, Stops6, Stops7, Stops8, keys-short, sections-short, measures-short}
+use Rattle.songcode.specs.description.StoppedSong.{beats-short}
+use Rattle.songcode.specs.description.StoppedSong.{items-short}
+use Rattle.songcode.specs.description.Refusals.{Stage, stage1, stage2, stage3, stage4, stage5, stage6, stage7, stage8, Stated, Nothing, stagesBefore}
+use Rattle.songcode.specs.description.Refusals.{NothingIn}
+use Rattle.songcode.specs.description.Refusals.{complaintsIn, Refused}
 use Rattle.songcode.proofs.MemberLaws.{either-passes, pass-left, pass-right, in-complaint, complaint-in}
 use Rattle.songcode.proofs.LinesAgree.{lines-sound, lines-complete}
 use Rattle.songcode.proofs.BlocksAgree.{blocks-sound, blocks-complete}
@@ -230,7 +232,7 @@ module _ (room : Room) (bs : List ℕ) where
   empty k [] says h = refl
   empty k (c ∷ cs) says h = absurd (h c (says c .0 (List·Memᴰ·head refl)))
 
-  at : (k : Stage) (list : List Complaint) (c : Complaint) → Says k list → FirstOf list c → NothingIn room bs (before k) → Refused room bs c
+  at : (k : Stage) (list : List Complaint) (c : Complaint) → Says k list → FirstOf list c → NothingIn room bs (stagesBefore k) → Refused room bs c
   at k list c says f none-before = record { stage = k; stated = says c .0 (f .stated); first = λ d h. f .first d (says d .1 h); noneEarlier = none-before }
 
   first-of : (k : Stage) (list : List Complaint) (c : Complaint) → Says k list → Stated room bs k c → ((d : Complaint) → Stated room bs k d → Before c d)
@@ -238,7 +240,7 @@ module _ (room : Room) (bs : List ℕ) where
   first-of k list c says h f = record { stated = says c .1 h; first = λ d m. f d (says d .0 m) }
 
   given-refused : (c : Complaint) → Given (stages room bs) c → Refused room bs c
-  unfolding stages before NothingIn
+  unfolding stages stagesBefore NothingIn
   given-refused c (in-this f) =
       at stage1 (inputFaults bs) c says-1 f
       tt
@@ -311,9 +313,9 @@ module _ (room : Room) (bs : List ℕ) where
       )
 
   -- The lists of the stages before one that states something are empty.
-  stated-given : (c : Complaint) (k : Stage) → Stated room bs k c → ((d : Complaint) → Stated room bs k d → Before c d) → NothingIn room bs (before k)
+  stated-given : (c : Complaint) (k : Stage) → Stated room bs k c → ((d : Complaint) → Stated room bs k d → Before c d) → NothingIn room bs (stagesBefore k)
       → Given (stages room bs) c
-  unfolding stages before NothingIn
+  unfolding stages stagesBefore NothingIn
   stated-given c stage1 h f n =
       in-this (first-of stage1 (inputFaults bs) c says-1 h f)
   stated-given c stage2 h f n =
@@ -368,8 +370,8 @@ module _ (room : Room) (bs : List ℕ) where
       (in-later e6 (in-later e7 (in-this (first-of stage8 (roomFaults room (tables (songOf bs))) c (says-8 e1 e2 e3 e4 e5 e6 e7) h f))))))))
 
   -- Every stage's complaints are what is stated in it, where nothing is stated before.
-  pub stage-as-stated : (k : Stage) → NothingIn room bs (before k) → (c : Complaint) → List·Memᴰ c (complaintsIn room bs k) ↔ Stated room bs k c
-  unfolding complaintsIn before NothingIn
+  pub stage-as-stated : (k : Stage) → NothingIn room bs (stagesBefore k) → (c : Complaint) → List·Memᴰ c (complaintsIn room bs k) ↔ Stated room bs k c
+  unfolding complaintsIn stagesBefore NothingIn
   stage-as-stated stage1 n c =
       says-1 c
   stage-as-stated stage2 n c =

@@ -6,8 +6,8 @@ use mathlib.Core.List.{List, [], _∷_, map, List·Memᴰ, List·Memᴰ·head, L
 use mathlib.Core.Option.{Option, none, some}
 use Rattle.songcode.specs.Lists.{firstThere}
 use Rattle.songcode.specs.Song.{Cut, Modifier, repeated, cutStart, cutEnd, before, after}
-use Rattle.songcode.specs.Playing.{repeatSaid, cutStartSaid, cutEndSaid, Side, beforeSaid, afterSaid, saidBy}
-use Rattle.songcode.specs.WrittenSection.{Distinct, modifierNumber}
+use Rattle.songcode.specs.answer.Playing.{repeatSaid, cutStartSaid, cutEndSaid, Side, beforeSaid, afterSaid, saidBy}
+use Rattle.songcode.specs.description.WrittenSection.{Distinct, modifierNumber}
 use Rattle.songcode.proofs.PatternLaws.{none-some}
 use Rattle.songcode.proofs.ReferenceStops.{absent-member}
 

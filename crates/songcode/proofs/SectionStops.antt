@@ -10,23 +10,26 @@ use lib.Dec.{leb}
 use lib.ListN.{getElem?}
 use Rattle.songcode.specs.Lists.{if_then_else_, taken, left, isEmpty, gather, isSome, andThen}
 use Rattle.songcode.specs.Bytes.{Byte, isByte}
-use Rattle.songcode.specs.Characters.{characters}
-use Rattle.songcode.specs.Lines.{Line, Block}
+use Rattle.songcode.specs.answer.Characters.{characters}
+use Rattle.songcode.specs.answer.Lines.{Line, Block}
 use Rattle.songcode.specs.Complaints.{Complaint, complaint, complainIf}
 use Rattle.songcode.specs.Song.{KeyName}
-use Rattle.songcode.specs.Keys.{keyPlace, ofSection}
-use Rattle.songcode.specs.Modifiers.{ModifierName, ofRepeat, ofCutStart, ofCutEnd, ofBefore, ofAfter, modifierPlace}
-use Rattle.songcode.specs.PatternText.{sectionText}
-use Rattle.songcode.specs.Sections.{kindOfLine, isPatternLine, notPatternLine, settingOf, keyNameOf, modifierNameOf, twice, keySaid, modifierSaid}
-use Rattle.songcode.specs.Sections.{faults, amongKeys, order, patternRun, patternFaults, headerFaults, notDashes, lyricFaults, body, ending}
-use Rattle.songcode.specs.Sections.{sectionFaults}
-use Rattle.songcode.specs.WrittenText.{All, Stops}
-use Rattle.songcode.specs.WrittenSection.{OfSection, Header}
-use Rattle.songcode.specs.StoppedText.{IsKey, IsModifier, IsPattern, CallsKey, CallsModifier, KeyStops, key-unknown, key-not-allowed, key-setting}
-use Rattle.songcode.specs.StoppedText.{KeyDoubled, key-twice, ModifierStops, modifier-unknown, repeat-setting, cut-start-setting, cut-end-setting}
-use Rattle.songcode.specs.StoppedText.{lead-in-text, tail-text, ModifierDoubled, modifier-twice, Undashed, Dashed, Split, NoPattern, AllPattern}
-use Rattle.songcode.specs.StoppedText.{RunEnds, FirstRun, SectionStops, name-wrong, out-of-place, key-doubled, modifier-doubled, key-stops}
-use Rattle.songcode.specs.StoppedText.{modifier-stops, pattern-text, no-pattern, no-lyrics}
+use Rattle.songcode.specs.answer.Keys.{keyPlace, ofSection}
+use Rattle.songcode.specs.answer.Modifiers.{ModifierName, ofRepeat, ofCutStart, ofCutEnd, ofBefore, ofAfter, modifierPlace}
+use Rattle.songcode.specs.answer.PatternText.{sectionText}
+use Rattle.songcode.specs.answer.Sections.{kindOfLine, isPatternLine, notPatternLine, settingOf, keyNameOf, modifierNameOf, twice, keySaid, modifierSaid}
+use Rattle.songcode.specs.answer.Sections.{faults, amongKeys, order, patternRun, patternFaults, headerFaults, notDashes, lyricFaults, body, fromDashes}
+use Rattle.songcode.specs.answer.Sections.{sectionFaults}
+use Rattle.songcode.specs.description.WrittenText.{All, Stops}
+use Rattle.songcode.specs.description.WrittenSection.{OfSection, Header}
+use Rattle.songcode.specs.description.StoppedText.{IsKey, IsModifier, IsPattern, CallsKey, CallsModifier, KeyStops, key-unknown, key-not-allowed}
+use Rattle.songcode.specs.description.StoppedText.{key-setting}
+use Rattle.songcode.specs.description.StoppedText.{KeyDoubled, key-twice, ModifierStops, modifier-unknown, repeat-setting, cut-start-setting}
+use Rattle.songcode.specs.description.StoppedText.{cut-end-setting}
+use Rattle.songcode.specs.description.StoppedText.{lead-in-text, tail-text, ModifierDoubled, modifier-twice, Undashed, Dashed, Split, NoPattern}
+use Rattle.songcode.specs.description.StoppedText.{AllPattern}
+use Rattle.songcode.specs.description.StoppedText.{RunEnds, FirstRun, SectionStops, name-wrong, out-of-place, key-doubled, modifier-doubled, key-stops}
+use Rattle.songcode.specs.description.StoppedText.{modifier-stops, pattern-text, no-pattern, no-lyrics}
 use Rattle.songcode.proofs.ListLaws.{by-cases, true-is-not-false, nil-is-not-cons, isEmpty-true, taken-left, taken-all, left-stops, taken-is, left-is}
 use Rattle.songcode.proofs.ListLaws.{complainIf-nil, nil-complainIf}
 use Rattle.songcode.proofs.PatternLaws.{none-some, andThen-some}
@@ -59,8 +62,8 @@ unfolding Stops Dashed
 dashed-exact [] = ((λ h. tt), (λ h. tt))
 dashed-exact (l ∷ ls) = (dashes-notDashes l, notDashes-dashes l)
 
-split-of : (b : Block) → Split b (body b) (ending b)
-unfolding body ending
+split-of : (b : Block) → Split b (body b) (fromDashes b)
+unfolding body fromDashes
 split-of b =
     record {
       written = sym (taken-left notDashes (b .others));
@@ -68,8 +71,8 @@ split-of b =
       dashed = dashed-exact (left notDashes (b .others)) .0 (left-stops notDashes (b .others));
     }
 
-split-once : {b : Block} {x y : List Line} → Split b x y → (body b ≡ x) × (ending b ≡ y)
-unfolding body ending
+split-once : {b : Block} {x y : List Line} → Split b x y → (body b ≡ x) × (fromDashes b ≡ y)
+unfolding body fromDashes
 split-once {x = x} {y = y} w = (
   rw (w .written) (taken-is notDashes x y (undashed-exact x .1 (w .undashed)) (dashed-exact y .1 (w .dashed))),
   rw (w .written) (left-is notDashes x y (undashed-exact x .1 (w .undashed)) (dashed-exact y .1 (w .dashed))),
@@ -288,14 +291,14 @@ module _ (b : Block) where
 
   run-stated : (run : List Line) → patternRun (body b) ≡ run → {c : Complaint} → List·Memᴰ c (patternFaults (b .first .number) run) → SectionStops b c
   unfolding patternFaults
-  run-stated [] e m = subst (λ x. SectionStops b x) (sym (only-one m)) (no-pattern (body b) (ending b) (split-of b) (left-none (body b) e))
+  run-stated [] e m = subst (λ x. SectionStops b x) (sym (only-one m)) (no-pattern (body b) (fromDashes b) (split-of b) (left-none (body b) e))
   run-stated (l ∷ ls) e m =
       let h = in-complaint (not (isSome (sectionText l ls))) 7 (l .number) m in
       let wrong = fails-exact (isSome (sectionText l ls)) (isSome-exact (sectionText l ls) (text-exact l ls)) .0 (h .0) in
       subst (λ x. SectionStops b x) (sym (h .1))
-      (pattern-text (body b) (ending b) ls l (split-of b) (subst (λ r. FirstRun (body b) r) e (run-of (body b))) (λ p w. wrong (p, w)))
+      (pattern-text (body b) (fromDashes b) ls l (split-of b) (subst (λ r. FirstRun (body b) r) e (run-of (body b))) (λ p w. wrong (p, w)))
 
-  lyrics-stated : (ls : List Line) → ending b ≡ ls → {c : Complaint} → List·Memᴰ c (lyricFaults ls) → SectionStops b c
+  lyrics-stated : (ls : List Line) → fromDashes b ≡ ls → {c : Complaint} → List·Memᴰ c (lyricFaults ls) → SectionStops b c
   unfolding lyricFaults
   lyrics-stated [] e m = absurd (List·Memᴰ·not-nil m)
   lyrics-stated (d ∷ ls) e m =
@@ -312,17 +315,18 @@ module _ (b : Block) where
       (either _
       (either _
       (either (headerFaults (b .first)) header-stated
-      (λ i. let a = order-stated (body b) i in out-of-place (body b) (ending b) (a .before) (a .behind) (a .line) (split-of b) (a .written) (a .holds)))
-      (λ i. let a = twice-in 4 keySaid [] (body b) i in key-doubled (body b) (ending b) (a .before) (a .behind) (a .line) (split-of b) (a .written)
+      (λ i. let a = order-stated (body b) i in out-of-place (body b) (fromDashes b) (a .before) (a .behind) (a .line) (split-of b) (a .written) (a .holds)))
+      (λ i. let a = twice-in 4 keySaid [] (body b) i in key-doubled (body b) (fromDashes b) (a .before) (a .behind) (a .line) (split-of b) (a .written)
       (key-again .0 (a .holds))))
-      (λ i. let a = twice-in 8 modifierSaid [] (body b) i in modifier-doubled (body b) (ending b) (a .before) (a .behind) (a .line) (split-of b) (a .written)
+      (λ i. let a = twice-in 8 modifierSaid [] (body b) i in
+        modifier-doubled (body b) (fromDashes b) (a .before) (a .behind) (a .line) (split-of b) (a .written)
       (modifier-again .0 (a .holds))))
       (λ i.
       let g = in-gather faults (body b) i in
-      ⊎-elim (λ h. key-stops (body b) (ending b) (g .0) (split-of b) (g .1) h) (λ h. modifier-stops (body b) (ending b) (g .0) (split-of b) (g .1) h)
+      ⊎-elim (λ h. key-stops (body b) (fromDashes b) (g .0) (split-of b) (g .1) h) (λ h. modifier-stops (body b) (fromDashes b) (g .0) (split-of b) (g .1) h)
       (line-stated (g .0) (g .2))))
       (λ i. run-stated (patternRun (body b)) refl i))
-      (λ i. lyrics-stated (ending b) refl i)
+      (λ i. lyrics-stated (fromDashes b) refl i)
       m
 
   -- Back: where it is stated, the answer complains.
@@ -335,7 +339,7 @@ module _ (b : Block) where
   of-six : {c : Complaint} → List·Memᴰ c (first-four ++ gather faults (body b) ++ patternFaults (b .first .number) (patternRun (body b)))
       → List·Memᴰ c (sectionFaults b)
   unfolding sectionFaults
-  of-six m = Memᴰ·append-left (lyricFaults (ending b)) m
+  of-six m = Memᴰ·append-left (lyricFaults (fromDashes b)) m
 
   of-four : {c : Complaint} → List·Memᴰ c first-four → List·Memᴰ c (sectionFaults b)
   of-four m = of-six (Memᴰ·append-left (patternFaults (b .first .number) (patternRun (body b))) (Memᴰ·append-left (gather faults (body b)) m))

@@ -7,14 +7,14 @@ use mathlib.Core.Bool.{true}
 use lib.ListN.{length}
 use native.Mathlib.Omega.{arith}
 use Rattle.songcode.specs.Lists.{isEmpty, gather}
-use Rattle.songcode.specs.Lines.{Block}
+use Rattle.songcode.specs.answer.Lines.{Block}
 use Rattle.songcode.specs.Complaints.{Complaint, complainIf}
 use Rattle.songcode.specs.Song.{Key, Definition, Section, Song}
-use Rattle.songcode.specs.Sections.{sectionFaults, sectionIn}
-use Rattle.songcode.specs.SongText.{metadata, section, blockKind, blockOrder, metadataLines, metadataFaults, definitionBlocks, sectionBlocks}
-use Rattle.songcode.specs.SongText.{definitionsFaults, definitionIn, orNoSection, textFaults, songIn}
-use Rattle.songcode.specs.WrittenSection.{Each, KeyLine}
-use Rattle.songcode.specs.WrittenSong.{linesOf, SectionBlock, WrittenSong}
+use Rattle.songcode.specs.answer.Sections.{sectionFaults, sectionIn}
+use Rattle.songcode.specs.answer.SongText.{metadata, section, blockKind, blockOrder, metadataLines, metadataFaults, definitionBlocks, sectionBlocks}
+use Rattle.songcode.specs.answer.SongText.{definitionsFaults, definitionIn, orNoSection, textFaults, songIn}
+use Rattle.songcode.specs.description.WrittenSection.{Each, KeyLine}
+use Rattle.songcode.specs.description.WrittenSong.{linesOf, SectionBlock, WrittenSong}
 use Rattle.songcode.proofs.ListLaws.{true-is-not-false, nil-is-not-cons, append-is-nil, gather-nil, nil-gather, complainIf-nil}
 use Rattle.songcode.proofs.EachLaws.{each-of, each-holds, each-mapped, each-length, holds-both}
 use Rattle.songcode.proofs.BlockKinds.{Blocks, section-begins, begins-section, metadata-exact}

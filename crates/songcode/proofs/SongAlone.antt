@@ -10,10 +10,10 @@ use lib.Dec.{ltb}
 use lib.ListN.{length}
 use Rattle.songcode.specs.Lists.{when}
 use Rattle.songcode.specs.Complaints.{Complaint, complaint, complainIf, earlier, earliest, stageOr, verdict}
-use Rattle.songcode.specs.Tables.{Tables, tables}
-use Rattle.songcode.specs.Answer.{Room, songOf, roomFaults, songStages, stages, refused, accepted, answerBy, answer, songAnswer}
-use Rattle.songcode.specs.Given.{Given}
-use Rattle.songcode.specs.Described.{HasRoom}
+use Rattle.songcode.specs.answer.Tables.{Tables, tables}
+use Rattle.songcode.specs.answer.Answer.{Room, songOf, roomFaults, songStages, stages, refused, accepted, answerBy, answer, songAnswer}
+use Rattle.songcode.specs.description.Given.{Given}
+use Rattle.songcode.specs.description.Described.{HasRoom}
 use Rattle.songcode.proofs.VerdictAgree.{verdict-given, given-verdict, verdict-append, last-stage}
 use Rattle.songcode.proofs.AnswerAgree.{room-exact, accepted-exactly}
 

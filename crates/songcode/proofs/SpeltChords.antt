@@ -11,13 +11,14 @@ use lib.Dec.{eqb}
 use borrow.Author.Tests.{eqb-true}
 use Rattle.songcode.specs.Lists.{if_then_else_}
 use Rattle.songcode.specs.Bytes.{Byte, values, isBlank, isByte}
-use Rattle.songcode.specs.Chords.{Chord}
-use Rattle.songcode.specs.Lines.{Line}
-use Rattle.songcode.specs.Tokens.{Token, lineEnd, Class, blank, semi, double, bracket, closing, plain, class}
-use Rattle.songcode.specs.Playing.{Beat}
-use Rattle.songcode.specs.WrittenPattern.{Word, spells-again, spells-silence, spells-remover, spells-reference, spells-chord, Plain, NoPlain, Text}
-use Rattle.songcode.specs.WrittenPattern.{t-end, t-blank, t-semicolon, t-colon, t-open, t-close, t-word, TextLines, one-line, more-lines}
-use Rattle.songcode.specs.WrittenText.{Inside, Characters, no-character}
+use Rattle.songcode.specs.answer.Chords.{Chord}
+use Rattle.songcode.specs.answer.Lines.{Line}
+use Rattle.songcode.specs.answer.Tokens.{Token, lineEnd, Class, blank, semi, double, bracket, closing, plain, class}
+use Rattle.songcode.specs.answer.Playing.{Beat}
+use Rattle.songcode.specs.description.WrittenPattern.{Word, spells-again, spells-silence, spells-remover, spells-reference, spells-chord, Plain, NoPlain}
+use Rattle.songcode.specs.description.WrittenPattern.{Text}
+use Rattle.songcode.specs.description.WrittenPattern.{t-end, t-blank, t-semicolon, t-colon, t-open, t-close, t-word, TextLines, one-line, more-lines}
+use Rattle.songcode.specs.description.WrittenText.{Inside, Characters, no-character}
 use Rattle.songcode.proofs.ListLaws.{by-cases, true-is-not-false, Each}
 use Rattle.songcode.proofs.ByteLaws.{values-append}
 use Rattle.songcode.proofs.CharacterPieces.{characters-before, characters-behind, ascii-no-tail}

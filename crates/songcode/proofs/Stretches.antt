@@ -6,7 +6,7 @@ use native.Mathlib.Omega.{arith}
 use lib.ListN.{length, take, drop, length-append}
 use lib.Seq.{drop-at, take-append-seam}
 use Rattle.songcode.specs.Bytes.{Byte, placed, values}
-use Rattle.songcode.specs.Tables.{offset}
+use Rattle.songcode.specs.answer.Tables.{offset}
 use Rattle.songcode.proofs.ListLaws.{nil-is-not-cons}
 use Rattle.songcode.proofs.ByteLaws.{values-placed, values-append, length-values, length-placed}
 

@@ -7,8 +7,8 @@ use mathlib.Core.Bool.{true, false, not}
 use borrow.Author.Tests.{eqb-true, eq-eqb, not-true}
 use Rattle.songcode.specs.Lists.{if_then_else_, isEmpty, any}
 use Rattle.songcode.specs.Bytes.{Byte, values, ascii, begins, isByte}
-use Rattle.songcode.specs.Chords.{endsInM, isPassedOver, isTaken, isSlip}
-use Rattle.songcode.specs.WrittenPattern.{PassedOver}
+use Rattle.songcode.specs.answer.Chords.{endsInM, isPassedOver, isTaken, isSlip}
+use Rattle.songcode.specs.description.WrittenPattern.{PassedOver}
 use Rattle.songcode.proofs.ListLaws.{by-cases, true-is-not-false, both-pass, none-passes}
 use Rattle.songcode.proofs.Spellings.{begins-true, begins-append}
 

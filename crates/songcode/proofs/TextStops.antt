@@ -13,20 +13,22 @@ use lib.ListN.{length}
 use borrow.Author.Tests.{eqb-true, ltb-true, ltb-false, lt-ltb, leb-true, le-leb}
 use Rattle.songcode.specs.Lists.{isEmpty, gather, isSome}
 use Rattle.songcode.specs.Bytes.{Byte, isByte}
-use Rattle.songcode.specs.Lines.{Line, Block}
+use Rattle.songcode.specs.answer.Lines.{Line, Block}
 use Rattle.songcode.specs.Complaints.{Complaint, complaint, complainIf}
 use Rattle.songcode.specs.Song.{KeyName, Items}
-use Rattle.songcode.specs.Keys.{ofMetadata}
-use Rattle.songcode.specs.PatternText.{definitionText}
-use Rattle.songcode.specs.Sections.{kindOfLine, twice, keySaid, behindFirst, sectionFaults}
-use Rattle.songcode.specs.SongText.{metadata, definition, section, kindOfText, blockKind, turn, blockOrder, linesIf, metadataLines, metadataFault}
-use Rattle.songcode.specs.SongText.{metadataFaults, headIn, definitionIf, sectionIf, definitionBlocks, sectionBlocks, headsFaults, firstLine}
-use Rattle.songcode.specs.SongText.{definitionFaults, definitionsFaults, orNoSection, textFaults}
-use Rattle.songcode.specs.WrittenPattern.{WrittenDefinitionText}
-use Rattle.songcode.specs.WrittenSong.{BeginsWith, linesOf, DefinitionHead}
-use Rattle.songcode.specs.StoppedText.{IsKey, KeyStops, MetadataStops, of-key, of-keys, no-key, DefinitionStops, head-malformed, head-twice, head-27th}
-use Rattle.songcode.specs.StoppedText.{definition-text, IsMetadata, IsDefinition, IsSection, OfKind, no-more, this-one, another, LaterKind, TextStops}
-use Rattle.songcode.specs.StoppedText.{kind-late, in-metadata, in-definition, in-section, Stops2, stated, no-section}
+use Rattle.songcode.specs.answer.Keys.{ofMetadata}
+use Rattle.songcode.specs.answer.PatternText.{definitionText}
+use Rattle.songcode.specs.answer.Sections.{kindOfLine, twice, keySaid, behindFirst, sectionFaults}
+use Rattle.songcode.specs.answer.SongText.{metadata, definition, section, kindOfText, blockKind, turn, blockOrder, linesIf, metadataLines, metadataFault}
+use Rattle.songcode.specs.answer.SongText.{metadataFaults, headIn, definitionIf, sectionIf, definitionBlocks, sectionBlocks, headsFaults, firstLine}
+use Rattle.songcode.specs.answer.SongText.{definitionFaults, definitionsFaults, orNoSection, textFaults}
+use Rattle.songcode.specs.description.WrittenPattern.{WrittenDefinitionText}
+use Rattle.songcode.specs.description.WrittenSong.{BeginsWith, linesOf, DefinitionHead}
+use Rattle.songcode.specs.description.StoppedText.{IsKey, KeyStops, MetadataStops, of-key, of-keys, no-key, DefinitionStops, head-malformed, head-twice}
+use Rattle.songcode.specs.description.StoppedText.{head-27th}
+use Rattle.songcode.specs.description.StoppedText.{definition-text, IsMetadata, IsDefinition, IsSection, OfKind, no-more, this-one, another, LaterKind}
+use Rattle.songcode.specs.description.StoppedText.{TextStops}
+use Rattle.songcode.specs.description.StoppedText.{kind-late, in-metadata, in-definition, in-section, Stops2, stated, no-section}
 use Rattle.songcode.proofs.ListLaws.{by-cases, isEmpty-true, nil-is-not-cons}
 use Rattle.songcode.proofs.ChoiceLaws.{zero-is-not-one, isSome-exact}
 use Rattle.songcode.proofs.MemberLaws.{either-passes, pass-left, pass-right, found, either, only-one, in-gather, gather-in, in-complaint, complaint-in}

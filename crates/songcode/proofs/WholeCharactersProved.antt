@@ -7,10 +7,10 @@ use native.Mathlib.Omega.{arith}
 use lib.ListN.{length}
 use borrow.Author.Tests.{eqb-true}
 use Rattle.songcode.specs.Bytes.{Byte, placed, values, isBlank, isByte}
-use Rattle.songcode.specs.Characters.{characters}
-use Rattle.songcode.specs.Lines.{Line}
-use Rattle.songcode.specs.WrittenText.{All, Characters, WrittenLines}
-use Rattle.songcode.specs.WrittenSection.{Signed, Phrase, Marked}
+use Rattle.songcode.specs.answer.Characters.{characters}
+use Rattle.songcode.specs.answer.Lines.{Line}
+use Rattle.songcode.specs.description.WrittenText.{All, Characters, WrittenLines}
+use Rattle.songcode.specs.description.WrittenSection.{Signed, Phrase, CommentMarked}
 use Rattle.songcode.specs.WholeCharacters.{Long, WholeCharacters}
 use Rattle.songcode.proofs.ListLaws.{Each}
 use Rattle.songcode.proofs.ByteLaws.{values-placed}
@@ -33,8 +33,8 @@ unfolding Long
 counted bs least most c low high = let e = characters-count bs c in (c, omega arith, omega arith)
 
 -- A name ends before a `!` or with its line.
-title-whole : (title comment : List Byte) → Marked comment → Characters (values (title ++ comment)) → Characters (values title)
-unfolding Marked isByte
+title-whole : (title comment : List Byte) → CommentMarked comment → Characters (values (title ++ comment)) → Characters (values title)
+unfolding CommentMarked isByte
 title-whole title [] m c = rw append-nil at c
 title-whole title (b ∷ comment) m c = let v = eqb-true (b .value) (code "!") m in cut-at title comment b (omega arith) c .0
 

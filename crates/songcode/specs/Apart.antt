@@ -7,19 +7,19 @@ use mathlib.Core.List.{List, [], _∷_, _++_, map, List·Memᴰ}
 use mathlib.Core.Bool.{true}
 use mathlib.Core.Option.{Option, none, some}
 use Rattle.songcode.specs.Bytes.{Byte}
-use Rattle.songcode.specs.Numbers.{isDecimal, valueFrom}
+use Rattle.songcode.specs.answer.Numbers.{isDecimal, valueFrom}
 use Rattle.songcode.specs.Song.{Item, measure, loop, refer, Items, one, next, Pattern, items, named, Cut, Modifier, repeated, cutStart, cutEnd, before}
 use Rattle.songcode.specs.Song.{after}
 use Rattle.songcode.specs.Song.{Definition, Section, Song}
-use Rattle.songcode.specs.Tokens.{Token, reference}
-use Rattle.songcode.specs.PatternText.{depth, loopsDeep}
-use Rattle.songcode.specs.References.{patternItems}
-use Rattle.songcode.specs.Playing.{saidBy, cutStartSaid, cutEndSaid, Side, beforeSaid, afterSaid, repeats}
-use Rattle.songcode.specs.WrittenPattern.{writeItems}
-use Rattle.songcode.specs.WrittenSection.{Distinct, modifierNumber}
-use Rattle.songcode.specs.WrittenSong.{WrittenChart}
-use Rattle.songcode.specs.Fits.{DefinitionsRefer, PatternRefers}
-use Rattle.songcode.specs.StoppedSong.{HoldsLoop}
+use Rattle.songcode.specs.answer.Tokens.{Token, reference}
+use Rattle.songcode.specs.answer.PatternText.{depth, loopsDeep}
+use Rattle.songcode.specs.answer.References.{patternItems}
+use Rattle.songcode.specs.answer.Playing.{saidBy, cutStartSaid, cutEndSaid, Side, beforeSaid, afterSaid, repeats}
+use Rattle.songcode.specs.description.WrittenPattern.{writeItems}
+use Rattle.songcode.specs.description.WrittenSection.{Distinct, modifierNumber}
+use Rattle.songcode.specs.description.WrittenSong.{WrittenChart}
+use Rattle.songcode.specs.description.Fits.{DefinitionsRefer, PatternRefers}
+use Rattle.songcode.specs.description.StoppedSong.{HoldsLoop}
 
 -- "`$n` means an earlier definition's items, put in its place": in the written text each `$n` gives way to what that definition is written as.
 pub data InPlace (ds : List Definition) : Token → List Token → Type 0 where

@@ -7,13 +7,13 @@ use mathlib.Core.Option.{none, some}
 use lib.ListN.{getElem?}
 use Rattle.songcode.specs.Lists.{any}
 use Rattle.songcode.specs.Bytes.{Byte, placed, values, ascii, begins}
-use Rattle.songcode.specs.Lines.{Line, Block}
-use Rattle.songcode.specs.Chords.{bases, longestFrom, longestBase, Chord, Reading, chordBy, isSlip, withoutSlip}
-use Rattle.songcode.specs.Modifiers.{ofBefore, ofAfter}
-use Rattle.songcode.specs.Sections.{modifierLine, kindOfLine, modifierNameOf, settingOf, patternRun, body}
-use Rattle.songcode.specs.SongText.{definitionBlocks, sectionBlocks}
-use Rattle.songcode.specs.Answer.{Room, blocksOf, answerAs, answer, songAnswerAs, songAnswer}
-use Rattle.songcode.specs.WrittenPattern.{Plain, NoPlain}
+use Rattle.songcode.specs.answer.Lines.{Line, Block}
+use Rattle.songcode.specs.answer.Chords.{bases, longestFrom, longestBase, Chord, Reading, chordBy, isSlip, withoutSlip}
+use Rattle.songcode.specs.answer.Modifiers.{ofBefore, ofAfter}
+use Rattle.songcode.specs.answer.Sections.{modifierLine, kindOfLine, modifierNameOf, settingOf, patternRun, body}
+use Rattle.songcode.specs.answer.SongText.{definitionBlocks, sectionBlocks}
+use Rattle.songcode.specs.answer.Answer.{Room, blocksOf, answerAs, answer, songAnswerAs, songAnswer}
+use Rattle.songcode.specs.description.WrittenPattern.{Plain, NoPlain}
 
 -- A chord by document 01, before both: "the base is the longest that fits", "extensions aren't checked".
 unfoldable pub asAtFirst : Reading

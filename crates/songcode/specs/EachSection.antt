@@ -6,10 +6,10 @@ use mathlib.Core.List.{List, [], _∷_, _++_, map}
 use lib.ListN.{length}
 use Rattle.songcode.specs.Lists.{gather}
 use Rattle.songcode.specs.Song.{Section, Song}
-use Rattle.songcode.specs.Tables.{Tables, measureWords, beatWord}
-use Rattle.songcode.specs.Performance.{Parts, PlaysSection, joined}
-use Rattle.songcode.specs.WrittenSong.{WrittenChart}
-use Rattle.songcode.specs.Layout.{sectionsRow, laid}
+use Rattle.songcode.specs.answer.Tables.{Tables, measureWords, beatWord}
+use Rattle.songcode.specs.description.Performance.{Parts, PlaysSection, joined}
+use Rattle.songcode.specs.description.WrittenSong.{WrittenChart}
+use Rattle.songcode.specs.description.Layout.{sectionsRow, laid}
 
 -- A section's own stretch: its word at its place, which names the measures before it, and its measures and beats behind those of the sections before.
 pub record Stretch (t : Tables) (place : ℕ) (x : Section) (p : Parts) : Type 0 where

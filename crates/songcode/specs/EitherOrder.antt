@@ -10,13 +10,14 @@ use lib.ListN.{length, take, drop}
 use Rattle.songcode.specs.Lists.{times, sum}
 use Rattle.songcode.specs.Bytes.{ascii}
 use Rattle.songcode.specs.Song.{Measure, Item, measure, loop, refer, Items, one, next, Cut, Section, Song}
-use Rattle.songcode.specs.References.{patternItems}
-use Rattle.songcode.specs.Playing.{Side, timeOf, positions, cutFront, cutBack, saidBy, beforeSaid, afterSaid, cutStartSaid, cutEndSaid, repeats}
-use Rattle.songcode.specs.Tables.{Tables}
-use Rattle.songcode.specs.Answer.{Room, songOf}
-use Rattle.songcode.specs.WrittenSection.{Each}
-use Rattle.songcode.specs.Performance.{total, CutsFront, CutsBack, Parts, joined}
-use Rattle.songcode.specs.Described.{Described}
+use Rattle.songcode.specs.answer.Modifiers.{cut}
+use Rattle.songcode.specs.answer.References.{patternItems}
+use Rattle.songcode.specs.answer.Playing.{Side, timeOf, positions, cutFront, cutBack, saidBy, beforeSaid, afterSaid, cutStartSaid, cutEndSaid, repeats}
+use Rattle.songcode.specs.answer.Tables.{Tables}
+use Rattle.songcode.specs.answer.Answer.{Room, songOf}
+use Rattle.songcode.specs.description.WrittenSection.{Each}
+use Rattle.songcode.specs.description.Performance.{total, CutsFront, CutsBack, Parts, joined}
+use Rattle.songcode.specs.description.Described.{Described}
 use Rattle.songcode.specs.Starred.{plays, Claim}
 
 module _ {A : Type 0} where
@@ -131,15 +132,15 @@ pub record EitherOrder : Type 1 where
 abbrev written : String → List ℕ
 written chart = let song = songOf (ascii chart) in map (λ x. beatsWritten song x (timeOf song x)) (song .sections)
 
-abbrev named : String → List ℕ
-named chart = let song = songOf (ascii chart) in map (λ x. beatsNamed song x (timeOf song x)) (song .sections)
+abbrev beatsCut : String → List ℕ
+beatsCut chart = let song = songOf (ascii chart) in map (λ x. beatsNamed song x (timeOf song x)) (song .sections)
 
 -- The waltz's cut names five beats, three of the measure and two further ones: twelve are written and seven played. In four it would name six.
-waltz-counted : (written waltz ≡ 8 ∷ 12 ∷ []) × (named waltz ≡ 0 ∷ 5 ∷ [])
+waltz-counted : (written waltz ≡ 8 ∷ 12 ∷ []) × (beatsCut waltz ≡ 0 ∷ 5 ∷ [])
 unfolding beatsWritten beatsNamed songOf timeOf ascii
 waltz-counted = (refl, refl)
 
-waltz-in-four : named "Bridge\nAm;D7;G;C\n_cutStart 1-2" ≡ 6 ∷ []
+waltz-in-four : beatsCut "Bridge\nAm;D7;G;C\n_cutStart 1-2" ≡ 6 ∷ []
 unfolding beatsNamed songOf timeOf ascii
 waltz-in-four = refl
 
@@ -147,25 +148,22 @@ waltz-in-four = refl
 abbrev short : String
 short = "V\nA;G =\n_repeat 3\n_cutStart 1-1\n_cutEnd 3-1"
 
-short-counted : (written short ≡ 18 ∷ []) × (named short ≡ 14 ∷ [])
+short-counted : (written short ≡ 18 ∷ []) × (beatsCut short ≡ 14 ∷ [])
 unfolding beatsWritten beatsNamed songOf timeOf ascii
 short-counted = (refl, refl)
 
 -- The same cut at both ends of the row of the waltz: in either order two beats are left; none where the back cut has a measure more.
-abbrev cut : ℕ → ℕ → Cut
-cut m b = record { whole = record { measures = m }; further = record { beats = b } }
-
 abbrev beats : List (List ℕ)
 beats = (1 ∷ 2 ∷ 3 ∷ []) ∷ (4 ∷ 5 ∷ 6 ∷ []) ∷ (7 ∷ 8 ∷ 9 ∷ []) ∷ (10 ∷ 11 ∷ 12 ∷ []) ∷ []
 
 front-first : cutBack (cut 1 2) (cutFront (cut 1 2) beats) ≡ (6 ∷ []) ∷ (7 ∷ []) ∷ []
-unfolding cutBack cutFront
+unfolding cutBack cutFront cut
 front-first = refl
 
 back-first : cutFront (cut 1 2) (cutBack (cut 1 2) beats) ≡ (6 ∷ []) ∷ (7 ∷ []) ∷ []
-unfolding cutBack cutFront
+unfolding cutBack cutFront cut
 back-first = refl
 
 none-either-way : (cutBack (cut 2 2) (cutFront (cut 1 2) beats) ≡ []) × (cutFront (cut 1 2) (cutBack (cut 2 2) beats) ≡ [])
-unfolding cutBack cutFront
+unfolding cutBack cutFront cut
 none-either-way = (refl, refl)

@@ -2,8 +2,8 @@
 use Prim.Native.Nat.{ℕ}
 use mathlib.Core.Path.{_≡_}
 use mathlib.Core.List.{List, List·Memᴰ}
-use Rattle.songcode.specs.Tables.{Tables}
-use Rattle.songcode.specs.Layout.{Row, keysRow, sectionsRow, measuresRow, beatsRow, itemsRow, laid, Fit}
+use Rattle.songcode.specs.answer.Tables.{Tables}
+use Rattle.songcode.specs.description.Layout.{Row, keysRow, sectionsRow, measuresRow, beatsRow, itemsRow, laid, Fit}
 
 pub record WordOf (r : Row) (word : ℕ) : Type 0 where
   pub fields : List ℕ

@@ -8,14 +8,14 @@ use lib.ListN.{length}
 use Rattle.songcode.specs.Lists.{gather, times}
 use Rattle.songcode.specs.Bytes.{ascii}
 use Rattle.songcode.specs.Complaints.{complaint}
-use Rattle.songcode.specs.Playing.{Beat}
-use Rattle.songcode.specs.Tables.{Tables}
-use Rattle.songcode.specs.Answer.{songStages, mostBytes, Room, answer, accepted}
-use Rattle.songcode.specs.Answer as Reading
-use Rattle.songcode.specs.Performance.{total}
-use Rattle.songcode.specs.Given.{Given}
-use Rattle.songcode.specs.Flat.{copyOf, flatStages, refused, copied, flatAnswer, flatPattern, ended}
-use Rattle.songcode.specs.WrittenFlat.{Copied, ReadsBack, rowLength, patternLength}
+use Rattle.songcode.specs.answer.Playing.{Beat}
+use Rattle.songcode.specs.answer.Tables.{Tables}
+use Rattle.songcode.specs.answer.Answer.{songStages, mostBytes, Room, answer, accepted}
+use Rattle.songcode.specs.answer.Answer as Reading
+use Rattle.songcode.specs.description.Performance.{total}
+use Rattle.songcode.specs.description.Given.{Given}
+use Rattle.songcode.specs.answer.Flat.{copyOf, flatStages, refused, copied, flatAnswer, flatPattern, endLine}
+use Rattle.songcode.specs.description.WrittenFlat.{Copied, ReadsBack, rowLength, patternLength}
 use Rattle.songcode.specs.FlatCharts.{flatCharts}
 
 -- Every measure has a beat, and no more than N.
@@ -43,6 +43,6 @@ pub record FlatDemands : Type 0 where
   -- Songs with their copies.
   pub charts : map (λ c. copyOf (ascii (c .song))) flatCharts ≡ map (λ c. some (ascii (c .copy))) flatCharts
   -- The length without the bytes: loops and repeats multiply the letters, beats and measures that it is made of.
-  pub pattern-length : (n : ℕ) (row : List (List Beat)) → Within n row → length (gather ended (flatPattern n row)) ≡ patternLength n row
+  pub pattern-length : (n : ℕ) (row : List (List Beat)) → Within n row → length (gather endLine (flatPattern n row)) ≡ patternLength n row
   pub length-repeated : (k : ℕ) (row : List (List Beat))
       → (rowLength (times k row) ≡ k * rowLength row) × (total (times k row) ≡ k * total row) × (length (times k row) ≡ k * length row)

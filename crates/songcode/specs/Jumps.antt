@@ -7,8 +7,8 @@ use mathlib.Core.List.{List, [], _∷_, map}
 use mathlib.Core.Bool.{true}
 use mathlib.Core.Option.{Option, none, some}
 use lib.ListN.{length, getD, replicate}
-use Rattle.songcode.specs.Joined.{firstBeat, endBeat, follows}
-use Rattle.songcode.specs.Finding.{half, Jump, jumpTo}
+use Rattle.songcode.specs.description.Joined.{firstBeat, endBeat, follows}
+use Rattle.songcode.specs.answer.Finding.{half, Jump, jumpTo}
 
 -- A record holds a beat.
 unfoldable pub Holds : ℕ → ℕ → Type 0
@@ -30,20 +30,20 @@ pub record FirstHolding (beat : ℕ) (table : List ℕ) (place : ℕ) : Type 0 w
   pub noneBefore : (earlier : ℕ) → earlier < place → Holds beat (getD table earlier 0) → ⊥
 
 -- Searches by computation: the table, the beat, and what is found after how many probes.
-pub record Trial : Type 0 where
+pub record JumpTrial : Type 0 where
   pub table : List ℕ
   pub beat : ℕ
   pub found : Jump
 
-abbrev finds : List ℕ → ℕ → ℕ → ℕ → Trial
+abbrev finds : List ℕ → ℕ → ℕ → ℕ → JumpTrial
 finds table beat place probes =
     record { table = table; beat = beat; found = record { place = some place; probes = probes } }
 
-abbrev misses : List ℕ → ℕ → ℕ → Trial
+abbrev misses : List ℕ → ℕ → ℕ → JumpTrial
 misses table beat probes =
     record { table = table; beat = beat; found = record { place = none; probes = probes } }
 
-unfoldable pub trials : List Trial
+unfoldable pub trials : List JumpTrial
 trials =
     -- four beats from 0 and four from 4; their ends
     finds (128 ∷ 8320 ∷ []) 0 0 2

@@ -4,7 +4,7 @@ use Prim.Native.String.{String}
 use mathlib.Core.List.{List, [], _∷_}
 use lib.ListN.{replicate}
 use Rattle.songcode.specs.Bytes.{ascii}
-use Rattle.songcode.specs.Tables.{Tables}
+use Rattle.songcode.specs.answer.Tables.{Tables}
 
 -- A chart and the words of its keys, sections, measures, beats and items.
 pub record Shown : Type 0 where

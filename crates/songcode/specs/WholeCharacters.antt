@@ -3,10 +3,10 @@
 use Prim.Native.Nat.{ℕ, _≤_}
 use mathlib.Core.List.{List, List·Memᴰ}
 use Rattle.songcode.specs.Bytes.{Byte, placed, values}
-use Rattle.songcode.specs.Lines.{Line}
+use Rattle.songcode.specs.answer.Lines.{Line}
 use Rattle.songcode.specs.Song.{Key}
-use Rattle.songcode.specs.WrittenText.{Characters, howMany, WrittenLines}
-use Rattle.songcode.specs.WrittenSection.{Phrase, KeyLine, Header}
+use Rattle.songcode.specs.description.WrittenText.{Characters, howMany, WrittenLines}
+use Rattle.songcode.specs.description.WrittenSection.{Phrase, KeyLine, Header}
 
 -- So many whole characters, no fewer and no more.
 unfoldable pub Long : ℕ → ℕ → List Byte → Type 0

@@ -7,12 +7,12 @@ use borrow.Author.Tests.{lt-ltb, le-ltb, leb-true, leb-false}
 use lib.Dec.{leb, ltb}
 use Rattle.songcode.specs.Lists.{if_then_else_}
 use Rattle.songcode.specs.Bytes.{placed}
-use Rattle.songcode.specs.Lines.{Line}
-use Rattle.songcode.specs.Numbers.{countIn}
+use Rattle.songcode.specs.answer.Lines.{Line}
+use Rattle.songcode.specs.answer.Numbers.{countIn}
 use Rattle.songcode.specs.Complaints.{complainIf}
-use Rattle.songcode.specs.Sections.{behindFirst}
-use Rattle.songcode.specs.SongText as songtext
-use Rattle.songcode.specs.SongText.{metadata, definition, section, kindOfText, headIn}
+use Rattle.songcode.specs.answer.Sections.{behindFirst}
+use Rattle.songcode.specs.answer.SongText as songtext
+use Rattle.songcode.specs.answer.SongText.{metadata, definition, section, kindOfText, headIn}
 use Rattle.songcode.proofs.ChoiceLaws.{zero-is-not-one}
 use Rattle.songcode.proofs.ListLaws.{by-cases}
 use Rattle.tokens.specs.Decimals.{numberOf}

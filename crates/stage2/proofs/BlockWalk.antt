@@ -6,7 +6,7 @@ use mathlib.Core.Bool.{Bool, true, false}
 use native.Mathlib.Omega.{arith}
 use lib.Dec.{ltb}
 use Rattle.songcode.specs.Lists.{if_then_else_, isEmpty}
-use Rattle.songcode.specs.Lines.{Line, Block, Runs, shut, join, runs, blocks}
+use Rattle.songcode.specs.answer.Lines.{Line, Block, Runs, shut, join, runs, blocks}
 use Rattle.grammar.specs.Checks.{first}
 use Rattle.grammar.specs.Verdicts.{sectionFine}
 use Rattle.stage2.specs.Ranks.{noSection, none, unless, onlyIf}

@@ -5,9 +5,9 @@ use mathlib.Core.List.{List}
 use mathlib.Core.Bool.{Bool}
 use native.Mathlib.Omega.{arith}
 use Rattle.songcode.specs.Lists.{if_then_else_, when}
-use Rattle.songcode.specs.Lines.{Line}
+use Rattle.songcode.specs.answer.Lines.{Line}
 use Rattle.songcode.specs.Complaints.{Complaint, complainIf}
-use Rattle.songcode.specs.Sections.{keyLine, modifierLine, patternLine, kindOfLine, keyNameOf, modifierNameOf, misplaced, placeAfter}
+use Rattle.songcode.specs.answer.Sections.{keyLine, modifierLine, patternLine, kindOfLine, keyNameOf, modifierNameOf, misplaced, placeAfter}
 use Rattle.settings.specs.Names.{keyIs, modifierIs}
 use Rattle.stage2.specs.declared.states.Part.{Part}
 use Rattle.stage2.specs.declared.states.Part.the-variants.{Keys, Early, Pattern, Behind}

@@ -5,9 +5,9 @@ use mathlib.Core.List.{List, [], _∷_}
 use mathlib.Core.Bool.{Bool, true, false, not}
 use native.Mathlib.Omega.{arith}
 use Rattle.songcode.specs.Lists.{if_then_else_, isSome, prepend}
-use Rattle.songcode.specs.Lines.{Line, Block}
-use Rattle.songcode.specs.PatternText.{definitionText}
-use Rattle.songcode.specs.SongText.{definition, blockKind, headIn, definitionFaults}
+use Rattle.songcode.specs.answer.Lines.{Line, Block}
+use Rattle.songcode.specs.answer.PatternText.{definitionText}
+use Rattle.songcode.specs.answer.SongText.{definition, blockKind, headIn, definitionFaults}
 use Rattle.grammar.specs.Checks.{first, checkStep, checkText}
 use Rattle.grammar.specs.Verdicts.{definitionFine}
 use Rattle.grammar.specs.declared.checks.Check.{Check}

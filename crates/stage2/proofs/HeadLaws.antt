@@ -11,11 +11,11 @@ use lib.Dec.{eqb, leb}
 use lib.ListN.{length, set, take, length-set, replicate}
 use lib.Seq.{take-suc, take-set-le, getD-set-same}
 use Rattle.songcode.specs.Lists.{if_then_else_, any, prepend, isSome, when}
-use Rattle.songcode.specs.Lines.{Line}
-use Rattle.songcode.specs.Numbers.{isDecimal, valueFrom, numberIn, countIn}
+use Rattle.songcode.specs.answer.Lines.{Line}
+use Rattle.songcode.specs.answer.Numbers.{isDecimal, valueFrom, numberIn, countIn}
 use Rattle.songcode.specs.Complaints.{complainIf}
-use Rattle.songcode.specs.Sections.{twiceBy, behindFirst}
-use Rattle.songcode.specs.SongText.{headIn}
+use Rattle.songcode.specs.answer.Sections.{twiceBy, behindFirst}
+use Rattle.songcode.specs.answer.SongText.{headIn}
 use Rattle.songcode.proofs.ListLaws.{any-append, both-pass, by-cases}
 use Rattle.tokens.specs.Decimals.{numberOf}
 use Rattle.settings.specs.KeySettings.{isNumber}

@@ -6,12 +6,12 @@ use mathlib.Core.Bool.{true, false}
 use mathlib.Core.Option.{none}
 use Rattle.songcode.specs.Lists.{when, orElse}
 use Rattle.songcode.specs.Bytes.{placed}
-use Rattle.songcode.specs.Lines.{Line}
+use Rattle.songcode.specs.answer.Lines.{Line}
 use Rattle.songcode.specs.Complaints.{complainIf}
-use Rattle.songcode.specs.Sections as sections
-use Rattle.songcode.specs.Sections.{keyLine, modifierLine, patternLine, kindOf, kindOfLine, keyNameOf, modifierNameOf, settingOf, keySaid}
-use Rattle.songcode.specs.Sections.{modifierSaid, keyFaults, modifierFaults, faults}
-use Rattle.songcode.specs.SongText.{metadataFault}
+use Rattle.songcode.specs.answer.Sections as sections
+use Rattle.songcode.specs.answer.Sections.{keyLine, modifierLine, patternLine, kindOf, kindOfLine, keyNameOf, modifierNameOf, settingOf, keySaid}
+use Rattle.songcode.specs.answer.Sections.{modifierSaid, keyFaults, modifierFaults, faults}
+use Rattle.songcode.specs.answer.SongText.{metadataFault}
 use Rattle.text.specs.Spans.{part}
 use Rattle.settings.specs.Kinds.{kindIs}
 use Rattle.settings.specs.Names.{keyIs, modifierIs}

@@ -11,11 +11,11 @@ use lib.Dec.{eqb}
 use lib.ListN.{length, getD, set, length-set, getD-replicate}
 use lib.Seq.{getD-set-same, getD-set-other}
 use Rattle.songcode.specs.Lists.{if_then_else_, any, prepend, andThen, orElse}
-use Rattle.songcode.specs.Lines.{Line}
+use Rattle.songcode.specs.answer.Lines.{Line}
 use Rattle.songcode.specs.Song.{KeyName, name, artist, original, capo, bpm, time, warning, end}
-use Rattle.songcode.specs.Keys.{keyPlace}
-use Rattle.songcode.specs.Modifiers.{ModifierName, ofRepeat, ofCutStart, ofCutEnd, ofBefore, ofAfter, modifierPlace}
-use Rattle.songcode.specs.Sections.{kindOfLine, keyNameOf, modifierNameOf, keySaid, modifierSaid, twiceBy}
+use Rattle.songcode.specs.answer.Keys.{keyPlace}
+use Rattle.songcode.specs.answer.Modifiers.{ModifierName, ofRepeat, ofCutStart, ofCutEnd, ofBefore, ofAfter, modifierPlace}
+use Rattle.songcode.specs.answer.Sections.{kindOfLine, keyNameOf, modifierNameOf, keySaid, modifierSaid, twiceBy}
 use Rattle.songcode.proofs.LineAgree.{by-kind}
 use Rattle.songcode.proofs.ListLaws.{by-cases}
 use Rattle.stage2.specs.Ranks.{least, none}

@@ -5,10 +5,10 @@ use mathlib.Core.List.{List}
 use mathlib.Core.Bool.{Bool, true, false}
 use native.Mathlib.Omega.{arith}
 use Rattle.songcode.specs.Lists.{if_then_else_}
-use Rattle.songcode.specs.Lines.{Line}
+use Rattle.songcode.specs.answer.Lines.{Line}
 use Rattle.songcode.specs.Complaints.{complainIf}
-use Rattle.songcode.specs.Sections.{keyLine, modifierLine, patternLine, kindOfLine, keyNameOf, modifierNameOf, settingOf}
-use Rattle.songcode.specs.SongText.{metadataFault}
+use Rattle.songcode.specs.answer.Sections.{keyLine, modifierLine, patternLine, kindOfLine, keyNameOf, modifierNameOf, settingOf}
+use Rattle.songcode.specs.answer.SongText.{metadataFault}
 use Rattle.settings.specs.Names.{keyIs, modifierIs}
 use Rattle.settings.specs.declared.keys.KeyName.{KeyName}
 use Rattle.settings.specs.declared.modifiers.ModifierName.{ModifierName}

@@ -4,9 +4,9 @@ use mathlib.Core.Path.{_≡_, refl, sym, ap, _∙_}
 use mathlib.Core.List.{List, [], _∷_}
 use native.Mathlib.Omega.{arith}
 use Rattle.songcode.specs.Lists.{gather, prepend}
-use Rattle.songcode.specs.Lines.{Line, Block}
-use Rattle.songcode.specs.Sections.{twice, twiceBy, keySaid}
-use Rattle.songcode.specs.SongText.{metadata, blockKind, metadataFault}
+use Rattle.songcode.specs.answer.Lines.{Line, Block}
+use Rattle.songcode.specs.answer.Sections.{twice, twiceBy, keySaid}
+use Rattle.songcode.specs.answer.SongText.{metadata, blockKind, metadataFault}
 use Rattle.grammar.specs.Checks.{first}
 use Rattle.grammar.specs.Verdicts.{sectionFine}
 use Rattle.stage2.specs.Ranks.{least}

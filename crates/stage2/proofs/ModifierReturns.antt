@@ -6,14 +6,14 @@ use mathlib.Core.Bool.{Bool, false, not}
 use mathlib.Core.Option.{Option, none, some}
 use Rattle.songcode.specs.Lists.{isSome}
 use Rattle.songcode.specs.Bytes.{placed}
-use Rattle.songcode.specs.Lines.{Line}
-use Rattle.songcode.specs.Numbers.{repeatIn}
-use Rattle.songcode.specs.Keys.{settingIn}
-use Rattle.songcode.specs.Modifiers.{cutIn}
+use Rattle.songcode.specs.answer.Lines.{Line}
+use Rattle.songcode.specs.answer.Numbers.{repeatIn}
+use Rattle.songcode.specs.answer.Keys.{settingIn}
+use Rattle.songcode.specs.answer.Modifiers.{cutIn}
 use Rattle.songcode.specs.Song as song
-use Rattle.songcode.specs.PatternText.{sideText}
+use Rattle.songcode.specs.answer.PatternText.{sideText}
 use Rattle.songcode.specs.Complaints.{complainIf}
-use Rattle.songcode.specs.Sections.{settingOf}
+use Rattle.songcode.specs.answer.Sections.{settingOf}
 use Rattle.tokens.specs.Decimals.{numberOf}
 use Rattle.tokens.specs.declared.numbers.Number.{Number}
 use Rattle.text.specs.Spans.{part}

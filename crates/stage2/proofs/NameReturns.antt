@@ -4,11 +4,11 @@ use mathlib.Core.Path.{_≡_, refl, sym, ap, _∙_}
 use mathlib.Core.List.{List}
 use mathlib.Core.Bool.{Bool, not}
 use Rattle.songcode.specs.Bytes.{placed}
-use Rattle.songcode.specs.Keys.{nameIn, settingIn, keyNamed}
-use Rattle.songcode.specs.Modifiers.{modifierNamed}
+use Rattle.songcode.specs.answer.Keys.{nameIn, settingIn, keyNamed}
+use Rattle.songcode.specs.answer.Modifiers.{modifierNamed}
 use Rattle.songcode.specs.Song as song
 use Rattle.songcode.specs.Complaints.{complainIf}
-use Rattle.songcode.specs.Sections.{keyNameOf, modifierNameOf, settingOf}
+use Rattle.songcode.specs.answer.Sections.{keyNameOf, modifierNameOf, settingOf}
 use Rattle.text.specs.Spans.{part}
 use Rattle.settings.specs.Names.{keyIs, modifierIs}
 use Rattle.settings.specs.KeySettings.{isSettingOf}

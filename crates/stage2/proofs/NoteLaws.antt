@@ -7,14 +7,14 @@ use mathlib.Core.Option.{Option, none, some}
 use native.Mathlib.Omega.{arith}
 use Rattle.songcode.specs.Lists.{isSome, andThen, orElse, when}
 use Rattle.songcode.specs.Bytes.{Byte}
-use Rattle.songcode.specs.Lines.{Line}
-use Rattle.songcode.specs.Numbers.{repeatIn}
+use Rattle.songcode.specs.answer.Lines.{Line}
+use Rattle.songcode.specs.answer.Numbers.{repeatIn}
 use Rattle.songcode.specs.Song.{KeyName, name, artist, original, capo, bpm, time, warning, end, repeated, cutStart, cutEnd, before, after}
-use Rattle.songcode.specs.Keys.{isSetting, ofSection, ofMetadata, keyPlace}
-use Rattle.songcode.specs.Modifiers.{ModifierName, ofRepeat, ofCutStart, ofCutEnd, ofBefore, ofAfter, modifierIn, settingRefusal, modifierPlace, cutIn}
-use Rattle.songcode.specs.PatternText.{sideText}
+use Rattle.songcode.specs.answer.Keys.{isSetting, ofSection, ofMetadata, keyPlace}
+use Rattle.songcode.specs.answer.Modifiers.{ModifierName, ofRepeat, ofCutStart, ofCutEnd, ofBefore, ofAfter, modifierIn, settingRefusal, modifierPlace, cutIn}
+use Rattle.songcode.specs.answer.PatternText.{sideText}
 use Rattle.songcode.specs.Complaints.{complaint, complainIf}
-use Rattle.songcode.specs.Sections.{settingOf, keyFaultsBy, modifierFaultsBy}
+use Rattle.songcode.specs.answer.Sections.{settingOf, keyFaultsBy, modifierFaultsBy}
 use Rattle.settings.specs.Names.{keyIs, modifierIs}
 use Rattle.settings.specs.KeySettings.{isSettingOf}
 use Rattle.stage2.specs.Ranks.{least}

@@ -5,10 +5,10 @@ use mathlib.Core.List.{List, [], _∷_}
 use mathlib.Core.Bool.{true, false, not}
 use native.Mathlib.Omega.{arith}
 use Rattle.songcode.specs.Lists.{if_then_else_, taken, left, isSome}
-use Rattle.songcode.specs.Lines.{Line}
-use Rattle.songcode.specs.PatternText.{sectionText}
-use Rattle.songcode.specs.Sections.{Kind, keyLine, modifierLine, patternLine, kindOfLine, isPatternLine, notPatternLine, Place, amongKeys, early}
-use Rattle.songcode.specs.Sections.{inPattern, behind, placeAfter, patternRun, patternFaults}
+use Rattle.songcode.specs.answer.Lines.{Line}
+use Rattle.songcode.specs.answer.PatternText.{sectionText}
+use Rattle.songcode.specs.answer.Sections.{Kind, keyLine, modifierLine, patternLine, kindOfLine, isPatternLine, notPatternLine, Place, amongKeys, early}
+use Rattle.songcode.specs.answer.Sections.{inPattern, behind, placeAfter, patternRun, patternFaults}
 use Rattle.grammar.specs.Checks.{first, checkText}
 use Rattle.grammar.specs.Verdicts.{sectionFine}
 use Rattle.grammar.proofs.VerdictLaws.{section-fine}

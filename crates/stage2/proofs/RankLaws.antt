@@ -9,9 +9,9 @@ use native.Mathlib.Omega.{arith}
 use borrow.Author.Tests.{ltb-true, ltb-false, leb-true, leb-false, eqb-true, eqb-false, lt-ltb}
 use lib.Dec.{eqb, leb, ltb}
 use Rattle.songcode.specs.Lists.{if_then_else_, isEmpty, when}
-use Rattle.songcode.specs.Lines.{Block}
+use Rattle.songcode.specs.answer.Lines.{Block}
 use Rattle.songcode.specs.Complaints.{Complaint, complainIf, goesFirst, earlier, earliest}
-use Rattle.songcode.specs.SongText.{orNoSection}
+use Rattle.songcode.specs.answer.SongText.{orNoSection}
 use Rattle.songcode.proofs.ListLaws.{Each, by-cases}
 use Rattle.text.specs.Refusals.{refusalOf}
 use Rattle.stage2.specs.Ranks.{ranked, rank, noSection, none, Small, least, onlyIf, refusalAt}

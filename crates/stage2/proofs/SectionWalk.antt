@@ -5,12 +5,12 @@ use mathlib.Core.List.{List, [], _∷_, _++_, map}
 use mathlib.Core.Bool.{true, false}
 use native.Mathlib.Omega.{arith}
 use Rattle.songcode.specs.Lists.{if_then_else_, taken, left, isEmpty, gather, prepend}
-use Rattle.songcode.specs.Lines.{Line, Block}
+use Rattle.songcode.specs.answer.Lines.{Line, Block}
 use Rattle.songcode.specs.Complaints.{Complaint, complaint, complainIf}
-use Rattle.songcode.specs.Sections.{Kind, keyLine, modifierLine, patternLine, kindOfLine, Place, amongKeys, early, inPattern, behind, misplaced}
-use Rattle.songcode.specs.Sections.{placeAfter, order, twice, twiceBy, keySaid, modifierSaid, faults, patternRun, patternFaults, headerFaults}
-use Rattle.songcode.specs.Sections.{notDashes, lyricFaults, body, ending, sectionFaults}
-use Rattle.songcode.specs.SongText.{section, blockKind}
+use Rattle.songcode.specs.answer.Sections.{Kind, keyLine, modifierLine, patternLine, kindOfLine, Place, amongKeys, early, inPattern, behind, misplaced}
+use Rattle.songcode.specs.answer.Sections.{placeAfter, order, twice, twiceBy, keySaid, modifierSaid, faults, patternRun, patternFaults, headerFaults}
+use Rattle.songcode.specs.answer.Sections.{notDashes, lyricFaults, body, fromDashes, sectionFaults}
+use Rattle.songcode.specs.answer.SongText.{section, blockKind}
 use Rattle.songcode.proofs.ListLaws.{by-cases}
 use Rattle.grammar.specs.Checks.{first}
 use Rattle.grammar.specs.Verdicts.{sectionFine}
@@ -144,16 +144,16 @@ module _ (k : Known) (b : Block) (e : blockKind b ≡ section) where
   opened = known (max (k .turn) 2) (k .keys) (k .sofar) (k .heads)
 
   pub section-block : blockNote k b ≡ min (late 2 (k .turn) (b .first)) (least (sectionFaults b))
-  unfolding inBlock stepAt opens blockKind sectionFaults patternLeft bodyLeft body ending Fits
+  unfolding inBlock stepAt opens blockKind sectionFaults patternLeft bodyLeft body fromDashes Fits
   section-block =
       let ls = body b in
       let want = ranked 8 (b .first .number) in
       let q = pending want none none first in
       let said = section-least (headerFaults (b .first)) (order amongKeys ls) (twice 4 keySaid [] ls) (twice 8 modifierSaid [] ls) (gather faults ls)
-      (patternFaults (b .first .number) (patternRun ls)) (lyricFaults (ending b)) in
+      (patternFaults (b .first .number) (patternRun ls)) (lyricFaults (fromDashes b)) in
       rw (e, section-lines opened amongKeys [] [] q (b .others) refl refl, said, run-faults (b .first .number) (patternRun ls))
       (capped (late 2 (k .turn) (b .first)) (least (headerFaults (b .first))) (bodyLeft amongKeys [] [] ls) (wanted want (patternRun ls))
-      (least (lyricFaults (ending b))) (least-le (lyricFaults (ending b))))
+      (least (lyricFaults (fromDashes b))) (least-le (lyricFaults (fromDashes b))))
 
   pub section-block-after : blockAfter k b ≡ opened
   unfolding afterBlock stepAt opens blockKind

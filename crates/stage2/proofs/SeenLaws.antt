@@ -4,8 +4,8 @@ use mathlib.Core.Path.{_≡_, refl, sym, ap, _∙_}
 use mathlib.Core.List.{List, [], _∷_, _++_, append-assoc, append-nil}
 use mathlib.Core.Option.{Option}
 use Rattle.songcode.specs.Lists.{prepend}
-use Rattle.songcode.specs.Lines.{Line}
-use Rattle.songcode.specs.Sections.{twice}
+use Rattle.songcode.specs.answer.Lines.{Line}
+use Rattle.songcode.specs.answer.Sections.{twice}
 use Rattle.grammar.specs.Checks.{first, checkStep, checkText, checkLines}
 use Rattle.grammar.specs.declared.checks.Check.{Check}
 use Rattle.grammar.specs.declared.kinds.Kind.the-variants.{LineEnd}

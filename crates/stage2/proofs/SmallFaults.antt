@@ -5,13 +5,13 @@ use mathlib.Core.Bool.{not, _||_}
 use native.Mathlib.Omega.{arith}
 use lib.Dec.{leb, ltb}
 use Rattle.songcode.specs.Lists.{left, isSome, gather}
-use Rattle.songcode.specs.Lines.{Line, Block}
+use Rattle.songcode.specs.answer.Lines.{Line, Block}
 use Rattle.songcode.specs.Complaints.{Complaint, complainIf}
-use Rattle.songcode.specs.Sections.{isPatternLine, notPatternLine, twice, keySaid, modifierSaid, faults, amongKeys, order, patternRun, patternFaults}
-use Rattle.songcode.specs.Sections.{headerFaults, notDashes, lyricFaults, body, ending, sectionFaults}
-use Rattle.songcode.specs.SongText.{BlockKind, metadata, definition, section, blockKind, turn, blockOrder, linesIf, metadataLines, metadataFault}
-use Rattle.songcode.specs.SongText.{metadataFaults, headIn, definitionIf, sectionIf, definitionBlocks, sectionBlocks, headsFaults, firstLine}
-use Rattle.songcode.specs.SongText.{definitionFaults, definitionsFaults}
+use Rattle.songcode.specs.answer.Sections.{isPatternLine, notPatternLine, twice, keySaid, modifierSaid, faults, amongKeys, order, patternRun, patternFaults}
+use Rattle.songcode.specs.answer.Sections.{headerFaults, notDashes, lyricFaults, body, fromDashes, sectionFaults}
+use Rattle.songcode.specs.answer.SongText.{BlockKind, metadata, definition, section, blockKind, turn, blockOrder, linesIf, metadataLines, metadataFault}
+use Rattle.songcode.specs.answer.SongText.{metadataFaults, headIn, definitionIf, sectionIf, definitionBlocks, sectionBlocks, headsFaults, firstLine}
+use Rattle.songcode.specs.answer.SongText.{definitionFaults, definitionsFaults}
 use Rattle.songcode.proofs.ListLaws.{Each, each-append}
 use Rattle.settings.specs.Phrases.{isHeader}
 use Rattle.stage2.specs.Ranks.{Small}
@@ -33,7 +33,7 @@ all-seven h o k m f p l a b c d e g i =
 
 -- A section.
 fine-section : (b : Block) → LowBlock b → Fine (sectionFaults b)
-unfolding sectionFaults LowBlock patternRun body ending
+unfolding sectionFaults LowBlock patternRun body fromDashes
 fine-section b h =
     let low = each-taken Low notDashes (b .others) (h .1) in
     let run = each-taken Low isPatternLine (left notPatternLine (body b)) (each-left Low notPatternLine (body b) low) in
@@ -44,14 +44,14 @@ fine-section b h =
     (twice 8 modifierSaid [] (body b))
     (gather faults (body b))
     (patternFaults (b .first .number) (patternRun (body b)))
-    (lyricFaults (ending b))
+    (lyricFaults (fromDashes b))
     (fine-header (b .first) (h .0))
     (fine-order amongKeys (body b) low)
     (fine-twice 4 (omega arith, omega arith) keySaid [] (body b) low)
     (fine-twice 8 (omega arith, omega arith) modifierSaid [] (body b) low)
     (fine-gather faults fine-faults (body b) low)
     (fine-pattern (b .first) (patternRun (body b)) (h .0) run)
-    (fine-lyrics (ending b) (each-left Low notDashes (b .others) (h .1)))
+    (fine-lyrics (fromDashes b) (each-left Low notDashes (b .others) (h .1)))
 
 -- Blocks.
 fine-blocks-order : (t : ℕ) (bs : List Block) → Each LowBlock bs → Fine (blockOrder t bs)

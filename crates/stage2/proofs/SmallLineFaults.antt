@@ -6,16 +6,16 @@ use mathlib.Core.Option.{Option, none, some}
 use native.Mathlib.Omega.{arith}
 use lib.Dec.{eqb}
 use Rattle.songcode.specs.Lists.{if_then_else_, taken, left, isEmpty, isSome, any, gather, prepend, when}
-use Rattle.songcode.specs.Lines.{Line, Block}
+use Rattle.songcode.specs.answer.Lines.{Line, Block}
 use Rattle.songcode.specs.Song.{KeyName}
-use Rattle.songcode.specs.Keys.{isSetting, ofSection, ofMetadata}
-use Rattle.songcode.specs.Modifiers.{ModifierName, ofRepeat, ofCutStart, ofCutEnd, ofBefore, ofAfter, settingRefusal, modifierIn}
-use Rattle.songcode.specs.PatternText.{sectionText, definitionText}
+use Rattle.songcode.specs.answer.Keys.{isSetting, ofSection, ofMetadata}
+use Rattle.songcode.specs.answer.Modifiers.{ModifierName, ofRepeat, ofCutStart, ofCutEnd, ofBefore, ofAfter, settingRefusal, modifierIn}
+use Rattle.songcode.specs.answer.PatternText.{sectionText, definitionText}
 use Rattle.songcode.specs.Complaints.{Complaint, complaint, complainIf}
-use Rattle.songcode.specs.Sections.{Kind, keyLine, modifierLine, patternLine, kindOfLine, settingOf, keyFaultsBy, keyFaults, keyNameOf}
-use Rattle.songcode.specs.Sections.{modifierFaultsBy, modifierFaults, modifierNameOf, twice, twiceBy, faults, Place, amongKeys, early, inPattern}
-use Rattle.songcode.specs.Sections.{behind, misplaced, placeAfter, order, patternFaults, lyricFaults}
-use Rattle.songcode.specs.SongText.{metadataFault, definitionFaults}
+use Rattle.songcode.specs.answer.Sections.{Kind, keyLine, modifierLine, patternLine, kindOfLine, settingOf, keyFaultsBy, keyFaults, keyNameOf}
+use Rattle.songcode.specs.answer.Sections.{modifierFaultsBy, modifierFaults, modifierNameOf, twice, twiceBy, faults, Place, amongKeys, early, inPattern}
+use Rattle.songcode.specs.answer.Sections.{behind, misplaced, placeAfter, order, patternFaults, lyricFaults}
+use Rattle.songcode.specs.answer.SongText.{metadataFault, definitionFaults}
 use Rattle.songcode.proofs.ListLaws.{Each, each-append, by-cases}
 use Rattle.songcode.proofs.LineAgree.{by-kind as by-line-kind}
 use Rattle.stage2.specs.Ranks.{Small}

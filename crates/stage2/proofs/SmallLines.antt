@@ -6,11 +6,11 @@ use mathlib.Core.Bool.{Bool, true, false}
 use native.Mathlib.Omega.{arith}
 use lib.ListN.{length}
 use Rattle.songcode.specs.Lists.{isEmpty}
-use Rattle.songcode.specs.Lines as songcode
-use Rattle.songcode.specs.Lines.{Block, Runs, shut, join, runs, blocks}
+use Rattle.songcode.specs.answer.Lines as songcode
+use Rattle.songcode.specs.answer.Lines.{Block, Runs, shut, join, runs, blocks}
 use Rattle.songcode.specs.Complaints.{earliest}
-use Rattle.songcode.specs.SongText.{sectionBlocks, textFaults}
-use Rattle.songcode.specs.Answer.{blocksOf}
+use Rattle.songcode.specs.answer.SongText.{sectionBlocks, textFaults}
+use Rattle.songcode.specs.answer.Answer.{blocksOf}
 use Rattle.songcode.proofs.ListLaws.{Each}
 use Rattle.text.specs.Refusals.{refusalOf}
 use Rattle.text.specs.Spans.{lineOf, spansFrom, spans, lineText}

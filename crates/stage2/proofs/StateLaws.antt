@@ -4,10 +4,10 @@ use mathlib.Core.Path.{_≡_, refl, sym, ap, subst}
 use mathlib.Core.List.{[]}
 use lib.ListN.{replicate}
 use Rattle.songcode.specs.Lists.{if_then_else_, isEmpty, prepend}
-use Rattle.songcode.specs.Lines.{Line}
-use Rattle.songcode.specs.Sections as sections
-use Rattle.songcode.specs.Sections.{amongKeys, early, inPattern, behind, keySaid, modifierSaid, notDashes}
-use Rattle.songcode.specs.SongText.{BlockKind, metadata, definition, section, kindOfText, headIn}
+use Rattle.songcode.specs.answer.Lines.{Line}
+use Rattle.songcode.specs.answer.Sections as sections
+use Rattle.songcode.specs.answer.Sections.{amongKeys, early, inPattern, behind, keySaid, modifierSaid, notDashes}
+use Rattle.songcode.specs.answer.SongText.{BlockKind, metadata, definition, section, kindOfText, headIn}
 use Rattle.songcode.proofs.ListLaws.{by-cases}
 use Rattle.grammar.specs.declared.checks.Check.{Check}
 use Rattle.tokens.specs.Decimals.{numberOf}

@@ -7,12 +7,12 @@ use native.Mathlib.Omega.{arith}
 use borrow.Author.Tests.{lt-ltb, le-ltb, ltb-true, ltb-false}
 use lib.Dec.{leb, ltb}
 use Rattle.songcode.specs.Lists.{if_then_else_, isEmpty, isSome, gather, prepend}
-use Rattle.songcode.specs.Lines.{Line, Block, blocks}
+use Rattle.songcode.specs.answer.Lines.{Line, Block, blocks}
 use Rattle.songcode.specs.Complaints.{Complaint, complainIf}
-use Rattle.songcode.specs.Sections.{twice, twiceBy, keySaid, sectionFaults}
-use Rattle.songcode.specs.SongText.{BlockKind, metadata, definition, section, blockKind, turn, blockOrder, linesIf, metadataLines, metadataFault}
-use Rattle.songcode.specs.SongText.{metadataFaults, headIn, definitionIf, sectionIf, definitionBlocks, sectionBlocks, headsFaults, firstLine}
-use Rattle.songcode.specs.SongText.{definitionFaults, definitionsFaults}
+use Rattle.songcode.specs.answer.Sections.{twice, twiceBy, keySaid, sectionFaults}
+use Rattle.songcode.specs.answer.SongText.{BlockKind, metadata, definition, section, blockKind, turn, blockOrder, linesIf, metadataLines, metadataFault}
+use Rattle.songcode.specs.answer.SongText.{metadataFaults, headIn, definitionIf, sectionIf, definitionBlocks, sectionBlocks, headsFaults, firstLine}
+use Rattle.songcode.specs.answer.SongText.{definitionFaults, definitionsFaults}
 use Rattle.songcode.proofs.ListLaws.{gather-append, by-cases}
 use Rattle.songcode.proofs.BlockKinds.{by-kind}
 use Rattle.stage2.specs.Ranks.{noSection, none, least, onlyIf}

@@ -8,12 +8,12 @@ use borrow.Author.Tests.{eq-eqb, ne-eqb}
 use lib.ListN.{length, drop}
 use Rattle.songcode.specs.Lists.{if_then_else_}
 use Rattle.songcode.specs.Bytes.{placed, is}
-use Rattle.songcode.specs.Lines as songcode
-use Rattle.songcode.specs.Lines.{blocks}
-use Rattle.songcode.specs.Sections.{notDashes}
+use Rattle.songcode.specs.answer.Lines as songcode
+use Rattle.songcode.specs.answer.Lines.{blocks}
+use Rattle.songcode.specs.answer.Sections.{notDashes}
 use Rattle.songcode.specs.Complaints.{earliest}
-use Rattle.songcode.specs.SongText.{textFaults}
-use Rattle.songcode.specs.Answer.{blocksOf}
+use Rattle.songcode.specs.answer.SongText.{textFaults}
+use Rattle.songcode.specs.answer.Answer.{blocksOf}
 use Rattle.text.specs.Refusals.{refusalOf}
 use Rattle.text.specs.Spans.{part, Found, spansFrom, spans, lineText}
 use Rattle.text.specs.declared.lines.Line.{Line}

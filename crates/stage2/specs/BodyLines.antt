@@ -2,9 +2,9 @@
 use Prim.Native.Nat.{ℕ, min}
 use mathlib.Core.List.{List}
 use mathlib.Core.Bool.{Bool, true, false}
-use Rattle.songcode.specs.Lines.{Line}
+use Rattle.songcode.specs.answer.Lines.{Line}
 use Rattle.songcode.specs.Complaints.{complainIf}
-use Rattle.songcode.specs.Sections.{keyNameOf, modifierNameOf, settingOf}
+use Rattle.songcode.specs.answer.Sections.{keyNameOf, modifierNameOf, settingOf}
 use Rattle.settings.specs.Names.{keyIs, modifierIs}
 use Rattle.stage2.specs.declared.states.Part.{Part}
 use Rattle.stage2.specs.declared.states.Part.the-variants.{Keys, Early, Pattern, Behind}

@@ -4,9 +4,9 @@ use mathlib.Core.List.{List}
 use mathlib.Core.Bool.{Bool, true, false, not}
 use Rattle.songcode.specs.Lists.{isSome}
 use Rattle.songcode.specs.Bytes.{Byte}
-use Rattle.songcode.specs.Numbers.{repeatIn}
-use Rattle.songcode.specs.Modifiers.{cutIn}
-use Rattle.songcode.specs.PatternText.{sideText}
+use Rattle.songcode.specs.answer.Numbers.{repeatIn}
+use Rattle.songcode.specs.answer.Modifiers.{cutIn}
+use Rattle.songcode.specs.answer.PatternText.{sideText}
 use Rattle.songcode.specs.Complaints.{complainIf}
 use Rattle.settings.specs.KeySettings.{isSettingOf}
 use Rattle.settings.specs.declared.keys.KeyName.{KeyName}

@@ -6,11 +6,11 @@ use mathlib.Core.Bool.{Bool, true, false, _||_, not}
 use lib.Dec.{eqb, leb, ltb}
 use lib.ListN.{length, getD, set, take, replicate}
 use Rattle.songcode.specs.Lists.{if_then_else_, isEmpty, any, orElse}
-use Rattle.songcode.specs.Lines.{Line}
+use Rattle.songcode.specs.answer.Lines.{Line}
 use Rattle.songcode.specs.Complaints.{complainIf}
-use Rattle.songcode.specs.Sections as sections
-use Rattle.songcode.specs.Sections.{kindOfLine, amongKeys, early, inPattern, behind, placeAfter, keySaid, modifierSaid, faults, headerFaults, notDashes}
-use Rattle.songcode.specs.SongText.{BlockKind, metadata, definition, section, kindOfText, metadataFault, headIn}
+use Rattle.songcode.specs.answer.Sections as sections
+use Rattle.songcode.specs.answer.Sections.{kindOfLine, amongKeys, early, inPattern, behind, placeAfter, keySaid, modifierSaid, faults, headerFaults, notDashes}
+use Rattle.songcode.specs.answer.SongText.{BlockKind, metadata, definition, section, kindOfText, metadataFault, headIn}
 use Rattle.tokens.specs.Decimals.{numberOf}
 use Rattle.tokens.specs.declared.numbers.Number.{Number}
 use Rattle.tokens.specs.declared.numbers.Number.the-variants.{Is, Not}

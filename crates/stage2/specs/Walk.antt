@@ -4,11 +4,11 @@ use mathlib.Core.List.{List, [], _∷_, map}
 use mathlib.Core.Bool.{Bool, _||_, not}
 use lib.Dec.{leb, ltb}
 use Rattle.songcode.specs.Lists.{if_then_else_, isEmpty, isSome, prepend}
-use Rattle.songcode.specs.Lines.{Line}
+use Rattle.songcode.specs.answer.Lines.{Line}
 use Rattle.songcode.specs.Complaints.{complaint, complainIf}
-use Rattle.songcode.specs.Sections.{Kind, keyLine, modifierLine, patternLine, kindOfLine, Place, amongKeys, early, inPattern, behind, misplaced}
-use Rattle.songcode.specs.Sections.{placeAfter, twiceBy, keySaid, modifierSaid, faults, headerFaults, notDashes}
-use Rattle.songcode.specs.SongText.{BlockKind, metadata, definition, section, kindOfText, metadataFault, headIn}
+use Rattle.songcode.specs.answer.Sections.{Kind, keyLine, modifierLine, patternLine, kindOfLine, Place, amongKeys, early, inPattern, behind, misplaced}
+use Rattle.songcode.specs.answer.Sections.{placeAfter, twiceBy, keySaid, modifierSaid, faults, headerFaults, notDashes}
+use Rattle.songcode.specs.answer.SongText.{BlockKind, metadata, definition, section, kindOfText, metadataFault, headIn}
 use Rattle.grammar.specs.Checks.{first, checkStep, checkText}
 use Rattle.grammar.specs.Verdicts.{definitionFine, sectionFine}
 use Rattle.grammar.specs.declared.checks.Check.{Check}

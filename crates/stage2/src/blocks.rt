@@ -27,7 +27,7 @@ use text::Line;
 ghost use mathlib.Core.Path.{_≡_};
 ghost use Prim.Native.Nat.{_<_, _≤_};
 ghost use lib.ListN.{length};
-ghost use Rattle.songcode.specs.SongText.{metadata, definition, section, kindOfText};
+ghost use Rattle.songcode.specs.answer.SongText.{metadata, definition, section, kindOfText};
 ghost use Rattle.text.specs.Spans.{lineText};
 ghost use Rattle.stage2.specs.States.{Fit, blockState, metadataState, keyJudged, judged, opening, fineFor, closing};
 

@@ -26,7 +26,7 @@ use text::Line;
 ghost use mathlib.Core.Path.{_≡_};
 ghost use Prim.Native.Nat.{_<_, _≤_};
 ghost use lib.ListN.{length};
-ghost use Rattle.songcode.specs.Sections.{kindOfLine, keyNameOf};
+ghost use Rattle.songcode.specs.answer.Sections.{kindOfLine, keyNameOf};
 ghost use Rattle.text.specs.Spans.{lineText};
 ghost use Rattle.settings.specs.Kinds.{kindIs};
 ghost use Rattle.stage2.specs.States.{partOf, marked, keyOf, keyJudged, judged, bodyJudged, bodyState};

@@ -13,7 +13,7 @@ use text::Line;
 ghost use mathlib.Core.Path.{_≡_};
 ghost use Prim.Native.Nat.{_<_, _≤_};
 ghost use lib.ListN.{length};
-ghost use Rattle.songcode.specs.Sections.{modifierNameOf, settingOf};
+ghost use Rattle.songcode.specs.answer.Sections.{modifierNameOf, settingOf};
 ghost use Rattle.text.specs.Spans.{lineText};
 ghost use Rattle.settings.specs.Names.{modifierIs};
 ghost use Rattle.stage2.specs.LineNotes.{modifierNumber, isCut, settingFine, settingNumber, modifierNote};

@@ -10,7 +10,7 @@ use text::Line;
 ghost use mathlib.Core.Path.{_≡_};
 ghost use Prim.Native.Nat.{_<_, _≤_};
 ghost use lib.ListN.{length};
-ghost use Rattle.songcode.specs.Sections.{keyNameOf, settingOf};
+ghost use Rattle.songcode.specs.answer.Sections.{keyNameOf, settingOf};
 ghost use Rattle.text.specs.Spans.{lineText};
 ghost use Rattle.settings.specs.Names.{keyIs};
 ghost use Rattle.stage2.specs.LineNotes.{keyNumber, allowedIn, keyNote};

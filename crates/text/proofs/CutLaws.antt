@@ -11,7 +11,7 @@ use lib.Dec.{ltb}
 use lib.ListN.{getD, take, drop}
 use Rattle.songcode.specs.Lists.{if_then_else_}
 use Rattle.songcode.specs.Bytes.{Byte, placed}
-use Rattle.songcode.specs.Lines.{cr, endingOf, Cut, put, cutLines}
+use Rattle.songcode.specs.answer.Lines.{cr, endingOf, LineCut, put, cutLines}
 use Rattle.text.specs.Spans.{end, longer, lineLength, breakWidth, breakLength, isEnd, endsOpen}
 use Rattle.text.proofs.TestLaws.{false-not-true}
 use Rattle.text.proofs.SpanLaws.{by-ending}
@@ -22,7 +22,7 @@ abbrev pub ended : List ℕ → Bool
 ended bs = ltb 0 (breakLength (drop (lineLength bs) bs))
 
 -- The lines behind a line: where it has no line end there are none.
-unfoldable pub behind : Bool → Cut → List (List Byte)
+unfoldable pub behind : Bool → LineCut → List (List Byte)
 behind true c = c .first ∷ c .others
 behind false c = []
 

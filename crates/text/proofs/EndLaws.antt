@@ -11,8 +11,8 @@ use lib.ListN.{length, getD, take, drop, drop-of-length-le}
 use lib.Seq.{drop-cons, getD-drop, take-all}
 use Rattle.songcode.specs.Lists.{if_then_else_}
 use Rattle.songcode.specs.Bytes.{Byte, placed}
-use Rattle.songcode.specs.Lines.{ending, endingOf, Cut, put, cutLines}
-use Rattle.songcode.specs.Answer.{lineOfPlace}
+use Rattle.songcode.specs.answer.Lines.{ending, endingOf, LineCut, put, cutLines}
+use Rattle.songcode.specs.answer.Answer.{lineOfPlace}
 use Rattle.songcode.proofs.ListLaws.{by-cases}
 use Rattle.text.specs.Ends.{endsLine, lineEnds}
 
@@ -21,7 +21,7 @@ unfoldable oneIf : Bool → ℕ
 oneIf true = 1
 oneIf false = 0
 
-put-ends : (b next : Byte) (c : Cut) → length (put (ending b) (ending next) b c .others) ≡ oneIf (endsLine (b .value) (next .value)) + length (c .others)
+put-ends : (b next : Byte) (c : LineCut) → length (put (ending b) (ending next) b c .others) ≡ oneIf (endsLine (b .value) (next .value)) + length (c .others)
 unfolding put ending endsLine oneIf if_then_else_
 put-ends b next c =
     by-cases

@@ -8,7 +8,7 @@ use native.Mathlib.Nat.{zero-add}
 use lib.ListN.{length, getD, drop, drop-of-length-le, length-drop}
 use lib.Seq.{drop-cons, drop-drop}
 use Rattle.songcode.specs.Lists.{if_then_else_}
-use Rattle.songcode.specs.Characters.{Form, forms, within, isTail, tails, follows, widthBy, goodBytes}
+use Rattle.songcode.specs.answer.Characters.{Form, forms, within, isTail, tails, tailsFollow, widthBy, goodBytes}
 use Rattle.songcode.proofs.CharactersAgree.{good-some, good-none}
 use Rattle.songcode.proofs.ListLaws.{by-cases}
 use Rattle.text.specs.Leads.{widthAt}
@@ -22,8 +22,8 @@ tails-fit (suc n) [] h = absurd (false-not-true h)
 tails-fit (suc n) (b ∷ bs) h =
     by-cases (isTail b) (λ e. let g : tails n bs ≡ true = rw e at h in let k = tails-fit n bs g in omega arith) (λ e. absurd (false-not-true (rw e at h)))
 
-follows-fit : (f : Form) (n : ℕ) (bs : List ℕ) → follows f n bs ≡ true → n ≤ length bs
-unfolding follows
+follows-fit : (f : Form) (n : ℕ) (bs : List ℕ) → tailsFollow f n bs ≡ true → n ≤ length bs
+unfolding tailsFollow
 follows-fit f zero bs h = omega arith
 follows-fit f (suc n) [] h = absurd (false-not-true h)
 follows-fit f (suc n) (b ∷ bs) h =
@@ -39,7 +39,7 @@ width-fits (f ∷ fs) b bs =
     by-cases
     (within (f .firstLow) (f .firstHigh) b)
     (λ e. by-cases
-    (follows f (f .more) bs)
+    (tailsFollow f (f .more) bs)
     (λ g. let k = follows-fit f (f .more) bs g in rw (e, g) (omega arith))
     (λ g. rw (e, g) (omega arith)))
     (λ e. rw e (width-fits fs b bs))

@@ -8,7 +8,7 @@ use native.Mathlib.Numerals.{add-one}
 use lib.ListN.{length, getD, take, drop, List·getD-eq-default}
 use lib.Seq.{drop-cons}
 use Rattle.songcode.specs.Lists.{if_then_else_}
-use Rattle.songcode.specs.Characters.{Form, form, forms, within, isTail, tails, follows, widthBy}
+use Rattle.songcode.specs.answer.Characters.{Form, form, forms, within, isTail, tails, tailsFollow, widthBy}
 use Rattle.songcode.proofs.ListLaws.{by-cases}
 use Rattle.text.specs.declared.characters.Lead.{Lead}
 use Rattle.text.specs.Leads.{leadBy, leadOf, widthFrom, widthAt}
@@ -16,8 +16,8 @@ use Rattle.text.proofs.ListLaws.{rest-part}
 use Rattle.text.proofs.TestLaws.{within-true}
 
 -- Of a form only the range of the second byte matters behind the first.
-follows-range : (f : Form) (n : ℕ) (bs : List ℕ) → follows (form 0 0 0 (f .secondLow) (f .secondHigh)) n bs ≡ follows f n bs
-unfolding follows
+follows-range : (f : Form) (n : ℕ) (bs : List ℕ) → tailsFollow (form 0 0 0 (f .secondLow) (f .secondHigh)) n bs ≡ tailsFollow f n bs
+unfolding tailsFollow
 follows-range f zero bs = refl
 follows-range f (suc n) [] = refl
 follows-range f (suc n) (b ∷ bs) = refl
@@ -32,7 +32,7 @@ width-by-lead (f ∷ fs) b bs =
 
 -- A lead of width 0 or 1 wants nothing behind it.
 pub width-short : (l : Lead) (bs : List ℕ) → l .width < 2 → l .width ≡ widthFrom l bs
-unfolding widthFrom follows if_then_else_
+unfolding widthFrom tailsFollow if_then_else_
 width-short l bs h = let k : l .width - 1 ≡ 0 = omega arith in rw k
 
 -- A longer one wants a second byte in its range, and tails behind that.
@@ -41,19 +41,19 @@ module _ (l : Lead) (h : 2 ≤ l .width) where
   wants = omega arith
 
   pub width-ended : (bs : List ℕ) → length bs ≡ 0 → 0 ≡ widthFrom l bs
-  unfolding widthFrom follows if_then_else_
+  unfolding widthFrom tailsFollow if_then_else_
   width-ended [] e = rw wants
   width-ended (b ∷ bs) e = absurd (omega arith)
 
   pub width-second : (bs : List ℕ) → 0 < length bs → within (l .low) (l .high) (getD bs 0 0) ≡ false → 0 ≡ widthFrom l bs
-  unfolding widthFrom follows if_then_else_
+  unfolding widthFrom tailsFollow if_then_else_
   width-second [] g e = absurd (omega arith)
   width-second (b ∷ bs) g e = rw (wants, e)
 
   module _ (bs : List ℕ) (g : 0 < length bs) (e : within (l .low) (l .high) (getD bs 0 0) ≡ true) {test : Bool}
       (t : test ≡ tails (l .width - 2) (take (length bs - 1) (drop 1 bs))) where
     width-tails : widthFrom l bs ≡ (if test then l .width else 0)
-    unfolding widthFrom follows
+    unfolding widthFrom tailsFollow
     width-tails = rw (t, rest-part bs 1, wants, drop-cons bs 0 0) (rw e)
 
     pub width-whole : test ≡ true → l .width ≡ widthFrom l bs
@@ -96,7 +96,7 @@ unfolding widthBy forms within if_then_else_
 width-zero b bs h = let k : b ≡ 0 = omega arith in rw k
 
 pub width-ascii : (b : ℕ) (bs : List ℕ) → 1 ≤ b → b < 0x80 → 1 ≡ widthBy forms b bs
-unfolding widthBy forms follows if_then_else_
+unfolding widthBy forms tailsFollow if_then_else_
 width-ascii b bs p q = rw (within-true 0x01 0x7F b p (omega arith))
 
 pub width-lead : (s : List ℕ) (i : ℕ) {l : Lead} {w : ℕ} → l ≡ leadOf (getD s i 0) → w ≡ widthFrom l (take (length s - (i + 1)) (drop (i + 1) s))

@@ -12,8 +12,8 @@ use lib.ListN.{length, getD, take, drop, drop-of-length-le, length-take, length-
 use lib.Seq.{drop-cons, drop-drop, take-take}
 use Rattle.songcode.specs.Lists.{when, isEmpty}
 use Rattle.songcode.specs.Bytes.{placed}
-use Rattle.songcode.specs.Lines.{Line, cutLines, trimmed, numbered, lines, shut, join, runs, blocks}
-use Rattle.songcode.specs.Answer.{blocksOf}
+use Rattle.songcode.specs.answer.Lines.{Line, cutLines, trimmed, numbered, lines, shut, join, runs, blocks}
+use Rattle.songcode.specs.answer.Answer.{blocksOf}
 use Rattle.text.specs.Spans.{lineLength, frontBlanks, solidLength, lineOf, lineAt, spansFrom, spans, lineText, endsOpen}
 use Rattle.text.proofs.TestLaws.{false-not-true}
 use Rattle.songcode.proofs.ListLaws.{drop-take, by-cases}

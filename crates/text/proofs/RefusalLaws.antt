@@ -5,9 +5,9 @@ use mathlib.Core.List.{List}
 use borrow.Author.Tests.{lt-ltb, le-ltb}
 use lib.ListN.{length}
 use Rattle.songcode.specs.Lists.{if_then_else_, when}
-use Rattle.songcode.specs.Characters.{goodBytes}
+use Rattle.songcode.specs.answer.Characters.{goodBytes}
 use Rattle.songcode.specs.Complaints.{complainIf, earlier, earliest}
-use Rattle.songcode.specs.Answer.{mostBytes, lineOfPlace, inputFaults}
+use Rattle.songcode.specs.answer.Answer.{mostBytes, lineOfPlace, inputFaults}
 use Rattle.text.specs.Refusals.{refusalOf}
 
 module _ (s : List ℕ) where

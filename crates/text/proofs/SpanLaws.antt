@@ -11,7 +11,7 @@ use lib.Dec.{eqb, leb}
 use lib.ListN.{length, take, getD, drop, drop-of-length-le, List·getD-eq-default}
 use lib.Seq.{drop-cons, getD-drop, take-suc, length-take-le}
 use Rattle.songcode.specs.Lists.{if_then_else_}
-use Rattle.songcode.specs.Lines.{Ending, lf, cr, inside, ending}
+use Rattle.songcode.specs.answer.Lines.{Ending, lf, cr, inside, ending}
 use Rattle.songcode.proofs.ListLaws.{by-cases}
 use Rattle.text.specs.Spans.{blank, end, longer, lineLength, breakWidth, breakLength, frontBlanks, grown, solidLength}
 

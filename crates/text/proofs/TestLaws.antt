@@ -7,7 +7,7 @@ use native.Mathlib.Omega.{arith}
 use borrow.Author.Tests.{le-leb, eqb-true, eqb-false}
 use lib.Dec.{eqb}
 use lib.ListN.{replicate}
-use Rattle.songcode.specs.Characters.{within}
+use Rattle.songcode.specs.answer.Characters.{within}
 use Rattle.songcode.proofs.ListLaws.{by-cases}
 
 pub false-not-true : false ≡ true → ⊥

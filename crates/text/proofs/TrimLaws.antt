@@ -8,7 +8,7 @@ use native.Mathlib.Nat.{add-zero}
 use lib.ListN.{length, take, drop}
 use Rattle.songcode.specs.Lists.{if_then_else_, left}
 use Rattle.songcode.specs.Bytes.{Byte, placed, isBlank}
-use Rattle.songcode.specs.Lines.{dropLast, trimmed}
+use Rattle.songcode.specs.answer.Lines.{dropLast, trimmed}
 use Rattle.songcode.proofs.ListLaws.{by-cases}
 use Rattle.text.specs.Spans.{blank, frontBlanks, grown, solidLength}
 

@@ -11,7 +11,7 @@ use lib.ListN.{length, getD, take, drop, drop-of-length-le, length-take, length-
 use lib.Seq.{drop-cons, drop-drop}
 use Rattle.songcode.specs.Lists.{isEmpty}
 use Rattle.songcode.specs.Bytes.{placed}
-use Rattle.songcode.specs.Lines.{Ending, lf, cr, inside}
+use Rattle.songcode.specs.answer.Lines.{Ending, lf, cr, inside}
 use Rattle.songcode.proofs.ListLaws.{by-cases}
 use Rattle.text.specs.declared.lines.Line.{Line}
 use Rattle.text.specs.Spans.{end, part, longer, lineLength, breakWidth, breakLength, frontBlanks, solidLength, lineOf, lineAt, Found, spansFrom}

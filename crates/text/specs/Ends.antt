@@ -5,7 +5,7 @@ use mathlib.Core.Bool.{Bool, _||_, _&&_, not}
 use lib.Dec.{eqb}
 use lib.ListN.{length}
 use Rattle.songcode.specs.Bytes.{placed}
-use Rattle.songcode.specs.Lines.{cutLines}
+use Rattle.songcode.specs.answer.Lines.{cutLines}
 
 -- A line ends with the byte: LF, or a CR that no LF follows.
 unfoldable pub endsLine : ℕ → ℕ → Bool

@@ -3,7 +3,7 @@ use Prim.Native.Nat.{ℕ, suc, _-_}
 use mathlib.Core.List.{List, [], _∷_}
 use lib.ListN.{getD, drop}
 use Rattle.songcode.specs.Lists.{if_then_else_}
-use Rattle.songcode.specs.Characters.{Form, form, forms, within, follows, widthBy}
+use Rattle.songcode.specs.answer.Characters.{Form, form, forms, within, tailsFollow, widthBy}
 use Rattle.text.specs.declared.characters.Lead.{Lead}
 
 -- The lead of the first form whose range holds the byte; of none, width 0.
@@ -19,8 +19,8 @@ leadOf b = leadBy forms b
 
 -- The width that a lead announces, if what it wants behind the first byte stands there.
 unfoldable pub widthFrom : Lead → List ℕ → ℕ
-unfolding if_then_else_ follows
-widthFrom l bs = if follows (form 0 0 0 (l .low) (l .high)) (l .width - 1) bs then l .width else 0
+unfolding if_then_else_ tailsFollow
+widthFrom l bs = if tailsFollow (form 0 0 0 (l .low) (l .high)) (l .width - 1) bs then l .width else 0
 
 -- The width of the character at a place; past the end, where no byte stands, a zero is read.
 abbrev pub widthAt : List ℕ → ℕ → ℕ

@@ -6,8 +6,8 @@ use mathlib.Core.Bool.{Bool, true, false}
 use lib.ListN.{length, take, drop, getD}
 use Rattle.songcode.specs.Lists.{if_then_else_}
 use Rattle.songcode.specs.Bytes.{Byte, placed, isBlank}
-use Rattle.songcode.specs.Lines.{Ending, lf, cr, inside, ending}
-use Rattle.songcode.specs.Lines as songcode
+use Rattle.songcode.specs.answer.Lines.{Ending, lf, cr, inside, ending}
+use Rattle.songcode.specs.answer.Lines as songcode
 use Rattle.text.specs.declared.lines.Line.{Line}
 
 -- A byte, wherever it stands, is a blank; is a line end.

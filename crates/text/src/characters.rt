@@ -2,7 +2,7 @@
 ghost use mathlib.Core.Path.{_≡_};
 ghost use Prim.Native.Nat.{_≤_};
 ghost use lib.ListN.{length};
-ghost use Rattle.songcode.specs.Characters.{within, isTail, tails, goodBytes};
+ghost use Rattle.songcode.specs.answer.Characters.{within, isTail, tails, goodBytes};
 ghost use Rattle.text.specs.Leads.{leadOf, widthFrom, widthAt};
 
 // What a first byte announces: the width of its character (0 for none), and the range of the second byte.

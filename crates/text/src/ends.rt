@@ -3,7 +3,7 @@ use super::byte_at;
 ghost use mathlib.Core.Path.{_≡_};
 ghost use Prim.Native.Nat.{_≤_};
 ghost use lib.ListN.{length};
-ghost use Rattle.songcode.specs.Answer.{lineOfPlace};
+ghost use Rattle.songcode.specs.answer.Answer.{lineOfPlace};
 ghost use Rattle.text.specs.Ends.{endsLine, lineEnds};
 
 // A line ends with byte b: LF, or a CR that no LF follows.

@@ -15,7 +15,7 @@ pub use lines::solid_len;
 ghost use mathlib.Core.Path.{_≡_};
 ghost use lib.ListN.{getD};
 ghost use Rattle.songcode.specs.Complaints.{earliest};
-ghost use Rattle.songcode.specs.Answer.{inputFaults};
+ghost use Rattle.songcode.specs.answer.Answer.{inputFaults};
 ghost use Rattle.text.specs.Refusals.{refusalOf};
 
 // The byte at i, or 0 past the end.

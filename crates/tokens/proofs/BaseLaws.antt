@@ -11,8 +11,8 @@ use lib.Dec.{leb, eqb}
 use lib.ListN.{length, getElem?, length-append}
 use Rattle.songcode.specs.Lists.{every}
 use Rattle.songcode.specs.Bytes.{placed, ascii, begins}
-use Rattle.songcode.specs.Chords.{bases, isTaken, longestFrom, isBase}
-use Rattle.songcode.specs.Chords as songcode
+use Rattle.songcode.specs.answer.Chords.{bases, isTaken, longestFrom, isBase}
+use Rattle.songcode.specs.answer.Chords as songcode
 use Rattle.songcode.proofs.ByteLaws.{values-placed}
 use Rattle.songcode.proofs.ChordsAgree.{base-exact}
 use Rattle.songcode.proofs.ListLaws.{by-cases, both-pass, true-is-not-false}

@@ -12,7 +12,7 @@ use lib.ListN.{length, getD, drop, drop-of-length-le}
 use lib.Seq.{drop-cons}
 use Rattle.songcode.specs.Lists.{if_then_else_}
 use Rattle.songcode.specs.Bytes.{Byte, placed}
-use Rattle.songcode.specs.Numbers.{isDigit, digits, isDecimal, valueFrom, numberIn}
+use Rattle.songcode.specs.answer.Numbers.{isDigit, digits, isDecimal, valueFrom, numberIn}
 use Rattle.songcode.proofs.NumbersAgree.{number-exact}
 use Rattle.tokens.specs.declared.numbers.Number.the-variants.{Is, Not}
 use Rattle.tokens.specs.Decimals.{numberOf, digitsFrom}

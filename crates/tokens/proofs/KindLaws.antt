@@ -3,7 +3,7 @@ use Prim.Native.Nat.{_+_, _*_, _/_, _%_, _^_, _<_, _≤_}
 use mathlib.Core.Path.{_≡_, refl}
 use native.Mathlib.Omega.{arith}
 use Rattle.songcode.specs.Song.{chord, again, silence}
-use Rattle.songcode.specs.Tokens.{Token, sound, remover, reference, semicolon, colon, lineEnd, opens, closes, wrong}
+use Rattle.songcode.specs.answer.Tokens.{Token, sound, remover, reference, semicolon, colon, lineEnd, opens, closes, wrong}
 use Rattle.tokens.specs.TokenWords.{chordWord, tokenWord}
 use Rattle.tokens.specs.Fitting.{Fit, kind, amount}
 

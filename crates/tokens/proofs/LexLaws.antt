@@ -12,10 +12,10 @@ use lib.ListN.{length, getD, take, drop, take-append-drop, drop-of-length-le}
 use lib.Seq.{drop-cons, take-take, getD-drop, getD-take, length-take-le}
 use Rattle.songcode.specs.Lists.{if_then_else_}
 use Rattle.songcode.specs.Bytes.{Byte, placed, isBlank, isByte}
-use Rattle.songcode.specs.Numbers.{repeatIn}
-use Rattle.songcode.specs.WrittenPattern.{Plain, NoPlain}
-use Rattle.songcode.specs.Tokens.{Token, semicolon, colon, opens, Class, blank, semi, double, bracket, closing, plain, class, closingToken, wordToken}
-use Rattle.songcode.specs.Tokens.{word, lexedBy, lexed, tokens}
+use Rattle.songcode.specs.answer.Numbers.{repeatIn}
+use Rattle.songcode.specs.description.WrittenPattern.{Plain, NoPlain}
+use Rattle.songcode.specs.answer.Tokens.{Token, semicolon, colon, opens, Class, blank, semi, double, bracket, closing, plain, class, closingToken, wordToken}
+use Rattle.songcode.specs.answer.Tokens.{word, lexedBy, lexed, tokens}
 use Rattle.songcode.proofs.ByteLaws.{placed-append}
 use Rattle.songcode.proofs.ListLaws.{by-cases, true-is-not-false}
 use Rattle.songcode.proofs.TokensAgree.{lexed-behind}

@@ -8,7 +8,7 @@ use lib.Dec.{leb}
 use lib.ListN.{getD}
 use Rattle.songcode.specs.Lists.{if_then_else_}
 use Rattle.songcode.specs.Bytes.{same, ascii}
-use Rattle.songcode.specs.Chords.{rows, spellings, spellingOf}
+use Rattle.songcode.specs.answer.Chords.{rows, spellings, spellingOf}
 use Rattle.songcode.proofs.ListLaws.{both-pass}
 use Rattle.songcode.proofs.Spellings.{same-true}
 use Rattle.songcode.proofs.EachBelow.{allBelow, each-below}

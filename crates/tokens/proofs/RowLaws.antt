@@ -13,8 +13,8 @@ use lib.ListN.{length, getD, drop, drop-of-length-le, List·getD-map, List·getD
 use lib.Seq.{drop-cons}
 use Rattle.songcode.specs.Lists.{if_then_else_, every}
 use Rattle.songcode.specs.Bytes.{begins, ascii}
-use Rattle.songcode.specs.Chords.{rows, spellings, bases, endsInM, isPassedOver, isTaken, longer, longestFrom}
-use Rattle.songcode.specs.Chords as songcode
+use Rattle.songcode.specs.answer.Chords.{rows, spellings, bases, endsInM, isPassedOver, isTaken, longer, longestFrom}
+use Rattle.songcode.specs.answer.Chords as songcode
 use Rattle.songcode.proofs.ListLaws.{by-cases, both-pass}
 use Rattle.text.proofs.TestLaws.{false-not-true}
 use Rattle.tokens.specs.declared.bases.Base.{Base}

@@ -12,7 +12,7 @@ use lib.ListN.{length, getD, drop, drop-of-length-le}
 use lib.Seq.{drop-cons, getD-drop}
 use Rattle.songcode.specs.Lists.{if_then_else_, isEmpty, any}
 use Rattle.songcode.specs.Bytes.{placed, ascii, begins, isByte}
-use Rattle.songcode.specs.Chords.{endsInM, isPassedOver, isTaken, isSlip}
+use Rattle.songcode.specs.answer.Chords.{endsInM, isPassedOver, isTaken, isSlip}
 use Rattle.songcode.proofs.ListLaws.{by-cases, true-is-not-false, both-pass}
 use Rattle.tokens.specs.Bases.{fitted, takenLength}
 use Rattle.tokens.specs.Lexing.{isSlipByte}

@@ -10,13 +10,13 @@ use lib.Dec.{leb}
 use lib.ListN.{length, drop}
 use Rattle.songcode.specs.Lists.{if_then_else_, any}
 use Rattle.songcode.specs.Bytes.{Byte, placed, values, is, isByte}
-use Rattle.songcode.specs.Numbers.{numberIn, countIn, repeatIn}
-use Rattle.songcode.specs.Chords.{bases, isTaken, longestFrom, longestBase, Chord, chordBy, isSlip, withoutSlip, chordIn}
-use Rattle.songcode.specs.Chords as songcode
+use Rattle.songcode.specs.answer.Numbers.{numberIn, countIn, repeatIn}
+use Rattle.songcode.specs.answer.Chords.{bases, isTaken, longestFrom, longestBase, Chord, chordBy, isSlip, withoutSlip, chordIn}
+use Rattle.songcode.specs.answer.Chords as songcode
 use Rattle.songcode.specs.Song.{again, silence}
-use Rattle.songcode.specs.Tables.{offset}
-use Rattle.songcode.specs.Tokens.{Token, sound, remover, Class, blank, semi, double, bracket, closing, plain, class, chordToken, referenceToken}
-use Rattle.songcode.specs.Tokens.{closingToken, dollarOr, wordToken, Lexed, word, lexedBy, lexed, tokens}
+use Rattle.songcode.specs.answer.Tables.{offset}
+use Rattle.songcode.specs.answer.Tokens.{Token, sound, remover, Class, blank, semi, double, bracket, closing, plain, class, chordToken, referenceToken}
+use Rattle.songcode.specs.answer.Tokens.{closingToken, dollarOr, wordToken, Lexed, word, lexedBy, lexed, tokens}
 use Rattle.songcode.proofs.ListLaws.{by-cases}
 use Rattle.tokens.specs.Fitting.{Fit, AllFit}
 use Rattle.tokens.proofs.BaseLaws.{longest-fits}

@@ -10,11 +10,11 @@ use lib.Dec.{eqb}
 use lib.ListN.{length, getD, drop, length-drop}
 use Rattle.songcode.specs.Lists.{if_then_else_, any}
 use Rattle.songcode.specs.Bytes.{Byte, placed, ascii, same, is, isByte}
-use Rattle.songcode.specs.Numbers.{isDigit, digits, isDecimal, valueFrom, numberIn, countIn, repeatIn}
-use Rattle.songcode.specs.Chords.{bases, isTaken, longestFrom, longestBase, chordBy, withoutSlip, chordIn}
-use Rattle.songcode.specs.Chords as songcode
-use Rattle.songcode.specs.Tables.{offset}
-use Rattle.songcode.specs.Tokens.{chordToken, referenceToken, closingToken, dollarOr, wordToken}
+use Rattle.songcode.specs.answer.Numbers.{isDigit, digits, isDecimal, valueFrom, numberIn, countIn, repeatIn}
+use Rattle.songcode.specs.answer.Chords.{bases, isTaken, longestFrom, longestBase, chordBy, withoutSlip, chordIn}
+use Rattle.songcode.specs.answer.Chords as songcode
+use Rattle.songcode.specs.answer.Tables.{offset}
+use Rattle.songcode.specs.answer.Tokens.{chordToken, referenceToken, closingToken, dollarOr, wordToken}
 use Rattle.songcode.proofs.ByteLaws.{values-placed, length-placed}
 use Rattle.songcode.proofs.ListLaws.{by-cases}
 use Rattle.songcode.proofs.NumbersAgree.{number-exact}

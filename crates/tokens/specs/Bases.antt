@@ -6,8 +6,8 @@ use lib.Dec.{eqb, ltb}
 use lib.ListN.{length, getD}
 use Rattle.songcode.specs.Lists.{if_then_else_}
 use Rattle.songcode.specs.Bytes.{begins}
-use Rattle.songcode.specs.Chords.{spellings, rows, isTaken}
-use Rattle.songcode.specs.Chords as songcode
+use Rattle.songcode.specs.answer.Chords.{spellings, rows, isTaken}
+use Rattle.songcode.specs.answer.Chords as songcode
 use Rattle.tokens.specs.declared.bases.Base.{Base}
 
 -- The longest base as the code answers it: length 0 where none fits.

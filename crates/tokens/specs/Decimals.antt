@@ -6,7 +6,7 @@ use mathlib.Core.Option.{Option, none, some}
 use lib.Dec.{leb}
 use Rattle.songcode.specs.Lists.{if_then_else_}
 use Rattle.songcode.specs.Bytes.{Byte}
-use Rattle.songcode.specs.Numbers.{digits, valueFrom}
+use Rattle.songcode.specs.answer.Numbers.{digits, valueFrom}
 use Rattle.tokens.specs.declared.numbers.Number.{Number}
 use Rattle.tokens.specs.declared.numbers.Number.the-variants.{Is, Not}
 

@@ -3,8 +3,8 @@ use Prim.Native.Nat.{ℕ, _+_, _*_, _^_, _<_, _≤_}
 use mathlib.Core.List.{List, [], _∷_}
 use lib.ListN.{length}
 use Rattle.songcode.specs.Song.{chord, again, silence}
-use Rattle.songcode.specs.Tables.{offset}
-use Rattle.songcode.specs.Tokens.{Token, sound, remover, reference, semicolon, colon, lineEnd, opens, closes, wrong}
+use Rattle.songcode.specs.answer.Tables.{offset}
+use Rattle.songcode.specs.answer.Tokens.{Token, sound, remover, reference, semicolon, colon, lineEnd, opens, closes, wrong}
 
 -- Each number of a token has room in its word.
 unfoldable pub Fit : Token → Type 0

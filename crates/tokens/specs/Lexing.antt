@@ -6,9 +6,9 @@ use mathlib.Core.Bool.{Bool, true, false}
 use lib.ListN.{length, take, drop}
 use Rattle.songcode.specs.Lists.{if_then_else_}
 use Rattle.songcode.specs.Bytes.{placed}
-use Rattle.songcode.specs.Chords.{isSlip}
-use Rattle.songcode.specs.Tokens.{Class, blank, semi, double, bracket, closing, plain, class, tokens}
-use Rattle.songcode.specs.Tokens as songcode
+use Rattle.songcode.specs.answer.Chords.{isSlip}
+use Rattle.songcode.specs.answer.Tokens.{Class, blank, semi, double, bracket, closing, plain, class, tokens}
+use Rattle.songcode.specs.answer.Tokens as songcode
 use Rattle.text.specs.Spans.{part}
 use Rattle.tokens.specs.declared.lexing.Lexed.{Lexed}
 use Rattle.tokens.specs.declared.lexing.Lexed.the-variants.{Token, End}

@@ -2,10 +2,10 @@
 use Prim.Native.Nat.{ℕ, _+_, _*_, _^_}
 use mathlib.Core.List.{List, [], _∷_}
 use lib.ListN.{length}
-use Rattle.songcode.specs.Chords.{Chord}
+use Rattle.songcode.specs.answer.Chords.{Chord}
 use Rattle.songcode.specs.Song.{chord, again, silence}
-use Rattle.songcode.specs.Tokens.{Token, sound, remover, reference, semicolon, colon, lineEnd, opens, closes, wrong}
-use Rattle.songcode.specs.Tables.{offset}
+use Rattle.songcode.specs.answer.Tokens.{Token, sound, remover, reference, semicolon, colon, lineEnd, opens, closes, wrong}
+use Rattle.songcode.specs.answer.Tables.{offset}
 
 unfoldable pub chordWord : Chord → ℕ
 unfolding offset

@@ -4,7 +4,7 @@ ghost use mathlib.Core.Path.{_≡_};
 ghost use mathlib.Core.Option.{none};
 ghost use Prim.Native.Nat.{_<_};
 ghost use Rattle.songcode.specs.Bytes.{placed};
-ghost use Rattle.songcode.specs.Chords.{bases, spellingOf, isTaken, longestFrom, isBase};
+ghost use Rattle.songcode.specs.answer.Chords.{bases, spellingOf, isTaken, longestFrom, isBase};
 ghost use Rattle.tokens.specs.Bases.{baseOf, unpadded, three, fitted, takenLength, firstOf, rowOf, rowOfNumber};
 
 // What pads a row of less than six.

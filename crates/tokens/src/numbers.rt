@@ -2,7 +2,7 @@
 ghost use mathlib.Core.Path.{_≡_};
 ghost use Prim.Native.Nat.{_≤_};
 ghost use Rattle.songcode.specs.Bytes.{placed};
-ghost use Rattle.songcode.specs.Numbers.{numberIn};
+ghost use Rattle.songcode.specs.answer.Numbers.{numberIn};
 ghost use Rattle.tokens.specs.Decimals.{numberOf, digitsFrom};
 
 // A number that a text spells, or none.

@@ -3,7 +3,7 @@ use Prim.Native.Nat.{ℕ}
 use mathlib.Core.Path.{_≡_}
 use mathlib.Core.List.{List}
 use lib.ListN.{length, getD}
-use Rattle.songcode.specs.Finding.{jumpTo}
+use Rattle.songcode.specs.answer.Finding.{jumpTo}
 use Rattle.reader.specs.declared.answers.Answer.{Answer}
 use Rattle.reader.specs.Answers.{Lent, Promised, Counted}
 use Rattle.explain.specs.declared.Explained.{Explained}

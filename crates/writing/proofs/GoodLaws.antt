@@ -8,8 +8,8 @@ use lib.ListN.{length, take, drop, take-append-drop}
 use borrow.Author.Tests.{le-ltb, ltb-false}
 use Rattle.songcode.specs.Lists.{if_then_else_}
 use Rattle.songcode.specs.Bytes.{Byte, placed}
-use Rattle.songcode.specs.Characters.{isTail, goodBytes, characters}
-use Rattle.songcode.specs.Answer.{mostBytes, inputFaults}
+use Rattle.songcode.specs.answer.Characters.{isTail, goodBytes, characters}
+use Rattle.songcode.specs.answer.Answer.{mostBytes, inputFaults}
 use Rattle.songcode.proofs.ListLaws.{by-cases, complainIf-nil}
 use Rattle.songcode.proofs.CharactersAgree.{goodBytes-le}
 use Rattle.songcode.proofs.CharacterBytes.{stretch-short}

@@ -5,8 +5,8 @@ use mathlib.Core.List.{List, [], _∷_}
 use native.Mathlib.Omega.{arith}
 use lib.ListN.{length}
 use Rattle.songcode.specs.Bytes.{placed}
-use Rattle.songcode.specs.Tables.{offset, itemWord}
-use Rattle.songcode.specs.Lyrics as songcode
+use Rattle.songcode.specs.answer.Tables.{offset, itemWord}
+use Rattle.songcode.specs.answer.Lyrics as songcode
 use Rattle.songcode.proofs.ByteLaws.{length-placed}
 use Rattle.text.specs.Spans.{part}
 use Rattle.text.proofs.WalkLaws.{part-length}

@@ -9,14 +9,14 @@ use lib.ListN.{length, drop}
 use borrow.Author.Tests.{eq-eqb, ne-eqb}
 use Rattle.songcode.specs.Lists.{if_then_else_, andThen, collect}
 use Rattle.songcode.specs.Bytes.{Byte, placed}
-use Rattle.songcode.specs.Characters.{characters}
-use Rattle.songcode.specs.Lines.{Line}
+use Rattle.songcode.specs.answer.Characters.{characters}
+use Rattle.songcode.specs.answer.Lines.{Line}
 use Rattle.songcode.specs.Song.{KeyName, name, artist, original, capo, bpm, time, warning, end}
-use Rattle.songcode.specs.Keys.{keyPlace}
-use Rattle.songcode.specs.Sections.{keyIn}
-use Rattle.songcode.specs.Playing.{settingOf}
-use Rattle.songcode.specs.Tables.{keyWord, keyOrder}
-use Rattle.songcode.specs.Answer.{inputFaults}
+use Rattle.songcode.specs.answer.Keys.{keyPlace}
+use Rattle.songcode.specs.answer.Sections.{keyIn}
+use Rattle.songcode.specs.answer.Playing.{settingNamed}
+use Rattle.songcode.specs.answer.Tables.{keyWord, keyOrder}
+use Rattle.songcode.specs.answer.Answer.{inputFaults}
 use Rattle.text.specs.Spans.{part}
 use Rattle.text.proofs.WalkLaws.{part-length}
 use Rattle.sections.specs.declared.slots.Said.{Said}
@@ -65,8 +65,8 @@ same-word none (some x) e = let z : _≡_ {A = ℕ} 0 1 = cc in absurd (let y : 
 same-word (some bs) none e = let z : _≡_ {A = ℕ} 0 1 = cc in absurd (let y : ⊥ = omega arith in y)
 same-word (some bs) (some x) e = ap keyWord e
 
-word-of : (k : KeyName) (ls : List Line) → keyWord (settingOf k (collect keyIn ls)) ≡ wordOfSetting (settingAmong (keyPlace k) ls)
-word-of k ls = same-word (settingOf k (collect keyIn ls)) (settingAmong (keyPlace k) ls) (key-among some k ls)
+word-of : (k : KeyName) (ls : List Line) → keyWord (settingNamed k (collect keyIn ls)) ≡ wordOfSetting (settingAmong (keyPlace k) ls)
+word-of k ls = same-word (settingNamed k (collect keyIn ls)) (settingAmong (keyPlace k) ls) (key-among some k ls)
 
 eight : (P : ℕ → Type 0) → P 0 → P 1 → P 2 → P 3 → P 4 → P 5 → P 6 → P 7 → (k : ℕ) → k < 8 → P k
 eight P a b c d e f g h zero l = a
@@ -81,7 +81,7 @@ eight P a b c d e f g h (suc (suc (suc (suc (suc (suc (suc (suc k)))))))) l = ab
 
 -- The words of the keys from a place of the table on.
 abbrev pub wordsFrom : List Line → ℕ → List ℕ
-wordsFrom ls k = map (λ j. keyWord (settingOf j (collect keyIn ls))) (drop k keyOrder)
+wordsFrom ls k = map (λ j. keyWord (settingNamed j (collect keyIn ls))) (drop k keyOrder)
 
 pub words-more : (ls : List Line) (k : ℕ) → k < 8 → wordsFrom ls k ≡ wordOfSetting (settingAmong k ls) ∷ wordsFrom ls (k + 1)
 unfolding keyOrder keyPlace
@@ -91,7 +91,7 @@ words-more ls k h =
     k
     h
   where
-    first : (j : KeyName) (n : ℕ) → keyWord (settingOf j (collect keyIn ls)) ∷ wordsFrom ls n ≡ wordOfSetting (settingAmong (keyPlace j) ls) ∷ wordsFrom ls n
+    first : (j : KeyName) (n : ℕ) → keyWord (settingNamed j (collect keyIn ls)) ∷ wordsFrom ls n ≡ wordOfSetting (settingAmong (keyPlace j) ls) ∷ wordsFrom ls n
     first j n = ap (λ (w : ℕ). w ∷ wordsFrom ls n) (word-of j ls)
 
 pub words-over : (ls : List Line) (k : ℕ) → k ≡ 8 → wordsFrom ls k ≡ []

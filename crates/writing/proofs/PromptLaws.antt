@@ -9,13 +9,13 @@ use lib.ListN.{length}
 use borrow.Author.Tests.{eqb-true, not-false}
 use Rattle.songcode.specs.Lists.{if_then_else_, gather, any, every, isEmpty, orElse}
 use Rattle.songcode.specs.Song.{LyricLine, Section, Song}
-use Rattle.songcode.specs.Sections.{lyricLine}
-use Rattle.songcode.specs.Playing.{played}
-use Rattle.songcode.specs.Meter.{sectionCount, lengthFaults}
-use Rattle.songcode.specs.Lyrics.{countOf, isCounted, isPlayed, linesTaken, hasCounts, counted, sumFault, sumFaults, hasItems, promptsFrom}
-use Rattle.songcode.specs.Lyrics.{prompts, styled, wordsOf}
-use Rattle.songcode.specs.Tables.{itemWord, tables}
-use Rattle.songcode.specs.WrittenTables.{lyricsOf}
+use Rattle.songcode.specs.answer.Sections.{lyricLine}
+use Rattle.songcode.specs.answer.Playing.{played}
+use Rattle.songcode.specs.answer.Meter.{sectionCount, lengthFaults}
+use Rattle.songcode.specs.answer.Lyrics.{countOf, isCounted, isPlayed, linesTaken, hasCounts, counted, sumFault, sumFaults, hasItems, promptsFrom}
+use Rattle.songcode.specs.answer.Lyrics.{prompts, styled, wordsOf}
+use Rattle.songcode.specs.answer.Tables.{itemWord, tables}
+use Rattle.songcode.specs.description.WrittenTables.{lyricsOf}
 use Rattle.songcode.proofs.ListLaws.{by-cases, both-pass, pass-both, every-append, gather-nil, Each, complainIf-nil}
 use Rattle.sections.specs.declared.blocks.Place.{Place}
 use Rattle.sections.specs.declared.walking.Passed.{Passed}

@@ -12,17 +12,17 @@ use lib.ListN.{length, length-append}
 use borrow.Author.Tests.{leb-true, eqb-true, eqb-false, not-false}
 use Rattle.songcode.specs.Lists.{if_then_else_, any, every, gather, taken, left, isSome}
 use Rattle.songcode.specs.Bytes.{Byte, values, ascii, same, is, isByte}
-use Rattle.songcode.specs.Characters.{characters}
-use Rattle.songcode.specs.Numbers.{isDecimal, valueFrom, numberIn}
-use Rattle.songcode.specs.Chords.{rows, spellings, bases, isBase}
-use Rattle.songcode.specs.Lines.{Line, Block}
+use Rattle.songcode.specs.answer.Characters.{characters}
+use Rattle.songcode.specs.answer.Numbers.{isDecimal, valueFrom, numberIn}
+use Rattle.songcode.specs.answer.Chords.{rows, spellings, bases, isBase}
+use Rattle.songcode.specs.answer.Lines.{Line, Block}
 use Rattle.songcode.specs.Complaints.{Complaint, complaint, complainIf}
 use Rattle.songcode.specs.Song.{KeyName, name, artist, original, capo, bpm, time, warning, end}
-use Rattle.songcode.specs.Keys.{isPhrase, bpmIn, timeIn, isSetting, ofMetadata}
-use Rattle.songcode.specs.Sections.{kindOfLine, keyNameOf, settingOf, keyFaultsBy, keyFaults, twice, keySaid}
-use Rattle.songcode.specs.SongText.{blockOrder, metadataLines, metadataFault, metadataFaults, definitionsFaults, definitionBlocks}
-use Rattle.songcode.specs.SongText.{sectionBlocks, orNoSection, textFaults}
-use Rattle.songcode.specs.Sections.{sectionFaults}
+use Rattle.songcode.specs.answer.Keys.{isPhrase, bpmIn, timeIn, isSetting, ofMetadata}
+use Rattle.songcode.specs.answer.Sections.{kindOfLine, keyNameOf, settingOf, keyFaultsBy, keyFaults, twice, keySaid}
+use Rattle.songcode.specs.answer.SongText.{blockOrder, metadataLines, metadataFault, metadataFaults, definitionsFaults, definitionBlocks}
+use Rattle.songcode.specs.answer.SongText.{sectionBlocks, orNoSection, textFaults}
+use Rattle.songcode.specs.answer.Sections.{sectionFaults}
 use Rattle.songcode.proofs.ByteLaws.{length-values}
 use Rattle.songcode.proofs.NumbersAgree.{decimal-short}
 use Rattle.songcode.proofs.ListLaws.{by-cases, true-is-not-false, nil-is-not-cons, both-pass, append-is-nil, complainIf-nil, taken-left}

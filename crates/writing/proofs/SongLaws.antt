@@ -12,11 +12,11 @@ use borrow.Rule.Slice.PartMut.{putMid}
 use Rattle.songcode.specs.Lists.{if_then_else_, orElse, andThen, gather}
 use Rattle.songcode.specs.Bytes.{Byte}
 use Rattle.songcode.specs.Song.{bpm, Key, Section, Song}
-use Rattle.songcode.specs.Keys.{bpmIn}
-use Rattle.songcode.specs.Playing.{Beat, settingOf, timeOf, bpmAmong, bpmOf, played}
-use Rattle.songcode.specs.Performance.{total}
-use Rattle.songcode.specs.Tables.{sectionWord, sectionWords, measureWord, measureWords, beatWord, allMeasures, tables}
-use Rattle.songcode.specs.Answer.{songOf}
+use Rattle.songcode.specs.answer.Keys.{bpmIn}
+use Rattle.songcode.specs.answer.Playing.{Beat, settingNamed, timeOf, bpmAmong, bpmOf, played}
+use Rattle.songcode.specs.description.Performance.{total}
+use Rattle.songcode.specs.answer.Tables.{sectionWord, sectionWords, measureWord, measureWords, beatWord, allMeasures, tables}
+use Rattle.songcode.specs.answer.Answer.{songOf}
 use Rattle.songcode.proofs.ListLaws.{by-cases, gather-append}
 use Rattle.songcode.proofs.PatternLaws.{none-some}
 use Rattle.settings.proofs.NumberLaws.{numberIn-range}
@@ -37,7 +37,7 @@ use Rattle.judging.proofs.SumLaws.{section-words-length, measure-words-length, 
 -- A bpm that keys say is at most 400.
 bpm-few : (ks : List Key) (n : ℕ) → bpmAmong ks ≡ some n → n ≤ 400
 unfolding bpmAmong andThen bpmIn
-bpm-few ks n e = go (settingOf bpm ks) e
+bpm-few ks n e = go (settingNamed bpm ks) e
   where
     go : (o : Option (List Byte)) → andThen o bpmIn ≡ some n → n ≤ 400
     go none h = none-some refl h

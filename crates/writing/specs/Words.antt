@@ -5,8 +5,8 @@ use mathlib.Core.Option.{Option, none, some}
 use lib.Dec.{eqb}
 use lib.ListN.{length}
 use Rattle.songcode.specs.Lists.{if_then_else_}
-use Rattle.songcode.specs.Characters.{characters}
-use Rattle.songcode.specs.Tables.{keyWord}
+use Rattle.songcode.specs.answer.Characters.{characters}
+use Rattle.songcode.specs.answer.Tables.{keyWord}
 use Rattle.sections.specs.Slots.{Setting}
 
 -- "bpm (section's, else song's, else 511)"

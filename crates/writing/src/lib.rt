@@ -11,9 +11,9 @@ ghost use mathlib.Core.Path.{_≡_};
 ghost use mathlib.Core.List.{[]};
 ghost use Prim.Native.Nat.{_≤_};
 ghost use lib.ListN.{length};
-ghost use Rattle.songcode.specs.Answer.{inputFaults, blocksOf, songOf};
-ghost use Rattle.songcode.specs.SongText.{textFaults};
-ghost use Rattle.songcode.specs.Tables.{tables};
+ghost use Rattle.songcode.specs.answer.Answer.{inputFaults, blocksOf, songOf};
+ghost use Rattle.songcode.specs.answer.SongText.{textFaults};
+ghost use Rattle.songcode.specs.answer.Tables.{tables};
 ghost use Rattle.judging.specs.Charts.{Writable, Roomy};
 ghost use Rattle.packing.specs.Written.{written};
 

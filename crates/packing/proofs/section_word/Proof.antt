@@ -1,6 +1,6 @@
 -- `section_word` meets its contract: every field fits its bits, so every product and sum does.
 use borrow.Author.Needs.{needs}
-use Rattle.songcode.specs.Tables.{sectionWord}
+use Rattle.songcode.specs.answer.Tables.{sectionWord}
 use Rattle.packing.proofs.section_word.Statement.{statement}
 use Rattle.packing.proofs.section_word.Tie as tie
 

@@ -2,7 +2,7 @@
 use Prim.Native.Nat.{_+_, _-_, _≤_}
 use native.Mathlib.Omega.{arith}
 use lib.ListN.{length}
-use Rattle.songcode.specs.Joined.{endBeat}
+use Rattle.songcode.specs.description.Joined.{endBeat}
 use Rattle.songcode.specs.Jumps.{Holds}
 use Rattle.packing.proofs.RoundTrips.{measure-fields}
 use Rattle.seek.proofs.Laws.{Left, left-all, left-before, left-past, found-there, found-nowhere, found-over}

@@ -2,7 +2,7 @@ use Prim.Native.Nat.{_-_, _^_, _≤_}
 use mathlib.Core.Path.{_≡_, refl, sym, _∙_}
 use native.Mathlib.Omega.{arith}
 use lib.ListN.{length, drop}
-use Rattle.songcode.specs.Joined.{covers}
+use Rattle.songcode.specs.description.Joined.{covers}
 use Rattle.packing.proofs.RoundTrips.{section-fields}
 use Rattle.cues.proofs.JoinLaws.{cover-next, cover-elsewhere, cover-over}
 use borrow.Author.Needs.{needs}

@@ -3,7 +3,7 @@ use Prim.Native.Nat.{_-_, _^_, _≤_}
 use mathlib.Core.Path.{_≡_, refl, sym, _∙_}
 use native.Mathlib.Omega.{arith}
 use lib.ListN.{length, drop}
-use Rattle.songcode.specs.Joined.{measuresJoin}
+use Rattle.songcode.specs.description.Joined.{measuresJoin}
 use Rattle.packing.proofs.RoundTrips.{measure-fields}
 use Rattle.cues.proofs.JoinLaws.{join-next, join-elsewhere, join-empty, join-long, join-over}
 use borrow.Author.Needs.{needs}

@@ -1,4 +1,4 @@
-use Rattle.songcode.specs.Joined.{joinUp}
+use Rattle.songcode.specs.description.Joined.{joinUp}
 use borrow.Author.Needs.{needs}
 use Rattle.cues.proofs.joins.join_up.Statement.{statement}
 use Rattle.cues.proofs.joins.join_up.Tie as tie

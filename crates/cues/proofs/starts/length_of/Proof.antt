@@ -3,7 +3,7 @@ use mathlib.Core.Path.{_≡_, refl}
 use native.Mathlib.Omega.{arith}
 use mathlib.Core.List.{List}
 use lib.ListN.{getD}
-use Rattle.songcode.specs.Joined.{beatCount}
+use Rattle.songcode.specs.description.Joined.{beatCount}
 use Rattle.cues.specs.Table.{IsTable}
 use Rattle.cues.specs.Cues.{beatLength}
 use native.Mathlib.Nat.{mul-le-mul}

@@ -6,7 +6,7 @@ use mathlib.Core.Bool.{true}
 use native.Mathlib.Omega.{arith}
 use lib.ListN.{length, drop, getD}
 use Rattle.songcode.specs.Lists.{sum, every}
-use Rattle.songcode.specs.Joined.{measureCount, covers}
+use Rattle.songcode.specs.description.Joined.{measureCount, covers}
 use Rattle.packing.proofs.RoundTrips.{section-fields}
 use Rattle.packing.proofs.WrittenLaws.{Wrote, wrote-start, wrote-end}
 use Rattle.cues.specs.Cues.{lengths, starts, isTimed}

@@ -2,7 +2,7 @@ use mathlib.Core.Path.{ap, _∙_}
 use mathlib.Core.List.{List}
 use native.Mathlib.Omega.{arith}
 use Rattle.songcode.specs.Lists.{taken}
-use Rattle.songcode.specs.Lines.{Line}
+use Rattle.songcode.specs.answer.Lines.{Line}
 use Rattle.sections.specs.declared.runs.Test.the-variants.{Full}
 use Rattle.sections.specs.Runs.{passing, linesBehind}
 use Rattle.sections.proofs.BlockLaws.{longest-placed}

@@ -2,7 +2,7 @@ use Prim.Native.Nat.{_+_, _-_, _≤_}
 use mathlib.Core.Path.{_≡_, refl}
 use native.Mathlib.Omega.{arith}
 use lib.ListN.{length, drop}
-use Rattle.songcode.specs.Chords.{spellingOf}
+use Rattle.songcode.specs.answer.Chords.{spellingOf}
 use Rattle.tokens.specs.Bases.{unpadded}
 use Rattle.flat.specs.Sheets.{puts}
 use Rattle.flat.proofs.MeasureLaws.{spelling-short, base-next, base-done, base-over}

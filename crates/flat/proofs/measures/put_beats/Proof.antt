@@ -2,7 +2,7 @@ use Prim.Native.Nat.{_-_}
 use mathlib.Core.Path.{_≡_, refl}
 use mathlib.Core.List.{map}
 use lib.ListN.{length, drop}
-use Rattle.songcode.specs.Flat.{spaced}
+use Rattle.songcode.specs.answer.Flat.{spaced}
 use Rattle.flat.specs.Sheets.{puts}
 use Rattle.flat.specs.Measures.{lettersAt, positions}
 use Rattle.flat.proofs.MeasureLaws.{beat-next, beat-over}

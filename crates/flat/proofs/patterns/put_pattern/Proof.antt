@@ -3,7 +3,7 @@ use Prim.Native.Nat.{_+_, _-_, _≤_}
 use mathlib.Core.Path.{_≡_, refl, _∙_}
 use native.Mathlib.Omega.{arith}
 use lib.ListN.{length}
-use Rattle.songcode.specs.Performance.{total}
+use Rattle.songcode.specs.description.Performance.{total}
 use Rattle.judging.specs.Sums.{rowOfTexts, PlaysWithin}
 use Rattle.flat.specs.Sheets.{puts}
 use Rattle.flat.specs.Measures.{patternLines, Lent}

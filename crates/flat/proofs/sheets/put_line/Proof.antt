@@ -1,5 +1,5 @@
 use mathlib.Core.List.{[], _∷_}
-use Rattle.songcode.specs.Flat.{ended}
+use Rattle.songcode.specs.answer.Flat.{endLine}
 use Rattle.text.specs.Spans.{part}
 use Rattle.flat.proofs.SheetLaws.{puts-two}
 use borrow.Author.Needs.{needs}
@@ -7,7 +7,7 @@ use Rattle.flat.proofs.sheets.put_line.Statement.{statement}
 use Rattle.flat.proofs.sheets.put_line.Tie as tie
 
 returns : tie.Need-returns
-unfolding ended
+unfolding endLine
 returns c =
     let q = c .before .before .before .before .before .before in
     let a = q .before .before .before .before .args in

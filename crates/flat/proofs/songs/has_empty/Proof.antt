@@ -6,8 +6,8 @@ use mathlib.Core.Bool.{not}
 use lib.ListN.{length}
 use Rattle.songcode.specs.Lists.{any}
 use Rattle.songcode.specs.Song.{Section}
-use Rattle.songcode.specs.Answer.{songOf}
-use Rattle.songcode.specs.Flat.{playsNothing}
+use Rattle.songcode.specs.answer.Answer.{songOf}
+use Rattle.songcode.specs.answer.Flat.{playsNothing}
 use Rattle.songcode.proofs.ListLaws.{Each}
 use Rattle.sections.specs.Onward.{Onward, sectionsFrom, sectionAt}
 use Rattle.sections.proofs.MeetLaws.{sections-over}

@@ -5,8 +5,8 @@ use mathlib.Core.List.{List}
 use mathlib.Core.Logic.{inl, inr}
 use native.Mathlib.Omega.{arith}
 use lib.ListN.{length}
-use Rattle.songcode.specs.SongText.{metadataLines}
-use Rattle.songcode.specs.Answer.{blocksOf}
+use Rattle.songcode.specs.answer.SongText.{metadataLines}
+use Rattle.songcode.specs.answer.Answer.{blocksOf}
 use Rattle.sections.proofs.BlockLaws.{longest-placed}
 use Rattle.scores.proofs.MetadataLaws.{is-metadata, is-definition, is-section, not-metadata}
 use Rattle.flat.specs.Sheets.{Sheet, puts}

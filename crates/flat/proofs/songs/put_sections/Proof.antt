@@ -5,8 +5,8 @@ use mathlib.Core.List.{List}
 use native.Mathlib.Omega.{arith}
 use lib.ListN.{length}
 use Rattle.songcode.specs.Song.{Section}
-use Rattle.songcode.specs.Playing.{timeOf}
-use Rattle.songcode.specs.Answer.{songOf}
+use Rattle.songcode.specs.answer.Playing.{timeOf}
+use Rattle.songcode.specs.answer.Answer.{songOf}
 use Rattle.songcode.proofs.ListLaws.{Each}
 use Rattle.sections.specs.Onward.{sectionsFrom, sectionAt}
 use Rattle.judging.proofs.MeterLaws.{meter-is}

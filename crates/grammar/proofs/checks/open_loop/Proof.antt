@@ -1,6 +1,6 @@
 use borrow.Author.Tests.{le-leb, lt-leb}
 use Rattle.songcode.specs.Lists.{if_then_else_}
-use Rattle.songcode.specs.PatternText.{loopsDeep}
+use Rattle.songcode.specs.answer.PatternText.{loopsDeep}
 use Rattle.grammar.specs.Checks.{opened}
 use borrow.Author.Needs.{needs}
 use Rattle.grammar.proofs.checks.open_loop.Statement.{statement}

@@ -1,5 +1,5 @@
 use Rattle.songcode.specs.Bytes.{isByte}
-use Rattle.songcode.specs.PatternText.{barred}
+use Rattle.songcode.specs.answer.PatternText.{barred}
 use borrow.Author.Tests.{ne-eqb}
 use Rattle.grammar.proofs.sides.is_barred.Statement.{statement}
 use Rattle.grammar.proofs.sides.is_barred.Tie as tie

@@ -5,7 +5,7 @@ use Rattle.scores.specs.Metadata.{linesBefore}
 use Rattle.sections.specs.declared.runs.Run.{Run}
 use Rattle.sections.specs.Runs.{linesOf}
 use Rattle.sections.specs.Values.{KeysAre}
-use Rattle.songcode.specs.Answer.{songOf}
+use Rattle.songcode.specs.answer.Answer.{songOf}
 use Rattle.text.specs.declared.Refusal.{Refusal}
 use mathlib.Core.Path.{sym, ap, _∙_, subst}
 use native.Mathlib.Omega.{arith}

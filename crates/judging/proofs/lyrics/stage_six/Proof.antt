@@ -6,8 +6,8 @@ use mathlib.Core.Bool.{_||_}
 use lib.ListN.{length}
 use Rattle.songcode.specs.Lists.{if_then_else_, any, gather}
 use Rattle.songcode.specs.Song.{LyricLine, Section}
-use Rattle.songcode.specs.Lyrics.{isCounted, isPlayed, linesTaken, hasCounts}
-use Rattle.songcode.specs.Answer.{songOf}
+use Rattle.songcode.specs.answer.Lyrics.{isCounted, isPlayed, linesTaken, hasCounts}
+use Rattle.songcode.specs.answer.Answer.{songOf}
 use Rattle.songcode.proofs.ListLaws.{Each}
 use Rattle.sections.specs.Runs.{linesOf}
 use Rattle.sections.specs.Onward.{sectionsFrom, sectionAt, Onward}

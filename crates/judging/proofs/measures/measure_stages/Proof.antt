@@ -6,8 +6,8 @@ use Rattle.judging.proofs.StageLaws.{stage-refused, stage-passed, stage
 use Rattle.songcode.proofs.VerdictAgree.{last-stage}
 use Rattle.scores.specs.Scores.{Ready}
 use Rattle.sections.specs.Onward.{Onward}
-use Rattle.songcode.specs.Answer.{songOf}
-use Rattle.songcode.specs.Meter.{meterFaults, lengthFaults}
+use Rattle.songcode.specs.answer.Answer.{songOf}
+use Rattle.songcode.specs.answer.Meter.{meterFaults, lengthFaults}
 use Rattle.text.specs.Refusals.{refusalOf}
 use lib.ListN.{length}
 use native.Mathlib.Omega.{arith}

@@ -6,7 +6,7 @@ use Rattle.sections.specs.Onward.{sectionsFrom, sectionAt, Onward}
 use Rattle.songcode.specs.Lists.{gather}
 use Rattle.songcode.specs.Complaints.{Complaint, earliest}
 use Rattle.songcode.specs.Song.{Section}
-use Rattle.songcode.specs.Answer.{songOf}
+use Rattle.songcode.specs.answer.Answer.{songOf}
 use Rattle.text.specs.Refusals.{refusalOf}
 use lib.ListN.{length}
 use mathlib.Core.List.{List}

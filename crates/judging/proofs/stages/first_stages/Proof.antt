@@ -1,7 +1,7 @@
 use Rattle.judging.proofs.StageLaws.{stage-refused, stage-passed, stage-none, numbered-input, input-small}
 use Rattle.songcode.proofs.VerdictAgree.{last-stage}
-use Rattle.songcode.specs.Answer.{inputFaults, blocksOf}
-use Rattle.songcode.specs.SongText.{textFaults}
+use Rattle.songcode.specs.answer.Answer.{inputFaults, blocksOf}
+use Rattle.songcode.specs.answer.SongText.{textFaults}
 use Rattle.text.specs.Refusals.{refusalOf}
 use mathlib.Core.List.{[], _∷_}
 use mathlib.Core.Path.{sym, ap, _∙_}

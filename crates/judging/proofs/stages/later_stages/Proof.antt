@@ -4,8 +4,8 @@ use Rattle.judging.proofs.ReferenceLaws.{sectionFault, song-references,
 use Rattle.judging.specs.Stages.{playingFaults, laterFaults}
 use Rattle.judging.specs.declared.sums.Totals.{Totals}
 use Rattle.sections.specs.Onward.{sectionsFrom}
-use Rattle.songcode.specs.Answer.{songOf}
-use Rattle.songcode.specs.References.{referenceFaults}
+use Rattle.songcode.specs.answer.Answer.{songOf}
+use Rattle.songcode.specs.answer.References.{referenceFaults}
 use mathlib.Core.Path.{sym, ap, _∙_}
 use borrow.Author.Needs.{needs}
 use Rattle.judging.proofs.stages.later_stages.Statement.{statement}

@@ -2,8 +2,8 @@ use Rattle.judging.proofs.StageLaws.{stage-refused, stage-passed, stage
 use Rattle.songcode.proofs.VerdictAgree.{last-stage}
 use Rattle.judging.specs.Stages.{lyricFaults}
 use Rattle.judging.specs.declared.sums.Totals.{Totals}
-use Rattle.songcode.specs.Answer.{songOf}
-use Rattle.songcode.specs.Lyrics.{countFaults, sumFaults}
+use Rattle.songcode.specs.answer.Answer.{songOf}
+use Rattle.songcode.specs.answer.Lyrics.{countFaults, sumFaults}
 use Rattle.text.specs.Refusals.{refusalOf}
 use mathlib.Core.List.{[], _∷_}
 use mathlib.Core.Path.{sym, ap, _∙_}

@@ -2,8 +2,8 @@ use Rattle.judging.proofs.StageLaws.{stages-refused, stage-passed, refu
 use Rattle.judging.proofs.ClearLaws.{measures-clear}
 use Rattle.judging.specs.Stages.{lyricFaults, playingFaults}
 use Rattle.judging.specs.declared.sums.Totals.{Totals}
-use Rattle.songcode.specs.Answer.{songOf}
-use Rattle.songcode.specs.Meter.{meterFaults, lengthFaults}
+use Rattle.songcode.specs.answer.Answer.{songOf}
+use Rattle.songcode.specs.answer.Meter.{meterFaults, lengthFaults}
 use mathlib.Core.List.{[], _∷_}
 use mathlib.Core.Path.{sym, ap, _∙_}
 use borrow.Author.Needs.{needs}

@@ -4,10 +4,10 @@ use mathlib.Core.Path.{_≡_, refl, sym, ap, _∙_, subst}
 use native.Mathlib.Omega.{arith}
 use lib.ListN.{length}
 use borrow.Author.Needs.{needs}
-use Rattle.songcode.specs.Playing.{timeOf}
-use Rattle.songcode.specs.Lyrics.{sumFaults}
-use Rattle.songcode.specs.Tables.{tables}
-use Rattle.songcode.specs.Answer.{songOf}
+use Rattle.songcode.specs.answer.Playing.{timeOf}
+use Rattle.songcode.specs.answer.Lyrics.{sumFaults}
+use Rattle.songcode.specs.answer.Tables.{tables}
+use Rattle.songcode.specs.answer.Answer.{songOf}
 use Rattle.sections.specs.Onward.{sectionsFrom, sectionAt}
 use Rattle.judging.specs.declared.sums.Totals.{Totals}
 use Rattle.judging.specs.Sums.{totalsOf, Holds}

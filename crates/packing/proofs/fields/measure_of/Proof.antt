@@ -2,7 +2,7 @@
 use borrow.Author.Needs.{needs}
 use Prim.Native.Nat.{_^_}
 use native.Mathlib.Omega.{arith}
-use Rattle.songcode.specs.Tables.{measureWord}
+use Rattle.songcode.specs.answer.Tables.{measureWord}
 use Rattle.packing.proofs.Bits.{field-and-above}
 use Rattle.packing.proofs.fields.measure_of.Statement.{statement}
 use Rattle.packing.proofs.fields.measure_of.Tie as tie

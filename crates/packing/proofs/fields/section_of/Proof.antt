@@ -1,7 +1,7 @@
 -- `section_of` meets its contract: from each field's bit on stand that field and the ones above it.
 use Prim.Native.Nat.{_^_}
 use native.Mathlib.Omega.{arith}
-use Rattle.songcode.specs.Tables.{sectionWord}
+use Rattle.songcode.specs.answer.Tables.{sectionWord}
 use Rattle.packing.proofs.Bits.{field-and-above}
 use Rattle.packing.proofs.fields.section_of.Statement.{statement}
 use Rattle.packing.proofs.fields.section_of.Tie as tie

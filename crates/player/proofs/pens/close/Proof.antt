@@ -1,4 +1,4 @@
-use Rattle.songcode.specs.Tables.{measureWord}
+use Rattle.songcode.specs.answer.Tables.{measureWord}
 use Rattle.player.proofs.PageLaws.{close-none, close-some}
 use borrow.Author.Needs.{needs}
 use Rattle.player.proofs.pens.close.Statement.{statement}

@@ -1,7 +1,7 @@
 use Rattle.judging.proofs.VerdictLaws.{late-refused, song-accepted}
 use Rattle.reader.proofs.AnswerLaws.{counted-refused, counted-accepted}
-use Rattle.songcode.specs.Answer.{songOf}
-use Rattle.songcode.specs.Tables.{tables}
+use Rattle.songcode.specs.answer.Answer.{songOf}
+use Rattle.songcode.specs.answer.Tables.{tables}
 use borrow.Author.Needs.{needs}
 use Rattle.reader.proofs.counting.count_song.Statement.{statement}
 use Rattle.reader.proofs.counting.count_song.Tie as tie

@@ -3,8 +3,8 @@ use Rattle.songcode.proofs.SongAlone.{refused-with-tables}
 use Rattle.judging.proofs.VerdictLaws.{late-refused, song-accepted}
 use Rattle.reader.proofs.AnswerLaws.{short-refused, roomy-accepted, short-is, long-is, keys-room, tables-room, promised-refused, promised-accepted}
 use Rattle.reader.specs.Answers.{Lent, roomOf}
-use Rattle.songcode.specs.Answer.{songOf}
-use Rattle.songcode.specs.Tables.{tables}
+use Rattle.songcode.specs.answer.Answer.{songOf}
+use Rattle.songcode.specs.answer.Tables.{tables}
 use lib.ListN.{length}
 use mathlib.Core.Path.{sym, _∙_}
 use borrow.Author.Needs.{needs}

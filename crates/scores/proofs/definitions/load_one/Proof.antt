@@ -1,7 +1,7 @@
 -- One more definition: its words are laid behind those before, and its references are looked up among them.
 use Rattle.scores.proofs.LoadLaws.{room-there, same-room, loads-one}
 use Rattle.scores.proofs.DefinitionLaws.{id-small}
-use Rattle.songcode.specs.WrittenSong.{idOf}
+use Rattle.songcode.specs.description.WrittenSong.{idOf}
 use mathlib.Core.List.{map}
 use native.Mathlib.Omega.{arith}
 use borrow.Author.Needs.{needs}

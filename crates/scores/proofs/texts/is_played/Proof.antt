@@ -1,4 +1,4 @@
-use Rattle.songcode.specs.Answer.{songOf}
+use Rattle.songcode.specs.answer.Answer.{songOf}
 use Rattle.scores.proofs.NamedLaws.{plays-items, plays-named}
 use borrow.Author.Needs.{needs}
 use Rattle.scores.proofs.texts.is_played.Statement.{statement}

@@ -1,9 +1,9 @@
 -- The three texts are laid behind the definitions, one behind the other, and each is told by what it names.
 use mathlib.Core.Path.{sym, _∙_, subst}
 use mathlib.Core.Logic.{⊎-elim}
-use Rattle.songcode.specs.Playing.{saidBy, beforeSaid, afterSaid}
-use Rattle.songcode.specs.References.{patternItems}
-use Rattle.songcode.specs.Answer.{songOf}
+use Rattle.songcode.specs.answer.Playing.{saidBy, beforeSaid, afterSaid}
+use Rattle.songcode.specs.answer.References.{patternItems}
+use Rattle.songcode.specs.answer.Answer.{songOf}
 use Rattle.sections.specs.Onward.{sectionAt}
 use Rattle.scores.specs.declared.texts.Text.{Text}
 use Rattle.scores.specs.Scores.{Carries, sideItems}

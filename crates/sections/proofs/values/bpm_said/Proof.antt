@@ -1,7 +1,7 @@
 use Rattle.sections.proofs.ValueLaws.{said-otherwise, said-number, bpm-range}
 use Rattle.sections.specs.Values.{bpmSaid}
 use Rattle.settings.proofs.ValueLaws.{bpmIn-placeless}
-use Rattle.songcode.specs.Keys.{bpmIn}
+use Rattle.songcode.specs.answer.Keys.{bpmIn}
 use native.Mathlib.Omega.{arith}
 use Prim.Native.Nat.{ℕ, _≤_}
 use borrow.Author.Needs.{needs}

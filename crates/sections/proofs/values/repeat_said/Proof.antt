@@ -1,7 +1,7 @@
 use Rattle.sections.proofs.ValueLaws.{said-otherwise, said-number, repeat-range}
 use Rattle.sections.specs.Values.{repeatSaid}
 use Rattle.settings.proofs.NumberLaws.{repeatIn-placeless}
-use Rattle.songcode.specs.Numbers.{repeatIn}
+use Rattle.songcode.specs.answer.Numbers.{repeatIn}
 use native.Mathlib.Omega.{arith}
 use Prim.Native.Nat.{ℕ, _≤_}
 use borrow.Author.Needs.{needs}

@@ -1,7 +1,7 @@
 use Rattle.sections.proofs.ValueLaws.{said-otherwise, said-number, time-range}
 use Rattle.sections.specs.Values.{timeSaid}
 use Rattle.settings.proofs.ValueLaws.{timeIn-placeless}
-use Rattle.songcode.specs.Keys.{timeIn}
+use Rattle.songcode.specs.answer.Keys.{timeIn}
 use native.Mathlib.Omega.{arith}
 use Prim.Native.Nat.{ℕ, _≤_}
 use borrow.Author.Needs.{needs}

@@ -4,7 +4,7 @@ use Prim.Native.Nat.{_+_}
 use mathlib.Core.Option.{some}
 use lib.ListN.{take, drop}
 use lib.Seq.{length-take-le}
-use Rattle.songcode.specs.Numbers.{countIn}
+use Rattle.songcode.specs.answer.Numbers.{countIn}
 use Rattle.songcode.specs.Bytes.{placed}
 use Rattle.tokens.specs.Decimals.{numberOf}
 use Rattle.text.proofs.ListLaws.{rest-part}

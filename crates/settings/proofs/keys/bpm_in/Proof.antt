@@ -1,4 +1,4 @@
-use Rattle.songcode.specs.Keys.{bpmIn}
+use Rattle.songcode.specs.answer.Keys.{bpmIn}
 use borrow.Author.Needs.{needs}
 use Rattle.settings.proofs.keys.bpm_in.Statement.{statement}
 use Rattle.settings.proofs.keys.bpm_in.Tie as tie

@@ -1,7 +1,7 @@
 use mathlib.Core.Path.{_∙_}
 use Rattle.songcode.specs.Bytes.{placed}
-use Rattle.songcode.specs.Numbers.{numberIn}
-use Rattle.songcode.specs.Keys.{bpmIn, timeIn, isSetting}
+use Rattle.songcode.specs.answer.Numbers.{numberIn}
+use Rattle.songcode.specs.answer.Keys.{bpmIn, timeIn, isSetting}
 use Rattle.settings.specs.KeySettings.{isSettingOf}
 use Rattle.settings.proofs.ReadLaws.{number-there}
 use borrow.Author.Needs.{needs}

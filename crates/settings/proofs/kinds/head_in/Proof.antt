@@ -1,5 +1,5 @@
 use mathlib.Core.Path.{sym, ap, _∙_}
-use Rattle.songcode.specs.Numbers.{countIn}
+use Rattle.songcode.specs.answer.Numbers.{countIn}
 use Rattle.songcode.specs.Bytes.{placed}
 use Rattle.tokens.specs.Decimals.{numberOf}
 use Rattle.text.proofs.ListLaws.{rest-part}

@@ -1,6 +1,6 @@
 use mathlib.Core.Path.{sym, ap, _∙_}
 use native.Mathlib.Omega.{arith}
-use Rattle.songcode.specs.Numbers.{countIn}
+use Rattle.songcode.specs.answer.Numbers.{countIn}
 use Rattle.songcode.specs.Bytes.{placed}
 use Rattle.tokens.specs.Decimals.{numberOf}
 use Rattle.text.proofs.ListLaws.{rest-part}

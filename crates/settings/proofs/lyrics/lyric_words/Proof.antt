@@ -2,7 +2,7 @@
 use mathlib.Core.Path.{_∙_}
 use native.Mathlib.Omega.{arith}
 use Rattle.songcode.specs.Bytes.{placed}
-use Rattle.songcode.specs.Lyrics.{countBehind}
+use Rattle.songcode.specs.answer.Lyrics.{countBehind}
 use Rattle.text.specs.Spans.{part}
 use Rattle.settings.specs.LyricParts.{countFrom}
 use Rattle.settings.proofs.WordLaws.{words-alone, words-uncounted, words-counted}

@@ -1,4 +1,4 @@
-use Rattle.songcode.specs.Numbers.{repeatIn}
+use Rattle.songcode.specs.answer.Numbers.{repeatIn}
 use borrow.Author.Needs.{needs}
 use Rattle.settings.proofs.modifiers.repeat_in.Statement.{statement}
 use Rattle.settings.proofs.modifiers.repeat_in.Tie as tie

@@ -5,7 +5,7 @@ use lib.ListN.{length, drop}
 use mathlib.Core.Logic.{⊎-elim}
 use borrow.Author.Tests.{not-true, not-false}
 use Rattle.songcode.specs.Bytes.{placed}
-use Rattle.songcode.specs.Characters.{characters}
+use Rattle.songcode.specs.answer.Characters.{characters}
 use Rattle.settings.proofs.PhraseLaws.{characters-tail, characters-first, characters-over}
 use borrow.Author.Needs.{needs}
 use Rattle.settings.proofs.phrases.characters.Statement.{statement}

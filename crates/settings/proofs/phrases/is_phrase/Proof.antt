@@ -1,4 +1,4 @@
-use Rattle.songcode.specs.Keys.{isPhrase}
+use Rattle.songcode.specs.answer.Keys.{isPhrase}
 use Rattle.settings.proofs.PhraseLaws.{range-none, range-some}
 use borrow.Author.Needs.{needs}
 use Rattle.settings.proofs.phrases.is_phrase.Statement.{statement}

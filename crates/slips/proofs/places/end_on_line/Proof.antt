@@ -1,7 +1,7 @@
 -- The end of a place on its line: no line end is passed over, and where none stands before it, nothing is cut off.
 use Prim.Native.Nat.{_-_, _≤_}
 use mathlib.Core.Path.{_≡_, refl, _∙_}
-use Rattle.songcode.specs.Answer.{lineOfPlace}
+use Rattle.songcode.specs.answer.Answer.{lineOfPlace}
 use Rattle.slips.proofs.PlaceLaws.{same-line}
 use Rattle.slips.proofs.FindLaws.{no-lf, no-cr}
 use native.Mathlib.Omega.{arith}

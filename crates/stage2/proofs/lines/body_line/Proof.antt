@@ -1,6 +1,6 @@
 use Rattle.stage2.proofs.BodyReturns.{body-key, body-modifier, body-pattern}
 use Rattle.stage2.proofs.LineReturns.{is-key, is-modifier, is-pattern}
-use Rattle.songcode.specs.Sections.{kindOfLine}
+use Rattle.songcode.specs.answer.Sections.{kindOfLine}
 use Rattle.text.specs.Spans.{lineText}
 use mathlib.Core.Path.{sym, _∙_}
 use borrow.Author.Needs.{needs}

@@ -1,7 +1,7 @@
 use Rattle.stage2.proofs.MetadataReturns.{metadata-key, metadata-modifier, metadata-pattern}
 use Rattle.stage2.proofs.LineReturns.{is-key, is-modifier, is-pattern}
 use Rattle.text.specs.Spans.{lineText}
-use Rattle.songcode.specs.Sections.{kindOfLine}
+use Rattle.songcode.specs.answer.Sections.{kindOfLine}
 use mathlib.Core.Path.{sym, _∙_}
 use borrow.Author.Needs.{needs}
 use Rattle.stage2.proofs.lines.metadata_line.Statement.{statement}

@@ -4,7 +4,7 @@ use mathlib.Core.Path.{_≡_, sym, _∙_}
 use native.Mathlib.Omega.{arith}
 use borrow.Author.Needs.{needs}
 use lib.ListN.{length, drop}
-use Rattle.songcode.specs.Characters.{goodBytes}
+use Rattle.songcode.specs.answer.Characters.{goodBytes}
 use Rattle.text.proofs.GoodLaws.{width-at-fits, good-stop, good-more, good-over}
 use Rattle.text.proofs.characters.good_bytes.Statement.{statement}
 use Rattle.text.proofs.characters.good_bytes.Tie as tie

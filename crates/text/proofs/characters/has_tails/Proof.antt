@@ -6,7 +6,7 @@ use native.Mathlib.Omega.{arith}
 use borrow.Author.Tests.{not-true, not-false}
 use borrow.Author.Needs.{needs}
 use lib.ListN.{drop}
-use Rattle.songcode.specs.Characters.{tails}
+use Rattle.songcode.specs.answer.Characters.{tails}
 use Rattle.text.proofs.LeadLaws.{tails-short, tails-stop, tails-more, tails-none}
 use Rattle.text.proofs.characters.has_tails.Statement.{statement}
 use Rattle.text.proofs.characters.has_tails.Tie as tie

@@ -1,6 +1,6 @@
 -- A tail is a byte within the range of tails.
 use borrow.Author.Needs.{needs}
-use Rattle.songcode.specs.Characters.{isTail}
+use Rattle.songcode.specs.answer.Characters.{isTail}
 use Rattle.text.proofs.characters.is_tail.Statement.{statement}
 use Rattle.text.proofs.characters.is_tail.Tie as tie
 

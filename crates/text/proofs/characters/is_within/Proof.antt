@@ -1,6 +1,6 @@
 -- The two comparisons are those of the definition.
 use borrow.Author.Tests.{le-leb, lt-leb}
-use Rattle.songcode.specs.Characters.{within}
+use Rattle.songcode.specs.answer.Characters.{within}
 use Rattle.text.proofs.characters.is_within.Statement.{statement}
 use Rattle.text.proofs.characters.is_within.Tie as tie
 

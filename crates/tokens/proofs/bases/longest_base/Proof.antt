@@ -1,6 +1,6 @@
 use Rattle.tokens.proofs.RowLaws.{no-row, row-of}
 use Rattle.tokens.specs.Bases.{baseOf, firstOf, rowOf}
-use Rattle.songcode.specs.Chords.{isTaken, longestFrom}
+use Rattle.songcode.specs.answer.Chords.{isTaken, longestFrom}
 use mathlib.Core.Option.{none}
 use native.Mathlib.Omega.{arith}
 use mathlib.Core.Path.{sym, ap, _∙_}

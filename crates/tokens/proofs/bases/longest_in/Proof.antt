@@ -1,11 +1,11 @@
 -- Spelling by spelling of a row: the longest found so far, or a longer one among those that are left, is the longest of the row.
-use Rattle.songcode.specs.Chords.{rows, spellings}
+use Rattle.songcode.specs.answer.Chords.{rows, spellings}
 use Rattle.songcode.specs.Bytes.{ascii}
 use Rattle.tokens.proofs.RowLaws.{table-at, first-fits, better, found, found-more, found-all}
 use Rattle.tokens.specs.Bases.{baseOf, takenLength, firstOf, rowOf}
 use Rattle.songcode.specs.Lists.{if_then_else_}
-use Rattle.songcode.specs.Chords.{isTaken, longestFrom}
-use Rattle.songcode.specs.Chords as songcode
+use Rattle.songcode.specs.answer.Chords.{isTaken, longestFrom}
+use Rattle.songcode.specs.answer.Chords as songcode
 use mathlib.Core.Option.{Option, none}
 use mathlib.Core.Logic.{⊎-elim}
 use mathlib.Core.List.{[]}

@@ -1,6 +1,6 @@
 use Rattle.songcode.specs.Lists.{if_then_else_}
 use Rattle.songcode.specs.Bytes.{ascii}
-use Rattle.songcode.specs.Chords.{rows, spellings, bases, spellingOf}
+use Rattle.songcode.specs.answer.Chords.{rows, spellings, bases, spellingOf}
 use Rattle.tokens.specs.Bases.{unpadded, firstOf}
 use Rattle.tokens.proofs.NumberLaws.{number-stands}
 use Prim.Native.Nat.{_≤_}

@@ -3,8 +3,8 @@ use Rattle.tokens.proofs.LexLaws.{blanks-passed, blanks-over, tokens-ov
 use Rattle.tokens.specs.Lexing.{Reads}
 use Rattle.tokens.specs.TokenWords.{tokenWord}
 use Rattle.songcode.specs.Bytes.{placed}
-use Rattle.songcode.specs.Numbers.{repeatIn}
-use Rattle.songcode.specs.Tokens.{semicolon, colon, opens, closingToken, wordToken}
+use Rattle.songcode.specs.answer.Numbers.{repeatIn}
+use Rattle.songcode.specs.answer.Tokens.{semicolon, colon, opens, closingToken, wordToken}
 use Rattle.text.specs.Spans.{part}
 use Rattle.text.proofs.WalkLaws.{part-length}
 use lib.ListN.{getD}

@@ -6,10 +6,10 @@ use native.Mathlib.Omega.{arith}
 use lib.ListN.{length, length-map, length-append, length-take, length-drop}
 use Rattle.songcode.specs.Lists.{gather}
 use Rattle.songcode.specs.Song.{Section}
-use Rattle.songcode.specs.Sections.{lyricLine}
-use Rattle.songcode.specs.Lyrics.{counted, promptsFrom}
-use Rattle.songcode.specs.Tables.{itemWord, tables}
-use Rattle.songcode.specs.Answer.{songOf}
+use Rattle.songcode.specs.answer.Sections.{lyricLine}
+use Rattle.songcode.specs.answer.Lyrics.{counted, promptsFrom}
+use Rattle.songcode.specs.answer.Tables.{itemWord, tables}
+use Rattle.songcode.specs.answer.Answer.{songOf}
 use Rattle.sections.specs.Runs.{linesOf}
 use Rattle.sections.specs.Onward.{sectionsFrom, Onward}
 use Rattle.judging.proofs.LyricLaws.{prompts-length}

@@ -5,9 +5,9 @@ use mathlib.Core.List.{List, _∷_, map}
 use native.Mathlib.Omega.{arith}
 use lib.ListN.{length, length-map}
 use Rattle.songcode.specs.Song.{LyricLine}
-use Rattle.songcode.specs.Sections.{lyricLine}
-use Rattle.songcode.specs.Lyrics.{counted, promptsFrom}
-use Rattle.songcode.specs.Tables.{itemWord}
+use Rattle.songcode.specs.answer.Sections.{lyricLine}
+use Rattle.songcode.specs.answer.Lyrics.{counted, promptsFrom}
+use Rattle.songcode.specs.answer.Tables.{itemWord}
 use Rattle.sections.specs.Runs.{linesOf}
 use Rattle.judging.proofs.LyricLaws.{lyricsAt, lyrics-none, lyrics-over, lyrics-more, counted-more, prompts-more}
 use Rattle.packing.proofs.WrittenLaws.{Wrote, wrote-start, wrote-put, wrote-length, wrote-end}

@@ -4,9 +4,9 @@ use mathlib.Core.Path.{_≡_, refl, sym, ap, _∙_, subst}
 use mathlib.Core.List.{List, [], _∷_}
 use native.Mathlib.Omega.{arith}
 use lib.ListN.{length}
-use Rattle.songcode.specs.SongText.{metadataLines, songIn}
-use Rattle.songcode.specs.Tables.{keyWords, tables}
-use Rattle.songcode.specs.Answer.{inputFaults, blocksOf, songOf}
+use Rattle.songcode.specs.answer.SongText.{metadataLines, songIn}
+use Rattle.songcode.specs.answer.Tables.{keyWords, tables}
+use Rattle.songcode.specs.answer.Answer.{inputFaults, blocksOf, songOf}
 use Rattle.sections.specs.declared.runs.Run.{Run}
 use Rattle.sections.specs.Runs.{linesOf}
 use Rattle.sections.specs.Slots.{settingAmong}

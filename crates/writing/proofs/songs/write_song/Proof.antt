@@ -6,9 +6,9 @@ use native.Mathlib.Omega.{arith}
 use lib.ListN.{length}
 use borrow.Author.Needs.{needs}
 use Rattle.songcode.specs.Lists.{gather}
-use Rattle.songcode.specs.Playing.{timeOf, played}
-use Rattle.songcode.specs.Tables.{sectionWords, measureWords, beatWord, tables}
-use Rattle.songcode.specs.Answer.{songOf}
+use Rattle.songcode.specs.answer.Playing.{timeOf, played}
+use Rattle.songcode.specs.answer.Tables.{sectionWords, measureWords, beatWord, tables}
+use Rattle.songcode.specs.answer.Answer.{songOf}
 use Rattle.sections.specs.Onward.{sectionsFrom, sectionAt}
 use Rattle.packing.proofs.WrittenLaws.{Wrote, wrote-left, wrote-length}
 use Rattle.judging.proofs.MeterLaws.{meter-is, meter-range}

@@ -1,0 +1,19 @@
+-- The answer to a chart, in the order of document 01: from bytes to the tables, or the first refusal.
+pub mod Characters
+pub mod Lines
+pub mod Numbers
+pub mod Chords
+pub mod Tokens
+pub mod PatternText
+pub mod Keys
+pub mod Modifiers
+pub mod Sections
+pub mod SongText
+pub mod References
+pub mod Playing
+pub mod Meter
+pub mod Lyrics
+pub mod Tables
+pub mod Answer
+pub mod Flat
+pub mod Finding

@@ -1,0 +1,63 @@
+-- The description of the tables: the words of what each section plays, and of the prompter items.
+use Prim.Native.Nat.{ℕ, _+_, _≤_}
+use mathlib.Core.Path.{_≡_}
+use mathlib.Core.List.{List, [], _∷_, map}
+use mathlib.Core.Option.{some}
+use lib.ListN.{length}
+use Rattle.songcode.specs.Lists.{gather}
+use Rattle.songcode.specs.Bytes.{Byte}
+use Rattle.songcode.specs.Song.{Items, LyricLine, Section, Song}
+use Rattle.songcode.specs.answer.References.{patternItems}
+use Rattle.songcode.specs.answer.Lyrics.{Prompt}
+use Rattle.songcode.specs.answer.Tables.{Tables, keyWords, sectionWord, measureWords, beatWord, itemWord}
+use Rattle.songcode.specs.description.Performance.{Parts, joined}
+use Rattle.songcode.specs.description.WrittenLyrics.{CountedLine, StyledText}
+use Rattle.songcode.specs.description.Fits.{Counted}
+
+-- "sections: header line, first measure, measures, N, bpm": the first measure of a section is how many the sections before it have.
+unfoldable pub partsWords : ℕ → List Section → List Parts → List ℕ
+partsWords first [] ps = []
+partsWords first (x ∷ xs) [] = []
+partsWords first (x ∷ xs) (p ∷ ps) =
+    sectionWord (x .header) first (length (joined p)) (p .meter) (p .tempo) ∷ partsWords (first + length (joined p)) xs ps
+
+-- A section that has lyrics, all with counts, and a pattern that isn't empty.
+pub record Sung (s : Song) (x : Section) : Type 0 where
+  pub pattern : Items
+  pub played : patternItems (s .definitions) (x .pattern) ≡ some pattern
+  pub lyrics : 1 ≤ length (x .lyrics)
+  pub sum : ℕ
+  pub counted : Counted (x .lyrics) sum
+
+unfoldable pub AllSung : Song → List Section → Type 0
+AllSung s [] = Unit {0}
+AllSung s (x ∷ xs) = Sung s x × AllSung s xs
+
+-- The items of counted lines, the first of them at a measure: each lasts as many measures as its count says.
+unfoldable pub ItemsFrom : ℕ → List LyricLine → List Prompt → Type 0
+ItemsFrom first [] [] = Unit {0}
+ItemsFrom first [] (p ∷ ps) = ⊥
+ItemsFrom first (l ∷ ls) [] = ⊥
+ItemsFrom first (l ∷ ls) (p ∷ ps) =
+    (words : List Byte)
+    × CountedLine (l .text) words (p .measures)
+    × StyledText words (p .words .style) (p .words .text)
+    × (p .first ≡ first)
+    × ItemsFrom (first + p .measures) ls ps
+
+unfoldable pub lyricsOf : Section → List LyricLine
+lyricsOf x = x .lyrics
+
+-- "Items are written only if every section has lyrics and a pattern that isn't empty, and all have counts; otherwise there are none."
+pub data WrittenItems (s : Song) : List ℕ → Type 0 where
+  items-there : {words : List ℕ} (prompts : List Prompt) → AllSung s (s .sections) → ItemsFrom 0 (gather lyricsOf (s .sections)) prompts
+      → words ≡ map itemWord prompts → WrittenItems s words
+  no-items : {words : List ℕ} → (AllSung s (s .sections) → ⊥) → words ≡ [] → WrittenItems s words
+
+-- All five tables of a song and of what its sections play.
+pub record WrittenTables (s : Song) (ps : List Parts) (t : Tables) : Type 0 where
+  pub keys : t .keys ≡ keyWords s
+  pub sections : t .sections ≡ partsWords 0 (s .sections) ps
+  pub measures : t .measures ≡ measureWords 0 (gather joined ps)
+  pub beats : t .beats ≡ gather (map beatWord) (gather joined ps)
+  pub items : WrittenItems s (t .items)
