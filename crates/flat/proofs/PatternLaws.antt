@@ -23,7 +23,6 @@ use Rattle.player.proofs.WindowLaws.{length-flat, length-heads, total-window}
 use Rattle.player.proofs.PartLaws.{PartOf, part-of, filled-window, filled-section, short-window, short-section, part-goes-on, heads-at, beats-at}
 use Rattle.player.proofs.SectionLaws.{section-beats}
 use Rattle.sections.specs.declared.values.Modifiers.{Modifiers}
-use Rattle.scores.specs.declared.definitions.Score.{Score}
 use Rattle.scores.specs.declared.texts.Texts.{Texts}
 use Rattle.judging.specs.Lengths.{cutOrNone}
 use Rattle.judging.specs.Sums.{rowOfTexts, PlaysWithin}
@@ -234,21 +233,21 @@ module _ (s : List ℕ) (n : ℕ) (row : List (List ℕ)) (filled : Filled row) 
           )
 
 -- What is known of the row of a section that plays within the tables.
-module _ (ws : List ℕ) (score : Score) (n : ℕ) (t : Texts) (m : Modifiers) (h : PlaysWithin ws score n t m 0) where
-  pub texts-filled : Filled (rowOfTexts ws score n t m)
+module _ (ws : List ℕ) (n : ℕ) (t : Texts) (m : Modifiers) (h : PlaysWithin ws n t m 0) where
+  pub texts-filled : Filled (rowOfTexts ws n t m)
   unfolding rowOfTexts
   texts-filled = filled-section _ _ (m .repeat) _ _ _
 
-  pub texts-short : Short (rowOfTexts ws score n t m)
+  pub texts-short : Short (rowOfTexts ws n t m)
   unfolding rowOfTexts
   texts-short =
-      let f = short-row (score .definitions) n ws (h .meter) in
+      let f = short-row n ws (h .meter) in
       short-section _ _ (m .repeat) _ _ _ (f (t .lead .at)) (f (t .pattern .at)) (f (t .tail .at))
 
-  pub texts-total : total (rowOfTexts ws score n t m) ≤ 2097120
+  pub texts-total : total (rowOfTexts ws n t m) ≤ 2097120
   unfolding rowOfTexts
   texts-total =
-      let f = short-row (score .definitions) n ws (h .meter) in
+      let f = short-row n ws (h .meter) in
       let b = section-beats (cutOrNone (m .front)) (cutOrNone (m .back)) (m .repeat) _ _ _ (f (t .lead .at)) (f (t .pattern .at)) (f (t .tail .at)) in
       omega (arith, h .room)
 

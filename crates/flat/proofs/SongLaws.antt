@@ -28,7 +28,6 @@ use Rattle.songcode.proofs.SpeltChords.{Known}
 use Rattle.songcode.proofs.CopyReady.{Good, KnownParts, known}
 use Rattle.songcode.proofs.CopiedExactly.{copied-exactly}
 use Rattle.sections.specs.declared.blocks.Place.{Place}
-use Rattle.scores.specs.declared.definitions.Score.{Score}
 use Rattle.scores.specs.Scores.{Ready}
 use Rattle.judging.specs.declared.charts.Chart.{Chart}
 use Rattle.judging.specs.Charts.{Clear, Writable}
@@ -67,7 +66,7 @@ heard-all bs input texts clear =
     heard-song bs (input-small bs input) (copied-exactly bs (flatCopy bs) .0 e)
 
 -- Counts are not needed along the sections.
-pub along-alone : {s ws : List ℕ} {score : Score} {p : Place} {m b : ℕ} → Along s ws score p m b → Along s ws score p 0 0
+pub along-alone : {s ws : List ℕ} {mark : ℕ} {p : Place} {m b : ℕ} → Along s ws mark p m b → Along s ws mark p 0 0
 along-alone a =
     record {
       onward = a .onward;
@@ -82,7 +81,7 @@ along-alone a =
     }
 
 -- The words of a section laid behind the definitions leave the song as it was.
-pub writable-again : {s ws vs : List ℕ} {r : Chart} → Writable s ws r → Ready s vs (r .score) → Writable s vs r
+pub writable-again : {s ws vs : List ℕ} {r : Chart} → Writable s ws r → Ready s vs (r .mark) → Writable s vs r
 writable-again w ready =
     record { ends = w .ends; keys = w .keys; ready = ready; begins = w .begins; filled = w .filled; clear = w .clear; holds = w .holds }
 

@@ -7,12 +7,11 @@ use Rattle.songcode.specs.description.Performance.{total}
 use Rattle.player.specs.declared.playing.Counts.{Counts}
 use Rattle.player.specs.Windows.{window}
 use Rattle.sections.specs.declared.values.Modifiers.{Modifiers}
-use Rattle.scores.specs.declared.definitions.Score.{Score}
 use Rattle.scores.specs.declared.texts.Texts.{Texts}
 use Rattle.judging.specs.Sums.{rowOfTexts}
 
-abbrev pub partOfTexts : List ℕ → Score → ℕ → Texts → Modifiers → ℕ → ℕ → List (List ℕ)
-partOfTexts ws score n t m from room = window from room (rowOfTexts ws score n t m)
+abbrev pub partOfTexts : List ℕ → ℕ → Texts → Modifiers → ℕ → ℕ → List (List ℕ)
+partOfTexts ws n t m from room = window from room (rowOfTexts ws n t m)
 
 abbrev pub Counted : Counts → List (List ℕ) → Type 0
 Counted c row = (c .measures ≡ length row) × (c .beats ≡ total row)

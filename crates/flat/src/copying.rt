@@ -5,9 +5,11 @@ use super::songs::put_copy;
 use judging::Chart;
 use judging::first_stages;
 use judging::judge;
+use score::LONG_ROW;
+use score::SHORT_ROW;
 ghost use mathlib.Core.Path.{_≡_};
 ghost use mathlib.Core.List.{[]};
-ghost use Prim.Native.Nat.{_≤_};
+ghost use Prim.Native.Nat.{_<_};
 ghost use lib.ListN.{length};
 ghost use Rattle.songcode.specs.answer.SongText.{textFaults};
 ghost use Rattle.songcode.specs.answer.Answer.{inputFaults, blocksOf};
@@ -35,9 +37,9 @@ fn copy_chart(text: &[u8], chart: Chart, words: &mut [u32], copy: &mut [u8]) -> 
     }
 }
 
-// A chart that stages 1 and 2 have passed; `words` holds its pattern text as token words, at most one for each byte.
+// A chart that stages 1 and 2 have passed; `words` is the row that its texts are laid into.
 fn copy_song(text: &[u8], words: &mut [u32], copy: &mut [u8]) -> Copied
-    requires { ⌜ (inputFaults (now text) ≡ []) × (textFaults (blocksOf (now text)) ≡ []) × (length (now text) ≤ length (now words)) ⌝ }
+    requires { ⌜ (inputFaults (now text) ≡ []) × (textFaults (blocksOf (now text)) ≡ []) × (length (now text) < length (now words)) ⌝ }
     ensures { λ r. ⌜ Flattened (now (text .entry)) (now (copy .entry)) r (now (copy .exit)) ⌝ }
 {
     let chart = judge(text, words);
@@ -51,19 +53,19 @@ fn copy_song(text: &[u8], words: &mut [u32], copy: &mut [u8]) -> Copied
 
 // The same for a chart of at most 2,048 bytes, as nearly all are: a small buffer is soon cleared.
 fn copy_short(text: &[u8], copy: &mut [u8]) -> Copied
-    requires { ⌜ (inputFaults (now text) ≡ []) × (textFaults (blocksOf (now text)) ≡ []) × (length (now text) ≤ 2048) ⌝ }
+    requires { ⌜ (inputFaults (now text) ≡ []) × (textFaults (blocksOf (now text)) ≡ []) × (length (now text) < 2064) ⌝ }
     ensures { λ r. ⌜ Flattened (now (text .entry)) (now (copy .entry)) r (now (copy .exit)) ⌝ }
 {
-    let mut words = [0u32; 2048];
+    let mut words = [0u32; SHORT_ROW];
     copy_song(text, &mut words, copy)
 }
 
 // The same for any chart that stage 1 has passed.
 fn copy_long(text: &[u8], copy: &mut [u8]) -> Copied
-    requires { ⌜ (inputFaults (now text) ≡ []) × (textFaults (blocksOf (now text)) ≡ []) × (length (now text) ≤ 65536) ⌝ }
+    requires { ⌜ (inputFaults (now text) ≡ []) × (textFaults (blocksOf (now text)) ≡ []) × (length (now text) < 65552) ⌝ }
     ensures { λ r. ⌜ Flattened (now (text .entry)) (now (copy .entry)) r (now (copy .exit)) ⌝ }
 {
-    let mut words = [0u32; 65536];
+    let mut words = [0u32; LONG_ROW];
     copy_song(text, &mut words, copy)
 }
 

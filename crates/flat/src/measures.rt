@@ -3,7 +3,7 @@ use super::sheets::put;
 use super::sheets::put_part;
 use packing::beat_of;
 use packing::measure_of;
-use player::least;
+use score::least;
 use tokens::spelling_of;
 ghost use mathlib.Core.List.{map};
 ghost use Prim.Native.Nat.{_-_, _≤_};

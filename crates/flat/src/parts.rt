@@ -2,7 +2,6 @@
 use judging::cut_or_none;
 use player::Counts;
 use player::play_part;
-use scores::Score;
 use scores::Texts;
 use sections::Modifiers;
 ghost use mathlib.Core.Path.{_≡_};
@@ -16,7 +15,6 @@ ghost use Rattle.flat.specs.Parts.{partOfTexts, Counted};
 // The part of a section from a beat on that the lent table of beats has room for, its first beat at 0.
 pub fn part_of(
     words: &[u32],
-    score: Score,
     n: usize,
     t: Texts,
     m: Modifiers,
@@ -24,12 +22,12 @@ pub fn part_of(
     measures: &mut [u32],
     beats: &mut [u32],
 ) -> Counts
-    requires { ⌜ PlaysWithin (now words) score n t m 0 × (from ≤ 2097120) ⌝ }
-    ensures counts { λ r. ⌜ Counted r (partOfTexts (now (words .entry)) score n t m from (length (now (beats .entry)))) ⌝ }
+    requires { ⌜ PlaysWithin (now words) n t m 0 × (from ≤ 2097120) ⌝ }
+    ensures counts { λ r. ⌜ Counted r (partOfTexts (now (words .entry)) n t m from (length (now (beats .entry)))) ⌝ }
     ensures measures { λ r. ⌜ now (measures .exit) ≡ sets (now (measures .entry)) 0
-        (heads 0 (partOfTexts (now (words .entry)) score n t m from (length (now (beats .entry))))) ⌝ }
+        (heads 0 (partOfTexts (now (words .entry)) n t m from (length (now (beats .entry))))) ⌝ }
     ensures beats { λ r. ⌜ now (beats .exit) ≡ sets (now (beats .entry)) 0
-        (flat (partOfTexts (now (words .entry)) score n t m from (length (now (beats .entry))))) ⌝ }
+        (flat (partOfTexts (now (words .entry)) n t m from (length (now (beats .entry))))) ⌝ }
 {
     let lead = t.lead;
     let pattern = t.pattern;
@@ -38,7 +36,6 @@ pub fn part_of(
     let back = m.back;
     play_part(
         words,
-        score.definitions,
         n,
         lead.at,
         pattern.at,

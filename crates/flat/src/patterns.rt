@@ -3,7 +3,6 @@ use super::measures::put_measures;
 use super::parts::part_of;
 use super::sheets::put_part;
 use packing::measure_of;
-use scores::Score;
 use scores::Texts;
 use sections::Modifiers;
 ghost use Rattle.judging.specs.Sums.{rowOfTexts, PlaysWithin};
@@ -14,7 +13,6 @@ ghost use Rattle.flat.specs.Measures.{patternLines, Lent};
 pub fn put_pattern(
     s: &[u8],
     words: &[u32],
-    score: Score,
     n: usize,
     t: Texts,
     m: Modifiers,
@@ -23,14 +21,14 @@ pub fn put_pattern(
     copy: &mut [u8],
     at: usize,
 ) -> usize
-    requires { ⌜ PlaysWithin (now words) score n t m 0 × Lent (now measures) (now beats) ⌝ }
-    ensures copy { λ r. ⌜ Adds (patternLines (now (s .entry)) n (rowOfTexts (now (words .entry)) score n t m)) (now (copy .entry)) at (now (copy .exit)) r ⌝ }
+    requires { ⌜ PlaysWithin (now words) n t m 0 × Lent (now measures) (now beats) ⌝ }
+    ensures copy { λ r. ⌜ Adds (patternLines (now (s .entry)) n (rowOfTexts (now (words .entry)) n t m)) (now (copy .entry)) at (now (copy .exit)) r ⌝ }
     ensures lent { λ r. ⌜ Lent (now (measures .exit)) (now (beats .exit)) ⌝ }
 {
     let mut from = 0;
     let mut out = at;
     loop {
-        let c = part_of(words, score, n, t, m, from, measures, beats);
+        let c = part_of(words, n, t, m, from, measures, beats);
         if c.measures == 0 {
             return put_part(b"$1\n", 0, 3, copy, out);
         }

@@ -9,7 +9,6 @@ use super::sheets::put_part;
 use judging::Chart;
 use judging::meter_of;
 use scores::Opened;
-use scores::Score;
 use scores::is_played;
 use scores::open_section;
 use sections::Place;
@@ -76,15 +75,15 @@ fn put_metadata(s: &[u8], copy: &mut [u8]) -> usize
 }
 
 // Whether a section plays nothing.
-fn has_empty(s: &[u8], first: Place, score: Score) -> bool
-    requires { ⌜ Begins (now s) first × Told (now s) score × (lengthFaults (songOf (now s)) 0 (songOf (now s) .sections) ≡ []) ⌝ }
+fn has_empty(s: &[u8], first: Place, words: &[u32]) -> bool
+    requires { ⌜ Begins (now s) first × Told (now s) (now words) × (lengthFaults (songOf (now s)) 0 (songOf (now s) .sections) ≡ []) ⌝ }
     ensures { λ r. ⌜ r ≡ any (playsNothing (songOf (now (s .entry)))) (songOf (now (s .entry)) .sections) ⌝ }
 {
     let mut place = first;
     while place.at < s.len() {
         let x = pass(s, place);
         let section = x.section;
-        if !is_played(s, section.pattern, score) {
+        if !is_played(s, section.pattern, words) {
             return true;
         }
         place = x.next;
@@ -108,7 +107,6 @@ fn put_section(
     s: &[u8],
     p: Place,
     words: &[u32],
-    score: Score,
     n: usize,
     x: Opened,
     measures: &mut [u32],
@@ -118,8 +116,8 @@ fn put_section(
 ) -> usize
     requires place { ⌜ Onward (now s) p × (p .at < length (now s)) ⌝ }
     requires meter { ⌜ n ≡ timeOf (songOf (now s)) (sectionAt (now s) p) ⌝ }
-    requires plays { ⌜ PlaysWithin (now words) score n (x .texts) (x .section .modifiers) 0 ⌝ }
-    requires row { ⌜ rowOfTexts (now words) score n (x .texts) (x .section .modifiers) ≡ rowWords (played (songOf (now s)) (sectionAt (now s) p)) ⌝ }
+    requires plays { ⌜ PlaysWithin (now words) n (x .texts) (x .section .modifiers) 0 ⌝ }
+    requires row { ⌜ rowOfTexts (now words) n (x .texts) (x .section .modifiers) ≡ rowWords (played (songOf (now s)) (sectionAt (now s) p)) ⌝ }
     requires heard { ⌜ Heard (now s) (played (songOf (now s)) (sectionAt (now s) p)) ⌝ }
     requires lent { ⌜ Lent (now measures) (now beats) ⌝ }
     ensures copy { λ r. ⌜ Adds (blockBytes at (flatAt (now (s .entry)) p)) (now (copy .entry)) at (now (copy .exit)) r ⌝ }
@@ -134,7 +132,6 @@ fn put_section(
     let played = put_pattern(
         s,
         words,
-        score,
         n,
         x.texts,
         section.modifiers,
@@ -163,15 +160,15 @@ fn put_sections(
     ensures lent { λ r. ⌜ Lent (now (measures .exit)) (now (beats .exit)) ⌝ }
 {
     let song = chart.song;
-    let score = chart.score;
+    let mark = chart.mark;
     let mut place = chart.first;
     let mut out = at;
     while place.at < s.len() {
-        let x = open_section(s, place, score, words);
+        let x = open_section(s, place, mark, words);
         let section = x.section;
         let keys = section.keys;
         let n = meter_of(keys.time, song.time);
-        out = put_section(s, place, words, score, n, x, measures, beats, copy, out);
+        out = put_section(s, place, words, n, x, measures, beats, copy, out);
         place = x.next;
     }
     out
@@ -186,7 +183,7 @@ pub fn put_copy(s: &[u8], chart: Chart, words: &mut [u32], copy: &mut [u8]) -> u
     let mut measures = [0u32; 4096];
     let mut beats = [0u32; 4096];
     let keyed = put_metadata(s, copy);
-    let empty = has_empty(s, chart.first, chart.score);
+    let empty = has_empty(s, chart.first, words);
     let begun = put_empty(empty, copy, keyed);
     put_sections(s, chart, words, &mut measures, &mut beats, copy, begun)
 }

@@ -1,4 +1,7 @@
 // What a token is to the rules of pattern text, told by its word.
+use tokens::CHORDS;
+use tokens::REFERENCE;
+use tokens::kind;
 ghost use mathlib.Core.Path.{_≡_};
 ghost use Rattle.grammar.specs.Kinds.{wordKind};
 
@@ -14,7 +17,7 @@ pub enum Kind {
     Wrong,
 }
 
-// The kinds of the signs from 55 on.
+// The kinds of the signs from that of a reference on.
 const SIGNS: [Kind; 9] = [
     Kind::Reference,
     Kind::Closes,
@@ -31,12 +34,12 @@ const SIGNS: [Kind; 9] = [
 pub fn kind_of(word: u32) -> Kind
     ensures { λ r. ⌜ r ≡ wordKind word ⌝ }
 {
-    let sign = word / 67108864;
-    if sign < 34 {
+    let sign = kind(word);
+    if sign < CHORDS {
         return Kind::Sound;
     }
-    if sign < 55 {
+    if sign < REFERENCE {
         return Kind::Wrong;
     }
-    SIGNS[(sign - 55) as usize]
+    SIGNS[(sign - REFERENCE) as usize]
 }

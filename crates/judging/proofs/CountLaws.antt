@@ -17,8 +17,7 @@ use Rattle.songcode.specs.answer.Meter.{measuresIn, sideCount, sectionCount}
 use Rattle.songcode.proofs.ListLaws.{by-cases, times-length}
 use Rattle.songcode.proofs.RowLaws.{length-items}
 use Rattle.outlines.specs.declared.readings.Outline.{Outline}
-use Rattle.outlines.specs.Tables.{vacant}
-use Rattle.player.specs.declared.leaves.Definitions.{Definitions}
+use Rattle.outlines.specs.Words.{vacant}
 use Rattle.player.specs.Texts.{rowWords}
 use Rattle.player.specs.Walks.{rowOf}
 use Rattle.sections.specs.declared.values.Modifiers.{Modifiers}
@@ -28,13 +27,13 @@ use Rattle.scores.specs.Scores.{Carries, sideItems, TextsAre}
 use Rattle.judging.specs.Lengths.{countOfTexts}
 
 -- A text's measures.
-pub carried-count : (ws : List ℕ) (d : Definitions) (t : Text) (o : Option Items) → Carries ws d t o → t .outline .measures ≡ min 65536 (measuresIn o)
+pub carried-count : (ws : List ℕ) (t : Text) (o : Option Items) → Carries ws t o → t .outline .measures ≡ min 65536 (measuresIn o)
 unfolding Carries measuresIn vacant
-carried-count ws d t none w = ap (λ (x : Outline). x .measures) (w .0) ∙ omega arith
-carried-count ws d t (some r) w = w .1 .measures
+carried-count ws t none w = ap (λ (x : Outline). x .measures) (w .0) ∙ omega arith
+carried-count ws t (some r) w = w .1 .measures
 
-pub carried-fits : (ws : List ℕ) (d : Definitions) (t : Text) (o : Option Items) → Carries ws d t o → t .outline .measures ≤ 65536
-carried-fits ws d t o w = let e = carried-count ws d t o w in omega arith
+pub carried-fits : (ws : List ℕ) (t : Text) (o : Option Items) → Carries ws t o → t .outline .measures ≤ 65536
+carried-fits ws t o w = let e = carried-count ws t o w in omega arith
 
 side-count : (o : Option Side) → measuresIn (sideItems o) ≡ sideCount o
 unfolding measuresIn sideItems sideCount andThen
@@ -42,12 +41,12 @@ side-count none = refl
 side-count (some x) = refl
 
 -- The measures that a text plays, k times over.
-pub played-length : (ws : List ℕ) (d : Definitions) (t : Text) (o : Option Items) (n k : ℕ) → Carries ws d t o
-    → length (times k (rowOf d n ws (t .at))) ≡ k * measuresIn o
+pub played-length : (ws : List ℕ) (t : Text) (o : Option Items) (n k : ℕ) → Carries ws t o
+    → length (times k (rowOf n ws (t .at))) ≡ k * measuresIn o
 unfolding Carries measuresIn rowWords
-played-length ws d t none n k w = times-length k (rowOf d n ws (t .at)) ∙ ap (λ (x : ℕ). k * x) (ap length (w .1 n))
-played-length ws d t (some r) n k w =
-    times-length k (rowOf d n ws (t .at)) ∙ ap (λ (x : ℕ). k * x) (ap length (w .2 n) ∙ length-map (measuresOf n none r) _ ∙ length-items n none r)
+played-length ws t none n k w = times-length k (rowOf n ws (t .at)) ∙ ap (λ (x : ℕ). k * x) (ap length (w .1 n))
+played-length ws t (some r) n k w =
+    times-length k (rowOf n ws (t .at)) ∙ ap (λ (x : ℕ). k * x) (ap length (w .2 n) ∙ length-map (measuresOf n none r) _ ∙ length-items n none r)
 
 -- A number as it is counted: it is right, or both have passed 65,535.
 abbrev pub Counted : ℕ → ℕ → Type 0
@@ -73,15 +72,15 @@ all-counted k a p b h =
     passed : (q : ℕ) → 65536 ≤ q → Counted (min 65536 a + k * 65536 + min 65536 b) (a + q + b)
     passed q l = inr (omega arith, omega arith)
 
-pub section-counted : (song : Song) (x : Section) (ws : List ℕ) (d : Definitions) (m : Modifiers) (t : Texts)
-    → TextsAre (song .definitions) x ws d t → m .repeat ≡ repeats (x .modifiers) → 1 ≤ m .repeat
+pub section-counted : (song : Song) (x : Section) (ws : List ℕ) (m : Modifiers) (t : Texts)
+    → TextsAre (song .definitions) x ws t → m .repeat ≡ repeats (x .modifiers) → 1 ≤ m .repeat
     → Counted (countOfTexts m t) (sectionCount song x)
 unfolding countOfTexts sectionCount
-section-counted song x ws d m t w e h =
-    let a = carried-count ws d (t .lead) (sideItems (saidBy beforeSaid (x .modifiers))) (w .lead) ∙ ap (min 65536)
+section-counted song x ws m t w e h =
+    let a = carried-count ws (t .lead) (sideItems (saidBy beforeSaid (x .modifiers))) (w .lead) ∙ ap (min 65536)
     (side-count (saidBy beforeSaid (x .modifiers))) in
-    let p = carried-count ws d (t .pattern) (patternItems (song .definitions) (x .pattern)) (w .pattern) in
-    let b = carried-count ws d (t .tail) (sideItems (saidBy afterSaid (x .modifiers))) (w .tail) ∙ ap (min 65536)
+    let p = carried-count ws (t .pattern) (patternItems (song .definitions) (x .pattern)) (w .pattern) in
+    let b = carried-count ws (t .tail) (sideItems (saidBy afterSaid (x .modifiers))) (w .tail) ∙ ap (min 65536)
     (side-count (saidBy afterSaid (x .modifiers))) in
     rw (a, p, b, ← e) (all-counted (m .repeat) (sideCount (saidBy beforeSaid (x .modifiers)))
     (measuresIn (patternItems (song .definitions) (x .pattern))) (sideCount (saidBy afterSaid (x .modifiers))) h)

@@ -23,12 +23,11 @@ use Rattle.settings.specs.declared.cuts.CutRead.{CutRead}
 use Rattle.settings.specs.declared.cuts.CutRead.the-variants as read
 use Rattle.settings.specs.Cuts.{cutIs, CutFits}
 use Rattle.outlines.specs.declared.readings.Outline.{Outline}
-use Rattle.outlines.specs.Tables.{vacant}
+use Rattle.outlines.specs.Words.{vacant}
 use Rattle.player.specs.Texts.{rowWords}
 use Rattle.player.specs.Windows.{cutOf, cutSaid, window, firstBeat, lastBeat, keptOf, wholeOf, sectionRow}
 use Rattle.player.proofs.SectionMeaning.{kept-none, kept-total, section-words}
 use Rattle.sections.specs.declared.values.Modifiers.{Modifiers}
-use Rattle.scores.specs.declared.definitions.Score.{Score}
 use Rattle.scores.specs.declared.texts.Texts.{Texts}
 use Rattle.scores.specs.Scores.{Carries}
 use Rattle.judging.specs.Lengths.{cutOrNone, isCut, hasCut, isModified, cutAway}
@@ -93,10 +92,10 @@ uncut-empty n k r h =
     empty-length (times k (measuresOf n none r)) ∙ ap (λ x. eqb x 0)
     (times-length k (measuresOf n none r) ∙ ap (λ x. k * x) (length-items n none r)) ∙ zero-times k (count r) h
 
-module _ (ws : List ℕ) (score : Score) (n header : ℕ) (ms : List Modifier) (m : Modifiers) (t : Texts) (often : m .repeat ≡ repeats ms) (played : 1 ≤ m .repeat)
+module _ (ws : List ℕ) (n header : ℕ) (ms : List Modifier) (m : Modifiers) (t : Texts) (often : m .repeat ≡ repeats ms) (played : 1 ≤ m .repeat)
     (front : m .front ≡ cutIs (saidBy cutStartSaid ms)) (back : m .back ≡ cutIs (saidBy cutEndSaid ms)) where
-  row-cut : (r : Items) → Carries ws (score .definitions) (t .pattern) (some r) → 1 ≤ n → allFit n r ≡ true → hasCut m ≡ true
-      → cutAway ws score n m t ≡ isEmpty (keptMeasures n ms (some r))
+  row-cut : (r : Items) → Carries ws (t .pattern) (some r) → 1 ≤ n → allFit n r ≡ true → hasCut m ≡ true
+      → cutAway ws n m t ≡ isEmpty (keptMeasures n ms (some r))
   unfolding Carries cutAway keptMeasures if_then_else_
   row-cut r w one fit e =
       let row = measuresOf n none r in
@@ -104,8 +103,8 @@ module _ (ws : List ℕ) (score : Score) (n header : ℕ) (ms : List Modifier) (
       (sym (kept-empty (cutSaid (saidBy cutStartSaid ms)) (cutSaid (saidBy cutEndSaid ms)) (times (repeats ms) (rowWords row)))
       ∙ ap isEmpty (kept-words ms row (filled-items n none r one fit)) ∙ empty-words (cutRow ms (times (repeats ms) row)))
 
-  row-uncut : (r : Items) → Carries ws (score .definitions) (t .pattern) (some r) → hasCut m ≡ false
-      → cutAway ws score n m t ≡ isEmpty (keptMeasures n ms (some r))
+  row-uncut : (r : Items) → Carries ws (t .pattern) (some r) → hasCut m ≡ false
+      → cutAway ws n m t ≡ isEmpty (keptMeasures n ms (some r))
   unfolding Carries cutAway keptMeasures cutRow applied hasCut if_then_else_
   row-uncut r w e =
       let q = none-passes (isCut (m .front)) (isCut (m .back)) e in
@@ -113,9 +112,9 @@ module _ (ws : List ℕ) (score : Score) (n header : ℕ) (ms : List Modifier) (
       let b = no-cut (saidBy cutEndSaid ms) (ap isCut (sym back) ∙ q .1) in
       rw (w .0, q .0, q .1, f, b, w .1 .measures, ← often) (sym (uncut-empty n (m .repeat) r played))
 
-  pub cut-away-is : (o : Option Items) → Carries ws (score .definitions) (t .pattern) o → 1 ≤ n
+  pub cut-away-is : (o : Option Items) → Carries ws (t .pattern) o → 1 ≤ n
       → ((r : Items) → o ≡ some r → allFit n r ≡ true) → isModified m ≡ not (isEmpty ms)
-      → cutFaults n header ms o ≡ complainIf (cutAway ws score n m t) 15 header
+      → cutFaults n header ms o ≡ complainIf (cutAway ws n m t) 15 header
   unfolding Carries cutFaults cutAway vacant if_then_else_
   cut-away-is none w one fit changed = let e : t .pattern .outline .empty ≡ true = ap (λ (x : Outline). x .empty) (w .0) in rw (e, changed)
   cut-away-is (some r) w one fit changed =

@@ -21,9 +21,8 @@ use Rattle.text.specs.Spans.{part}
 use Rattle.text.specs.Refusals.{refusalOf}
 use Rattle.outlines.specs.declared.readings.Outline.{Outline}
 use Rattle.outlines.specs.Sizes.{divides}
-use Rattle.outlines.specs.Tables.{vacant}
+use Rattle.outlines.specs.Words.{vacant}
 use Rattle.outlines.specs.Told.{Tells}
-use Rattle.player.specs.declared.leaves.Definitions.{Definitions}
 use Rattle.sections.specs.declared.slots.Said.{Said}
 use Rattle.sections.specs.declared.values.Modifiers.{Modifiers}
 use Rattle.sections.specs.Slots.{settingAt}
@@ -52,11 +51,11 @@ unfolding textFault vacant divides if_then_else_
 vacant-fault n line = rw (eq-eqb (n % 1) 0 (omega arith))
 
 -- A text that carries items, or none.
-pub carried-fault : (ws : List ℕ) (d : Definitions) (t : Text) (o : Option Items) (n line : ℕ) → Carries ws d t o → 1 ≤ n → n ≤ 32
+pub carried-fault : (ws : List ℕ) (t : Text) (o : Option Items) (n line : ℕ) → Carries ws t o → 1 ≤ n → n ≤ 32
     → textFault (t .outline) n line ≡ refusalOf (earliest (playedFaults n line o))
 unfolding Carries playedFaults refusalOf earliest
-carried-fault ws d t none n line w a b = ap (λ (x : Outline). textFault x n line) (w .0) ∙ vacant-fault n line
-carried-fault ws d t (some r) n line w a b = told-fault (t .outline) n line r (w .1) a b
+carried-fault ws t none n line w a b = ap (λ (x : Outline). textFault x n line) (w .0) ∙ vacant-fault n line
+carried-fault ws t (some r) n line w a b = told-fault (t .outline) n line r (w .1) a b
 
 -- A lead-in or tail is on the line of its setting.
 pub side-line : (s : List ℕ) (r : Said) {o : Option Side} → andThen (settingAt s r) sideSaid ≡ o → (x : Side) → o ≡ some x → x .line ≡ r .line
@@ -104,21 +103,21 @@ numbered-section s x =
     (numbered-side n z)
 
 -- The three texts of a section.
-pub section-fault : (song : Song) (x : Section) (s ws : List ℕ) (d : Definitions) (m : Modifiers) (t : Texts) → TextsAre (song .definitions) x ws d t
+pub section-fault : (song : Song) (x : Section) (s ws : List ℕ) (m : Modifiers) (t : Texts) → TextsAre (song .definitions) x ws t
     → andThen (settingAt s (m .before)) sideSaid ≡ saidBy beforeSaid (x .modifiers)
     → andThen (settingAt s (m .after)) sideSaid ≡ saidBy afterSaid (x .modifiers)
     → 1 ≤ timeOf song x → timeOf song x ≤ 32
     → meterFault (x .header) m t (timeOf song x) ≡ refusalOf (earliest (sectionMeter song x))
 unfolding meterFault sectionMeter
-section-fault song x s ws d m t w before after a b =
+section-fault song x s ws m t w before after a b =
     let n = timeOf song x in
     let p = playedFaults n (x .header) (patternItems (song .definitions) (x .pattern)) in
     let y = saidBy beforeSaid (x .modifiers) in
     let z = saidBy afterSaid (x .modifiers) in
-    let f = carried-fault ws d (t .pattern) (patternItems (song .definitions) (x .pattern)) n (x .header) (w .pattern) a b in
-    let g = carried-fault ws d (t .lead) (sideItems y) n (m .before .line) (w .lead) a b
+    let f = carried-fault ws (t .pattern) (patternItems (song .definitions) (x .pattern)) n (x .header) (w .pattern) a b in
+    let g = carried-fault ws (t .lead) (sideItems y) n (m .before .line) (w .lead) a b
     ∙ ap (λ (l : List Complaint). refusalOf (earliest l)) (side-faults n (m .before .line) y (side-line s (m .before) before)) in
-    let h = carried-fault ws d (t .tail) (sideItems z) n (m .after .line) (w .tail) a b
+    let h = carried-fault ws (t .tail) (sideItems z) n (m .after .line) (w .tail) a b
     ∙ ap (λ (l : List Complaint). refusalOf (earliest l)) (side-faults n (m .after .line) z (side-line s (m .after) after)) in
     rw (f, g, h)
     (ap (soonerOf (refusalOf (earliest p))) (sym (sooner-append (sideFaults n y) (sideFaults n z) (numbered-side n y) (numbered-side n z)))

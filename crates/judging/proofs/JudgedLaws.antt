@@ -15,7 +15,6 @@ use Rattle.text.specs.Refusals.{refusalOf}
 use Rattle.sections.specs.declared.blocks.Place.{Place}
 use Rattle.sections.specs.Onward.{sectionsFrom, sectionAt}
 use Rattle.sections.proofs.MeetLaws.{sections-over}
-use Rattle.scores.specs.declared.definitions.Score.{Score}
 use Rattle.scores.specs.declared.texts.Opened.{Opened}
 use Rattle.scores.specs.Scores.{Begins, Opens}
 use Rattle.judging.specs.Meters.{meterOf, nothingRefused, soonerOf, meterFault}
@@ -58,14 +57,14 @@ judged-end s p best h w =
     w .1 ∙ ap (λ (xs : List Complaint). refusalOf (earliest xs)) (sym (append-nil done) ∙ sym over ∙ w .3)
 
 -- A section that is opened.
-pub opened-fault : (s ws : List ℕ) (p : Place) (score : Score) (r : Opened) {time n : ℕ} {f : Refusal} → Opens s p ws score r
+pub opened-fault : (s ws : List ℕ) (p : Place) (r : Opened) {time n : ℕ} {f : Refusal} → Opens s p ws r
     → time ≡ orElse (timeAmong (songOf s .keys)) 0
     → n ≡ meterOf (r .section .keys .time) time → f ≡ meterFault (r .section .header) (r .section .modifiers) (r .texts) n → f ≡ refusalOf
     (earliest (sectionMeter (songOf s) (sectionAt s p)))
-opened-fault s ws p score r w e found h =
+opened-fault s ws p r w e found h =
     let says = w .met .says in
     let x = sectionAt s p in
     let k = meter-range (songOf s) x in
     h
     ∙ rw (found, says .header, meter-is (songOf s) x (says .time) e)
-    (section-fault (songOf s) x s ws (score .definitions) (r .section .modifiers) (r .texts) (w .texts) (says .before) (says .after) (k .0) (k .1))
+    (section-fault (songOf s) x s ws (r .section .modifiers) (r .texts) (w .texts) (says .before) (says .after) (k .0) (k .1))

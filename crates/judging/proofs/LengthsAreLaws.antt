@@ -18,7 +18,6 @@ use Rattle.text.specs.Refusals.{refusalOf}
 use Rattle.sections.specs.declared.blocks.Place.{Place}
 use Rattle.sections.specs.declared.values.Modifiers.{Modifiers}
 use Rattle.sections.specs.Onward.{Onward}
-use Rattle.scores.specs.declared.definitions.Score.{Score}
 use Rattle.scores.specs.declared.texts.Opened.{Opened}
 use Rattle.scores.specs.Scores.{Begins, Opens}
 use Rattle.judging.specs.declared.lengths.Lengths.{Lengths}
@@ -46,7 +45,7 @@ unfolding LengthsAre
 lengths-end s p x h w e = ⊎-elim (λ a. a .0 ∙ measured-end s p (x .measures) h (a .2 e)) (λ b. b .1 e) w
 
 -- One more section is opened.
-module _ (s ws : List ℕ) (p : Place) (score : Score) (r : Opened) (w : Opens s p ws score r) {time : ℕ}
+module _ (s ws : List ℕ) (p : Place) (r : Opened) (w : Opens s p ws r) {time : ℕ}
     (t : time ≡ orElse (timeAmong (songOf s .keys)) 0) (o : Onward s p) (inside : p .at < length s) (x : Lengths) where
   abbrev m : Modifiers
   m = r .section .modifiers
@@ -61,21 +60,21 @@ module _ (s ws : List ℕ) (p : Place) (score : Score) (r : Opened) (w : Opens s
   next f = LengthsAre s (r .next) (record { refusal = f; measures = all })
 
   fault-next : x .measures ≤ 65535 → (meterFaults (songOf s) ≡ [] → Measured s p (x .measures))
-      → next (lengthFault ws score n (r .section .header) m (r .texts) all)
+      → next (lengthFault ws n (r .section .header) m (r .texts) all)
   unfolding LengthsAre lengthFault if_then_else_
   fault-next small measured =
       by-cases (ltb 65535 all)
       (λ e. rw e (inr (
         (λ z. let q : ⊥ = omega arith in q),
-        (λ f. opened-passes s ws p score r w t o inside (x .measures) small (measured f) (ltb-true _ _ e)),
+        (λ f. opened-passes s ws p r w t o inside (x .measures) small (measured f) (ltb-true _ _ e)),
       )))
       (λ e.
       let few = ltb-false 65535 all e in
-      by-cases (cutAway ws score n m (r .texts))
-      (λ c. rw (e, c) (inr ((λ z. let q : ⊥ = omega arith in q), (λ f. opened-cut s ws p score r w t o inside (x .measures) small (measured f) few c))))
-      (λ c. rw (e, c) (inl (refl, few, (λ f. opened-on s ws p score r w t o inside (x .measures) small (measured f) few c)))))
+      by-cases (cutAway ws n m (r .texts))
+      (λ c. rw (e, c) (inr ((λ z. let q : ⊥ = omega arith in q), (λ f. opened-cut s ws p r w t o inside (x .measures) small (measured f) few c))))
+      (λ c. rw (e, c) (inl (refl, few, (λ f. opened-on s ws p r w t o inside (x .measures) small (measured f) few c)))))
 
-  pub lengths-next : LengthsAre s p x → LengthsAre s (r .next) (withLengths ws score n (r .section .header) m (r .texts) x)
+  pub lengths-next : LengthsAre s p x → LengthsAre s (r .next) (withLengths ws n (r .section .header) m (r .texts) x)
   unfolding LengthsAre withLengths if_then_else_
   lengths-next =
       ⊎-elim

@@ -21,7 +21,6 @@ use Rattle.text.specs.Refusals.{refusalOf}
 use Rattle.sections.specs.declared.blocks.Place.{Place}
 use Rattle.sections.specs.declared.values.Modifiers.{Modifiers}
 use Rattle.sections.specs.Onward.{sectionsFrom, Onward, sectionAt}
-use Rattle.scores.specs.declared.definitions.Score.{Score}
 use Rattle.scores.specs.declared.texts.Opened.{Opened}
 use Rattle.scores.specs.Scores.{Begins, Opens, sideItems}
 use Rattle.judging.specs.Meters.{meterOf}
@@ -67,7 +66,7 @@ pattern-fits song x e r h =
     let b = append-is-nil (playedFaults n (x .header) (patternItems (song .definitions) (x .pattern))) (sideFaults n (saidBy beforeSaid (x .modifiers))) a .0 in
     row-fits n (x .header) r (ap (playedFaults n (x .header)) (sym h) ∙ b)
 
-module _ (s ws : List ℕ) (p : Place) (score : Score) (r : Opened) (w : Opens s p ws score r) where
+module _ (s ws : List ℕ) (p : Place) (r : Opened) (w : Opens s p ws r) where
   abbrev song : Song
   song = songOf s
 
@@ -78,7 +77,7 @@ module _ (s ws : List ℕ) (p : Place) (score : Score) (r : Opened) (w : Opens s
   m = r .section .modifiers
 
   counted : Counted (countOfTexts m (r .texts)) (sectionCount song x)
-  counted = section-counted song x ws (score .definitions) m (r .texts) (w .texts) (w .met .says .repeat) (w .met .read .modifiers .repeat-fits .0)
+  counted = section-counted song x ws m (r .texts) (w .texts) (w .met .says .repeat) (w .met .read .modifiers .repeat-fits .0)
 
   -- Where the measures are few enough, all are counted.
   all-counted : (k : ℕ) → k + countOfTexts m (r .texts) ≤ 65535 → countOfTexts m (r .texts) ≡ sectionCount song x
@@ -95,18 +94,18 @@ module _ (s ws : List ℕ) (p : Place) (score : Score) (r : Opened) (w : Opens s
     n-is = meter-is song x (w .met .says .time) t
 
     -- What counting its measures and looking at its cuts asks for.
-    pub opened-measurable : Measurable ws score n m (r .texts)
+    pub opened-measurable : Measurable ws n m (r .texts)
     opened-measurable =
         record {
           meter = subst (λ (j : ℕ). j ≤ 32) (sym n-is) (meter-range song x .1);
           cuts = w .met .read .modifiers .front-fits;
           repeat = w .met .read .modifiers .repeat-fits .1;
-          lead = carried-fits ws (score .definitions) (r .texts .lead) (sideItems (saidBy beforeSaid (x .modifiers))) (w .texts .lead);
-          pattern = carried-fits ws (score .definitions) (r .texts .pattern) (patternItems (song .definitions) (x .pattern)) (w .texts .pattern);
-          tail = carried-fits ws (score .definitions) (r .texts .tail) (sideItems (saidBy afterSaid (x .modifiers))) (w .texts .tail);
+          lead = carried-fits ws (r .texts .lead) (sideItems (saidBy beforeSaid (x .modifiers))) (w .texts .lead);
+          pattern = carried-fits ws (r .texts .pattern) (patternItems (song .definitions) (x .pattern)) (w .texts .pattern);
+          tail = carried-fits ws (r .texts .tail) (sideItems (saidBy afterSaid (x .modifiers))) (w .texts .tail);
           played = λ h.
               let e = all-counted 0 (omega arith) in
-              let l = played-length ws (score .definitions) (r .texts .pattern) (patternItems (song .definitions) (x .pattern)) n
+              let l = played-length ws (r .texts .pattern) (patternItems (song .definitions) (x .pattern)) n
               (m .repeat) (w .texts .pattern) in
               let often = ap (λ (j : ℕ). j * measuresIn (patternItems (song .definitions) (x .pattern))) (w .met .says .repeat) in
               let within = pattern-within song x in
@@ -121,12 +120,12 @@ module _ (s ws : List ℕ) (p : Place) (score : Score) (r : Opened) (w : Opens s
           (ap (gather (sectionMeter song)) (sym (w .met .first)) ∙ measured .1)
 
       cuts : cutFaults (timeOf song x) (x .header) (x .modifiers)
-          (patternItems (song .definitions) (x .pattern)) ≡ complainIf (cutAway ws score n m (r .texts)) 15 (x .header)
+          (patternItems (song .definitions) (x .pattern)) ≡ complainIf (cutAway ws n m (r .texts)) 15 (x .header)
       cuts =
           let says = w .met .says in
           let read = w .met .read .modifiers in
           rw n-is
-          (cut-away-is ws score (timeOf song x) (x .header) (x .modifiers) m (r .texts) (says .repeat) (read .repeat-fits .0) (says .front) (says .back)
+          (cut-away-is ws (timeOf song x) (x .header) (x .modifiers) m (r .texts) (says .repeat) (read .repeat-fits .0) (says .front) (says .back)
           (patternItems (song .definitions) (x .pattern)) (w .texts .pattern) (meter-range song x .0) (pattern-fits song x (metered .0))
           (modified-is s p o inside (r .section) read says))
 
@@ -138,20 +137,20 @@ module _ (s ws : List ℕ) (p : Place) (score : Score) (r : Opened) (w : Opens s
           → record { number = 14; line = r .section .header } ≡ refusalOf (earliest (lengthFaults song 0 (song .sections)))
       opened-passes h =
           rw (w .met .says .header)
-          (sym (length-passes song k x (sectionsFrom s (r .next)) (cutAway ws score n m (r .texts)) small cuts (too-many k h) (w .met .later)) ∙ whole)
+          (sym (length-passes song k x (sectionsFrom s (r .next)) (cutAway ws n m (r .texts)) small cuts (too-many k h) (w .met .later)) ∙ whole)
 
-      pub opened-cut : k + countOfTexts m (r .texts) ≤ 65535 → cutAway ws score n m (r .texts) ≡ true
+      pub opened-cut : k + countOfTexts m (r .texts) ≤ 65535 → cutAway ws n m (r .texts) ≡ true
           → record { number = 15; line = r .section .header } ≡ refusalOf (earliest (lengthFaults song 0 (song .sections)))
       opened-cut h e =
           let c = all-counted k h in
           rw (w .met .says .header)
-          (sym (length-cut song k x (sectionsFrom s (r .next)) (cutAway ws score n m (r .texts)) small cuts (omega arith) e (w .met .later)) ∙ whole)
+          (sym (length-cut song k x (sectionsFrom s (r .next)) (cutAway ws n m (r .texts)) small cuts (omega arith) e (w .met .later)) ∙ whole)
 
-      pub opened-on : k + countOfTexts m (r .texts) ≤ 65535 → cutAway ws score n m (r .texts) ≡ false → Measured s (r .next) (k + countOfTexts m (r .texts))
+      pub opened-on : k + countOfTexts m (r .texts) ≤ 65535 → cutAway ws n m (r .texts) ≡ false → Measured s (r .next) (k + countOfTexts m (r .texts))
       unfolding Measured
       opened-on h e =
           let c = all-counted k h in (
             rw c (ap (λ (xs : List Complaint). refusalOf (earliest xs))
-                (sym (length-on song k x (sectionsFrom s (r .next)) (cutAway ws score n m (r .texts)) small cuts (omega arith) e)) ∙ whole),
+                (sym (length-on song k x (sectionsFrom s (r .next)) (cutAway ws n m (r .texts)) small cuts (omega arith) e)) ∙ whole),
             metered .1,
           )

@@ -17,14 +17,12 @@ use Rattle.songcode.specs.EitherOrder.{Filled}
 use Rattle.songcode.proofs.RowLaws.{filled-items}
 use Rattle.songcode.proofs.SectionPlays.{meter-some, pass-of}
 use Rattle.settings.specs.Cuts.{cutIs, CutFits}
-use Rattle.player.specs.declared.leaves.Definitions.{Definitions}
 use Rattle.player.specs.Texts.{rowWords}
 use Rattle.player.specs.Walks.{rowOf}
 use Rattle.player.proofs.SectionLaws.{section-beats}
 use Rattle.player.proofs.SectionMeaning.{rows-length, section-words}
 use Rattle.player.proofs.ShortLaws.{short-row}
 use Rattle.sections.specs.declared.values.Modifiers.{Modifiers}
-use Rattle.scores.specs.declared.definitions.Score.{Score}
 use Rattle.scores.specs.declared.texts.Text.{Text}
 use Rattle.scores.specs.declared.texts.Texts.{Texts}
 use Rattle.scores.specs.Scores.{Carries, sideItems, TextsAre}
@@ -37,13 +35,13 @@ use Rattle.songcode.proofs.MeterAgree.{length-side}
 use Rattle.judging.proofs.PlayedLaws.{cut-short}
 
 -- The row of a text in the buffer.
-module _ (ws : List ℕ) (d : Definitions) (n : ℕ) where
-  carried : (t : Text) (o : Option Items) → Carries ws d t o → rowOf d n ws (t .at) ≡ rowWords (pass-of n o)
+module _ (ws : List ℕ) (n : ℕ) where
+  carried : (t : Text) (o : Option Items) → Carries ws t o → rowOf n ws (t .at) ≡ rowWords (pass-of n o)
   unfolding Carries pass-of rowWords
   carried t none h = h .1 n
   carried t (some r) h = h .2 n
 
-  carried-side : (t : Text) (o : Option Side) → Carries ws d t (sideItems o) → rowOf d n ws (t .at) ≡ rowWords (sideMeasures n o)
+  carried-side : (t : Text) (o : Option Side) → Carries ws t (sideItems o) → rowOf n ws (t .at) ≡ rowWords (sideMeasures n o)
   unfolding Carries sideItems andThen sideMeasures rowWords
   carried-side t none h = h .1 n
   carried-side t (some x) h = h .2 n
@@ -77,15 +75,14 @@ kept-pass n ms none =
 kept-pass n ms (some r) = refl
 
 -- A section whose texts stand in the buffer.
-module _ (s : Song) (x : Section) (ws : List ℕ) (score : Score) (t : Texts) (m : Modifiers) (h : TextsAre (s .definitions) x ws (score .definitions) t)
+module _ (s : Song) (x : Section) (ws : List ℕ) (t : Texts) (m : Modifiers) (h : TextsAre (s .definitions) x ws t)
     (again : m .repeat ≡ repeats (x .modifiers)) where
   pub texts-play : m .front ≡ cutIs (saidBy cutStartSaid (x .modifiers)) → m .back ≡ cutIs (saidBy cutEndSaid (x .modifiers)) → sectionMeter s x ≡ []
-      → rowOfTexts ws score (timeOf s x) t m ≡ rowWords (played s x)
+      → rowOfTexts ws (timeOf s x) t m ≡ rowWords (played s x)
   unfolding rowOfTexts played sectionMeter
   texts-play f b e =
       let n = timeOf s x in
       let ms = x .modifiers in
-      let d = score .definitions in
       let o = patternItems (s .definitions) (x .pattern) in
       let lead = saidBy beforeSaid ms in
       let tail = saidBy afterSaid ms in
@@ -100,30 +97,30 @@ module _ (s : Song) (x : Section) (ws : List ℕ) (score : Score) (t : Texts) (m
         b,
         cut-said (saidBy cutStartSaid ms),
         cut-said (saidBy cutEndSaid ms),
-        carried-side ws d n (t .lead) lead (h .lead),
-        carried ws d n (t .pattern) o (h .pattern),
-        carried-side ws d n (t .tail) tail (h .tail),
+        carried-side ws n (t .lead) lead (h .lead),
+        carried ws n (t .pattern) o (h .pattern),
+        carried-side ws n (t .tail) tail (h .tail),
         ← (kept-pass n ms o),
       ) w
 
   -- Its measures before cuts are those that stage 5 counts.
-  lead-length : (n : ℕ) → length (rowOf (score .definitions) n ws (t .lead .at)) ≡ sideCount (saidBy beforeSaid (x .modifiers))
+  lead-length : (n : ℕ) → length (rowOf n ws (t .lead .at)) ≡ sideCount (saidBy beforeSaid (x .modifiers))
   lead-length n =
-      rw (carried-side ws (score .definitions) n (t .lead) (saidBy beforeSaid (x .modifiers)) (h .lead))
+      rw (carried-side ws n (t .lead) (saidBy beforeSaid (x .modifiers)) (h .lead))
       (rows-length _ ∙ length-side n (saidBy beforeSaid (x .modifiers)))
 
-  tail-length : (n : ℕ) → length (rowOf (score .definitions) n ws (t .tail .at)) ≡ sideCount (saidBy afterSaid (x .modifiers))
+  tail-length : (n : ℕ) → length (rowOf n ws (t .tail .at)) ≡ sideCount (saidBy afterSaid (x .modifiers))
   tail-length n =
-      rw (carried-side ws (score .definitions) n (t .tail) (saidBy afterSaid (x .modifiers)) (h .tail))
+      rw (carried-side ws n (t .tail) (saidBy afterSaid (x .modifiers)) (h .tail))
       (rows-length _ ∙ length-side n (saidBy afterSaid (x .modifiers)))
 
-  pattern-length : (n : ℕ) → length (times (m .repeat) (rowOf (score .definitions) n ws (t .pattern .at)))
+  pattern-length : (n : ℕ) → length (times (m .repeat) (rowOf n ws (t .pattern .at)))
       ≡ repeats (x .modifiers) * measuresIn (patternItems (s .definitions) (x .pattern))
   pattern-length n =
-      rw again (played-length ws (score .definitions) (t .pattern) (patternItems (s .definitions) (x .pattern)) n (repeats (x .modifiers))
+      rw again (played-length ws (t .pattern) (patternItems (s .definitions) (x .pattern)) n (repeats (x .modifiers))
       (h .pattern))
 
-  pub texts-within : (n base sofar : ℕ) → n ≤ 32 → CutFits (m .front) → sofar + sectionCount s x ≤ 65535 → base ≤ 32 * sofar → PlaysWithin ws score n t m base
+  pub texts-within : (n base sofar : ℕ) → n ≤ 32 → CutFits (m .front) → sofar + sectionCount s x ≤ 65535 → base ≤ 32 * sofar → PlaysWithin ws n t m base
   unfolding sectionCount
   texts-within n base sofar few c long b =
       let l = lead-length n in
@@ -131,14 +128,13 @@ module _ (s : Song) (x : Section) (ws : List ℕ) (score : Score) (t : Texts) (m
       let q = tail-length n in
       record { meter = few; cuts = c; measures = omega arith; room = omega arith }
 
-  pub texts-beats : (n : ℕ) → n ≤ 32 → total (rowOfTexts ws score n t m) ≤ 32 * sectionCount s x
+  pub texts-beats : (n : ℕ) → n ≤ 32 → total (rowOfTexts ws n t m) ≤ 32 * sectionCount s x
   unfolding rowOfTexts sectionCount
   texts-beats n few =
-      let d = score .definitions in
       let l = lead-length n in
       let p = pattern-length n in
       let q = tail-length n in
-      let a = section-beats (cutOrNone (m .front)) (cutOrNone (m .back)) (m .repeat) (rowOf d n ws (t .lead .at))
-      (rowOf d n ws (t .pattern .at)) (rowOf d n ws (t .tail .at))
-      (short-row d n ws few (t .lead .at)) (short-row d n ws few (t .pattern .at)) (short-row d n ws few (t .tail .at)) in
+      let a = section-beats (cutOrNone (m .front)) (cutOrNone (m .back)) (m .repeat) (rowOf n ws (t .lead .at))
+      (rowOf n ws (t .pattern .at)) (rowOf n ws (t .tail .at))
+      (short-row n ws few (t .lead .at)) (short-row n ws few (t .pattern .at)) (short-row n ws few (t .tail .at)) in
       omega arith

@@ -23,13 +23,11 @@ use Rattle.songcode.proofs.ListLaws.{by-cases, both-pass, nil-is-not-cons, Each
 use Rattle.songcode.proofs.TurnedRows.{total-append}
 use Rattle.songcode.specs.answer.Sections.{lyricLine}
 use Rattle.text.specs.Refusals.{refusalOf}
-use Rattle.outlines.specs.Tables.{vacant}
+use Rattle.outlines.specs.Words.{vacant}
 use Rattle.player.specs.declared.playing.Counts.{Counts}
-use Rattle.player.specs.declared.leaves.Definitions.{Definitions}
 use Rattle.sections.specs.Runs.{textLines, linesOf}
 use Rattle.sections.specs.declared.blocks.Place.{Place}
 use Rattle.sections.specs.Onward.{Later, sectionAt, sectionsFrom}
-use Rattle.scores.specs.declared.definitions.Score.{Score}
 use Rattle.scores.specs.declared.texts.Text.{Text}
 use Rattle.scores.specs.declared.texts.Opened.{Opened}
 use Rattle.judging.specs.declared.lyrics.Tally.{Tally}
@@ -44,10 +42,10 @@ use Rattle.judging.proofs.NumberLaws.{Numbered, lyrics-numbered}
 use Rattle.judging.proofs.TakenLaws.{takenFrom}
 
 -- A text is empty where there are no items.
-empty-is : (ws : List ℕ) (d : Definitions) (t : Text) (o : Option Items) → Carries ws d t o → t .outline .empty ≡ not (isSome o)
+empty-is : (ws : List ℕ) (t : Text) (o : Option Items) → Carries ws t o → t .outline .empty ≡ not (isSome o)
 unfolding Carries isSome vacant
-empty-is ws d t none h = ap (λ x. x .empty) (h .0)
-empty-is ws d t (some r) h = h .0
+empty-is ws t none h = ap (λ x. x .empty) (h .0)
+empty-is ws t (some r) h = h .0
 
 -- A section that is sung has lyric lines and a pattern that is not empty; it has items if all its lines have counts.
 abbrev isSung : Song → Section → Bool
@@ -107,11 +105,11 @@ module _ (s : Song) (x : Section) (empty : Bool) (t : Tally) (e : empty ≡ not 
       rw (lines-said, w, h)
 
 -- The tally of the lyric lines of a section that is opened.
-module _ {s vs : List ℕ} {score : Score} {p : Place} (x : Opened) (o : Opens s p vs score x) (t : Tally)
+module _ {s vs : List ℕ} {p : Place} (x : Opened) (o : Opens s p vs x) (t : Tally)
     (u : t ≡ tallied (map lyricLine (linesOf s (x .section .lyrics)))) where
   opened-empty : x .texts .pattern .outline .empty ≡ not (isPlayed (songOf s) (sectionAt s p))
   unfolding isPlayed
-  opened-empty = empty-is vs (score .definitions) (x .texts .pattern) (patternItems (songOf s .definitions) (sectionAt s p .pattern)) (o .texts .pattern)
+  opened-empty = empty-is vs (x .texts .pattern) (patternItems (songOf s .definitions) (sectionAt s p .pattern)) (o .texts .pattern)
 
   opened-tally : t ≡ tallied (sectionAt s p .lyrics)
   opened-tally = u ∙ ap tallied (o .met .says .lyrics)
@@ -223,7 +221,7 @@ summed-next s y rest x c l b m t e p h =
     }
 
 -- A section that is opened: stage 7 refuses it, or goes on to the next.
-module _ {s vs : List ℕ} {score : Score} {p : Place} (x : Opened) (o : Opens s p vs score x) (t : Tally)
+module _ {s vs : List ℕ} {p : Place} (x : Opened) (o : Opens s p vs x) (t : Tally)
     (u : t ≡ tallied (map lyricLine (linesOf s (x .section .lyrics)))) where
   pub opened-off : (c r : Bool) (k : ℕ) → c ≡ hasCounts (songOf s) → r ≡ sumDiffers c (x .texts .pattern .outline .empty) t k
       → k ≡ length (played (songOf s) (sectionAt s p))

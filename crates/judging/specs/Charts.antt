@@ -39,9 +39,9 @@ pub record SongKeys (song : Song) (k : Keys) : Type 0 where
 pub record Writable (s : List ℕ) (ws : List ℕ) (r : Chart) : Type 0 where
   pub ends : MetadataEnds s (r .end)
   pub keys : SongKeys (songOf s) (r .song)
-  pub ready : Ready s ws (r .score)
+  pub ready : Ready s ws (r .mark)
   pub begins : Begins s (r .first)
-  pub filled : r .score .fill ≤ r .first .at
+  pub filled : r .mark ≤ r .first .at
   pub clear : Clear (songOf s)
   pub holds : Holds (tables (songOf s)) (r .totals)
 

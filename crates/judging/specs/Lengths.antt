@@ -13,7 +13,6 @@ use Rattle.settings.specs.declared.cuts.CutRead.the-variants as read
 use Rattle.player.specs.Walks.{rowOf}
 use Rattle.player.specs.Windows.{firstBeat, lastBeat}
 use Rattle.sections.specs.declared.values.Modifiers.{Modifiers}
-use Rattle.scores.specs.declared.definitions.Score.{Score}
 use Rattle.scores.specs.declared.texts.Texts.{Texts}
 use Rattle.judging.specs.declared.lengths.Lengths.{Lengths}
 use Rattle.judging.specs.Meters.{nothingRefused}
@@ -38,40 +37,40 @@ unfolding hasCut
 isModified m = not (eqb (m .repeat) 1) || not (eqb (m .before .line) 0) || not (eqb (m .after .line) 0) || hasCut m
 
 -- What the code finds of the cuts of a section played in n.
-unfoldable pub cutAway : List ℕ → Score → ℕ → Modifiers → Texts → Bool
+unfoldable pub cutAway : List ℕ → ℕ → Modifiers → Texts → Bool
 unfolding if_then_else_ isModified hasCut cutOrNone times
-cutAway ws score n m t =
+cutAway ws n m t =
     if t .pattern .outline .empty then isModified m
     else (if hasCut m
     then eqb
-    (lastBeat (cutOrNone (m .back)) (times (m .repeat) (rowOf (score .definitions) n ws (t .pattern .at)))
-    - firstBeat (cutOrNone (m .front)) (times (m .repeat) (rowOf (score .definitions) n ws (t .pattern .at))))
+    (lastBeat (cutOrNone (m .back)) (times (m .repeat) (rowOf n ws (t .pattern .at)))
+    - firstBeat (cutOrNone (m .front)) (times (m .repeat) (rowOf n ws (t .pattern .at))))
     0
     else eqb (t .pattern .outline .measures) 0)
 
 -- What is refused of a section played in n, where the song has so many measures up to its end.
-unfoldable pub lengthFault : List ℕ → Score → ℕ → ℕ → Modifiers → Texts → ℕ → Refusal
+unfoldable pub lengthFault : List ℕ → ℕ → ℕ → Modifiers → Texts → ℕ → Refusal
 unfolding if_then_else_
-lengthFault ws score n header m t measures =
+lengthFault ws n header m t measures =
     if ltb 65535 measures then record { number = 14; line = header }
-    else (if cutAway ws score n m t then record { number = 15; line = header } else nothingRefused)
+    else (if cutAway ws n m t then record { number = 15; line = header } else nothingRefused)
 
 -- With one more section; where one is refused, those behind it are not asked.
-unfoldable pub withLengths : List ℕ → Score → ℕ → ℕ → Modifiers → Texts → Lengths → Lengths
+unfoldable pub withLengths : List ℕ → ℕ → ℕ → Modifiers → Texts → Lengths → Lengths
 unfolding if_then_else_ lengthFault
-withLengths ws score n header m t x =
+withLengths ws n header m t x =
     if eqb (x .refusal .number) 0 then record {
-      refusal = lengthFault ws score n header m t (x .measures + countOfTexts m t);
+      refusal = lengthFault ws n header m t (x .measures + countOfTexts m t);
       measures = x .measures + countOfTexts m t;
     }
     else x
 
 -- The numbers of a section are small, and where its measures are few enough, all that its pattern plays are counted.
-pub record Measurable (ws : List ℕ) (score : Score) (n : ℕ) (m : Modifiers) (t : Texts) : Type 0 where
+pub record Measurable (ws : List ℕ) (n : ℕ) (m : Modifiers) (t : Texts) : Type 0 where
   pub meter : n ≤ 32
   pub cuts : CutFits (m .front)
   pub repeat : m .repeat ≤ 9999
   pub lead : t .lead .outline .measures ≤ 65536
   pub pattern : t .pattern .outline .measures ≤ 65536
   pub tail : t .tail .outline .measures ≤ 65536
-  pub played : countOfTexts m t ≤ 65535 → length (times (m .repeat) (rowOf (score .definitions) n ws (t .pattern .at))) ≤ 65535
+  pub played : countOfTexts m t ≤ 65535 → length (times (m .repeat) (rowOf n ws (t .pattern .at))) ≤ 65535

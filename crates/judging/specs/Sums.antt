@@ -12,7 +12,6 @@ use Rattle.player.specs.declared.playing.Counts.{Counts}
 use Rattle.player.specs.Walks.{rowOf}
 use Rattle.player.specs.Windows.{sectionRow}
 use Rattle.sections.specs.declared.values.Modifiers.{Modifiers}
-use Rattle.scores.specs.declared.definitions.Score.{Score}
 use Rattle.scores.specs.declared.texts.Texts.{Texts}
 use Rattle.judging.specs.declared.lyrics.Tally.{Tally}
 use Rattle.judging.specs.declared.sums.Sums.{Sums}
@@ -20,19 +19,19 @@ use Rattle.judging.specs.declared.sums.Totals.{Totals}
 use Rattle.judging.specs.Lengths.{cutOrNone}
 
 -- The row that a section plays in n, as words.
-unfoldable pub rowOfTexts : List ℕ → Score → ℕ → Texts → Modifiers → List (List ℕ)
-rowOfTexts ws score n t m =
+unfoldable pub rowOfTexts : List ℕ → ℕ → Texts → Modifiers → List (List ℕ)
+rowOfTexts ws n t m =
     sectionRow (cutOrNone (m .front)) (cutOrNone (m .back)) (m .repeat)
-    (rowOf (score .definitions) n ws (t .lead .at)) (rowOf (score .definitions) n ws (t .pattern .at)) (rowOf (score .definitions) n ws (t .tail .at))
+    (rowOf n ws (t .lead .at)) (rowOf n ws (t .pattern .at)) (rowOf n ws (t .tail .at))
 
 -- The section's measures are known to be few enough before it is played.
-pub record PlaysWithin (ws : List ℕ) (score : Score) (n : ℕ) (t : Texts) (m : Modifiers) (base : ℕ) : Type 0 where
+pub record PlaysWithin (ws : List ℕ) (n : ℕ) (t : Texts) (m : Modifiers) (base : ℕ) : Type 0 where
   pub meter : n ≤ 32
   pub cuts : CutFits (m .front)
-  pub measures : length (times (m .repeat) (rowOf (score .definitions) n ws (t .pattern .at))) ≤ 65535
+  pub measures : length (times (m .repeat) (rowOf n ws (t .pattern .at))) ≤ 65535
   pub room :
-      base + 32 * (length (rowOf (score .definitions) n ws (t .lead .at)) + length
-      (times (m .repeat) (rowOf (score .definitions) n ws (t .pattern .at))) + length (rowOf (score .definitions) n ws (t .tail .at)))
+      base + 32 * (length (rowOf n ws (t .lead .at)) + length
+      (times (m .repeat) (rowOf n ws (t .pattern .at))) + length (rowOf n ws (t .tail .at)))
       ≤ 2097120
 
 -- Whether a section has lyric lines and a pattern that is not empty; whether, moreover, all its lines have counts; whether they sum to another number

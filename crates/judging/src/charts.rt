@@ -1,7 +1,6 @@
 // A chart judged by stages 3 to 7: what the writers of the tables need to know of it.
 use super::stages::later_stages;
 use super::sums::Totals;
-use scores::Score;
 use scores::lines_before;
 use scores::load;
 use scores::metadata_end;
@@ -10,7 +9,7 @@ use sections::Place;
 use sections::keys_of;
 ghost use mathlib.Core.Path.{_≡_};
 ghost use mathlib.Core.List.{[]};
-ghost use Prim.Native.Nat.{_≤_};
+ghost use Prim.Native.Nat.{_<_};
 ghost use lib.ListN.{length};
 ghost use Rattle.songcode.specs.answer.Answer.{inputFaults, blocksOf};
 ghost use Rattle.songcode.specs.answer.SongText.{textFaults};
@@ -20,25 +19,25 @@ ghost use Rattle.judging.specs.Charts.{Judges};
 pub struct Chart {
     pub end: Place,
     pub song: Keys,
-    pub score: Score,
+    pub mark: usize,
     pub first: Place,
     pub totals: Totals,
 }
 
 pub fn judge(s: &[u8], words: &mut [u32]) -> Chart
-    requires { ⌜ (inputFaults (now s) ≡ []) × (textFaults (blocksOf (now s)) ≡ []) × (length (now s) ≤ length (now words)) ⌝ }
+    requires { ⌜ (inputFaults (now s) ≡ []) × (textFaults (blocksOf (now s)) ≡ []) × (length (now s) < length (now words)) ⌝ }
     ensures { λ r. ⌜ Judges (now (s .entry)) (now (words .exit)) r ⌝ }
 {
     let end = metadata_end(s);
     let song = keys_of(s, lines_before(end));
     let loaded = load(s, end, words);
     let totals = later_stages(s, loaded, song.time, words);
-    let score = loaded.score;
+    let mark = loaded.mark;
     let first = loaded.sections;
     Chart {
         end,
         song,
-        score,
+        mark,
         first,
         totals,
     }

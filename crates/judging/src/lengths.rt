@@ -1,6 +1,5 @@
 // Stage 5 of a section: the song's measures up to its end, and cuts that leave a beat.
 use player::planned;
-use scores::Score;
 use scores::Texts;
 use sections::Modifiers;
 use settings::Beats;
@@ -80,9 +79,9 @@ fn is_modified(m: Modifiers) -> bool
 }
 
 // Whether no beat is left, or a modifier stands on an empty pattern.
-fn is_cut_away(words: &[u32], score: Score, n: usize, m: Modifiers, t: Texts) -> bool
-    requires { ⌜ (n ≤ 32) × CutFits (m .front) × (length (times (m .repeat) (rowOf (score .definitions) n (now words) (t .pattern .at))) ≤ 65535) ⌝ }
-    ensures { λ r. ⌜ r ≡ cutAway (now (words .entry)) score n m t ⌝ }
+fn is_cut_away(words: &[u32], n: usize, m: Modifiers, t: Texts) -> bool
+    requires { ⌜ (n ≤ 32) × CutFits (m .front) × (length (times (m .repeat) (rowOf n (now words) (t .pattern .at))) ≤ 65535) ⌝ }
+    ensures { λ r. ⌜ r ≡ cutAway (now (words .entry)) n m t ⌝ }
 {
     let pattern = t.pattern;
     let outline = pattern.outline;
@@ -96,7 +95,6 @@ fn is_cut_away(words: &[u32], score: Score, n: usize, m: Modifiers, t: Texts) ->
     let back = m.back;
     let plan = planned(
         words,
-        score.definitions,
         n,
         pattern.at,
         m.repeat,
@@ -109,15 +107,14 @@ fn is_cut_away(words: &[u32], score: Score, n: usize, m: Modifiers, t: Texts) ->
 // What is refused of a section played in n, where the song has so many measures up to its end: 14 if they are more than 65,535, 15 for its cuts.
 fn length_fault(
     words: &[u32],
-    score: Score,
     n: usize,
     header: usize,
     m: Modifiers,
     t: Texts,
     measures: usize,
 ) -> Refusal
-    requires { ⌜ Measurable (now words) score n m t × (countOfTexts m t ≤ measures) ⌝ }
-    ensures { λ r. ⌜ r ≡ lengthFault (now (words .entry)) score n header m t measures ⌝ }
+    requires { ⌜ Measurable (now words) n m t × (countOfTexts m t ≤ measures) ⌝ }
+    ensures { λ r. ⌜ r ≡ lengthFault (now (words .entry)) n header m t measures ⌝ }
 {
     if 65535 < measures {
         return Refusal {
@@ -125,7 +122,7 @@ fn length_fault(
             line: header,
         };
     }
-    if is_cut_away(words, score, n, m, t) {
+    if is_cut_away(words, n, m, t) {
         return Refusal {
             number: 15,
             line: header,
@@ -143,15 +140,14 @@ pub struct Lengths {
 // With one more section; where one is refused, those behind it are not asked.
 pub fn with_lengths(
     words: &[u32],
-    score: Score,
     n: usize,
     header: usize,
     m: Modifiers,
     t: Texts,
     x: Lengths,
 ) -> Lengths
-    requires { ⌜ Measurable (now words) score n m t × (x .refusal .number ≡ 0 → x .measures ≤ 65535) ⌝ }
-    ensures { λ r. ⌜ r ≡ withLengths (now (words .entry)) score n header m t x ⌝ }
+    requires { ⌜ Measurable (now words) n m t × (x .refusal .number ≡ 0 → x .measures ≤ 65535) ⌝ }
+    ensures { λ r. ⌜ r ≡ withLengths (now (words .entry)) n header m t x ⌝ }
 {
     let found = x.refusal;
     if found.number != 0 {
@@ -159,7 +155,7 @@ pub fn with_lengths(
     }
     let measures = x.measures + section_count(m, t);
     Lengths {
-        refusal: length_fault(words, score, n, header, m, t, measures),
+        refusal: length_fault(words, n, header, m, t, measures),
         measures,
     }
 }

@@ -1,5 +1,4 @@
 // Stage 6: if one of the lyric lines taken has a count, all have.
-use scores::Score;
 use scores::is_played;
 use sections::Place;
 use sections::Run;
@@ -138,8 +137,8 @@ fn taken_with(played: bool, counted: bool, bare: usize, t: Tally) -> Tally
 }
 
 // "Take the lyric lines of all sections whose pattern isn't empty".
-pub fn stage_six(s: &[u8], score: Score, first: Place) -> Counted
-    requires { ⌜ Begins (now s) first × Told (now s) score ⌝ }
+pub fn stage_six(s: &[u8], words: &[u32], first: Place) -> Counted
+    requires { ⌜ Begins (now s) first × Told (now s) (now words) ⌝ }
     ensures refusal { λ r. ⌜ r .refusal ≡ refusalOf (earliest (countFaults (songOf (now (s .entry))))) ⌝ }
     ensures counted { λ r. ⌜ r .counted ≡ hasCounts (songOf (now (s .entry))) ⌝ }
 {
@@ -153,7 +152,7 @@ pub fn stage_six(s: &[u8], score: Score, first: Place) -> Counted
     while place.at < s.len() {
         let x = pass(s, place);
         let section = x.section;
-        let played = is_played(s, section.pattern, score);
+        let played = is_played(s, section.pattern, words);
         t = taken_with(played, t.counted, t.bare, tally_lyrics(s, section.lyrics));
         place = x.next;
     }

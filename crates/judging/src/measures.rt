@@ -4,7 +4,6 @@ use super::lengths::with_lengths;
 use super::meters::meter_fault;
 use super::meters::meter_of;
 use super::meters::sooner;
-use scores::Score;
 use scores::open_section;
 use sections::Place;
 use text::Refusal;
@@ -23,15 +22,15 @@ ghost use Rattle.scores.specs.Scores.{Ready, Begins};
 // The sections are opened once; what stage 5 finds is given only where stage 4 refuses nothing in the whole song.
 pub fn measure_stages(
     s: &[u8],
-    score: Score,
+    mark: usize,
     first: Place,
     time: usize,
     words: &mut [u32],
 ) -> Refusal
-    requires { ⌜ Begins (now s) first × Ready (now s) (now words) score × (score .fill ≤ first .at) × (time ≡ orElse (timeAmong (songOf (now s) .keys)) 0) ⌝ }
+    requires { ⌜ Begins (now s) first × Ready (now s) (now words) mark × (mark ≤ first .at) × (time ≡ orElse (timeAmong (songOf (now s) .keys)) 0) ⌝ }
     ensures refusal { λ r. ⌜ r ≡ refusalOf (verdict (meterFaults (songOf (now (s .entry)))
         ∷ lengthFaults (songOf (now (s .entry))) 0 (songOf (now (s .entry)) .sections) ∷ [])) ⌝ }
-    ensures ready { λ r. ⌜ Ready (now (s .entry)) (now (words .exit)) score × (length (now (words .exit)) ≡ length (now (words .entry))) ⌝ }
+    ensures ready { λ r. ⌜ Ready (now (s .entry)) (now (words .exit)) mark × (length (now (words .exit)) ≡ length (now (words .entry))) ⌝ }
 {
     let mut place = first;
     let mut best = Refusal { number: 0, line: 0 };
@@ -40,7 +39,7 @@ pub fn measure_stages(
         measures: 0,
     };
     while place.at < s.len() {
-        let x = open_section(s, place, score, words);
+        let x = open_section(s, place, mark, words);
         let section = x.section;
         let keys = section.keys;
         let n = meter_of(keys.time, time);
@@ -50,7 +49,6 @@ pub fn measure_stages(
         );
         lengths = with_lengths(
             words,
-            score,
             n,
             section.header,
             section.modifiers,

@@ -1,6 +1,5 @@
 // Stage 3 for sections: a pattern that names a definition which is not there.
-use scores::Score;
-use scores::is_missing;
+use outlines::is_missing;
 use scores::named_in;
 use sections::Place;
 use sections::Run;
@@ -20,8 +19,8 @@ ghost use Rattle.sections.specs.BlockParts.{Placed};
 ghost use Rattle.sections.specs.Onward.{Onward, sectionsFrom};
 ghost use Rattle.scores.specs.Scores.{Told};
 
-fn name_fault(s: &[u8], score: Score, pattern: Run, header: usize) -> Refusal
-    requires { ⌜ Placed (now s) pattern × Told (now s) score ⌝ }
+fn name_fault(s: &[u8], words: &[u32], pattern: Run, header: usize) -> Refusal
+    requires { ⌜ Placed (now s) pattern × Told (now s) (now words) ⌝ }
     ensures { λ r. ⌜ ((x : Pattern) → patternIn (linesOf (now (s .entry)) pattern) ≡ some x
         → r ≡ refusalOf (earliest (sectionReference (songOf (now (s .entry)) .definitions) x header))) ⌝ }
 {
@@ -29,7 +28,7 @@ fn name_fault(s: &[u8], score: Score, pattern: Run, header: usize) -> Refusal
     if named == 0 {
         return Refusal { number: 0, line: 0 };
     }
-    if is_missing(score, named) {
+    if is_missing(words, named) {
         return Refusal {
             number: 10,
             line: header,
@@ -38,8 +37,8 @@ fn name_fault(s: &[u8], score: Score, pattern: Run, header: usize) -> Refusal
     Refusal { number: 0, line: 0 }
 }
 
-pub fn stage_three(s: &[u8], score: Score, first: Place) -> Refusal
-    requires { ⌜ Onward (now s) first × Told (now s) score ⌝ }
+pub fn stage_three(s: &[u8], words: &[u32], first: Place) -> Refusal
+    requires { ⌜ Onward (now s) first × Told (now s) (now words) ⌝ }
     ensures { λ r. ⌜ r ≡ refusalOf (earliest (gather (λ (x : Section).
         sectionReference (songOf (now (s .entry)) .definitions) (x .pattern) (x .header)) (sectionsFrom (now (s .entry)) first))) ⌝ }
 {
@@ -47,7 +46,7 @@ pub fn stage_three(s: &[u8], score: Score, first: Place) -> Refusal
     while place.at < s.len() {
         let x = pass(s, place);
         let section = x.section;
-        let fault = name_fault(s, score, section.pattern, section.header);
+        let fault = name_fault(s, words, section.pattern, section.header);
         if fault.number != 0 {
             return fault;
         }

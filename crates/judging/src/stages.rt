@@ -5,7 +5,6 @@ use super::references::stage_three;
 use super::sums::Totals;
 use super::sums::stage_seven;
 use scores::Loaded;
-use scores::Score;
 use sections::Place;
 use stage2::stage_two;
 use text::Refusal;
@@ -49,35 +48,35 @@ fn refused(refusal: Refusal) -> Totals
 }
 
 // Stages 6 and 7, where those before refuse nothing.
-fn lyric_stages(s: &[u8], score: Score, first: Place, time: usize, words: &mut [u32]) -> Totals
-    requires ready { ⌜ Begins (now s) first × Ready (now s) (now words) score × (score .fill ≤ first .at)
+fn lyric_stages(s: &[u8], mark: usize, first: Place, time: usize, words: &mut [u32]) -> Totals
+    requires ready { ⌜ Begins (now s) first × Ready (now s) (now words) mark × (mark ≤ first .at)
         × (time ≡ orElse (timeAmong (songOf (now s) .keys)) 0) × (time ≤ 32) ⌝ }
     requires clear { ⌜ (meterFaults (songOf (now s)) ≡ []) × (lengthFaults (songOf (now s)) 0 (songOf (now s) .sections) ≡ []) ⌝ }
     ensures refusal { λ r. ⌜ r .refusal ≡ refusalOf (verdict (lyricFaults (songOf (now (s .entry))))) ⌝ }
     ensures holds { λ r. ⌜ (r .refusal .number ≡ 0 → Holds (tables (songOf (now (s .entry)))) r) ⌝ }
-    ensures ready { λ r. ⌜ (r .refusal .number ≡ 0 → Ready (now (s .entry)) (now (words .exit)) score) ⌝ }
+    ensures ready { λ r. ⌜ (r .refusal .number ≡ 0 → Ready (now (s .entry)) (now (words .exit)) mark) ⌝ }
 {
-    let six = stage_six(s, score, first);
+    let six = stage_six(s, words, first);
     let bare = six.refusal;
     if bare.number != 0 {
         return refused(bare);
     }
-    stage_seven(s, score, first, time, six.counted, words)
+    stage_seven(s, mark, first, time, six.counted, words)
 }
 
 // Stages 4 to 7.
-fn playing_stages(s: &[u8], score: Score, first: Place, time: usize, words: &mut [u32]) -> Totals
-    requires { ⌜ Begins (now s) first × Ready (now s) (now words) score × (score .fill ≤ first .at)
+fn playing_stages(s: &[u8], mark: usize, first: Place, time: usize, words: &mut [u32]) -> Totals
+    requires { ⌜ Begins (now s) first × Ready (now s) (now words) mark × (mark ≤ first .at)
         × (time ≡ orElse (timeAmong (songOf (now s) .keys)) 0) × (time ≤ 32) ⌝ }
     ensures refusal { λ r. ⌜ r .refusal ≡ refusalOf (verdict (playingFaults (songOf (now (s .entry))))) ⌝ }
     ensures holds { λ r. ⌜ (r .refusal .number ≡ 0 → Holds (tables (songOf (now (s .entry)))) r) ⌝ }
-    ensures ready { λ r. ⌜ (r .refusal .number ≡ 0 → Ready (now (s .entry)) (now (words .exit)) score) ⌝ }
+    ensures ready { λ r. ⌜ (r .refusal .number ≡ 0 → Ready (now (s .entry)) (now (words .exit)) mark) ⌝ }
 {
-    let refusal = measure_stages(s, score, first, time, words);
+    let refusal = measure_stages(s, mark, first, time, words);
     if refusal.number != 0 {
         return refused(refusal);
     }
-    lyric_stages(s, score, first, time, words)
+    lyric_stages(s, mark, first, time, words)
 }
 
 // Stages 3 to 7; where none refuses, how many words the tables take.
@@ -85,17 +84,17 @@ pub fn later_stages(s: &[u8], loaded: Loaded, time: usize, words: &mut [u32]) ->
     requires { ⌜ Loads (now s) (now words) loaded × (time ≡ orElse (timeAmong (songOf (now s) .keys)) 0) × (time ≤ 32) ⌝ }
     ensures refusal { λ r. ⌜ r .refusal ≡ refusalOf (verdict (laterFaults (songOf (now (s .entry))))) ⌝ }
     ensures holds { λ r. ⌜ (r .refusal .number ≡ 0 → Holds (tables (songOf (now (s .entry)))) r) ⌝ }
-    ensures ready { λ r. ⌜ (r .refusal .number ≡ 0 → (loaded .refusal .number ≡ 0) × Ready (now (s .entry)) (now (words .exit)) (loaded .score)) ⌝ }
+    ensures ready { λ r. ⌜ (r .refusal .number ≡ 0 → (loaded .refusal .number ≡ 0) × Ready (now (s .entry)) (now (words .exit)) (loaded .mark)) ⌝ }
 {
     let early = loaded.refusal;
     if early.number != 0 {
         return refused(early);
     }
-    let score = loaded.score;
+    let mark = loaded.mark;
     let first = loaded.sections;
-    let three = stage_three(s, score, first);
+    let three = stage_three(s, words, first);
     if three.number != 0 {
         return refused(three);
     }
-    playing_stages(s, score, first, time, words)
+    playing_stages(s, mark, first, time, words)
 }

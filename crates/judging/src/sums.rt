@@ -5,7 +5,6 @@ use super::lyrics::tally_lyrics;
 use super::meters::meter_of;
 use player::Counts;
 use player::play_section;
-use scores::Score;
 use scores::Texts;
 use scores::open_section;
 use sections::Modifiers;
@@ -51,7 +50,6 @@ pub struct Sums {
 // A section played into the lent parts of the tables, its first beat at `base`.
 pub fn play(
     words: &[u32],
-    score: Score,
     n: usize,
     t: Texts,
     m: Modifiers,
@@ -59,11 +57,11 @@ pub fn play(
     measures: &mut [u32],
     beats: &mut [u32],
 ) -> Counts
-    requires { ⌜ PlaysWithin (now words) score n t m base ⌝ }
-    ensures counts { λ r. ⌜ (r .measures ≡ length (rowOfTexts (now (words .entry)) score n t m))
-        × (r .beats ≡ total (rowOfTexts (now (words .entry)) score n t m)) ⌝ }
-    ensures measures { λ r. ⌜ now (measures .exit) ≡ sets (now (measures .entry)) 0 (heads base (rowOfTexts (now (words .entry)) score n t m)) ⌝ }
-    ensures beats { λ r. ⌜ now (beats .exit) ≡ sets (now (beats .entry)) 0 (flat (rowOfTexts (now (words .entry)) score n t m)) ⌝ }
+    requires { ⌜ PlaysWithin (now words) n t m base ⌝ }
+    ensures counts { λ r. ⌜ (r .measures ≡ length (rowOfTexts (now (words .entry)) n t m))
+        × (r .beats ≡ total (rowOfTexts (now (words .entry)) n t m)) ⌝ }
+    ensures measures { λ r. ⌜ now (measures .exit) ≡ sets (now (measures .entry)) 0 (heads base (rowOfTexts (now (words .entry)) n t m)) ⌝ }
+    ensures beats { λ r. ⌜ now (beats .exit) ≡ sets (now (beats .entry)) 0 (flat (rowOfTexts (now (words .entry)) n t m)) ⌝ }
 {
     let lead = t.lead;
     let pattern = t.pattern;
@@ -72,7 +70,6 @@ pub fn play(
     let back = m.back;
     play_section(
         words,
-        score.definitions,
         n,
         lead.at,
         pattern.at,
@@ -87,13 +84,13 @@ pub fn play(
 }
 
 // How many measures and beats a section plays.
-fn counts_of(words: &[u32], score: Score, n: usize, t: Texts, m: Modifiers) -> Counts
-    requires { ⌜ PlaysWithin (now words) score n t m 0 ⌝ }
-    ensures { λ r. ⌜ (r .measures ≡ length (rowOfTexts (now (words .entry)) score n t m)) × (r .beats ≡ total (rowOfTexts (now (words .entry)) score n t m)) ⌝ }
+fn counts_of(words: &[u32], n: usize, t: Texts, m: Modifiers) -> Counts
+    requires { ⌜ PlaysWithin (now words) n t m 0 ⌝ }
+    ensures { λ r. ⌜ (r .measures ≡ length (rowOfTexts (now (words .entry)) n t m)) × (r .beats ≡ total (rowOfTexts (now (words .entry)) n t m)) ⌝ }
 {
     let mut no_measures = [0u32; 1];
     let mut no_beats = [0u32; 1];
-    play(words, score, n, t, m, 0, &mut no_measures, &mut no_beats)
+    play(words, n, t, m, 0, &mut no_measures, &mut no_beats)
 }
 
 fn totals_of(x: Sums) -> Totals
@@ -169,18 +166,18 @@ fn sum_refused(line: usize) -> Totals
 
 pub fn stage_seven(
     s: &[u8],
-    score: Score,
+    mark: usize,
     first: Place,
     time: usize,
     counted: bool,
     words: &mut [u32],
 ) -> Totals
-    requires { ⌜ Begins (now s) first × Ready (now s) (now words) score × (score .fill ≤ first .at)
+    requires { ⌜ Begins (now s) first × Ready (now s) (now words) mark × (mark ≤ first .at)
         × (time ≡ orElse (timeAmong (songOf (now s) .keys)) 0) × (time ≤ 32) × (meterFaults (songOf (now s)) ≡ [])
         × (lengthFaults (songOf (now s)) 0 (songOf (now s) .sections) ≡ []) × (counted ≡ hasCounts (songOf (now s))) ⌝ }
     ensures refusal { λ r. ⌜ r .refusal ≡ refusalOf (earliest (sumFaults (songOf (now (s .entry))))) ⌝ }
     ensures holds { λ r. ⌜ (r .refusal .number ≡ 0 → Holds (tables (songOf (now (s .entry)))) r) ⌝ }
-    ensures ready { λ r. ⌜ Ready (now (s .entry)) (now (words .exit)) score × (length (now (words .exit)) ≡ length (now (words .entry))) ⌝ }
+    ensures ready { λ r. ⌜ Ready (now (s .entry)) (now (words .exit)) mark × (length (now (words .exit)) ≡ length (now (words .entry))) ⌝ }
 {
     let mut place = first;
     let mut sums = Sums {
@@ -191,7 +188,7 @@ pub fn stage_seven(
         all: true,
     };
     while place.at < s.len() {
-        let x = open_section(s, place, score, words);
+        let x = open_section(s, place, mark, words);
         let section = x.section;
         let keys = section.keys;
         let texts = x.texts;
@@ -199,7 +196,6 @@ pub fn stage_seven(
         let outline = pattern.outline;
         let c = counts_of(
             words,
-            score,
             meter_of(keys.time, time),
             texts,
             section.modifiers,

@@ -15,15 +15,15 @@ use Rattle.songcode.specs.answer.Playing.{chordAfter, lastSounds, lastItem, las
 use Rattle.songcode.specs.answer.Meter.{strays, strayAmong, strayItem, stray}
 use Rattle.songcode.proofs.ListLaws.{by-cases, Each, append-each}
 use Rattle.tokens.specs.TokenWords.{chordWord, tokenWord}
-use Rattle.player.specs.Signs.{kindOf}
-use Rattle.player.specs.Texts.{ChordFits, ChordsFit, ItemFits, ItemsFit}
-use Rattle.player.proofs.PutInLaws.{last-glue}
+use Rattle.tokens.specs.Signs.{kindOf}
+use Rattle.score.specs.Standing.{ChordFits, ChordsFit, ItemFits, ItemsFit}
+use Rattle.songcode.proofs.GlueLaws.{last-glue}
 use Rattle.outlines.specs.declared.readings.Outline.{Outline}
 use Rattle.outlines.specs.declared.readings.Reading.{Reading}
 use Rattle.outlines.specs.Readings.{sounded, measured, closed, opened, shut, referred}
 use Rattle.outlines.specs.Told.{Told}
 use Rattle.outlines.proofs.TreeLaws.{heardIn, heardAll, removed, afterItem, after}
-use Rattle.player.proofs.SoundLaws.{chord-kind}
+use Rattle.tokens.proofs.KindLaws.{chord-kind}
 
 pub or-false : (a : Bool) → (a || false) ≡ a
 or-false true = refl

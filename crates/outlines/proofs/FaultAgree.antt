@@ -16,10 +16,10 @@ use Rattle.songcode.specs.answer.References.{definitionOf, itemsOf, putInItem, 
 use Rattle.songcode.specs.description.WrittenPattern.{writeItems}
 use Rattle.songcode.proofs.ListLaws.{by-cases, none-passes, Each, each-append}
 use Rattle.tokens.specs.TokenWords.{tokenWords}
-use Rattle.player.specs.declared.leaves.Stretch.{Stretch}
-use Rattle.player.specs.Texts.{ItemsFit, Stands}
+use Rattle.score.specs.declared.stretches.Stretch.{Stretch}
+use Rattle.score.specs.Standing.{ItemsFit, Stands}
 use Rattle.outlines.specs.declared.readings.Outline.{Outline}
-use Rattle.outlines.specs.Tables.{vacant}
+use Rattle.outlines.specs.Words.{vacant}
 use Rattle.outlines.specs.Faults.{allFaults, faultless, faultNumber, faultIn}
 use Rattle.outlines.specs.Told.{KnowsItems, Knows, Known, refusal}
 use Rattle.outlines.proofs.ChordLaws.{or-false}

@@ -13,8 +13,8 @@ use Rattle.songcode.specs.answer.PatternText.{referencesI, references}
 use Rattle.songcode.specs.description.WrittenPattern.{writeSounds, writeRemovers, writeMeasure, writeBeside, writeSeparator, writeItem, writeItems}
 use Rattle.songcode.proofs.ListLaws.{any-append}
 use Rattle.tokens.specs.TokenWords.{chordWord, tokenWord, tokenWords}
-use Rattle.player.specs.Signs.{kindOf}
-use Rattle.player.specs.Texts.{ChordFits, ChordsFit, ItemFits, ItemsFit}
+use Rattle.tokens.specs.Signs.{kindOf}
+use Rattle.score.specs.Standing.{ChordFits, ChordsFit, ItemFits, ItemsFit}
 use Rattle.outlines.specs.declared.readings.Outline.{Outline}
 use Rattle.outlines.specs.declared.faults.Faults.{Faults}
 use Rattle.outlines.specs.Faults.{referenceRead, bracketRead, faultsRead, allFaults}

@@ -16,7 +16,7 @@ use Rattle.songcode.specs.answer.References.{itemsFault, referenceFault}
 use Rattle.songcode.proofs.ListLaws.{true-is-not-false, any-append, Each}
 use Rattle.outlines.specs.declared.readings.Outline.{Outline}
 use Rattle.outlines.specs.declared.faults.Faults.{Faults}
-use Rattle.outlines.specs.Tables.{vacant}
+use Rattle.outlines.specs.Words.{vacant}
 use Rattle.outlines.specs.Faults.{faultNumber}
 use Rattle.outlines.specs.Told.{KnowsItems, Knows, refusal}
 

@@ -12,11 +12,11 @@ use Rattle.songcode.specs.answer.PatternText.{depth, references}
 use Rattle.songcode.specs.answer.References.{definitionOf, itemsOf, putInItem}
 use Rattle.songcode.specs.description.Fits.{Refers, ReferAll}
 use Rattle.songcode.proofs.ListLaws.{Each}
-use Rattle.player.specs.declared.leaves.Stretch.{Stretch}
-use Rattle.player.specs.Texts.{ItemsFit, Stands}
-use Rattle.player.proofs.PutInLaws.{putIn-same}
+use Rattle.score.specs.declared.stretches.Stretch.{Stretch}
+use Rattle.score.specs.Standing.{ItemsFit, Stands}
+use Rattle.songcode.proofs.GlueLaws.{putIn-same}
 use Rattle.outlines.specs.declared.readings.Outline.{Outline}
-use Rattle.outlines.specs.Tables.{vacant}
+use Rattle.outlines.specs.Words.{vacant}
 use Rattle.outlines.specs.Readings.{outlined}
 use Rattle.outlines.specs.Told.{Tells, Told, KnowsItems, Knows, Known}
 use Rattle.outlines.proofs.OutlineAgree.{outline-tells}

@@ -14,4 +14,5 @@ pub mod DeepLaws
 pub mod GivenLaws
 pub mod FaultAgree
 pub mod KnownLaws
-pub mod TableLaws
+pub mod WordLaws
+pub mod SmallLaws

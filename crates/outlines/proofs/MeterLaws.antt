@@ -16,7 +16,7 @@ use Rattle.songcode.specs.answer.Meter.{fits, allFitItem, allFit, count}
 use Rattle.songcode.proofs.ListLaws.{by-cases, Each, append-each}
 use Rattle.songcode.proofs.PlayingAgree.{sounds-some}
 use Rattle.tokens.specs.TokenWords.{tokenWord}
-use Rattle.player.specs.Signs.{kindOf}
+use Rattle.tokens.specs.Signs.{kindOf}
 use Rattle.outlines.specs.declared.readings.Outline.{Outline}
 use Rattle.outlines.specs.declared.readings.Reading.{Reading}
 use Rattle.outlines.specs.Sizes.{divides, joined}

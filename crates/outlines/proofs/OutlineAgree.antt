@@ -16,8 +16,8 @@ use Rattle.songcode.specs.answer.References.{putIn}
 use Rattle.songcode.specs.answer.Meter.{allFit, stray}
 use Rattle.songcode.proofs.ListLaws.{Each}
 use Rattle.tokens.specs.TokenWords.{tokenWords}
-use Rattle.player.specs.declared.leaves.Stretch.{Stretch}
-use Rattle.player.specs.Texts.{ItemsFit, Stands}
+use Rattle.score.specs.declared.stretches.Stretch.{Stretch}
+use Rattle.score.specs.Standing.{ItemsFit, Stands}
 use Rattle.outlines.specs.declared.readings.Outline.{Outline}
 use Rattle.outlines.specs.Sizes.{divides}
 use Rattle.outlines.specs.Readings.{started, closed, wordsRead, summed, outlined}

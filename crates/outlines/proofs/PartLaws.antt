@@ -11,7 +11,7 @@ use lib.ListN.{length, take, drop, length-take, drop-of-length-le}
 use lib.Seq.{drop-cons}
 use Rattle.songcode.specs.Lists.{isEmpty}
 use Rattle.songcode.proofs.ListLaws.{by-cases}
-use Rattle.player.specs.Signs.{wordOf}
+use Rattle.score.specs.Places.{wordOf}
 use Rattle.outlines.specs.declared.readings.Outline.{Outline}
 use Rattle.outlines.specs.declared.readings.Reading.{Reading}
 use Rattle.outlines.specs.declared.faults.Faults.{Faults}

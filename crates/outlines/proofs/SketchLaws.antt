@@ -14,8 +14,8 @@ use Rattle.songcode.specs.answer.PatternText.{depthI, depth, referencesI, refer
 use Rattle.songcode.specs.description.WrittenPattern.{writeSounds, writeMeasure, writeItem, writeItems}
 use Rattle.songcode.proofs.ListLaws.{by-cases}
 use Rattle.tokens.specs.TokenWords.{tokenWords}
-use Rattle.player.specs.declared.leaves.Stretch.{Stretch}
-use Rattle.player.specs.Texts.{ItemsFit, Stands}
+use Rattle.score.specs.declared.stretches.Stretch.{Stretch}
+use Rattle.score.specs.Standing.{ItemsFit, Stands}
 use Rattle.outlines.specs.declared.readings.Outline.{Outline}
 use Rattle.outlines.specs.declared.readings.Reading.{Reading}
 use Rattle.outlines.specs.Readings.{started, sounded, measured, closed, opened, shut, referred, summed, outlined}

@@ -1,32 +1,15 @@
--- Steps: of the loop that finds a definition's place, and of a word that is read.
-use Prim.Native.Nat.{ℕ, _+_, _-_, _<_, _≤_}
+-- Steps of a word that is read.
+use Prim.Native.Nat.{ℕ}
 use mathlib.Core.Path.{_≡_, sym, ap, _∙_}
 use mathlib.Core.Bool.{Bool, true, false}
-use mathlib.Core.List.{List}
-use native.Mathlib.Omega.{arith}
 use borrow.Author.Tests.{eq-eqb, ne-eqb}
-use lib.ListN.{getD}
 use Rattle.songcode.specs.Lists.{if_then_else_}
-use Rattle.player.specs.Signs.{kindOf, numberOf, isPosition}
+use Rattle.tokens.specs.Signs.{kindOf, numberOf, isPosition}
 use Rattle.outlines.specs.declared.readings.Outline.{Outline}
 use Rattle.outlines.specs.declared.readings.Reading.{Reading}
 use Rattle.outlines.specs.declared.faults.Faults.{Faults}
 use Rattle.outlines.specs.Readings.{sounded, closed, opened, shut, referred, stepOf, wordRead}
 use Rattle.outlines.specs.Faults.{referenceRead, bracketRead, faultsRead}
-use Rattle.outlines.specs.Tables.{placeBy}
-use Rattle.player.proofs.StretchLaws.{some-left}
-
-pub place-found : (ids : List ℕ) (n i x : ℕ) → i < n → getD ids i 0 ≡ x → placeBy (n - i) ids i x ≡ i
-unfolding placeBy if_then_else_
-place-found ids n i x h e = rw (some-left n i h, eq-eqb (getD ids i 0) x e)
-
-pub place-more : (ids : List ℕ) (n i x : ℕ) → i < n → (getD ids i 0 ≡ x → ⊥) → placeBy (n - i) ids i x ≡ placeBy (n - (i + 1)) ids (i + 1) x
-unfolding placeBy if_then_else_
-place-more ids n i x h e = rw (some-left n i h, ne-eqb (getD ids i 0) x e)
-
-pub place-over : (ids : List ℕ) (n i x : ℕ) → n ≤ i → placeBy (n - i) ids i x ≡ i
-unfolding placeBy
-place-over ids n i x h = let e : n - i ≡ 0 = omega arith in rw e
 
 -- A word of each kind.
 pub step-position : (s r : Reading) (w k : ℕ) (p : Bool) → k ≡ kindOf w → p ≡ isPosition k → p ≡ true → r ≡ sounded k s → r ≡ stepOf s w

@@ -12,12 +12,12 @@ use Rattle.songcode.specs.answer.Tokens.{Token, sound, remover, reference, open
 use Rattle.songcode.specs.description.WrittenPattern.{writeSounds, writeRemovers, writeMeasure, writeBeside, writeSeparator, writeItem, writeItems}
 use Rattle.songcode.proofs.ListLaws.{by-cases}
 use Rattle.tokens.specs.TokenWords.{chordWord, tokenWord, tokenWords}
-use Rattle.player.specs.Signs.{kindOf, isPosition}
-use Rattle.player.specs.Texts.{ChordFits, ChordsFit, ItemFits, ItemsFit}
+use Rattle.tokens.specs.Signs.{kindOf, isPosition}
+use Rattle.score.specs.Standing.{ChordFits, ChordsFit, ItemFits, ItemsFit}
 use Rattle.outlines.specs.declared.readings.Outline.{Outline}
 use Rattle.outlines.specs.declared.readings.Reading.{Reading}
 use Rattle.outlines.specs.Readings.{sounded, measured, closed, opened, shut, referred, stepOf, wordRead, wordsRead}
-use Rattle.player.proofs.SoundLaws.{chord-kind}
+use Rattle.tokens.proofs.KindLaws.{chord-kind}
 
 -- What each part of a pattern makes of a state; a measure is left open behind its last position.
 unfoldable pub heardIn : Sound → Reading → Reading

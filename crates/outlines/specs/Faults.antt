@@ -4,7 +4,7 @@ use mathlib.Core.List.{List, [], _∷_}
 use mathlib.Core.Bool.{Bool, true, false, _||_, _&&_}
 use lib.Dec.{eqb}
 use Rattle.songcode.specs.Lists.{if_then_else_}
-use Rattle.player.specs.Signs.{kindOf, numberOf}
+use Rattle.tokens.specs.Signs.{kindOf, numberOf}
 use Rattle.outlines.specs.declared.readings.Outline.{Outline}
 use Rattle.outlines.specs.declared.faults.Faults.{Faults}
 

@@ -1,6 +1,6 @@
 -- What the contracts of the outlines say.
 pub mod Sizes
 pub mod Readings
-pub mod Tables
+pub mod Words
 pub mod Faults
 pub mod Told

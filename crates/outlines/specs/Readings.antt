@@ -4,7 +4,7 @@ use mathlib.Core.List.{List, [], _∷_}
 use mathlib.Core.Bool.{Bool, true, false, _||_, _&&_, not}
 use lib.Dec.{eqb, ltb}
 use Rattle.songcode.specs.Lists.{if_then_else_, isEmpty}
-use Rattle.player.specs.Signs.{kindOf, numberOf, isPosition}
+use Rattle.tokens.specs.Signs.{kindOf, numberOf, isPosition}
 use Rattle.outlines.specs.declared.readings.Outline.{Outline}
 use Rattle.outlines.specs.declared.readings.Reading.{Reading}
 use Rattle.outlines.specs.Sizes.{joined}

@@ -5,7 +5,6 @@ use mathlib.Core.Option.{Option, none, some}
 use mathlib.Core.List.{List, []}
 use mathlib.Core.Bool.{Bool, true, false, not}
 use lib.Dec.{leb}
-use lib.ListN.{length}
 use Rattle.songcode.specs.Lists.{isEmpty, isSome}
 use Rattle.songcode.specs.Complaints.{Complaint, complaint}
 use Rattle.songcode.specs.Song.{Items, refer, Definition}
@@ -14,9 +13,8 @@ use Rattle.songcode.specs.answer.References.{definitionOf, putInItem}
 use Rattle.songcode.specs.answer.Playing.{lastItems}
 use Rattle.songcode.specs.answer.Meter.{allFit, stray, count}
 use Rattle.outlines.specs.declared.readings.Outline.{Outline}
-use Rattle.outlines.specs.declared.tables.Outlines.{Outlines}
 use Rattle.outlines.specs.Sizes.{divides}
-use Rattle.outlines.specs.Tables.{vacant}
+use Rattle.outlines.specs.Words.{vacant}
 
 -- Which N up to 32 its measures fit, whether a `%` stands before every chord, whether there is a chord, and how many measures there are.
 pub record Tells (o : Outline) (r : Items) : Type 0 where
@@ -53,13 +51,3 @@ Known ds missing find = (n : ℕ) → Knows (definitionOf n ds) (missing n) (fin
 unfoldable pub refusal : ℕ → ℕ → Option Complaint
 refusal zero line = none
 refusal (suc n) line = some (complaint (suc n) line)
-
--- Room for 26 outlines.
-pub record Roomy (o : Outlines) : Type 0 where
-  pub empty : length (o .empty) ≡ 26
-  pub loops : length (o .loops) ≡ 26
-  pub refers : length (o .refers) ≡ 26
-  pub sizes : length (o .sizes) ≡ 26
-  pub wants : length (o .wants) ≡ 26
-  pub chord : length (o .chord) ≡ 26
-  pub measures : length (o .measures) ≡ 26

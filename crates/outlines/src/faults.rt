@@ -2,19 +2,20 @@
 use super::readings::Outline;
 use super::signs::both;
 use super::signs::either;
-use super::tables::Outlines;
-use super::tables::outline_at;
-use super::tables::place_of;
-use player::Definitions;
-use player::Stretch;
-use player::kind;
-use player::least;
-use player::number;
-use player::word_at;
+use super::words::is_missing;
+use super::words::outline_for;
+use tokens::CLOSES;
+use tokens::OPENS;
+use tokens::REFERENCE;
+use tokens::kind;
+use score::least;
+use tokens::number;
+use score::Stretch;
+use score::word_at;
 ghost use mathlib.Core.Path.{_≡_};
 ghost use lib.ListN.{take, drop};
 ghost use Rattle.outlines.specs.Faults.{tooDeep, referenceRead, bracketRead, faultsRead, faultNumber, faultIn};
-ghost use Rattle.outlines.specs.Tables.{lookUp, isMissing};
+ghost use Rattle.outlines.specs.Words.{lookUp, isMissing};
 
 // Whether the place at hand is in a loop; whether a reference was to no earlier definition; whether one was too deep.
 pub struct Faults {
@@ -45,14 +46,14 @@ pub fn judge_reference(missing: bool, o: Outline, f: Faults) -> Faults
 pub fn pass_bracket(k: u32, f: Faults) -> Faults
     ensures { λ r. ⌜ r ≡ bracketRead k f ⌝ }
 {
-    if k == 57 {
+    if k == OPENS {
         return Faults {
             inside: true,
             missing: f.missing,
             deep: f.deep,
         };
     }
-    if k == 56 {
+    if k == CLOSES {
         return Faults {
             inside: false,
             missing: f.missing,
@@ -62,13 +63,13 @@ pub fn pass_bracket(k: u32, f: Faults) -> Faults
     f
 }
 
-pub fn judge_word(d: Definitions, o: Outlines, f: Faults, w: u32) -> Faults
-    ensures { λ r. ⌜ r ≡ faultsRead (isMissing d o) (lookUp d o) f w ⌝ }
+pub fn judge_word(words: &[u32], f: Faults, w: u32) -> Faults
+    ensures { λ r. ⌜ r ≡ faultsRead (isMissing (now (words .entry))) (lookUp (now (words .entry))) f w ⌝ }
 {
     let k = kind(w);
-    if k == 55 {
-        let i = place_of(d, o.count, number(w));
-        return judge_reference(least(o.count, 26) <= i, outline_at(o, i), f);
+    if k == REFERENCE {
+        let x = number(w);
+        return judge_reference(is_missing(words, x), outline_for(words, x), f);
     }
     pass_bracket(k, f)
 }
@@ -83,8 +84,8 @@ pub fn fault_number(f: Faults) -> usize
     if f.deep { 11 } else { 0 }
 }
 
-pub fn reference_fault(words: &[u32], d: Definitions, o: Outlines, text: Stretch) -> usize
-    ensures { λ r. ⌜ r ≡ faultIn (isMissing d o) (lookUp d o) (drop (text .from) (take (text .to) (now (words .entry)))) ⌝ }
+pub fn reference_fault(words: &[u32], text: Stretch) -> usize
+    ensures { λ r. ⌜ r ≡ faultIn (isMissing (now (words .entry))) (lookUp (now (words .entry))) (drop (text .from) (take (text .to) (now (words .entry)))) ⌝ }
 {
     let end = least(text.to, words.len());
     let mut i = text.from;
@@ -94,7 +95,7 @@ pub fn reference_fault(words: &[u32], d: Definitions, o: Outlines, text: Stretch
         deep: false,
     };
     while i < end {
-        f = judge_word(d, o, f, word_at(words, text.to, i));
+        f = judge_word(words, f, word_at(words, text.to, i));
         i += 1;
     }
     fault_number(f)

@@ -4,14 +4,12 @@ mod outlining;
 mod readings;
 mod signs;
 mod sizes;
-mod tables;
+mod words;
 
 pub use faults::reference_fault;
 pub use outlining::outline_of;
 pub use readings::Outline;
 pub use sizes::sizes_fit;
-pub use tables::Outlines;
-pub use tables::no_outlines;
-pub use tables::outline_at;
-pub use tables::place_of;
-pub use tables::with_outline;
+pub use words::is_missing;
+pub use words::outline_for;
+pub use words::outline_word;

@@ -5,9 +5,13 @@ use super::signs::either;
 use super::signs::one_more;
 use super::signs::unless;
 use super::sizes::join;
-use player::is_position;
-use player::kind;
-use player::number;
+use tokens::AGAIN;
+use tokens::CHORDS;
+use tokens::CLOSES;
+use tokens::OPENS;
+use tokens::is_position;
+use tokens::kind;
+use tokens::number;
 ghost use mathlib.Core.Path.{_≡_};
 ghost use Rattle.outlines.specs.Readings.{started, sounded, closed, opened, shut, referred, stepOf, summed};
 
@@ -58,8 +62,8 @@ pub fn sound(k: u32, s: Reading) -> Reading
         loops: s.loops,
         refers: s.refers,
         sizes: s.sizes,
-        wants: either(s.wants, unless(k == 62, s.chord)),
-        chord: either(s.chord, k < 34),
+        wants: either(s.wants, unless(k == AGAIN, s.chord)),
+        chord: either(s.chord, k < CHORDS),
         positions: one_more(s.positions),
         row: s.row,
         before: s.before,
@@ -141,10 +145,10 @@ pub fn advance(s: Reading, w: u32) -> Reading
     if is_position(k) {
         return sound(k, s);
     }
-    if k == 57 {
+    if k == OPENS {
         return open(s);
     }
-    if k == 56 {
+    if k == CLOSES {
         return shut_loop(number(w), close(s));
     }
     close(s)

@@ -1,5 +1,5 @@
 // Two answers put together, and numbers that stop at 65,536.
-use player::least;
+use score::least;
 ghost use mathlib.Core.Path.{_≡_};
 ghost use mathlib.Core.Bool.{_||_, _&&_, not};
 ghost use Prim.Native.Nat.{_+_, _*_, min};

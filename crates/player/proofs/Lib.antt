@@ -1,6 +1,5 @@
 -- Laws of the definitions that the proofs of the functions cite.
 pub mod SignLaws
-pub mod StretchLaws
 pub mod PageLaws
 pub mod LookLaws
 pub mod CopyLaws
@@ -12,7 +11,7 @@ pub mod WindowLaws
 pub mod SectionLaws
 pub mod CutLaws
 pub mod SoundLaws
-pub mod PutInLaws
+pub mod RowWordLaws
 pub mod WrittenWords
 pub mod WalkedItems
 pub mod Meaning

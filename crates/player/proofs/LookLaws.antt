@@ -8,7 +8,9 @@ use native.Mathlib.Nat.{div-mul-le-self, mul-le-mul}
 use borrow.Author.Tests.{eq-eqb, ne-eqb}
 use lib.ListN.{length}
 use Rattle.songcode.specs.Lists.{if_then_else_}
-use Rattle.player.specs.Signs.{kindOf, wordOf, isPosition, voiceOf, chordOf, chordsOf, lastingOf, partOf, partsOf, soundsAs, soundingOf, positionsAt}
+use Rattle.score.specs.Places.{wordOf}
+use Rattle.tokens.specs.Signs.{kindOf, isPosition}
+use Rattle.player.specs.Signs.{voiceOf, chordOf, chordsOf, lastingOf, partOf, partsOf, soundsAs, soundingOf, positionsAt}
 use Rattle.player.specs.Page.{Page, Ink, Fine, inked, measureOf, play}
 use Rattle.player.specs.Walks.{End, finish, oneOf}
 use Rattle.player.proofs.SignLaws.{positions-none, positions-more, positions-next, sounding-length}

@@ -19,7 +19,7 @@ use Rattle.player.specs.Texts.{rowWords}
 use Rattle.player.specs.Windows.{cutOf, cutSaid, window, firstBeat, lastBeat, keptOf, wholeOf, sectionRow, flat, heads}
 use Rattle.player.proofs.WindowLaws.{whole-filled, total-window, window-none}
 use Rattle.player.proofs.CutLaws.{zeros, kept-cuts, front-none, back-none}
-use Rattle.player.proofs.PutInLaws.{words-append, words-times}
+use Rattle.player.proofs.RowWordLaws.{words-append, words-times}
 
 -- Cuts that may be absent.
 pub kept-applied : {A : Type 0} (f b : Option Cut) (row : List (List A)) → Filled row

@@ -8,10 +8,11 @@ use lib.ListN.{length, take, length-take}
 use Rattle.songcode.specs.Lists.{if_then_else_, times}
 use Rattle.songcode.specs.description.Performance.{total}
 use Rattle.songcode.proofs.ListLaws.{by-cases}
-use Rattle.player.specs.declared.leaves.Definitions.{Definitions}
-use Rattle.player.specs.declared.leaves.Stretch.{Stretch}
-use Rattle.player.specs.Signs.{kindOf, numberOf, wordOf, isSeparator, isStop, soundingOf, positionsAt}
-use Rattle.player.specs.Walks.{Read, and-then, oneOf, passesOf, looped, loopOf, stretchOf, refOf, itemBy, itemOf, rowsBy, level, rowOf}
+use Rattle.score.specs.declared.stretches.Stretch.{Stretch}
+use Rattle.score.specs.Places.{stretchOf, wordOf}
+use Rattle.tokens.specs.Signs.{kindOf, numberOf, isSeparator, isStop}
+use Rattle.player.specs.Signs.{soundingOf, positionsAt}
+use Rattle.player.specs.Walks.{Read, and-then, oneOf, passesOf, looped, loopOf, refOf, itemBy, itemOf, rowsBy, level, rowOf}
 use Rattle.player.proofs.SignLaws.{parts-length}
 use Rattle.player.proofs.LookLaws.{beats-few}
 
@@ -47,7 +48,7 @@ total-few k row f = let h = total-short (take k row) (short-take k row f) in let
 abbrev Shorts : (ℕ → ℕ → ℕ → Read) → Type 0
 Shorts inner = (to at last : ℕ) → Short (inner to at last .row)
 
-module _ (d : Definitions) (n : ℕ) (ws : List ℕ) (h : n ≤ 32) where
+module _ (n : ℕ) (ws : List ℕ) (h : n ≤ 32) where
   short-one : (to at last : ℕ) → Short (oneOf n ws to at last .row)
   unfolding oneOf Short
   short-one to at last =
@@ -56,7 +57,7 @@ module _ (d : Definitions) (n : ℕ) (ws : List ℕ) (h : n ≤ 32) where
       let b = beats-few n (length ps) (soundingOf ps) ps refl refl in
       (omega arith, tt)
 
-  short-item : (inner : ℕ → ℕ → ℕ → Read) → Shorts inner → Shorts (itemOf inner d n ws)
+  short-item : (inner : ℕ → ℕ → ℕ → Read) → Shorts inner → Shorts (itemOf inner n ws)
   unfolding itemOf itemBy loopOf looped refOf Short
   short-item inner i to at last =
       let w = wordOf ws to at in
@@ -65,24 +66,24 @@ module _ (d : Definitions) (n : ℕ) (ws : List ℕ) (h : n ≤ 32) where
       (times (passesOf ws to (inner to (at + 1) last .at)) (inner to (at + 1) last .row)) (i to (at + 1) last)
       (short-times (passesOf ws to (inner to (at + 1) last .at)) (inner to (at + 1) last .row) (i to (at + 1) last))))
       (λ a.
-      by-cases (eqb (kindOf w) 55) (λ b. rw (a, b, if_then_else_) (i (stretchOf d (numberOf w) .to) (stretchOf d (numberOf w) .from) last))
+      by-cases (eqb (kindOf w) 55) (λ b. rw (a, b, if_then_else_) (i (stretchOf ws (numberOf w) .to) (stretchOf ws (numberOf w) .from) last))
       (λ b. by-cases (isSeparator (kindOf w)) (λ f. rw (a, b, f, if_then_else_) tt) (λ f. rw (a, b, f, if_then_else_) (short-one to at last))))
 
-  short-rows : (inner : ℕ → ℕ → ℕ → Read) → Shorts inner → (f : ℕ) → Shorts (rowsBy inner d n ws f)
+  short-rows : (inner : ℕ → ℕ → ℕ → Read) → Shorts inner → (f : ℕ) → Shorts (rowsBy inner n ws f)
   unfolding rowsBy and-then Short
   short-rows inner i zero to at last = tt
   short-rows inner i (suc f) to at last =
       by-cases (isStop (kindOf (wordOf ws to at))) (λ e. rw (e, if_then_else_) tt)
       (λ e.
-      let r = itemOf inner d n ws to at last in
-      rw (e, if_then_else_) (short-append (r .row) (rowsBy inner d n ws f to (r .at) (r .last) .row) (short-item inner i to at last)
+      let r = itemOf inner n ws to at last in
+      rw (e, if_then_else_) (short-append (r .row) (rowsBy inner n ws f to (r .at) (r .last) .row) (short-item inner i to at last)
       (short-rows inner i f to (r .at) (r .last))))
 
-  short-level : (k : ℕ) → Shorts (level k d n ws)
+  short-level : (k : ℕ) → Shorts (level k n ws)
   unfolding level Short
   short-level zero to at last = tt
-  short-level (suc k) to at last = short-rows (level k d n ws) (short-level k) to to at last
+  short-level (suc k) to at last = short-rows (level k n ws) (short-level k) to to at last
 
-  pub short-row : (s : Stretch) → Short (rowOf d n ws s)
+  pub short-row : (s : Stretch) → Short (rowOf n ws s)
   unfolding rowOf
   short-row s = short-level 8 (s .to) (s .from) 4227858432

@@ -1,34 +1,21 @@
 -- Laws of the token words: what is found in a text, and the positions of a measure one by one.
 use Prim.Native.Nat.{ℕ, zero, suc, _+_, _*_, _<_, _≤_}
 use mathlib.Core.Path.{_≡_, refl, sym, ap, _∙_}
-use mathlib.Core.List.{List, [], _∷_, head-eq-of-cons-eq}
+use mathlib.Core.List.{List, [], _∷_}
 use mathlib.Core.Bool.{true, false, _||_, _&&_}
 use native.Mathlib.Omega.{arith}
 use native.Mathlib.Numerals.{add-one}
 use borrow.Author.Tests.{leb-true, leb-false}
 use lib.Dec.{eqb, leb, ltb}
-use lib.ListN.{length, take, drop, getD, List·getD-eq-default, length-take, length-append, length-replicate, drop-of-length-le}
-use lib.Seq.{drop-cons, getD-take}
+use lib.ListN.{length, take, drop, getD, length-take, length-append, length-replicate, drop-of-length-le}
+use lib.Seq.{drop-cons}
 use Rattle.songcode.specs.Lists.{if_then_else_}
 use Rattle.songcode.proofs.ListLaws.{by-cases}
-use Rattle.player.specs.Signs.{kindOf, wordOf, isPosition, isStop, voiceOf, chordOf, lastingOf, partOf, partsOf, soundsAs, soundingOf}
+use Rattle.score.specs.Places.{wordOf}
+use Rattle.score.proofs.WordLaws.{word-past, word-over}
+use Rattle.tokens.specs.Signs.{kindOf, isPosition, isStop}
+use Rattle.player.specs.Signs.{voiceOf, chordOf, lastingOf, partOf, partsOf, soundsAs, soundingOf}
 use Rattle.player.specs.Signs.{positionsOf, positionsAt}
-
--- The word at a place.
-same-default : (l : List ℕ) (i d e : ℕ) → i < length l → getD l i d ≡ getD l i e
-same-default l i d e h = head-eq-of-cons-eq (sym (drop-cons l i d h) ∙ drop-cons l i e h)
-
-pub word-past : (ws : List ℕ) (to at : ℕ) → to ≤ at → 3623878656 ≡ wordOf ws to at
-unfolding wordOf
-word-past ws to at h = let l = length-take to ws in sym (List·getD-eq-default (take to ws) 3623878656 (omega arith))
-
-pub word-over : (ws : List ℕ) (to at : ℕ) → length ws ≤ at → 3623878656 ≡ wordOf ws to at
-unfolding wordOf
-word-over ws to at h = let l = length-take to ws in sym (List·getD-eq-default (take to ws) 3623878656 (omega arith))
-
-pub word-is : (ws : List ℕ) (to at d : ℕ) → at < to → at < length ws → getD ws at d ≡ wordOf ws to at
-unfolding wordOf
-word-is ws to at d h k = sym (getD-take to ws at 3623878656 h ∙ same-default ws at 3623878656 d k)
 
 -- A word that is not of kind 54 stands inside.
 pub word-inside : (ws : List ℕ) (to at : ℕ) → (kindOf (wordOf ws to at) ≡ 54 → ⊥) → (at < to) × (at < length (take to ws))

@@ -17,8 +17,11 @@ use Rattle.songcode.specs.answer.Playing.{beat, chordAfter, heard, lastSounds, 
 use Rattle.songcode.specs.answer.Tables.{headBit, beatBy, beatWord}
 use Rattle.songcode.proofs.ListLaws.{gather-append}
 use Rattle.tokens.specs.TokenWords.{chordWord, tokenWord, tokenWords}
-use Rattle.player.specs.Signs.{kindOf, isPosition, voiceOf, chordOf, chordsOf, lastingOf, partOf, partsOf, positionsOf}
-use Rattle.player.specs.Texts.{voiceWord, ChordFits, ChordsFit}
+use Rattle.tokens.proofs.KindLaws.{chord-kind}
+use Rattle.tokens.specs.Signs.{kindOf, isPosition}
+use Rattle.player.specs.Signs.{voiceOf, chordOf, chordsOf, lastingOf, partOf, partsOf, positionsOf}
+use Rattle.score.specs.Standing.{ChordFits, ChordsFit}
+use Rattle.player.specs.Texts.{voiceWord}
 use Rattle.player.proofs.SignLaws.{one-of}
 
 map-replicate : {A B : Type 0} (f : A → B) (n : ℕ) (x : A) → map f (replicate n x) ≡ replicate n (f x)
@@ -40,9 +43,6 @@ lasting-words : (share : ℕ) (v : Option Chord) → lastingOf share (voiceWord 
 unfolding lastingOf lasting
 lasting-words zero v = refl
 lasting-words (suc k) v = rw (map-replicate beatWord k (beat v false), ← head-word v, ← plain-word v)
-
-pub chord-kind : (w : ℕ) → w < 2281701376 → kindOf w < 34
-chord-kind w h = omega arith
 
 low-voice : (last w : ℕ) → kindOf w < 34 → voiceOf last w ≡ w
 unfolding voiceOf

@@ -9,11 +9,12 @@ use lib.Dec.{eqb, leb, ltb}
 use lib.ListN.{length}
 use Rattle.songcode.specs.Lists.{if_then_else_, times}
 use Rattle.songcode.proofs.ListLaws.{by-cases}
-use Rattle.player.specs.declared.leaves.Definitions.{Definitions}
-use Rattle.player.specs.declared.leaves.Stretch.{Stretch}
-use Rattle.player.specs.Signs.{kindOf, numberOf, wordOf, isPosition, isSeparator, isStop, positionsAt}
+use Rattle.score.specs.declared.stretches.Stretch.{Stretch}
+use Rattle.score.specs.Places.{stretchOf, wordOf}
+use Rattle.tokens.specs.Signs.{kindOf, numberOf, isPosition, isSeparator, isStop}
+use Rattle.player.specs.Signs.{positionsAt}
 use Rattle.player.specs.Page.{Page, Fine, play}
-use Rattle.player.specs.Walks.{Read, End, finish, stop, and-then, oneOf, passesOf, behindOf, looped, loopOf, stretchOf, refOf, itemBy, itemOf}
+use Rattle.player.specs.Walks.{Read, End, finish, stop, and-then, oneOf, passesOf, behindOf, looped, loopOf, refOf, itemBy, itemOf}
 use Rattle.player.specs.Walks.{rowsBy, level}
 use Rattle.player.proofs.SignLaws.{positions-more}
 use Rattle.player.proofs.PageLaws.{play-append, play-none, fine-play}
@@ -34,41 +35,41 @@ unfolding finish and-then
 finish-then r k g = rw (play-append (r .row) (k (r .at) (r .last) .row) g)
 
 -- Rows, behind what stands inside.
-module _ (inner : ℕ → ℕ → ℕ → Read) (d : Definitions) (n : ℕ) (ws : List ℕ) where
-  pub rows-stop : (f to at last : ℕ) → isStop (kindOf (wordOf ws to at)) ≡ true → rowsBy inner d n ws f to at last ≡ stop at last
+module _ (inner : ℕ → ℕ → ℕ → Read) (n : ℕ) (ws : List ℕ) where
+  pub rows-stop : (f to at last : ℕ) → isStop (kindOf (wordOf ws to at)) ≡ true → rowsBy inner n ws f to at last ≡ stop at last
   unfolding rowsBy if_then_else_
   rows-stop zero to at last e = refl
   rows-stop (suc f) to at last e = rw e
 
   pub rows-more : (f to at last : ℕ) → 1 ≤ f → isStop (kindOf (wordOf ws to at)) ≡ false
-      → rowsBy inner d n ws f to at last ≡ and-then (itemOf inner d n ws to at last) (rowsBy inner d n ws (f - 1) to)
+      → rowsBy inner n ws f to at last ≡ and-then (itemOf inner n ws to at last) (rowsBy inner n ws (f - 1) to)
   unfolding rowsBy if_then_else_
   rows-more zero to at last h e = let z : ⊥ = omega arith in absurd z
   rows-more (suc f) to at last h e = let z : suc f - 1 ≡ f = omega arith in rw (e, z)
 
   pub rows-next : (f to at last : ℕ) (g : Page) (e goal : End) → 1 ≤ f → isStop (kindOf (wordOf ws to at)) ≡ false
-      → e ≡ finish (itemOf inner d n ws to at last) g → finish (rowsBy inner d n ws f to at last) g ≡ goal
-      → finish (rowsBy inner d n ws (f - 1) to (e .at) (e .last)) (e .page) ≡ goal
+      → e ≡ finish (itemOf inner n ws to at last) g → finish (rowsBy inner n ws f to at last) g ≡ goal
+      → finish (rowsBy inner n ws (f - 1) to (e .at) (e .last)) (e .page) ≡ goal
   unfolding finish
   rows-next f to at last g e goal h t k l =
-      rw k (sym (finish-then (itemOf inner d n ws to at last) (rowsBy inner d n ws (f - 1) to) g)
+      rw k (sym (finish-then (itemOf inner n ws to at last) (rowsBy inner n ws (f - 1) to) g)
       ∙ sym (ap (λ (r : Read). finish r g) (rows-more f to at last h t)) ∙ l)
 
   -- One item.
   pub item-loop : (to at last w k : ℕ) (e : End) (g : Page) → w ≡ wordOf ws to at → k ≡ kindOf w → k ≡ 57
-      → e ≡ finish (loopOf inner ws to (at + 1) last) g → e ≡ finish (itemOf inner d n ws to at last) g
+      → e ≡ finish (loopOf inner ws to (at + 1) last) g → e ≡ finish (itemOf inner n ws to at last) g
   unfolding itemOf itemBy if_then_else_
   item-loop to at last w k e g a b t m = simp (← a, eq-eqb (kindOf w) 57 (sym b ∙ t)) m
 
   pub item-refer : (to at last w k x : ℕ) (e : End) (g : Page) → w ≡ wordOf ws to at → k ≡ kindOf w → (k ≡ 57 → ⊥) → k ≡ 55 → x ≡ numberOf w
-      → e ≡ finish (refOf inner d x at last) g → e ≡ finish (itemOf inner d n ws to at last) g
+      → e ≡ finish (refOf inner ws x at last) g → e ≡ finish (itemOf inner n ws to at last) g
   unfolding itemOf itemBy if_then_else_
   item-refer to at last w k x e g a b s t y m =
       let u : (kindOf w ≡ 57 → ⊥) = λ z. s (b ∙ z) in
       simp (← a, ne-eqb (kindOf w) 57 u, eq-eqb (kindOf w) 55 (sym b ∙ t)) (rw y at m)
 
   pub item-separator : (to at last w k : ℕ) (r : Bool) (g : Page) → w ≡ wordOf ws to at → k ≡ kindOf w → (k ≡ 57 → ⊥) → (k ≡ 55 → ⊥)
-      → r ≡ isSeparator k → r ≡ true → _≡_ {A = End} (record { at = at + 1; last = last; page = g }) (finish (itemOf inner d n ws to at last) g)
+      → r ≡ isSeparator k → r ≡ true → _≡_ {A = End} (record { at = at + 1; last = last; page = g }) (finish (itemOf inner n ws to at last) g)
   unfolding itemOf itemBy if_then_else_ finish play
   item-separator to at last w k r g a b s t y m =
       let u : (kindOf w ≡ 57 → ⊥) = λ z. s (b ∙ z) in
@@ -77,7 +78,7 @@ module _ (inner : ℕ → ℕ → ℕ → Read) (d : Definitions) (n : ℕ) (ws 
       simp (← a, ne-eqb (kindOf w) 57 u, ne-eqb (kindOf w) 55 v, p)
 
   pub item-one : (to at last w k : ℕ) (r : Bool) (e : End) (g : Page) → w ≡ wordOf ws to at → k ≡ kindOf w → (k ≡ 57 → ⊥) → (k ≡ 55 → ⊥)
-      → r ≡ isSeparator k → r ≡ false → e ≡ finish (oneOf n ws to at last) g → e ≡ finish (itemOf inner d n ws to at last) g
+      → r ≡ isSeparator k → r ≡ false → e ≡ finish (oneOf n ws to at last) g → e ≡ finish (itemOf inner n ws to at last) g
   unfolding itemOf itemBy if_then_else_
   item-one to at last w k r e g a b s t y m q =
       let u : (kindOf w ≡ 57 → ⊥) = λ z. s (b ∙ z) in
@@ -86,8 +87,8 @@ module _ (inner : ℕ → ℕ → ℕ → Read) (d : Definitions) (n : ℕ) (ws 
       simp (← a, ne-eqb (kindOf w) 57 u, ne-eqb (kindOf w) 55 v, p) q
 
   -- References and loops.
-  pub refer-done : (x at last : ℕ) (s : Stretch) (e : End) (g : Page) → s ≡ stretchOf d x → e ≡ finish (inner (s .to) (s .from) last) g
-      → _≡_ {A = End} (record { at = at + 1; last = e .last; page = e .page }) (finish (refOf inner d x at last) g)
+  pub refer-done : (x at last : ℕ) (s : Stretch) (e : End) (g : Page) → s ≡ stretchOf ws x → e ≡ finish (inner (s .to) (s .from) last) g
+      → _≡_ {A = End} (record { at = at + 1; last = e .last; page = e .page }) (finish (refOf inner ws x at last) g)
   unfolding finish refOf
   refer-done x at last s e g p k = rw (k, p)
 
@@ -107,17 +108,17 @@ pub rows-end : (r : Read) (at last : ℕ) (g : Page) (goal : End) → r ≡ stop
 unfolding finish play
 rows-end r at last g goal e k = rw e at k
 
-pub level-none : (k : ℕ) (d : Definitions) (n : ℕ) (ws : List ℕ) (to at last : ℕ) (g : Page) → k ≡ 0
-    → _≡_ {A = End} (record { at = at; last = last; page = g }) (finish (level k d n ws to at last) g)
+pub level-none : (k : ℕ) (n : ℕ) (ws : List ℕ) (to at last : ℕ) (g : Page) → k ≡ 0
+    → _≡_ {A = End} (record { at = at; last = last; page = g }) (finish (level k n ws to at last) g)
 unfolding level finish play
-level-none zero d n ws to at last g e = refl
-level-none (suc k) d n ws to at last g e = let z : ⊥ = omega arith in absurd z
+level-none zero n ws to at last g e = refl
+level-none (suc k) n ws to at last g e = let z : ⊥ = omega arith in absurd z
 
-pub level-more : (k : ℕ) (d : Definitions) (n : ℕ) (ws : List ℕ) (to at last : ℕ) → (k ≡ 0 → ⊥)
-    → rowsBy (level (k - 1) d n ws) d n ws to to at last ≡ level k d n ws to at last
+pub level-more : (k : ℕ) (n : ℕ) (ws : List ℕ) (to at last : ℕ) → (k ≡ 0 → ⊥)
+    → rowsBy (level (k - 1) n ws) n ws to to at last ≡ level k n ws to at last
 unfolding level
-level-more zero d n ws to at last e = absurd (e refl)
-level-more (suc k) d n ws to at last e = let z : suc k - 1 ≡ k = omega arith in rw z
+level-more zero n ws to at last e = absurd (e refl)
+level-more (suc k) n ws to at last e = let z : suc k - 1 ≡ k = omega arith in rw z
 
 -- The passes of a loop, and the rounds of a pattern.
 pub loop-next : (row : List (List ℕ)) (n i : ℕ) (g h goal : Page) → i < n → h ≡ play row g → play (times (n - i) row) g ≡ goal
@@ -176,10 +177,10 @@ position-left k e a b f =
     between : (k : ℕ) → 54 < k → k < 58 → (k ≡ 57 → ⊥) → (k ≡ 55 → ⊥) → (k ≡ 56 → ⊥) → ⊥
     between k l h a b v = omega arith
 
-pub item-onward : (inner : ℕ → ℕ → ℕ → Read) (d : Definitions) (n : ℕ) (ws : List ℕ) (to at last : ℕ) → Onward inner
-    → isStop (kindOf (wordOf ws to at)) ≡ false → at + 1 ≤ itemOf inner d n ws to at last .at
+pub item-onward : (inner : ℕ → ℕ → ℕ → Read) (n : ℕ) (ws : List ℕ) (to at last : ℕ) → Onward inner
+    → isStop (kindOf (wordOf ws to at)) ≡ false → at + 1 ≤ itemOf inner n ws to at last .at
 unfolding itemOf itemBy loopOf looped refOf oneOf
-item-onward inner d n ws to at last i e =
+item-onward inner n ws to at last i e =
     let w = wordOf ws to at in
     by-cases (eqb (kindOf w) 57) (λ a. rw (a, if_then_else_)
     (let h = i to (at + 1) last in let k = behind-on ws to (inner to (at + 1) last .at) in omega arith))
@@ -192,21 +193,21 @@ item-onward inner d n ws to at last i e =
     let l : length (positionsAt ws to at) ≡ suc (length (positionsAt ws to (at + 1))) = ap length (positions-more ws to at p) in
     rw (a, b, f, if_then_else_) (omega arith))))
 
-rows-onward : (inner : ℕ → ℕ → ℕ → Read) (d : Definitions) (n : ℕ) (ws : List ℕ) → Onward inner → (f : ℕ) → Onward (rowsBy inner d n ws f)
+rows-onward : (inner : ℕ → ℕ → ℕ → Read) (n : ℕ) (ws : List ℕ) → Onward inner → (f : ℕ) → Onward (rowsBy inner n ws f)
 unfolding rowsBy and-then
-rows-onward inner d n ws i zero to at last = omega arith
-rows-onward inner d n ws i (suc f) to at last =
+rows-onward inner n ws i zero to at last = omega arith
+rows-onward inner n ws i (suc f) to at last =
     by-cases (isStop (kindOf (wordOf ws to at))) (λ e. rw (e, if_then_else_) (omega arith))
     (λ e.
-    let r = itemOf inner d n ws to at last in
-    let h = item-onward inner d n ws to at last i e in
-    let k = rows-onward inner d n ws i f to (r .at) (r .last) in
+    let r = itemOf inner n ws to at last in
+    let h = item-onward inner n ws to at last i e in
+    let k = rows-onward inner n ws i f to (r .at) (r .last) in
     rw (e, if_then_else_) (omega arith))
 
-pub level-onward : (k : ℕ) (d : Definitions) (n : ℕ) (ws : List ℕ) → Onward (level k d n ws)
+pub level-onward : (k : ℕ) (n : ℕ) (ws : List ℕ) → Onward (level k n ws)
 unfolding level
-level-onward zero d n ws to at last = omega arith
-level-onward (suc k) d n ws to at last = rows-onward (level k d n ws) d n ws (level-onward k d n ws) to to at last
+level-onward zero n ws to at last = omega arith
+level-onward (suc k) n ws to at last = rows-onward (level k n ws) n ws (level-onward k n ws) to to at last
 
 pub end-onward : (at : ℕ) (e : End) (r : Read) (g : Page) → e ≡ finish r g → at ≤ r .at → at ≤ e .at
 unfolding finish

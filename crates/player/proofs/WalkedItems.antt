@@ -15,18 +15,20 @@ use Rattle.songcode.specs.answer.Tokens.{Token, reference, semicolon, colon, li
 use Rattle.songcode.specs.description.WrittenPattern.{writeMeasure, writeBeside, writeSeparator}
 use Rattle.songcode.specs.answer.Playing.{Beat, lastSounds, beatsOf, positions}
 use Rattle.tokens.specs.TokenWords.{tokenWord, tokenWords}
-use Rattle.player.specs.declared.leaves.Definitions.{Definitions}
-use Rattle.player.specs.Signs.{kindOf, wordOf, isPosition, isSeparator, isStop, positionsOf, positionsAt}
-use Rattle.player.specs.Walks.{Read, and-then, oneOf, passesOf, behindOf, looped, loopOf, stretchOf, refOf, itemBy, itemOf, rowsBy}
-use Rattle.player.specs.Texts.{voiceWord, rowWords, ChordsFit}
+use Rattle.score.specs.Places.{stretchOf, wordOf}
+use Rattle.tokens.specs.Signs.{kindOf, isPosition, isSeparator, isStop}
+use Rattle.player.specs.Signs.{positionsOf, positionsAt}
+use Rattle.player.specs.Walks.{Read, and-then, oneOf, passesOf, behindOf, looped, loopOf, refOf, itemBy, itemOf, rowsBy}
+use Rattle.score.specs.Standing.{ChordsFit}
+use Rattle.player.specs.Texts.{voiceWord, rowWords}
 use Rattle.player.proofs.WalkLaws.{rows-more}
 use Rattle.songcode.proofs.PlayingAgree.{positions-some}
 use Rattle.player.proofs.SignLaws.{position-inside, position-there}
 use Rattle.player.proofs.SoundLaws.{measure-drop, measure-positions, measure-length, measure-beats, measure-chord}
-use Rattle.player.proofs.PutInLaws.{words-times}
+use Rattle.player.proofs.RowWordLaws.{words-times}
 use Rattle.player.proofs.WrittenWords.{word-here, behind-here, inside-here, closes-kind, refers-kind, Apart, position-only, times-one}
 
-module _ (ws : List ℕ) (d : Definitions) (n : ℕ) where
+module _ (ws : List ℕ) (n : ℕ) where
   -- A walk has played the row, and ends where the tokens k stand.
   pub record Walked (to : ℕ) (x : Read) (row : List (List Beat)) (last : Option Chord) (k : List Token) : Type 0 where
     pub row-is : x .row ≡ rowWords row
@@ -36,7 +38,7 @@ module _ (ws : List ℕ) (d : Definitions) (n : ℕ) where
   -- An item was walked, from a word that ends no row.
   pub record Passed (inner : ℕ → ℕ → ℕ → Read) (to at : ℕ) (before : Option Chord) (row : List (List Beat)) (last : Option Chord)
       (k : List Token) : Type 0 where
-    pub walked : Walked to (itemOf inner d n ws to at (voiceWord before)) row last k
+    pub walked : Walked to (itemOf inner n ws to at (voiceWord before)) row last k
     pub goes-on : isStop (kindOf (wordOf ws to at)) ≡ false
     pub inside : at < to
 
@@ -81,7 +83,7 @@ module _ (ws : List ℕ) (d : Definitions) (n : ℕ) where
 
     pub refer-passed : (j : ℕ) (row : List (List Beat)) (l : Option Chord) (k k' : List Token) → j < 67108864
         → drop at (take to ws) ≡ tokenWord (reference j) ∷ tokenWords k
-        → Walked (stretchOf d j .to) (inner (stretchOf d j .to) (stretchOf d j .from) (voiceWord last)) row l k' → Passed inner to at last row l k
+        → Walked (stretchOf ws j .to) (inner (stretchOf ws j .to) (stretchOf ws j .from) (voiceWord last)) row l k' → Passed inner to at last row l k
     unfolding itemOf itemBy refOf isStop if_then_else_
     refer-passed j row l k k' i e w =
         let o : wordOf ws to at ≡ tokenWord (reference j) = word-here ws to at (tokenWord (reference j)) (tokenWords k) e in
@@ -105,7 +107,7 @@ module _ (ws : List ℕ) (d : Definitions) (n : ℕ) where
       pub place : ℕ
       pub text : drop place (take to ws) ≡ tokenWords k
       pub enough : to ≤ place + fuel
-      pub same : rowsBy inner d n ws f to at l ≡ rowsBy inner d n ws fuel to place l
+      pub same : rowsBy inner n ws f to at l ≡ rowsBy inner n ws fuel to place l
 
     pub record Separates (w : ℕ) : Type 0 where
       pub not-open : eqb (kindOf w) 57 ≡ false
@@ -124,7 +126,7 @@ module _ (ws : List ℕ) (d : Definitions) (n : ℕ) where
           place = at + 1;
           text = behind-here ws to at w (tokenWords k) e;
           enough = omega arith;
-          same = rows-more inner d n ws f to at l (omega arith) g ∙ rw (o, s .not-open, s .not-refer, s .separator);
+          same = rows-more inner n ws f to at l (omega arith) g ∙ rw (o, s .not-open, s .not-refer, s .separator);
         }
 
     pub then-across : (f at : ℕ) (j k : List Token) → Across f at j

@@ -13,7 +13,9 @@ use Rattle.songcode.specs.Song.{nothing, aLineEnd, Separator, bySemicolon, byLi
 use Rattle.songcode.specs.answer.Tokens.{Token, reference, closes}
 use Rattle.songcode.specs.description.WrittenPattern.{writeBeside, writeSeparator}
 use Rattle.tokens.specs.TokenWords.{tokenWord, tokenWords}
-use Rattle.player.specs.Signs.{kindOf, numberOf, wordOf, isPosition, isSeparator, isStop, positionsOf}
+use Rattle.score.specs.Places.{wordOf}
+use Rattle.tokens.specs.Signs.{kindOf, numberOf, isPosition, isSeparator, isStop}
+use Rattle.player.specs.Signs.{positionsOf}
 use Rattle.songcode.proofs.ListLaws.{by-cases}
 
 -- The word at a place, and the text behind it.

@@ -1,5 +1,5 @@
 -- The walk run on token words of written patterns: what it plays is what the definitions of songcode play.
-use Prim.Native.Nat.{ℕ}
+use Prim.Native.Nat.{ℕ, _+_, _*_}
 use mathlib.Core.List.{List, [], _∷_, _++_, map}
 use mathlib.Core.Option.{Option, none, some}
 use mathlib.Core.Path.{_≡_, refl}
@@ -10,7 +10,7 @@ use Rattle.songcode.specs.answer.Playing.{measuresOf}
 use Rattle.songcode.specs.answer.Tables.{beatWord}
 use Rattle.songcode.specs.answer.References.{putIn}
 use Rattle.tokens.specs.TokenWords.{tokenWords}
-use Rattle.player.specs.declared.leaves.Definitions.{Definitions}
+use Rattle.score.specs.Places.{placeBy, placeOf, stretchOf}
 use Rattle.player.specs.Walks.{rowOf}
 use Rattle.player.specs.Windows.{keptOf}
 
@@ -32,16 +32,13 @@ abbrev definition : Items
 definition = next (one (alone again)) bySemicolon (alone (plain 24))
 
 abbrev words : List ℕ
-words = tokenWords (writeItems definition []) ++ tokenWords (writeItems pattern [])
-
-abbrev definitions : Definitions
-definitions = record { count = 1; ids = 7 ∷ []; from = 0 ∷ []; to = 3 ∷ [] }
+words = (5 * 32768 + 7 * 2) ∷ 0 ∷ (tokenWords (writeItems definition []) ++ (0 ∷ tokenWords (writeItems pattern [])))
 
 abbrev put : ℕ → Option Items
 put n = some definition
 
-walked : rowOf definitions 4 words (record { from = 3; to = length words }) ≡ map (map beatWord) (measuresOf 4 none (putIn put pattern))
-unfolding rowOf tokenWords writeItems measuresOf beatWord putIn
+walked : rowOf 4 words (record { from = 6; to = length words }) ≡ map (map beatWord) (measuresOf 4 none (putIn put pattern))
+unfolding rowOf stretchOf placeOf placeBy tokenWords writeItems measuresOf beatWord putIn
 walked = refl
 
 -- `A;G` cut at the front by 1-2, at the back by -7 and by -8.

@@ -1,32 +1,10 @@
--- What a token word tells the player: its kind, whether it is a position of a measure, what it sounds, and the last chord behind it.
-use Prim.Native.Nat.{ℕ, zero, suc, _+_, _/_, _%_}
+-- What a position sounds, the last chord behind it, and the positions of a measure.
+use Prim.Native.Nat.{ℕ, zero, suc, _+_}
 use mathlib.Core.List.{List, [], _∷_, _++_}
-use mathlib.Core.Bool.{Bool, _||_, _&&_}
-use lib.Dec.{eqb, leb, ltb}
-use lib.ListN.{take, drop, getD, replicate}
+use lib.Dec.{eqb, ltb}
+use lib.ListN.{take, drop, replicate}
 use Rattle.songcode.specs.Lists.{if_then_else_}
-
--- The number above the 26 low bits, and the number in them.
-abbrev pub kindOf : ℕ → ℕ
-kindOf w = w / 67108864
-
-abbrev pub numberOf : ℕ → ℕ
-numberOf w = w % 67108864
-
--- The word at a place of the text that ends before `to`; past the end a word of kind 54, that of no token of a pattern.
-unfoldable pub wordOf : List ℕ → ℕ → ℕ → ℕ
-wordOf ws to at = getD (take to ws) at 3623878656
-
--- Chords have kinds below 34, `=` 61, `%` 62, `_` 63.
-unfoldable pub isPosition : ℕ → Bool
-isPosition k = ltb k 34 || leb 61 k
-
-unfoldable pub isSeparator : ℕ → Bool
-isSeparator k = leb 58 k && leb k 60
-
--- What ends a row: a closing bracket, or a word that is none of a pattern's.
-unfoldable pub isStop : ℕ → Bool
-isStop k = eqb k 56 || (leb 34 k && leb k 54)
+use Rattle.tokens.specs.Signs.{kindOf, isPosition}
 
 -- What a position sounds, as the word of a beat without head: itself, the last chord for `%`, silence.
 -- Where no chord was yet the last one is silence.

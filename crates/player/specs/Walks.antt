@@ -1,24 +1,14 @@
 -- What token words mean as they are walked: rows of measures, the place where the walk ends, and the last chord.
-use Prim.Native.Nat.{ℕ, zero, suc, _+_, _-_, _/_, min}
+use Prim.Native.Nat.{ℕ, zero, suc, _+_, _-_, _/_}
 use mathlib.Core.List.{List, [], _∷_, _++_}
-use lib.ListN.{length, getD}
+use lib.ListN.{length}
 use lib.Dec.{eqb}
 use Rattle.songcode.specs.Lists.{if_then_else_, times}
-use Rattle.player.specs.declared.leaves.Definitions.{Definitions}
-use Rattle.player.specs.declared.leaves.Stretch.{Stretch}
-use Rattle.player.specs.Signs.{kindOf, numberOf, wordOf, isSeparator, isStop, chordsOf, partsOf, positionsAt}
+use Rattle.score.specs.declared.stretches.Stretch.{Stretch}
+use Rattle.score.specs.Places.{wordOf, stretchOf}
+use Rattle.tokens.specs.Signs.{kindOf, numberOf, isSeparator, isStop}
+use Rattle.player.specs.Signs.{chordsOf, partsOf, positionsAt}
 use Rattle.player.specs.Page.{Page, play}
-
--- Where the definition of that number stands among the k from place i on; an empty stretch if it is not there.
-unfoldable pub stretchBy : ℕ → List ℕ → List ℕ → List ℕ → ℕ → ℕ → Stretch
-unfolding if_then_else_
-stretchBy zero ids from to i x = record { from = 0; to = 0 }
-stretchBy (suc k) ids from to i x =
-    if eqb (getD ids i 0) x then record { from = getD from i 0; to = getD to i 0 } else stretchBy k ids from to (i + 1) x
-
-unfoldable pub stretchOf : Definitions → ℕ → Stretch
-unfolding stretchBy
-stretchOf d x = stretchBy (min (d .count) 26) (d .ids) (d .from) (d .to) 0 x
 
 pub record Read : Type 0 where
   pub row : List (List ℕ)
@@ -69,41 +59,40 @@ unfolding looped
 loopOf inner ws to at last = looped ws to (inner to at last)
 
 -- A reference: the row of the definition's stretch, and back.
-unfoldable pub refOf : (ℕ → ℕ → ℕ → Read) → Definitions → ℕ → ℕ → ℕ → Read
-unfolding stretchOf
-refOf inner d x at last =
+unfoldable pub refOf : (ℕ → ℕ → ℕ → Read) → List ℕ → ℕ → ℕ → ℕ → Read
+refOf inner ws x at last =
     record {
-      row = inner (stretchOf d x .to) (stretchOf d x .from) last .row;
+      row = inner (stretchOf ws x .to) (stretchOf ws x .from) last .row;
       at = at + 1;
       last =
-          inner (stretchOf d x .to) (stretchOf d x .from) last .last;
+          inner (stretchOf ws x .to) (stretchOf ws x .from) last .last;
     }
 
-unfoldable pub itemBy : (ℕ → ℕ → ℕ → Read) → Definitions → ℕ → List ℕ → ℕ → ℕ → ℕ → ℕ → Read
+unfoldable pub itemBy : (ℕ → ℕ → ℕ → Read) → ℕ → List ℕ → ℕ → ℕ → ℕ → ℕ → Read
 unfolding if_then_else_ loopOf refOf oneOf isSeparator
-itemBy inner d n ws w to at last =
+itemBy inner n ws w to at last =
     if eqb (kindOf w) 57 then loopOf inner ws to (at + 1) last
-    else (if eqb (kindOf w) 55 then refOf inner d (numberOf w) at last
+    else (if eqb (kindOf w) 55 then refOf inner ws (numberOf w) at last
     else (if isSeparator (kindOf w) then stop (at + 1) last
     else oneOf n ws to at last))
 
-unfoldable pub itemOf : (ℕ → ℕ → ℕ → Read) → Definitions → ℕ → List ℕ → ℕ → ℕ → ℕ → Read
+unfoldable pub itemOf : (ℕ → ℕ → ℕ → Read) → ℕ → List ℕ → ℕ → ℕ → ℕ → Read
 unfolding itemBy wordOf
-itemOf inner d n ws to at last = itemBy inner d n ws (wordOf ws to at) to at last
+itemOf inner n ws to at last = itemBy inner n ws (wordOf ws to at) to at last
 
-unfoldable pub rowsBy : (ℕ → ℕ → ℕ → Read) → Definitions → ℕ → List ℕ → ℕ → ℕ → ℕ → ℕ → Read
+unfoldable pub rowsBy : (ℕ → ℕ → ℕ → Read) → ℕ → List ℕ → ℕ → ℕ → ℕ → ℕ → Read
 unfolding if_then_else_ isStop wordOf itemOf and-then
-rowsBy inner d n ws zero to at last = stop at last
-rowsBy inner d n ws (suc f) to at last =
-    if isStop (kindOf (wordOf ws to at)) then stop at last else and-then (itemOf inner d n ws to at last) (rowsBy inner d n ws f to)
+rowsBy inner n ws zero to at last = stop at last
+rowsBy inner n ws (suc f) to at last =
+    if isStop (kindOf (wordOf ws to at)) then stop at last else and-then (itemOf inner n ws to at last) (rowsBy inner n ws f to)
 
 -- So many levels of rows, one in the loops and references of the other.
-unfoldable pub level : ℕ → Definitions → ℕ → List ℕ → ℕ → ℕ → ℕ → Read
+unfoldable pub level : ℕ → ℕ → List ℕ → ℕ → ℕ → ℕ → Read
 unfolding rowsBy
-level zero d n ws to at last = stop at last
-level (suc k) d n ws to at last = rowsBy (level k d n ws) d n ws to to at last
+level zero n ws to at last = stop at last
+level (suc k) n ws to at last = rowsBy (level k n ws) n ws to to at last
 
 -- The row of a stretch, played alone: behind no chord. No text that is played has more than eight levels.
-unfoldable pub rowOf : Definitions → ℕ → List ℕ → Stretch → List (List ℕ)
+unfoldable pub rowOf : ℕ → List ℕ → Stretch → List (List ℕ)
 unfolding level
-rowOf d n ws s = level 8 d n ws (s .to) (s .from) 4227858432 .row
+rowOf n ws s = level 8 n ws (s .to) (s .from) 4227858432 .row

@@ -9,8 +9,7 @@ use Rattle.songcode.specs.answer.Tables.{measureWord}
 use Rattle.songcode.specs.answer.Playing.{keep}
 use Rattle.songcode.specs.description.Performance.{total}
 use Rattle.settings.specs.declared.cuts.Cut.{Cut}
-use Rattle.player.specs.declared.leaves.Definitions.{Definitions}
-use Rattle.player.specs.declared.leaves.Stretch.{Stretch}
+use Rattle.score.specs.declared.stretches.Stretch.{Stretch}
 use Rattle.player.specs.Walks.{rowOf}
 
 -- A cut of the description as the code's value.
@@ -64,5 +63,5 @@ module _ {A : Type 0} where
   heads f (x ∷ xs) = measureWord f (length x) ∷ heads (f + length x) xs
 
 -- The row of a section whose three texts stand in the buffer.
-abbrev pub rowOfSection : Definitions → ℕ → List ℕ → Stretch → Stretch → Stretch → ℕ → Cut → Cut → List (List ℕ)
-rowOfSection d n ws lead row tail r front back = sectionRow front back r (rowOf d n ws lead) (rowOf d n ws row) (rowOf d n ws tail)
+abbrev pub rowOfSection : ℕ → List ℕ → Stretch → Stretch → Stretch → ℕ → Cut → Cut → List (List ℕ)
+rowOfSection n ws lead row tail r front back = sectionRow front back r (rowOf n ws lead) (rowOf n ws row) (rowOf n ws tail)

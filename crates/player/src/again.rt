@@ -1,5 +1,5 @@
 // A pass of a loop done again without reading its words: it was passed over, or written whole, and will be.
-use super::leaves::least;
+use score::least;
 use super::leaves::minus;
 use super::pens::Pen;
 ghost use mathlib.Core.Path.{_≡_};

@@ -6,14 +6,6 @@ mod pens;
 mod playing;
 mod walks;
 
-pub use leaves::Definitions;
-pub use leaves::Stretch;
-pub use leaves::is_position;
-pub use leaves::kind;
-pub use leaves::least;
-pub use leaves::number;
-pub use leaves::stretch_of;
-pub use leaves::word_at;
 pub use pens::Pen;
 pub use playing::Counts;
 pub use playing::Plan;

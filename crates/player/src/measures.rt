@@ -1,15 +1,16 @@
 // One measure of the text: its positions are looked at once, then sounded, each for its share of N.
 use super::leaves::chord_after;
-use super::leaves::is_position;
-use super::leaves::kind;
 use super::leaves::share_of;
 use super::leaves::sounds;
 use super::leaves::voice;
-use super::leaves::word_at;
 use super::pens::Pen;
 use super::pens::close;
 use super::pens::lasting;
 use super::pens::resting;
+use score::word_at;
+use tokens::REMOVER;
+use tokens::is_position;
+use tokens::kind;
 ghost use mathlib.Core.Path.{_≡_};
 ghost use Prim.Native.Nat.{_+_, _-_, _*_, _≤_, _<_};
 ghost use lib.ListN.{length};
@@ -61,7 +62,7 @@ pub fn position(w: u32, share: usize, last: u32, p: Pen, bs: &mut [u32]) -> Pen
     requires { ⌜ Fine p × (last ≤ 4227858432) ⌝ }
     ensures { λ r. ⌜ _≡_ {A = Ink} (record { pen = r; bs = now (bs .exit) }) (inked (partOf share last w) (record { pen = p; bs = now (bs .entry) })) ⌝ }
 {
-    if kind(w) == 61 {
+    if kind(w) == REMOVER {
         return p;
     }
     lasting(share, voice(last, w), p, bs)

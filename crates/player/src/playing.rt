@@ -1,12 +1,12 @@
 // A section: counted, its cuts turned into two numbers, and written in one forward pass.
-use super::leaves::Definitions;
-use super::leaves::Stretch;
-use super::leaves::least;
+use score::least;
 use super::leaves::minus;
 use super::pens::Pen;
 use super::walks::again;
 use super::walks::items;
+use score::Stretch;
 use settings::Cut;
+use tokens::SILENCE_WORD;
 ghost use mathlib.Core.Path.{_≡_};
 ghost use mathlib.Core.Bool.{true};
 ghost use mathlib.Core.List.{_++_};
@@ -34,7 +34,6 @@ pub struct Plan {
 // A stretch, r times; nothing more is looked at once no measure is to be looked at.
 pub fn rounds(
     words: &[u32],
-    d: Definitions,
     n: usize,
     s: Stretch,
     r: usize,
@@ -44,19 +43,18 @@ pub fn rounds(
 ) -> Pen
     requires { ⌜ Fine p × (n ≤ 32) ⌝ }
     ensures { λ q. ⌜ _≡_ {A = Page} (record { pen = q; ms = now (ms .exit); bs = now (bs .exit) })
-        (play (times r (rowOf d n (now (words .entry)) s)) (record { pen = p; ms = now (ms .entry); bs = now (bs .entry) })) ⌝ }
+        (play (times r (rowOf n (now (words .entry)) s)) (record { pen = p; ms = now (ms .entry); bs = now (bs .entry) })) ⌝ }
 {
     if r == 0 || p.todo == 0 {
         return p;
     }
-    let w = items(words, d, n, s.to, s.from, 4227858432, 8, p, ms, bs);
+    let w = items(words, n, s.to, s.from, SILENCE_WORD, 8, p, ms, bs);
     again(
         words,
-        d,
         n,
         s.to,
         s.from,
-        4227858432,
+        SILENCE_WORD,
         8,
         r - 1,
         p,
@@ -67,17 +65,16 @@ pub fn rounds(
 }
 
 // How many of the first k measures of a stretch there are, repeated r times, and their beats: the same walk with every beat passed over.
-pub fn tally(words: &[u32], d: Definitions, n: usize, s: Stretch, r: usize, k: usize) -> Counts
+pub fn tally(words: &[u32], n: usize, s: Stretch, r: usize, k: usize) -> Counts
     requires { ⌜ (n ≤ 32) × (k ≤ 65536) ⌝ }
-    ensures measures { λ c. ⌜ c .measures ≡ min k (length (times r (rowOf d n (now (words .entry)) s))) ⌝ }
-    ensures beats { λ c. ⌜ c .beats ≡ total (take k (times r (rowOf d n (now (words .entry)) s))) ⌝ }
+    ensures measures { λ c. ⌜ c .measures ≡ min k (length (times r (rowOf n (now (words .entry)) s))) ⌝ }
+    ensures beats { λ c. ⌜ c .beats ≡ total (take k (times r (rowOf n (now (words .entry)) s))) ⌝ }
     ensures bound { λ c. ⌜ c .beats ≤ 2097152 ⌝ }
 {
     let mut ms = [0u32; 1];
     let mut bs = [0u32; 1];
     let q = rounds(
         words,
-        d,
         n,
         s,
         r,
@@ -99,24 +96,16 @@ pub fn tally(words: &[u32], d: Definitions, n: usize, s: Stretch, r: usize, k: u
 }
 
 // The two cuts as two numbers.
-pub fn planned(
-    words: &[u32],
-    d: Definitions,
-    n: usize,
-    s: Stretch,
-    r: usize,
-    front: Cut,
-    back: Cut,
-) -> Plan
-    requires { ⌜ (n ≤ 32) × (length (times r (rowOf d n (now words) s)) ≤ 65535) × (front .beats .0 ≤ 9999) ⌝ }
-    ensures todo { λ p. ⌜ p .todo ≡ length (times r (rowOf d n (now (words .entry)) s)) ⌝ }
-    ensures skip { λ p. ⌜ p .skip ≡ firstBeat front (times r (rowOf d n (now (words .entry)) s)) ⌝ }
-    ensures left { λ p. ⌜ p .left ≡ lastBeat back (times r (rowOf d n (now (words .entry)) s))
-        - firstBeat front (times r (rowOf d n (now (words .entry)) s)) ⌝ }
+pub fn planned(words: &[u32], n: usize, s: Stretch, r: usize, front: Cut, back: Cut) -> Plan
+    requires { ⌜ (n ≤ 32) × (length (times r (rowOf n (now words) s)) ≤ 65535) × (front .beats .0 ≤ 9999) ⌝ }
+    ensures todo { λ p. ⌜ p .todo ≡ length (times r (rowOf n (now (words .entry)) s)) ⌝ }
+    ensures skip { λ p. ⌜ p .skip ≡ firstBeat front (times r (rowOf n (now (words .entry)) s)) ⌝ }
+    ensures left { λ p. ⌜ p .left ≡ lastBeat back (times r (rowOf n (now (words .entry)) s))
+        - firstBeat front (times r (rowOf n (now (words .entry)) s)) ⌝ }
 {
-    let all = tally(words, d, n, s, r, 65536);
-    let f = tally(words, d, n, s, r, least(front.measures.0, 65536));
-    let e = tally(words, d, n, s, r, minus(all.measures, back.measures.0));
+    let all = tally(words, n, s, r, 65536);
+    let f = tally(words, n, s, r, least(front.measures.0, 65536));
+    let e = tally(words, n, s, r, minus(all.measures, back.measures.0));
     let first = f.beats + front.beats.0;
     let left = minus(minus(e.beats, back.beats.0), first);
     Plan {
@@ -191,7 +180,6 @@ fn at_tail(plan: Plan, lead: Pen, pattern: Pen) -> Pen
 // passed over.
 pub fn play_cut(
     words: &[u32],
-    d: Definitions,
     n: usize,
     lead: Stretch,
     pattern: Stretch,
@@ -203,20 +191,20 @@ pub fn play_cut(
     ms: &mut [u32],
     bs: &mut [u32],
 ) -> Counts
-    requires cuts { ⌜ (n ≤ 32) × (front .beats .0 ≤ 9999) × (length (times r (rowOf d n (now words) pattern)) ≤ 65535) ⌝ }
-    requires texts { ⌜ length (rowOf d n (now words) lead) + length (times r (rowOf d n (now words) pattern)) + length (rowOf d n (now words) tail) ≤ 65536 ⌝ }
+    requires cuts { ⌜ (n ≤ 32) × (front .beats .0 ≤ 9999) × (length (times r (rowOf n (now words) pattern)) ≤ 65535) ⌝ }
+    requires texts { ⌜ length (rowOf n (now words) lead) + length (times r (rowOf n (now words) pattern)) + length (rowOf n (now words) tail) ≤ 65536 ⌝ }
     requires pen { ⌜ (p .todo ≡ 65536) × (p .m ≡ 0) × (p .b ≡ 0) × (p .skip ≤ 2097120) × (p .base + p .left ≤ 2097120) ⌝ }
-    ensures counts { λ c. ⌜ (c .measures ≡ length (window (p .skip) (p .left) (rowOfSection d n (now (words .entry)) lead pattern tail r front back)))
-        × (c .beats ≡ total (window (p .skip) (p .left) (rowOfSection d n (now (words .entry)) lead pattern tail r front back))) ⌝ }
+    ensures counts { λ c. ⌜ (c .measures ≡ length (window (p .skip) (p .left) (rowOfSection n (now (words .entry)) lead pattern tail r front back)))
+        × (c .beats ≡ total (window (p .skip) (p .left) (rowOfSection n (now (words .entry)) lead pattern tail r front back))) ⌝ }
     ensures measures { λ c. ⌜ now (ms .exit) ≡ sets (now (ms .entry)) 0
-        (heads (p .base) (window (p .skip) (p .left) (rowOfSection d n (now (words .entry)) lead pattern tail r front back))) ⌝ }
+        (heads (p .base) (window (p .skip) (p .left) (rowOfSection n (now (words .entry)) lead pattern tail r front back))) ⌝ }
     ensures beats { λ c. ⌜ now (bs .exit) ≡ sets (now (bs .entry)) 0
-        (flat (window (p .skip) (p .left) (rowOfSection d n (now (words .entry)) lead pattern tail r front back))) ⌝ }
+        (flat (window (p .skip) (p .left) (rowOfSection n (now (words .entry)) lead pattern tail r front back))) ⌝ }
 {
-    let plan = planned(words, d, n, pattern, r, front, back);
-    let a = rounds(words, d, n, lead, 1, p, ms, bs);
-    let b = rounds(words, d, n, pattern, r, at_pattern(plan, a), ms, bs);
-    let c = rounds(words, d, n, tail, 1, at_tail(plan, a, b), ms, bs);
+    let plan = planned(words, n, pattern, r, front, back);
+    let a = rounds(words, n, lead, 1, p, ms, bs);
+    let b = rounds(words, n, pattern, r, at_pattern(plan, a), ms, bs);
+    let c = rounds(words, n, tail, 1, at_tail(plan, a, b), ms, bs);
     Counts {
         measures: c.m,
         beats: c.b,
@@ -239,7 +227,6 @@ fn is_uncut(front: Cut, back: Cut) -> bool
 // Three texts behind one another, the second r times, with one pen: nothing is counted beforehand.
 pub fn play_uncut(
     words: &[u32],
-    d: Definitions,
     n: usize,
     lead: Stretch,
     pattern: Stretch,
@@ -251,18 +238,17 @@ pub fn play_uncut(
 ) -> Pen
     requires { ⌜ Fine p × (n ≤ 32) ⌝ }
     ensures { λ q. ⌜ _≡_ {A = Page} (record { pen = q; ms = now (ms .exit); bs = now (bs .exit) })
-        (play (rowOf d n (now (words .entry)) lead ++ (times r (rowOf d n (now (words .entry)) pattern) ++ rowOf d n (now (words .entry)) tail))
+        (play (rowOf n (now (words .entry)) lead ++ (times r (rowOf n (now (words .entry)) pattern) ++ rowOf n (now (words .entry)) tail))
         (record { pen = p; ms = now (ms .entry); bs = now (bs .entry) })) ⌝ }
 {
-    let a = rounds(words, d, n, lead, 1, p, ms, bs);
-    let b = rounds(words, d, n, pattern, r, a, ms, bs);
-    rounds(words, d, n, tail, 1, b, ms, bs)
+    let a = rounds(words, n, lead, 1, p, ms, bs);
+    let b = rounds(words, n, pattern, r, a, ms, bs);
+    rounds(words, n, tail, 1, b, ms, bs)
 }
 
 // The same for any cuts; only a pattern that is cut is counted beforehand. Each text may be an empty stretch.
 pub fn play_window(
     words: &[u32],
-    d: Definitions,
     n: usize,
     lead: Stretch,
     pattern: Stretch,
@@ -274,30 +260,29 @@ pub fn play_window(
     ms: &mut [u32],
     bs: &mut [u32],
 ) -> Counts
-    requires cuts { ⌜ (n ≤ 32) × (front .beats .0 ≤ 9999) × (length (times r (rowOf d n (now words) pattern)) ≤ 65535) ⌝ }
-    requires texts { ⌜ length (rowOf d n (now words) lead) + length (times r (rowOf d n (now words) pattern)) + length (rowOf d n (now words) tail) ≤ 65536 ⌝ }
+    requires cuts { ⌜ (n ≤ 32) × (front .beats .0 ≤ 9999) × (length (times r (rowOf n (now words) pattern)) ≤ 65535) ⌝ }
+    requires texts { ⌜ length (rowOf n (now words) lead) + length (times r (rowOf n (now words) pattern)) + length (rowOf n (now words) tail) ≤ 65536 ⌝ }
     requires pen { ⌜ (p .todo ≡ 65536) × (p .m ≡ 0) × (p .b ≡ 0) × (p .skip ≤ 2097120) × (p .base + p .left ≤ 2097120) ⌝ }
-    ensures counts { λ c. ⌜ (c .measures ≡ length (window (p .skip) (p .left) (rowOfSection d n (now (words .entry)) lead pattern tail r front back)))
-        × (c .beats ≡ total (window (p .skip) (p .left) (rowOfSection d n (now (words .entry)) lead pattern tail r front back))) ⌝ }
+    ensures counts { λ c. ⌜ (c .measures ≡ length (window (p .skip) (p .left) (rowOfSection n (now (words .entry)) lead pattern tail r front back)))
+        × (c .beats ≡ total (window (p .skip) (p .left) (rowOfSection n (now (words .entry)) lead pattern tail r front back))) ⌝ }
     ensures measures { λ c. ⌜ now (ms .exit) ≡ sets (now (ms .entry)) 0
-        (heads (p .base) (window (p .skip) (p .left) (rowOfSection d n (now (words .entry)) lead pattern tail r front back))) ⌝ }
+        (heads (p .base) (window (p .skip) (p .left) (rowOfSection n (now (words .entry)) lead pattern tail r front back))) ⌝ }
     ensures beats { λ c. ⌜ now (bs .exit) ≡ sets (now (bs .entry)) 0
-        (flat (window (p .skip) (p .left) (rowOfSection d n (now (words .entry)) lead pattern tail r front back))) ⌝ }
+        (flat (window (p .skip) (p .left) (rowOfSection n (now (words .entry)) lead pattern tail r front back))) ⌝ }
 {
     if is_uncut(front, back) {
-        let q = play_uncut(words, d, n, lead, pattern, tail, r, p, ms, bs);
+        let q = play_uncut(words, n, lead, pattern, tail, r, p, ms, bs);
         return Counts {
             measures: q.m,
             beats: q.b,
         };
     }
-    play_cut(words, d, n, lead, pattern, tail, r, front, back, p, ms, bs)
+    play_cut(words, n, lead, pattern, tail, r, front, back, p, ms, bs)
 }
 
 // A section, its first beat at `base`.
 pub fn play_section(
     words: &[u32],
-    d: Definitions,
     n: usize,
     lead: Stretch,
     pattern: Stretch,
@@ -309,17 +294,16 @@ pub fn play_section(
     ms: &mut [u32],
     bs: &mut [u32],
 ) -> Counts
-    requires cuts { ⌜ (n ≤ 32) × (front .beats .0 ≤ 9999) × (length (times r (rowOf d n (now words) pattern)) ≤ 65535) ⌝ }
+    requires cuts { ⌜ (n ≤ 32) × (front .beats .0 ≤ 9999) × (length (times r (rowOf n (now words) pattern)) ≤ 65535) ⌝ }
     requires room { ⌜ base +
-        32 * (length (rowOf d n (now words) lead) + length (times r (rowOf d n (now words) pattern)) + length (rowOf d n (now words) tail)) ≤ 2097120 ⌝ }
-    ensures counts { λ c. ⌜ (c .measures ≡ length (rowOfSection d n (now (words .entry)) lead pattern tail r front back))
-        × (c .beats ≡ total (rowOfSection d n (now (words .entry)) lead pattern tail r front back)) ⌝ }
-    ensures measures { λ c. ⌜ now (ms .exit) ≡ sets (now (ms .entry)) 0 (heads base (rowOfSection d n (now (words .entry)) lead pattern tail r front back)) ⌝ }
-    ensures beats { λ c. ⌜ now (bs .exit) ≡ sets (now (bs .entry)) 0 (flat (rowOfSection d n (now (words .entry)) lead pattern tail r front back)) ⌝ }
+        32 * (length (rowOf n (now words) lead) + length (times r (rowOf n (now words) pattern)) + length (rowOf n (now words) tail)) ≤ 2097120 ⌝ }
+    ensures counts { λ c. ⌜ (c .measures ≡ length (rowOfSection n (now (words .entry)) lead pattern tail r front back))
+        × (c .beats ≡ total (rowOfSection n (now (words .entry)) lead pattern tail r front back)) ⌝ }
+    ensures measures { λ c. ⌜ now (ms .exit) ≡ sets (now (ms .entry)) 0 (heads base (rowOfSection n (now (words .entry)) lead pattern tail r front back)) ⌝ }
+    ensures beats { λ c. ⌜ now (bs .exit) ≡ sets (now (bs .entry)) 0 (flat (rowOfSection n (now (words .entry)) lead pattern tail r front back)) ⌝ }
 {
     play_window(
         words,
-        d,
         n,
         lead,
         pattern,
@@ -336,7 +320,6 @@ pub fn play_section(
 // A part of a section: behind `from` of its beats, as many as the table of beats holds. Its measures name their beats in that table.
 pub fn play_part(
     words: &[u32],
-    d: Definitions,
     n: usize,
     lead: Stretch,
     pattern: Stretch,
@@ -348,22 +331,21 @@ pub fn play_part(
     ms: &mut [u32],
     bs: &mut [u32],
 ) -> Counts
-    requires cuts { ⌜ (n ≤ 32) × (front .beats .0 ≤ 9999) × (length (times r (rowOf d n (now words) pattern)) ≤ 65535) ⌝ }
+    requires cuts { ⌜ (n ≤ 32) × (front .beats .0 ≤ 9999) × (length (times r (rowOf n (now words) pattern)) ≤ 65535) ⌝ }
     requires room { ⌜
-        32 * (length (rowOf d n (now words) lead) + length (times r (rowOf d n (now words) pattern)) + length (rowOf d n (now words) tail)) ≤ 2097120 ⌝ }
+        32 * (length (rowOf n (now words) lead) + length (times r (rowOf n (now words) pattern)) + length (rowOf n (now words) tail)) ≤ 2097120 ⌝ }
     requires place { ⌜ from ≤ 2097120 ⌝ }
     ensures counts { λ c. ⌜ (c .measures ≡ length
-        (window from (length (now (bs .entry))) (rowOfSection d n (now (words .entry)) lead pattern tail r front back)))
-        × (c .beats ≡ total (window from (length (now (bs .entry))) (rowOfSection d n (now (words .entry)) lead pattern tail r front back))) ⌝ }
+        (window from (length (now (bs .entry))) (rowOfSection n (now (words .entry)) lead pattern tail r front back)))
+        × (c .beats ≡ total (window from (length (now (bs .entry))) (rowOfSection n (now (words .entry)) lead pattern tail r front back))) ⌝ }
     ensures measures { λ c. ⌜ now (ms .exit) ≡ sets (now (ms .entry)) 0
-        (heads 0 (window from (length (now (bs .entry))) (rowOfSection d n (now (words .entry)) lead pattern tail r front back))) ⌝ }
+        (heads 0 (window from (length (now (bs .entry))) (rowOfSection n (now (words .entry)) lead pattern tail r front back))) ⌝ }
     ensures beats { λ c. ⌜ now (bs .exit) ≡ sets (now (bs .entry)) 0
-        (flat (window from (length (now (bs .entry))) (rowOfSection d n (now (words .entry)) lead pattern tail r front back))) ⌝ }
+        (flat (window from (length (now (bs .entry))) (rowOfSection n (now (words .entry)) lead pattern tail r front back))) ⌝ }
 {
     let left = least(bs.len(), 2097120);
     play_window(
         words,
-        d,
         n,
         lead,
         pattern,

@@ -3,18 +3,19 @@ use super::again::copied;
 use super::again::copies;
 use super::again::skipped;
 use super::again::skips;
-use super::leaves::Definitions;
 use super::leaves::behind;
-use super::leaves::is_separator;
-use super::leaves::is_stop;
-use super::leaves::kind;
-use super::leaves::number;
 use super::leaves::passes;
-use super::leaves::stretch_of;
-use super::leaves::word_at;
 use super::measures::Walk;
 use super::measures::measure;
 use super::pens::Pen;
+use score::stretch_of;
+use score::word_at;
+use tokens::OPENS;
+use tokens::REFERENCE;
+use tokens::is_separator;
+use tokens::is_stop;
+use tokens::kind;
+use tokens::number;
 ghost use mathlib.Core.Path.{_≡_};
 ghost use Prim.Native.Nat.{_+_, _-_, _≤_, _<_};
 ghost use Rattle.songcode.specs.Lists.{times};
@@ -25,7 +26,6 @@ ghost use Rattle.player.specs.Walks.{End, finish, level, itemOf, loopOf,
 // Items up to the end of the text or a closing bracket.
 pub fn items(
     words: &[u32],
-    d: Definitions,
     n: usize,
     to: usize,
     at: usize,
@@ -42,7 +42,7 @@ pub fn items(
       page =
           record { pen = r .pen; ms = now (ms .exit); bs = now (bs .exit) };
     })
-        (finish (level depth d n (now (words .entry)) to at last) (record { pen = p; ms = now (ms .entry); bs = now (bs .entry) })) ⌝ }
+        (finish (level depth n (now (words .entry)) to at last) (record { pen = p; ms = now (ms .entry); bs = now (bs .entry) })) ⌝ }
     ensures last { λ r. ⌜ r .last ≤ 4227858432 ⌝ }
 {
     let mut w = Walk { at, last, pen: p };
@@ -54,14 +54,13 @@ pub fn items(
         if is_stop(kind(word_at(words, to, i))) {
             return w;
         }
-        w = item(words, d, n, to, i, w.last, depth - 1, w.pen, ms, bs);
+        w = item(words, n, to, i, w.last, depth - 1, w.pen, ms, bs);
     }
 }
 
 // One item, or one separator.
 pub fn item(
     words: &[u32],
-    d: Definitions,
     n: usize,
     to: usize,
     at: usize,
@@ -78,17 +77,17 @@ pub fn item(
       page =
           record { pen = r .pen; ms = now (ms .exit); bs = now (bs .exit) };
     })
-        (finish (itemOf (level depth d n (now (words .entry))) d n (now (words .entry)) to at last)
+        (finish (itemOf (level depth n (now (words .entry))) n (now (words .entry)) to at last)
         (record { pen = p; ms = now (ms .entry); bs = now (bs .entry) })) ⌝ }
     ensures last { λ r. ⌜ r .last ≤ 4227858432 ⌝ }
 {
     let w = word_at(words, to, at);
     let k = kind(w);
-    if k == 57 {
-        return loop_(words, d, n, to, at + 1, last, depth, p, ms, bs);
+    if k == OPENS {
+        return loop_(words, n, to, at + 1, last, depth, p, ms, bs);
     }
-    if k == 55 {
-        return jump(words, d, n, number(w), at, last, depth, p, ms, bs);
+    if k == REFERENCE {
+        return jump(words, n, number(w), at, last, depth, p, ms, bs);
     }
     if is_separator(k) {
         return Walk {
@@ -103,7 +102,6 @@ pub fn item(
 // A reference: the items of a definition, one level down; then back to behind the reference.
 pub fn jump(
     words: &[u32],
-    d: Definitions,
     n: usize,
     x: u32,
     at: usize,
@@ -120,11 +118,12 @@ pub fn jump(
       page =
           record { pen = r .pen; ms = now (ms .exit); bs = now (bs .exit) };
     })
-        (finish (refOf (level depth d n (now (words .entry))) d x at last) (record { pen = p; ms = now (ms .entry); bs = now (bs .entry) })) ⌝ }
+        (finish (refOf (level depth n (now (words .entry))) (now (words .entry)) x at last)
+        (record { pen = p; ms = now (ms .entry); bs = now (bs .entry) })) ⌝ }
     ensures last { λ r. ⌜ r .last ≤ 4227858432 ⌝ }
 {
-    let s = stretch_of(d, x);
-    let w = items(words, d, n, s.to, s.from, last, depth, p, ms, bs);
+    let s = stretch_of(words, x);
+    let w = items(words, n, s.to, s.from, last, depth, p, ms, bs);
     let pen = w.pen;
     Walk {
         at: at + 1,
@@ -136,7 +135,6 @@ pub fn jump(
 // The passes of a loop: the first finds its end and its count.
 pub fn loop_(
     words: &[u32],
-    d: Definitions,
     n: usize,
     to: usize,
     at: usize,
@@ -153,14 +151,14 @@ pub fn loop_(
       page =
           record { pen = r .pen; ms = now (ms .exit); bs = now (bs .exit) };
     })
-        (finish (loopOf (level depth d n (now (words .entry))) (now (words .entry)) to at last)
+        (finish (loopOf (level depth n (now (words .entry))) (now (words .entry)) to at last)
         (record { pen = p; ms = now (ms .entry); bs = now (bs .entry) })) ⌝ }
     ensures last { λ r. ⌜ r .last ≤ 4227858432 ⌝ }
 {
-    let w = items(words, d, n, to, at, last, depth, p, ms, bs);
+    let w = items(words, n, to, at, last, depth, p, ms, bs);
     let k = passes(words, to, w.at);
     let end = behind(words, to, w.at);
-    let pen = again(words, d, n, to, at, last, depth, k, p, w.pen, ms, bs);
+    let pen = again(words, n, to, at, last, depth, k, p, w.pen, ms, bs);
     Walk {
         at: end,
         last: w.last,
@@ -171,7 +169,6 @@ pub fn loop_(
 // The items that took the pen from `p` to `q`, k times more; nothing more is looked at once no measure is to be looked at.
 pub fn again(
     words: &[u32],
-    d: Definitions,
     n: usize,
     to: usize,
     at: usize,
@@ -183,9 +180,9 @@ pub fn again(
     ms: &mut [u32],
     bs: &mut [u32],
 ) -> Pen
-    requires { ⌜ Fine q × (last ≤ 4227858432) × (n ≤ 32) × (depth < 1000) × Took (level depth d n (now words) to at last .row) p q (now ms) (now bs) ⌝ }
+    requires { ⌜ Fine q × (last ≤ 4227858432) × (n ≤ 32) × (depth < 1000) × Took (level depth n (now words) to at last .row) p q (now ms) (now bs) ⌝ }
     ensures { λ r. ⌜ _≡_ {A = Page} (record { pen = r; ms = now (ms .exit); bs = now (bs .exit) })
-        (play (times k (level depth d n (now (words .entry)) to at last .row)) (record { pen = q; ms = now (ms .entry); bs = now (bs .entry) })) ⌝ }
+        (play (times k (level depth n (now (words .entry)) to at last .row)) (record { pen = q; ms = now (ms .entry); bs = now (bs .entry) })) ⌝ }
 {
     if skips(p, q, k) {
         return skipped(p, q, k);
@@ -197,7 +194,7 @@ pub fn again(
         if after.todo == 0 {
             return after;
         }
-        let next = once_more(words, d, n, to, at, last, depth, before, after, ms, bs);
+        let next = once_more(words, n, to, at, last, depth, before, after, ms, bs);
         before = after;
         after = next;
         i += 1;
@@ -208,7 +205,6 @@ pub fn again(
 // Once more: passed over, copied, or read again.
 pub fn once_more(
     words: &[u32],
-    d: Definitions,
     n: usize,
     to: usize,
     at: usize,
@@ -219,9 +215,9 @@ pub fn once_more(
     ms: &mut [u32],
     bs: &mut [u32],
 ) -> Pen
-    requires { ⌜ Fine q × (last ≤ 4227858432) × (n ≤ 32) × (depth < 1000) × Took (level depth d n (now words) to at last .row) p q (now ms) (now bs) ⌝ }
+    requires { ⌜ Fine q × (last ≤ 4227858432) × (n ≤ 32) × (depth < 1000) × Took (level depth n (now words) to at last .row) p q (now ms) (now bs) ⌝ }
     ensures { λ r. ⌜ _≡_ {A = Page} (record { pen = r; ms = now (ms .exit); bs = now (bs .exit) })
-        (play (level depth d n (now (words .entry)) to at last .row) (record { pen = q; ms = now (ms .entry); bs = now (bs .entry) })) ⌝ }
+        (play (level depth n (now (words .entry)) to at last .row) (record { pen = q; ms = now (ms .entry); bs = now (bs .entry) })) ⌝ }
 {
     if skips(p, q, 1) {
         return skipped(p, q, 1);
@@ -229,6 +225,6 @@ pub fn once_more(
     if copies(p, q) {
         return copied(p, q, ms, bs);
     }
-    let w = items(words, d, n, to, at, last, depth, q, ms, bs);
+    let w = items(words, n, to, at, last, depth, q, ms, bs);
     w.pen
 }

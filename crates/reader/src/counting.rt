@@ -4,17 +4,19 @@ use super::answers::accepted;
 use super::answers::refused;
 use judging::first_stages;
 use judging::judge;
+use score::LONG_ROW;
+use score::SHORT_ROW;
 ghost use mathlib.Core.Path.{_≡_};
 ghost use mathlib.Core.List.{[]};
-ghost use Prim.Native.Nat.{_≤_};
+ghost use Prim.Native.Nat.{_<_};
 ghost use lib.ListN.{length};
 ghost use Rattle.songcode.specs.answer.SongText.{textFaults};
 ghost use Rattle.songcode.specs.answer.Answer.{inputFaults, blocksOf};
 ghost use Rattle.reader.specs.Answers.{Counted};
 
-// A chart that stages 1 and 2 have passed; `words` holds its pattern text as token words, at most one for each byte.
+// A chart that stages 1 and 2 have passed; `words` is the row that its texts are laid into.
 fn count_song(text: &[u8], words: &mut [u32]) -> Answer
-    requires { ⌜ (inputFaults (now text) ≡ []) × (textFaults (blocksOf (now text)) ≡ []) × (length (now text) ≤ length (now words)) ⌝ }
+    requires { ⌜ (inputFaults (now text) ≡ []) × (textFaults (blocksOf (now text)) ≡ []) × (length (now text) < length (now words)) ⌝ }
     ensures { λ r. ⌜ Counted (now (text .entry)) r ⌝ }
 {
     let chart = judge(text, words);
@@ -28,19 +30,19 @@ fn count_song(text: &[u8], words: &mut [u32]) -> Answer
 
 // The same for a chart of at most 2,048 bytes, as nearly all are: a small buffer is soon cleared.
 fn count_short(text: &[u8]) -> Answer
-    requires { ⌜ (inputFaults (now text) ≡ []) × (textFaults (blocksOf (now text)) ≡ []) × (length (now text) ≤ 2048) ⌝ }
+    requires { ⌜ (inputFaults (now text) ≡ []) × (textFaults (blocksOf (now text)) ≡ []) × (length (now text) < 2064) ⌝ }
     ensures { λ r. ⌜ Counted (now (text .entry)) r ⌝ }
 {
-    let mut words = [0u32; 2048];
+    let mut words = [0u32; SHORT_ROW];
     count_song(text, &mut words)
 }
 
 // The same for any chart that stage 1 has passed.
 fn count_long(text: &[u8]) -> Answer
-    requires { ⌜ (inputFaults (now text) ≡ []) × (textFaults (blocksOf (now text)) ≡ []) × (length (now text) ≤ 65536) ⌝ }
+    requires { ⌜ (inputFaults (now text) ≡ []) × (textFaults (blocksOf (now text)) ≡ []) × (length (now text) < 65552) ⌝ }
     ensures { λ r. ⌜ Counted (now (text .entry)) r ⌝ }
 {
-    let mut words = [0u32; 65536];
+    let mut words = [0u32; LONG_ROW];
     count_song(text, &mut words)
 }
 

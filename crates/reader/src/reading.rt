@@ -5,10 +5,12 @@ use super::answers::refused;
 use judging::Totals;
 use judging::first_stages;
 use judging::judge;
+use score::LONG_ROW;
+use score::SHORT_ROW;
 use writing::write_tables;
 ghost use mathlib.Core.Path.{_≡_};
 ghost use mathlib.Core.List.{[]};
-ghost use Prim.Native.Nat.{_≤_};
+ghost use Prim.Native.Nat.{_<_};
 ghost use lib.ListN.{length};
 ghost use Rattle.songcode.specs.answer.SongText.{textFaults};
 ghost use Rattle.songcode.specs.answer.Answer.{inputFaults, blocksOf};
@@ -41,7 +43,7 @@ fn is_short(
     items < t.items
 }
 
-// A chart that stages 1 and 2 have passed; `words` holds its pattern text as token words, at most one for each byte.
+// A chart that stages 1 and 2 have passed; `words` is the row that its texts are laid into.
 fn read_song(
     text: &[u8],
     words: &mut [u32],
@@ -51,7 +53,7 @@ fn read_song(
     beats: &mut [u32],
     items: &mut [u64],
 ) -> Answer
-    requires { ⌜ (inputFaults (now text) ≡ []) × (textFaults (blocksOf (now text)) ≡ []) × (length (now text) ≤ length (now words)) ⌝ }
+    requires { ⌜ (inputFaults (now text) ≡ []) × (textFaults (blocksOf (now text)) ≡ []) × (length (now text) < length (now words)) ⌝ }
     ensures { λ r. ⌜ Promised (now (text .entry)) (record {
       keys = now (keys .entry);
       sections = now (sections .entry);
@@ -96,7 +98,7 @@ fn read_short(
     beats: &mut [u32],
     items: &mut [u64],
 ) -> Answer
-    requires { ⌜ (inputFaults (now text) ≡ []) × (textFaults (blocksOf (now text)) ≡ []) × (length (now text) ≤ 2048) ⌝ }
+    requires { ⌜ (inputFaults (now text) ≡ []) × (textFaults (blocksOf (now text)) ≡ []) × (length (now text) < 2064) ⌝ }
     ensures { λ r. ⌜ Promised (now (text .entry)) (record {
       keys = now (keys .entry);
       sections = now (sections .entry);
@@ -112,7 +114,7 @@ fn read_short(
           items = now (items .exit);
         }) ⌝ }
 {
-    let mut words = [0u32; 2048];
+    let mut words = [0u32; SHORT_ROW];
     read_song(text, &mut words, keys, sections, measures, beats, items)
 }
 
@@ -125,7 +127,7 @@ fn read_long(
     beats: &mut [u32],
     items: &mut [u64],
 ) -> Answer
-    requires { ⌜ (inputFaults (now text) ≡ []) × (textFaults (blocksOf (now text)) ≡ []) × (length (now text) ≤ 65536) ⌝ }
+    requires { ⌜ (inputFaults (now text) ≡ []) × (textFaults (blocksOf (now text)) ≡ []) × (length (now text) < 65552) ⌝ }
     ensures { λ r. ⌜ Promised (now (text .entry)) (record {
       keys = now (keys .entry);
       sections = now (sections .entry);
@@ -141,7 +143,7 @@ fn read_long(
           items = now (items .exit);
         }) ⌝ }
 {
-    let mut words = [0u32; 65536];
+    let mut words = [0u32; LONG_ROW];
     read_song(text, &mut words, keys, sections, measures, beats, items)
 }
 

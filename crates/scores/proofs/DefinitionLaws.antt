@@ -9,6 +9,7 @@ use borrow.Author.Tests.{leb-false, not-false}
 use lib.Dec.{eqb, leb}
 use lib.ListN.{length}
 use Rattle.songcode.specs.Lists.{if_then_else_, any, gather, prepend, isSome, orElse}
+use Rattle.songcode.specs.Bytes.{Byte}
 use Rattle.songcode.specs.answer.Lines.{Line, Block, blocks}
 use Rattle.songcode.specs.Complaints.{complainIf}
 use Rattle.songcode.specs.Song.{Items, Definition}
@@ -22,7 +23,7 @@ use Rattle.songcode.specs.description.WrittenPattern.{writeItems}
 use Rattle.songcode.specs.description.WrittenSong.{idOf}
 use Rattle.songcode.proofs.ListLaws.{true-is-not-false, none-passes, append-is-nil, complainIf-nil}
 use Rattle.songcode.proofs.ChoiceLaws.{isSome-some}
-use Rattle.songcode.proofs.NumbersAgree.{count-exact}
+use Rattle.songcode.proofs.NumbersAgree.{count-exact, decimal-short}
 use Rattle.songcode.proofs.PatternAgree.{kept-sound}
 use Rattle.songcode.proofs.BlockKinds.{by-kind}
 use Rattle.text.specs.Spans.{lineAt}
@@ -76,6 +77,12 @@ firsts-sections n (b ∷ bs) h =
     (λ k. rw k (firsts-sections n bs (h .1)))
     (λ k. rw k (firsts-sections n bs (h .1)))
     (λ k. rw k (h .0, firsts-sections n bs (h .1)))
+
+-- A text with a byte behind its first has two.
+behind-long : (bs : List Byte) → 0 < length (behindFirst bs) → 2 ≤ length bs
+unfolding behindFirst
+behind-long [] h = let z : ⊥ = omega arith in absurd z
+behind-long (b ∷ bs) h = omega arith
 
 -- Their heads stand behind that line.
 unfoldable pub LaterHeads : ℕ → List Definition → Type 0
@@ -133,6 +140,12 @@ module _ (s : List ℕ) (count : ℕ) (seen : List ℕ) (p : Place) (w : Leaves 
   pub id-small : e .id ≤ 9999
   unfolding headIn
   id-small = count-exact (behindFirst (block .first .text)) (e .id) .0 head-is .atMost
+
+  pub head-long : 2 ≤ length (block .first .text)
+  unfolding headIn
+  head-long =
+      behind-long (block .first .text)
+      (decimal-short (behindFirst (block .first .text)) (count-exact (behindFirst (block .first .text)) (e .id) .0 head-is .decimal) .0)
 
   fresh-parts : (any (λ x. eqb x (e .id)) seen ≡ false) × (twice 6 headIn (e .id ∷ seen) (map firstLine (definitionBlocks rest)) ≡ [])
   unfolding twice twiceBy prepend firstLine

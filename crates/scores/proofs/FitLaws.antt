@@ -27,7 +27,7 @@ use Rattle.text.specs.Spans.{part, lineText, spansFrom}
 use Rattle.tokens.specs.TokenWords.{chordWord}
 use Rattle.tokens.specs.Fitting.{Fit, AllFit}
 use Rattle.tokens.proofs.TokensFit.{tokens-fit}
-use Rattle.player.specs.Texts.{ChordFits, ChordsFit, ItemFits, ItemsFit}
+use Rattle.score.specs.Standing.{ChordFits, ChordsFit, ItemFits, ItemsFit}
 use Rattle.sections.specs.declared.runs.Run.{Run}
 use Rattle.sections.specs.declared.slots.Said.{Said}
 use Rattle.sections.specs.Runs.{textLines, linesOf}

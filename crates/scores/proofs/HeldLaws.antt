@@ -18,17 +18,15 @@ use Rattle.songcode.proofs.ListLaws.{Each, each-map, append-is-nil, gather-nil}
 use Rattle.songcode.proofs.ReferencesAgree.{refers-sound}
 use Rattle.tokens.specs.TokenWords.{tokenWords}
 use Rattle.tokens.specs.Lexing.{laid}
-use Rattle.player.specs.declared.leaves.Definitions.{Definitions}
-use Rattle.player.specs.declared.leaves.Stretch.{Stretch}
-use Rattle.player.specs.Walks.{stretchOf}
-use Rattle.player.specs.Texts.{ItemsFit, Stands}
-use Rattle.player.proofs.PutInLaws.{putIn-same}
+use Rattle.score.specs.declared.stretches.Stretch.{Stretch}
+use Rattle.score.specs.Places.{stretchOf}
+use Rattle.score.specs.Standing.{ItemsFit, Stands}
+use Rattle.songcode.proofs.GlueLaws.{putIn-same}
 use Rattle.player.proofs.Meaning.{row-meaning}
 use Rattle.player.proofs.Walkables as walkables
 use Rattle.player.proofs.Walkables.{refers-walkable, empty-row}
 use Rattle.outlines.specs.declared.readings.Outline.{Outline}
-use Rattle.outlines.specs.declared.tables.Outlines.{Outlines}
-use Rattle.outlines.specs.Tables.{vacant, lookUp, isMissing}
+use Rattle.outlines.specs.Words.{vacant, lookUp, isMissing}
 use Rattle.outlines.specs.Readings.{outlined}
 use Rattle.outlines.specs.Faults.{allFaults, faultless, faultNumber, faultIn}
 use Rattle.outlines.specs.Told.{refusal, Tells, Told, KnowsItems, Knows, Known}
@@ -36,11 +34,11 @@ use Rattle.outlines.proofs.OutlineAgree.{outline-tells}
 use Rattle.outlines.proofs.SketchLaws.{outline-sketches}
 use Rattle.outlines.proofs.KnownLaws.{empty-known}
 use Rattle.outlines.proofs.FaultAgree.{fault-given}
-use Rattle.scores.specs.declared.definitions.Score.{Score}
 use Rattle.scores.specs.Laying.{runTokens}
 use Rattle.scores.specs.Scores.{namedText, Carries}
 use Rattle.scores.specs.Loading.{HeldText, HeldItems, Held}
 use Rattle.scores.proofs.FitLaws.{Good, items-fit}
+use Rattle.scores.proofs.NumberedLaws.{Alike}
 use Rattle.scores.proofs.DefinitionLaws as definitions
 
 -- The words of a stretch stay where the first words of the buffer do.
@@ -119,12 +117,12 @@ references-right ds r head e =
     (append-is-nil (gather (λ n. referenceFault (definitionOf n ds) head) (references r)) (depthFault ds r head) e .0))
 
 -- A new definition, where the earlier ones among all are held.
-module _ (ds earlier : List Definition) (d : Definitions) (o : Outlines) (ws : List ℕ) (fill : ℕ)
-    (held : (n : ℕ) → Held ds ws fill (definitionOf n earlier) (isMissing d o n) (stretchOf d n) (lookUp d o n))
+module _ (ds earlier : List Definition) (ws : List ℕ) (fill : ℕ)
+    (held : (n : ℕ) → Held ds ws fill (definitionOf n earlier) (isMissing ws n) (stretchOf ws n) (lookUp ws n))
     (agree : (n : ℕ) (x : Definition) → definitionOf n earlier ≡ some x → definitionOf n ds ≡ some x) where
-  pub earlier-known : Known earlier (isMissing d o) (lookUp d o)
+  pub earlier-known : Known earlier (isMissing ws) (lookUp ws)
   unfolding Known
-  earlier-known n = held-known ds ws fill (definitionOf n earlier) (isMissing d o n) (stretchOf d n) (lookUp d o n) (held n)
+  earlier-known n = held-known ds ws fill (definitionOf n earlier) (isMissing ws n) (stretchOf ws n) (lookUp ws n) (held n)
 
   refers-all : (ns : List ℕ) → Each (Refers earlier) ns → ReferAll ds ns
   unfolding Each ReferAll
@@ -141,12 +139,12 @@ module _ (ds earlier : List Definition) (d : Definitions) (o : Outlines) (ws : L
         refers-all ns (h .1),
       )
 
-  refer-told : (n : ℕ) → Refers earlier n → Told (lookUp d o) (itemsOf ds) n
+  refer-told : (n : ℕ) → Refers earlier n → Told (lookUp ws) (itemsOf ds) n
   unfolding Told putInItem itemsOf andThen orElse
   refer-told n w =
-      let t = found-held ds ws fill (definitionOf n earlier) (isMissing d o n) (stretchOf d n) (lookUp d o n) (w .definition) (w .items)
+      let t = found-held ds ws fill (definitionOf n earlier) (isMissing ws n) (stretchOf ws n) (lookUp ws n) (w .definition) (w .items)
       (held n) (w .found) (w .filled) .tells in
-      let k : Tells (lookUp d o n) (w .items) = rw (putIn-same (itemsOf ds) (w .items) (w .plain)) at t in
+      let k : Tells (lookUp ws n) (w .items) = rw (putIn-same (itemsOf ds) (w .items) (w .plain)) at t in
       rw (agree n (w .definition) (w .found), w .filled) k
 
   -- The words of its lines stand in its stretch.
@@ -167,16 +165,16 @@ module _ (ds earlier : List Definition) (d : Definitions) (o : Outlines) (ws : L
 
     -- Its fault is what stage 3 says of it.
     pub fault-is : (i : Option Items) → definitions.Says ls i
-        → refusal (faultIn (isMissing d o) (lookUp d o) (drop (at .from) (take (at .to) vs))) head
+        → refusal (faultIn (isMissing ws) (lookUp ws) (drop (at .from) (take (at .to) vs))) head
         ≡ earliest (definitionReferences earlier i head)
     unfolding faultIn allFaults faultless faultNumber refusal earliest definitionReferences if_then_else_ definitions.Says
     fault-is none w = rw (nothing-there w) refl
-    fault-is (some r) w = fault-given earlier (isMissing d o) (lookUp d o) earlier-known head vs at r (stands r w) (fits r w) (w .1)
+    fault-is (some r) w = fault-given earlier (isMissing ws) (lookUp ws) earlier-known head vs at r (stands r w) (fits r w) (w .1)
 
     pub items-new : (i : Option Items) → definitions.Says ls i → definitionReferences earlier i head ≡ []
-        → HeldItems ds vs (at .to) at (outlined (lookUp d o) (drop (at .from) (take (at .to) vs))) i
+        → HeldItems ds vs (at .to) at (outlined (lookUp ws) (drop (at .from) (take (at .to) vs))) i
     unfolding HeldItems KnowsItems definitions.Says tokenWords
-    items-new none w e = (let z : length (tokenWords (runTokens ls)) ≡ 0 = rw w in omega arith, empty-known (lookUp d o) vs at (nothing-there w))
+    items-new none w e = (let z : length (tokenWords (runTokens ls)) ≡ 0 = rw w in omega arith, empty-known (lookUp ws) vs at (nothing-there w))
     items-new (some r) w e =
         let right = references-right earlier r head e in
         record {
@@ -184,86 +182,83 @@ module _ (ds earlier : List Definition) (d : Definitions) (o : Outlines) (ws : L
           stands = stands r w;
           fits = fits r w;
           shallow = w .1;
-          sketched = outline-sketches (lookUp d o) vs at r (stands r w) (fits r w);
+          sketched = outline-sketches (lookUp ws) vs at r (stands r w) (fits r w);
           refers = refers-all (references r) right;
-          tells = outline-tells (lookUp d o) (itemsOf ds) vs at r (stands r w) (fits r w) (w .1) (each-map refer-told (references r) right);
+          tells = outline-tells (lookUp ws) (itemsOf ds) vs at r (stands r w) (fits r w) (w .1) (each-map refer-told (references r) right);
         }
 
+-- What is found alike in another buffer, the same before the mark, is held there.
+pub held-alike : (ds : List Definition) (vs ws : List ℕ) (mark n : ℕ) (c : Option Definition) → Alike vs ws n → take mark vs ≡ take mark ws
+    → Held ds ws mark c (isMissing ws n) (stretchOf ws n) (lookUp ws n) → Held ds vs mark c (isMissing vs n) (stretchOf vs n) (lookUp vs n)
+held-alike ds vs ws mark n c a same h =
+    rw (a .missing-same, a .at-same, a .outline-same) (held-kept ds ws mark vs mark (omega arith) same c (isMissing ws n) (stretchOf ws n) (lookUp ws n) h)
+
 -- Where all definitions are held, each number says what the song does.
-module _ (ds : List Definition) (ws : List ℕ) (score : Score)
-    (held : (n : ℕ) → Held ds ws (score .fill) (definitionOf n ds) (isMissing (score .definitions) (score .outlines) n)
-    (stretchOf (score .definitions) n) (lookUp (score .definitions) (score .outlines) n)) where
-  abbrev d : Definitions
-  d = score .definitions
-
-  abbrev o : Outlines
-  o = score .outlines
-
-  pub missing-told : (n : ℕ) → isMissing d o n ≡ not (isSome (definitionOf n ds))
+module _ (ds : List Definition) (ws : List ℕ) (mark : ℕ)
+    (held : (n : ℕ) → Held ds ws mark (definitionOf n ds) (isMissing ws n) (stretchOf ws n) (lookUp ws n)) where
+  pub missing-told : (n : ℕ) → isMissing ws n ≡ not (isSome (definitionOf n ds))
   unfolding Held isSome
   missing-told n = of (definitionOf n ds) (held n)
     where
-      of : (c : Option Definition) → Held ds ws (score .fill) c (isMissing d o n) (stretchOf d n) (lookUp d o n) → isMissing d o n ≡ not (isSome c)
+      of : (c : Option Definition) → Held ds ws mark c (isMissing ws n) (stretchOf ws n) (lookUp ws n) → isMissing ws n ≡ not (isSome c)
       of none h = h .0
       of (some x) h = h .0
 
-  pub filled-told : (n : ℕ) → namedText score n .outline .empty ≡ not (isSome (patternItems ds (named n)))
+  pub filled-told : (n : ℕ) → namedText ws n .outline .empty ≡ not (isSome (patternItems ds (named n)))
   unfolding Held HeldItems isSome patternItems itemsOf andThen vacant namedText
   filled-told n = of (definitionOf n ds) (held n)
     where
-      items : (i : Option Items) → HeldItems ds ws (score .fill) (stretchOf d n) (lookUp d o n) i
-          → lookUp d o n .empty ≡ not (isSome (andThen i (λ r. some (putIn (itemsOf ds) r))))
+      items : (i : Option Items) → HeldItems ds ws mark (stretchOf ws n) (lookUp ws n) i
+          → lookUp ws n .empty ≡ not (isSome (andThen i (λ r. some (putIn (itemsOf ds) r))))
       items none h = rw (h .1)
       items (some r) h = h .sketched .filled
 
-      of : (c : Option Definition) → Held ds ws (score .fill) c (isMissing d o n) (stretchOf d n) (lookUp d o n)
-          → lookUp d o n .empty ≡ not (isSome (andThen (andThen c (λ x. x .items)) (λ r. some (putIn (itemsOf ds) r))))
+      of : (c : Option Definition) → Held ds ws mark c (isMissing ws n) (stretchOf ws n) (lookUp ws n)
+          → lookUp ws n .empty ≡ not (isSome (andThen (andThen c (λ x. x .items)) (λ r. some (putIn (itemsOf ds) r))))
       of none h = rw (h .2)
       of (some x) h = items (x .items) (h .1)
 
-  module _ (vs : List ℕ) (same : take (score .fill) vs ≡ take (score .fill) ws) where
-    refers : (n : ℕ) → Refers ds n → walkables.Refers vs d (itemsOf ds) n
-    unfolding itemsOf andThen
-    refers n w =
-        let t = found-held ds ws (score .fill) (definitionOf n ds) (isMissing d o n) (stretchOf d n) (lookUp d o n) (w .definition)
-        (w .items) (held n) (w .found) (w .filled) in
-        let k = t .shallow in
-        record {
-          items = w .items;
-          says =
-              record {
-                said = rw (w .found) (w .filled);
-                plain = w .plain;
-                stands = stands-kept ws vs (score .fill) (stretchOf d n)
-                    (w .items) (t .within) same (t .stands);
-              };
-          fits = t .fits;
-          shallow = omega arith;
-        }
+  refers : (n : ℕ) → Refers ds n → walkables.Refers ws (itemsOf ds) n
+  unfolding itemsOf andThen
+  refers n w =
+      let t = found-held ds ws mark (definitionOf n ds) (isMissing ws n) (stretchOf ws n) (lookUp ws n) (w .definition)
+      (w .items) (held n) (w .found) (w .filled) in
+      let k = t .shallow in
+      record {
+        items = w .items;
+        says =
+            record {
+              said = rw (w .found) (w .filled);
+              plain = w .plain;
+              stands = t .stands;
+            };
+        fits = t .fits;
+        shallow = omega arith;
+      }
 
-    refers-each : (ns : List ℕ) → ReferAll ds ns → Each (walkables.Refers vs d (itemsOf ds)) ns
-    unfolding ReferAll Each
-    refers-each [] h = tt
-    refers-each (n ∷ ns) h = (refers n (h .0), refers-each ns (h .1))
+  refers-each : (ns : List ℕ) → ReferAll ds ns → Each (walkables.Refers ws (itemsOf ds)) ns
+  unfolding ReferAll Each
+  refers-each [] h = tt
+  refers-each (n ∷ ns) h = (refers n (h .0), refers-each ns (h .1))
 
-    pub carries-all : (n : ℕ) → Carries vs d (namedText score n) (patternItems ds (named n))
-    unfolding Held HeldItems patternItems itemsOf andThen Carries namedText
-    carries-all n = of (definitionOf n ds) (held n)
-      where
-        items : (i : Option Items) → HeldItems ds ws (score .fill) (stretchOf d n) (lookUp d o n) i
-            → Carries vs d (namedText score n) (andThen i (λ r. some (putIn (itemsOf ds) r)))
-        items none h = (h .1, λ k. empty-row d k vs (stretchOf d n) (h .0))
-        items (some r) h =
-            let z = h .shallow in (
-              h .sketched .filled,
-              h .tells,
-              λ k.
-                  row-meaning vs d (itemsOf ds) k r (stretchOf d n)
-                  (refers-walkable vs d (itemsOf ds) r (h .fits) (omega arith) (refers-each (references r) (h .refers)))
-                  (stands-kept ws vs (score .fill) (stretchOf d n) r (h .within) same (h .stands)),
-            )
+  pub carries-all : (n : ℕ) → Carries ws (namedText ws n) (patternItems ds (named n))
+  unfolding Held HeldItems patternItems itemsOf andThen Carries namedText
+  carries-all n = of (definitionOf n ds) (held n)
+    where
+      items : (i : Option Items) → HeldItems ds ws mark (stretchOf ws n) (lookUp ws n) i
+          → Carries ws (namedText ws n) (andThen i (λ r. some (putIn (itemsOf ds) r)))
+      items none h = (h .1, λ k. empty-row k ws (stretchOf ws n) (h .0))
+      items (some r) h =
+          let z = h .shallow in (
+            h .sketched .filled,
+            h .tells,
+            λ k.
+                row-meaning ws (itemsOf ds) k r (stretchOf ws n)
+                (refers-walkable ws (itemsOf ds) r (h .fits) (omega arith) (refers-each (references r) (h .refers)))
+                (h .stands),
+          )
 
-        of : (c : Option Definition) → Held ds ws (score .fill) c (isMissing d o n) (stretchOf d n) (lookUp d o n)
-            → Carries vs d (namedText score n) (andThen (andThen c (λ x. x .items)) (λ r. some (putIn (itemsOf ds) r)))
-        of none h = (h .2, λ k. empty-row d k vs (stretchOf d n) (h .1))
-        of (some x) h = items (x .items) (h .1)
+      of : (c : Option Definition) → Held ds ws mark c (isMissing ws n) (stretchOf ws n) (lookUp ws n)
+          → Carries ws (namedText ws n) (andThen (andThen c (λ x. x .items)) (λ r. some (putIn (itemsOf ds) r)))
+      of none h = (h .2, λ k. empty-row k ws (stretchOf ws n) (h .1))
+      of (some x) h = items (x .items) (h .1)

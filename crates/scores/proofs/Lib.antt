@@ -16,4 +16,5 @@ pub mod NumberedLaws
 pub mod DefinitionLaws
 pub mod HeldLaws
 pub mod FaultLineLaws
+pub mod EnteredLaws
 pub mod LoadLaws

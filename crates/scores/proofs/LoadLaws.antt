@@ -1,60 +1,63 @@
 -- The definitions of a song, loaded one after another: none at first, then one more, and at last all.
-use Prim.Native.Nat.{ℕ, zero, suc, _+_, _<_, _≤_}
+use Prim.Native.Nat.{ℕ, zero, suc, _+_, _-_, _<_, _≤_}
 use mathlib.Core.Path.{_≡_, refl, sym, ap, _∙_, subst}
 use mathlib.Core.List.{List, [], _∷_, _++_, map, append-assoc}
 use mathlib.Core.Bool.{true}
 use mathlib.Core.Option.{Option, none, some}
 use native.Mathlib.Omega.{arith}
-use borrow.Author.Tests.{eqb-true, eqb-false, le-leb}
+use borrow.Author.Tests.{eqb-true, eqb-false}
 use lib.Dec.{eqb}
-use lib.ListN.{length, take, drop}
+use lib.ListN.{length, take, drop, getD, set, length-set}
+use lib.Seq.{getD-set-same, take-take}
 use Rattle.songcode.specs.Lists.{if_then_else_, gather, firstThere}
 use Rattle.songcode.specs.Complaints.{Complaint, complaint, complainIf, earliest}
 use Rattle.songcode.specs.answer.Lines.{Block, blocks}
-use Rattle.songcode.specs.Song.{items, Definition}
+use Rattle.songcode.specs.Song.{items, named, Definition}
 use Rattle.songcode.specs.answer.Sections.{twice, sectionFaults, sectionIn}
 use Rattle.songcode.specs.answer.SongText.{definition, blockKind, turn, blockOrder, definitionIf, definitionBlocks, sectionIf, sectionBlocks}
 use Rattle.songcode.specs.answer.SongText.{headIn, headsFaults, firstLine, definitionItems, definitionFaults, definitionsFaults, definitionIn}
 use Rattle.songcode.specs.answer.SongText.{textFaults, songIn}
-use Rattle.songcode.specs.answer.References.{definitionOf, definitionReferences, definitionsReferences, sectionReference, referenceFaults}
+use Rattle.songcode.specs.answer.References.{definitionOf, patternItems, definitionReferences, definitionsReferences, sectionReference, referenceFaults}
 use Rattle.songcode.specs.description.WrittenSong.{idOf}
 use Rattle.songcode.specs.answer.Answer.{blocksOf, songOf}
-use Rattle.songcode.proofs.ListLaws.{by-cases, nil-is-not-cons, append-is-nil, Each, each-append, each-map}
+use Rattle.songcode.proofs.ListLaws.{by-cases, true-is-not-false, nil-is-not-cons, append-is-nil, Each, each-append, each-map}
 use Rattle.songcode.proofs.PatternLaws.{none-some}
 use Rattle.songcode.proofs.BlockKinds.{by-kind}
 use Rattle.text.specs.Refusals.{refusalOf}
 use Rattle.tokens.specs.TokenWords.{tokenWords}
 use Rattle.tokens.specs.Lexing.{laid}
 use Rattle.tokens.proofs.LaidLaws.{laid-length}
-use Rattle.player.specs.declared.leaves.Definitions.{Definitions}
-use Rattle.player.specs.declared.leaves.Stretch.{Stretch}
-use Rattle.player.specs.Walks.{stretchOf}
+use Rattle.score.specs.declared.stretches.Stretch.{Stretch}
+use Rattle.score.specs.Places.{lengthAt, idAt, stretchOf}
 use Rattle.outlines.specs.declared.readings.Outline.{Outline}
-use Rattle.outlines.specs.declared.tables.Outlines.{Outlines}
-use Rattle.outlines.specs.Tables.{lookUp, isMissing, extended}
+use Rattle.outlines.specs.Words.{outlineIn, lookUp, isMissing}
 use Rattle.outlines.specs.Faults.{faultIn}
 use Rattle.outlines.specs.Readings.{outlined}
-use Rattle.outlines.specs.Told.{Roomy, refusal}
+use Rattle.outlines.specs.Told.{refusal}
+use Rattle.outlines.proofs.WordLaws.{outline-again}
+use Rattle.outlines.proofs.SmallLaws.{outlined-small}
 use Rattle.sections.specs.declared.blocks.Place.{Place}
 use Rattle.sections.specs.declared.blocks.DefinitionRead.{DefinitionRead}
 use Rattle.sections.specs.Runs.{linesOf}
 use Rattle.sections.specs.BlockParts.{blockAt, linesPast, DefinitionAt, NextAt}
 use Rattle.sections.specs.Onward.{sectionsFrom, Later}
-use Rattle.scores.specs.declared.definitions.Score.{Score}
 use Rattle.scores.specs.declared.definitions.Loaded.{Loaded}
 use Rattle.scores.specs.Laying.{runTokens, weight}
 use Rattle.scores.specs.Metadata.{MetadataEnds}
-use Rattle.scores.specs.Scores.{numbered, Begins, Loads}
-use Rattle.scores.specs.Loading.{HeldItems, Held, blocksFrom, definitionsFrom, Leaves, Loading, LoadsOne}
+use Rattle.scores.specs.Scores.{namedText, Carries, Told, Begins, Loads}
+use Rattle.scores.specs.Loading.{HeldItems, Held, Chain, entered, blocksFrom, definitionsFrom, Leaves, Loading, LoadsOne}
 use Rattle.scores.proofs.ComplaintLaws.{earliest-none, UpTo, Behind, first-wins, gather-behind}
-use Rattle.scores.proofs.WeightLaws.{weight-block, run-words}
+use Rattle.scores.proofs.WeightLaws.{weight-behind, run-words}
 use Rattle.scores.proofs.ReachedLaws.{definition-reach}
 use Rattle.scores.proofs.FitLaws.{run-good}
 use Rattle.scores.proofs.CleanLaws.{clean}
-use Rattle.scores.proofs.NumberedLaws.{place, seen-past, numbered-is, even-added, seen-new, alike-other}
-use Rattle.scores.proofs.DefinitionLaws.{fresh-none, few-before, not-seen, lines-say, definitions-left, leaves-next, heads-later, sections-later}
+use Rattle.scores.proofs.NumberedLaws.{Below, taken-below, chain-kept, chain-added, still-marked, alike-kept, none-there, none-stretch, none-outline}
+use Rattle.scores.proofs.NumberedLaws.{new-there, new-stretch, new-outline, alike-other, still-missing, still-empty, still-vacant}
+use Rattle.scores.proofs.DefinitionLaws.{fresh-none, few-before, id-small, head-long, not-seen, lines-say, definitions-left, leaves-next,
+    heads-later, sections-later}
+use Rattle.scores.proofs.EnteredLaws.{entered-long, length-there, id-there, outline-there, mark-there, before-there, text-there}
 use Rattle.scores.proofs.FaultLineLaws.{definition-line, definitions-behind, section-line}
-use Rattle.scores.proofs.HeldLaws.{laid-there, laid-before, held-kept, fault-is, items-new, missing-told, filled-told, carries-all}
+use Rattle.scores.proofs.HeldLaws.{laid-there, laid-before, held-kept, held-alike, fault-is, items-new, missing-told, filled-told, carries-all}
 
 -- No definition is loaded yet.
 module _ (s ws : List ℕ) (p : Place) (faultless : textFaults (blocksOf s) ≡ []) (m : MetadataEnds s p) where
@@ -85,23 +88,23 @@ module _ (s ws : List ℕ) (p : Place) (faultless : textFaults (blocksOf s) ≡ 
         texts = a .1;
       }
 
-  pub loading-first : (d : Definitions) (o : Outlines) → length s ≤ 65536 → length s ≤ length ws → d .count ≡ 0 → length (d .ids) ≡ 26
-      → length (d .from) ≡ 26 → length (d .to) ≡ 26 → o .count ≡ 0 → Roomy o
-      → Loading s ws (record { definitions = d; outlines = o; fill = 0 }) p
-  unfolding idOf definitionOf firstThere Held
-  loading-first d o small room count ids from to none-yet roomy =
+  pub loading-first : length s ≤ 65536 → length s < length ws → Loading s (set ws 0 0) 0 p
+  unfolding idOf definitionOf firstThere Held Chain
+  loading-first small room =
+      let marked : lengthAt (set ws 0 0) 0 ≡ 0 = rw (getD-set-same ws 0 0 0 (omega arith)) refl in
       record {
         small = small;
-        room = room;
+        room = rw (length-set ws 0 0) room;
         filled = omega arith;
-        even = record { count = none-yet ∙ sym count; few = omega arith; ids = ids; from = from; to = to; roomy = roomy };
+        count = 0;
+        few = omega arith;
+        chained = refl;
+        marked = marked;
         earlier = [];
-        leaves = rw count leaves-first;
+        leaves = leaves-first;
         found = λ n. ap (definitionOf n) all-from;
         clear = ap (definitionsReferences []) all-from;
-        held = λ n.
-            let x = seen-past d o 0 count none-yet (omega arith) n (le-leb 0 (place d o 0 count none-yet (omega arith) n) (omega arith)) in
-            rw (x .missing-is, x .at-is, x .outline-is) (refl, omega arith, refl);
+        held = λ n. (none-there (set ws 0 0) marked n, none-stretch (set ws 0 0) marked n, none-outline (set ws 0 0) marked n);
       }
 
 -- A number other than 0 is a complaint.
@@ -111,21 +114,24 @@ refusal-some zero head n = absurd (n refl)
 refusal-some (suc f) head n = refl
 
 -- The definition at a place is loaded.
-module _ (s ws : List ℕ) (score : Score) (p : Place) (w : Loading s ws score p) (inside : p .at < length s)
+module _ (s ws : List ℕ) (mark : ℕ) (p : Place) (w : Loading s ws mark p) (inside : p .at < length s)
     (kind : blockKind (blockAt s (p .number) (p .at)) ≡ definition)
     (e : DefinitionRead) (r : DefinitionAt s (p .number) (p .at) e) where
   abbrev new : List ℕ
   new = tokenWords (runTokens (linesOf s (e .pattern)))
 
-  pub room-there : score .fill + weight (linesOf s (e .pattern)) ≤ length ws
+  two-bytes : 2 ≤ length (blockAt s (p .number) (p .at) .first .text)
+  two-bytes = head-long s (w .count) (map idOf (w .earlier)) p (w .leaves) inside kind e r
+
+  pub room-there : mark + 2 + weight (linesOf s (e .pattern)) ≤ length ws
   room-there =
-      let a = weight-block s (p .number) (p .at) inside in
+      let a = weight-behind s (p .number) (p .at) inside two-bytes in
       let b = w .filled in
       let c = w .room in
       rw (r .pattern) (omega arith)
 
-  reached : score .fill + length new ≤ e .pattern .next
-  reached = definition-reach s (p .number) (p .at) e r inside (score .fill) (w .filled)
+  pub reached : mark + 2 + length new ≤ e .pattern .next
+  reached = definition-reach s (p .number) (p .at) e r inside two-bytes mark (w .filled)
 
   abbrev ds : List Definition
   ds = songOf s .definitions
@@ -134,28 +140,51 @@ module _ (s ws : List ℕ) (score : Score) (p : Place) (w : Loading s ws score p
   unfolding firstThere
   agree n x h = w .found n ∙ rw h
 
-  module _ (vs : List ℕ) (end : ℕ) (laid-is : vs ≡ laid (score .fill) new ws) (end-is : end ≡ score .fill + length new) where
+  module _ (mid : List ℕ) (end : ℕ) (laid-is : mid ≡ laid (mark + 2) new ws) (end-is : end ≡ mark + 2 + length new) where
     abbrev text : Stretch
-    text = record { from = score .fill; to = end }
+    text = record { from = mark + 2; to = end }
 
-    starts : score .fill ≤ length ws
-    starts = let a = w .filled in let b = w .room in omega arith
+    starts : mark + 2 ≤ length ws
+    starts = let a = room-there in omega arith
 
-    there : drop (score .fill) (take end vs) ≡ new
-    there = rw (laid-is, end-is) (laid-there (score .fill) new ws starts)
+    there : drop (mark + 2) (take end mid) ≡ new
+    there = rw (laid-is, end-is) (laid-there (mark + 2) new ws starts)
 
-    before : take (score .fill) vs ≡ take (score .fill) ws
-    before = rw laid-is (laid-before (score .fill) new ws starts)
+    both-before : take (mark + 2) mid ≡ take (mark + 2) ws
+    both-before = rw laid-is (laid-before (mark + 2) new ws starts)
 
-    pub same-room : length vs ≡ length ws
+    before : take mark mid ≡ take mark ws
+    before = sym (take-take mark (mark + 2) mid (omega arith)) ∙ ap (take mark) both-before ∙ take-take mark (mark + 2) ws (omega arith)
+
+    below : Below (mark + 1) mid ws
+    below i h = taken-below (mark + 2) mid ws both-before i (omega arith)
+
+    pub same-room : length mid ≡ length ws
     same-room =
         let a = room-there in
         let b = run-words (linesOf s (e .pattern)) in
-        rw laid-is (laid-length (score .fill) new ws (omega arith))
+        rw laid-is (laid-length (mark + 2) new ws (omega arith))
+
+    pub end-inside : end < length mid
+    end-inside = let a = reached in let b = r .pattern-placed .ends in let c = w .room in let d = same-room in omega arith
+
+    pub small-id : e .id ≤ 9999
+    small-id = id-small s (w .count) (map idOf (w .earlier)) p (w .leaves) inside kind e r
+
+    pub small-end : end ≤ 65537
+    small-end = let a = reached in let b = r .pattern-placed .ends in let c = w .small in omega arith
+
+    pub one-length : (o : Outline) (vs : List ℕ) → vs ≡ entered mark end (e .id) o mid → length vs ≡ length ws
+    one-length o vs is = rw is (entered-long mark end (e .id) o mid (omega arith) end-inside small-id ∙ same-room)
+
+    -- What stands before the mark is found as before.
+    held-mid : (n : ℕ) → Held ds mid mark (definitionOf n (w .earlier)) (isMissing mid n) (stretchOf mid n) (lookUp mid n)
+    held-mid n =
+        held-alike ds mid ws mark n (definitionOf n (w .earlier)) (alike-kept ws mark (w .count) (w .few) (w .chained) (w .marked) n mid below) before (w
+            .held n)
 
     module _ (q : Place) (x : NextAt s (e .pattern .number + e .pattern .lines) (e .pattern .next) q) (f : ℕ)
-        (f-is : f ≡ faultIn (isMissing (score .definitions) (score .outlines)) (lookUp (score .definitions) (score .outlines))
-        (drop (score .fill) (take end vs))) where
+        (f-is : f ≡ faultIn (isMissing mid) (lookUp mid) (drop (mark + 2) (take end mid))) where
       abbrev new-definition : Definition
       new-definition = record { head = e .head; id = e .id; items = definitionItems (linesOf s (e .pattern)) }
 
@@ -165,13 +194,13 @@ module _ (s ws : List ℕ) (score : Score) (p : Place) (w : Loading s ws score p
       fault-said : refusal f (e .head) ≡ earliest complaints
       fault-said =
           rw f-is
-          (fault-is ds (w .earlier) (score .definitions) (score .outlines) ws (score .fill) (w .held) agree vs text (linesOf s (e .pattern))
+          (fault-is ds (w .earlier) mid mark held-mid agree mid text (linesOf s (e .pattern))
           (run-good s (w .small) (e .pattern)) there end-is (e .head)
           (definitionItems (linesOf s (e .pattern)))
-          (lines-say s (score .definitions .count) (map idOf (w .earlier)) p (w .leaves) inside kind e r))
+          (lines-say s (w .count) (map idOf (w .earlier)) p (w .leaves) inside kind e r))
 
       left-is : definitionsFrom s p ≡ new-definition ∷ definitionsFrom s q
-      left-is = definitions-left s (score .definitions .count) (map idOf (w .earlier)) p (w .leaves) inside kind e r q x
+      left-is = definitions-left s (w .count) (map idOf (w .earlier)) p (w .leaves) inside kind e r q x
 
       split : definitionsReferences [] ds ≡ complaints ++ definitionsReferences (new-definition ∷ w .earlier) (definitionsFrom s q)
       unfolding definitionsReferences
@@ -187,13 +216,13 @@ module _ (s ws : List ℕ) (score : Score) (p : Place) (w : Loading s ws score p
       unfolding referenceFaults
       all-said = ap (λ cs. cs ++ sections-said) split ∙ append-assoc complaints later-said sections-said
 
-      leaves-left : Leaves s (score .definitions .count + 1) (e .id ∷ map idOf (w .earlier)) q
-      leaves-left = leaves-next s (score .definitions .count) (map idOf (w .earlier)) p (w .leaves) inside kind e r q x
+      leaves-left : Leaves s (w .count + 1) (e .id ∷ map idOf (w .earlier)) q
+      leaves-left = leaves-next s (w .count) (map idOf (w .earlier)) p (w .leaves) inside kind e r q x
 
       sections-behind : Each (Behind (e .head)) sections-said
       unfolding songOf songIn
       sections-behind =
-          let l = sections-later s (score .definitions .count) (map idOf (w .earlier)) p (w .leaves) inside kind e r q x in
+          let l = sections-later s (w .count) (map idOf (w .earlier)) p (w .leaves) inside kind e r q x in
           gather-behind (e .head) (λ y. sectionReference ds (y .pattern) (y .header)) (section-line ds) (songOf s .sections)
           (subst (λ bs. Later (e .head) (map sectionIn bs)) (leaves-left .sections) l)
 
@@ -201,7 +230,7 @@ module _ (s ws : List ℕ) (score : Score) (p : Place) (w : Loading s ws score p
       all-behind =
           each-append (Behind (e .head)) later-said sections-said
           (definitions-behind (e .head) (new-definition ∷ w .earlier) (definitionsFrom s q)
-          (heads-later s (score .definitions .count) (map idOf (w .earlier)) p (w .leaves) inside kind e r q x))
+          (heads-later s (w .count) (map idOf (w .earlier)) p (w .leaves) inside kind e r q x))
           sections-behind
 
       complaints-here : Each (UpTo (e .head)) complaints
@@ -222,52 +251,98 @@ module _ (s ws : List ℕ) (score : Score) (p : Place) (w : Loading s ws score p
         none-said = earliest-none complaints (sym fault-said ∙ rw fine)
 
         not-before : definitionOf (e .id) (w .earlier) ≡ none
-        not-before = fresh-none (e .id) (w .earlier) (not-seen s (score .definitions .count) (map idOf (w .earlier)) p (w .leaves) inside kind e r)
+        not-before = fresh-none (e .id) (w .earlier) (not-seen s (w .count) (map idOf (w .earlier)) p (w .leaves) inside kind e r)
 
         abbrev found-outline : Outline
-        found-outline = outlined (lookUp (score .definitions) (score .outlines)) (drop (score .fill) (take end vs))
+        found-outline = outlined (lookUp mid) (drop (mark + 2) (take end mid))
 
-        abbrev few : score .definitions .count < 26
-        few = few-before s (score .definitions .count) (map idOf (w .earlier)) p (w .leaves) inside kind e r
+        few : w .count < 26
+        few = few-before s (w .count) (map idOf (w .earlier)) p (w .leaves) inside kind e r
 
-        abbrev next-score : Score
-        next-score = record { definitions = numbered (score .definitions) (e .id) text; outlines = extended (score .outlines) found-outline; fill = end }
+        abbrev vs : List ℕ
+        vs = entered mark end (e .id) found-outline mid
 
-        held-next : (n : ℕ)
-            → Held ds vs end (definitionOf n (new-definition ∷ w .earlier)) (isMissing (next-score .definitions) (next-score .outlines) n)
-            (stretchOf (next-score .definitions) n) (lookUp (next-score .definitions) (next-score .outlines) n)
+        long : mark + 2 ≤ end
+        long = omega arith
+
+        below-mark : Below mark mid ws
+        below-mark i h = below i (omega arith)
+
+        mid-chained : Chain (w .count) mid 0 mark
+        mid-chained = chain-kept (w .count) mid ws 0 mark below-mark (w .chained)
+
+        mid-marked : lengthAt mid mark ≡ 0
+        mid-marked = still-marked ws mark (w .count) (w .few) (w .chained) (w .marked) 0 mid below
+
+        vs-before : take mark vs ≡ take mark mid
+        vs-before = before-there mark end (e .id) found-outline mid long end-inside small-id
+
+        vs-below : Below mark vs mid
+        vs-below = taken-below mark vs mid vs-before
+
+        vs-long : lengthAt vs mark ≡ end - mark
+        vs-long = length-there mark end (e .id) found-outline mid long end-inside small-id
+
+        two-long : 2 ≤ lengthAt vs mark
+        two-long = let a = vs-long in let b = long in omega arith
+
+        vs-ends : mark + lengthAt vs mark ≡ end
+        vs-ends = let a = vs-long in let b = long in omega arith
+
+        vs-id : idAt vs mark ≡ e .id
+        vs-id = id-there mark end (e .id) found-outline mid long end-inside small-id
+
+        vs-marked : lengthAt vs end ≡ 0
+        vs-marked = mark-there mark end (e .id) found-outline mid long end-inside small-id
+
+        outline-back : outlineIn (getD vs (mark + 1) 0) ≡ found-outline
+        outline-back =
+            ap outlineIn (outline-there mark end (e .id) found-outline mid long end-inside small-id)
+            ∙ outline-again found-outline (outlined-small (lookUp mid) (drop (mark + 2) (take end mid)) .0)
+
+        held-new : HeldItems ds vs end text found-outline (definitionItems (linesOf s (e .pattern)))
+        held-new =
+            let t : drop (mark + 2) (take end vs) ≡ drop (mark + 2) (take end mid)
+            = text-there mark end (e .id) found-outline mid long end-inside small-id in
+            let h = items-new ds (w .earlier) mid mark held-mid agree vs text
+            (linesOf s (e .pattern)) (run-good s (w .small) (e .pattern)) (t ∙ there) end-is (e .head)
+            (definitionItems (linesOf s (e .pattern)))
+            (lines-say s (w .count) (map idOf (w .earlier)) p (w .leaves) inside kind e r)
+            none-said in
+            subst (λ (y : List ℕ). HeldItems ds vs end text (outlined (lookUp mid) y) (definitionItems (linesOf s (e .pattern)))) t h
+
+        held-next : (n : ℕ) → Held ds vs end (definitionOf n (new-definition ∷ w .earlier)) (isMissing vs n) (stretchOf vs n) (lookUp vs n)
         unfolding definitionOf if_then_else_ Held
         held-next n =
             by-cases (eqb (e .id) n)
             (λ t.
             let i = eqb-true (e .id) n t in
-            let gone : isMissing (score .definitions) (score .outlines) n ≡ true = missing-before
-            (ap (λ (k : ℕ). definitionOf k (w .earlier)) (sym i) ∙ not-before) (w .held n) in
-            let y = seen-new (score .definitions) (score .outlines) (e .id) text found-outline (w .even) few n i gone in
-            rw (t, y .missing-is, y .at-is, y .outline-is) (refl, held-new))
-            (λ t.
-            let y = alike-other (score .definitions) (score .outlines) (e .id) text found-outline (w .even) few n (eqb-false (e .id) n t) in
-            rw (t, y .missing-same, y .at-same, y .outline-same)
-            (held-kept ds ws (score .fill) vs end (omega arith) before (definitionOf n (w .earlier))
-            (isMissing (score .definitions) (score .outlines) n) (stretchOf (score .definitions) n)
-            (lookUp (score .definitions) (score .outlines) n) (w .held n)))
+            let gone = missing-before (definitionOf n (w .earlier)) (ap (λ (k : ℕ). definitionOf k (w .earlier)) (sym i) ∙ not-before) (held-mid n) in
+            let a = new-there mid mark (w .count) (w .few) mid-chained mid-marked n vs end (e .id) few vs-below two-long vs-ends vs-id vs-marked i gone in
+            let b = new-stretch mid mark (w .count) (w .few) mid-chained mid-marked n vs end (e .id) few vs-below two-long vs-ends vs-id vs-marked i gone in
+            let c = new-outline mid mark (w .count) (w .few) mid-chained mid-marked n vs end (e .id) few vs-below two-long vs-ends vs-id vs-marked i gone in
+            rw (t, a, b, c, outline-back) (refl, held-new))
+            (λ t. let i = eqb-false (e .id) n t in rw t (by-cases (isMissing mid n)
+            (λ gone.
+            let none-yet = none-before (definitionOf n (w .earlier)) gone (held-mid n) in
+            let a = still-missing mid mark (w .count) (w .few) mid-chained mid-marked n vs end (e .id) few vs-below two-long vs-ends vs-id vs-marked i gone in
+            let b = still-empty mid mark (w .count) (w .few) mid-chained mid-marked n vs end (e .id) few vs-below two-long vs-ends vs-id vs-marked i gone in
+            let c = still-vacant mid mark (w .count) (w .few) mid-chained mid-marked n vs end (e .id) few vs-below two-long vs-ends vs-id vs-marked i gone in
+            rw none-yet (a, b, c))
+            (λ there.
+            let y = alike-other mid mark (w .count) (w .few) mid-chained mid-marked n vs end (e .id) few vs-below two-long vs-ends vs-id vs-marked there in
+            let l = long in
+            rw (y .missing-same, y .at-same, y .outline-same)
+            (held-kept ds mid mark vs end (omega arith) vs-before (definitionOf n (w .earlier)) (isMissing mid n) (stretchOf mid n) (lookUp mid n)
+                (held-mid n)))))
           where
-            missing-before : definitionOf n (w .earlier) ≡ none
-                → Held ds ws (score .fill) (definitionOf n (w .earlier)) (isMissing (score .definitions) (score .outlines) n)
-                (stretchOf (score .definitions) n) (lookUp (score .definitions) (score .outlines) n)
-                → isMissing (score .definitions) (score .outlines) n ≡ true
-            missing-before z h =
-                let g : Held ds ws (score .fill) none (isMissing (score .definitions) (score .outlines) n)
-                (stretchOf (score .definitions) n) (lookUp (score .definitions) (score .outlines) n) = rw z at h in
-                g .0
+            missing-before : (c : Option Definition) → c ≡ none → Held ds mid mark c (isMissing mid n) (stretchOf mid n) (lookUp mid n)
+                → isMissing mid n ≡ true
+            missing-before c z h = let g : Held ds mid mark none (isMissing mid n) (stretchOf mid n) (lookUp mid n) = rw z at h in g .0
 
-            held-new : HeldItems ds vs end text found-outline (definitionItems (linesOf s (e .pattern)))
-            held-new =
-                items-new ds (w .earlier) (score .definitions) (score .outlines) ws (score .fill) (w .held) agree vs text
-                (linesOf s (e .pattern)) (run-good s (w .small) (e .pattern)) there end-is (e .head)
-                (definitionItems (linesOf s (e .pattern)))
-                (lines-say s (score .definitions .count) (map idOf (w .earlier)) p (w .leaves) inside kind e r)
-                none-said
+            none-before : (c : Option Definition) → isMissing mid n ≡ true → Held ds mid mark c (isMissing mid n) (stretchOf mid n) (lookUp mid n) → c ≡ none
+            none-before none m h = refl
+            none-before (some d) m h = true-is-not-false m (h .0)
 
         found-next : (n : ℕ) → definitionOf n ds ≡ firstThere (definitionOf n (new-definition ∷ w .earlier)) (definitionOf n (definitionsFrom s q))
         unfolding definitionOf if_then_else_ firstThere
@@ -277,36 +352,37 @@ module _ (s ws : List ℕ) (score : Score) (p : Place) (w : Loading s ws score p
             (λ t. let z = ap (λ (k : ℕ). definitionOf k (w .earlier)) (sym (eqb-true (e .id) n t)) ∙ not-before in rw (t, z) refl)
             (λ t. rw t refl)
 
-        pub loading-next : Loading s vs next-score q
+        pub loading-next : Loading s vs end q
         unfolding idOf
         loading-next =
             let a = reached in
             let b = x .onward in
             let c = w .room in
-            let k = numbered-is (score .definitions) (score .outlines) (e .id) text found-outline (w .even) few in
+            let l = few in
+            let k : w .count + 1 ≡ suc (w .count) = omega arith in
+            let m = entered-long mark end (e .id) found-outline mid long end-inside small-id in
+            let n = same-room in
             record {
               small = w .small;
-              room = rw same-room c;
+              room = omega arith;
               filled = omega arith;
-              even = even-added (score .definitions) (score .outlines) (e .id) text found-outline (w .even) few;
+              count = w .count + 1;
+              few = omega arith;
+              chained = rw k (chain-added (w .count) vs 0 mark end two-long vs-ends (chain-kept (w .count) vs mid 0 mark vs-below mid-chained));
+              marked = vs-marked;
               earlier = new-definition ∷ w .earlier;
-              leaves = rw k leaves-left;
+              leaves = leaves-left;
               found = found-next;
               clear = split ∙ ap (λ cs. cs ++ later-said) none-said;
               held = held-next;
             }
 
-      pub loads-one : (d' : Definitions) (o' : Outlines) (y : Outline) → d' ≡ numbered (score .definitions) (e .id) text → o' ≡ extended (score .outlines) y
-          → y ≡ outlined (lookUp (score .definitions) (score .outlines)) (drop (score .fill) (take end vs))
-          → LoadsOne s vs p (record {
-            score = record { definitions = d'; outlines = o'; fill = end };
-            sections = q;
-            refusal = record { number = f; line = e .head };
-          })
-      loads-one d' o' y d-is o-is y-is =
+      pub loads-one : (o : Outline) (vs : List ℕ) → o ≡ outlined (lookUp mid) (drop (mark + 2) (take end mid)) → vs ≡ entered mark end (e .id) o mid
+          → LoadsOne s vs p (record { mark = end; sections = q; refusal = record { number = f; line = e .head } })
+      loads-one o vs o-is vs-is =
           let a = r .onward in
           let b = x .onward in
-          record { refused = refused-one; loading = λ z. rw (d-is, o-is, y-is) (loading-next z); further = omega arith }
+          record { refused = refused-one; loading = λ z. rw (vs-is, o-is) (loading-next z); further = omega arith }
 
 -- A refusal ends the loading.
 pub loads-refused : (s ws : List ℕ) (p : Place) (r : Loaded) → LoadsOne s ws p r → (r .refusal .number ≡ 0 → ⊥) → Loads s ws r
@@ -332,7 +408,7 @@ sections-first b bs e n =
     (λ k. absurd (n k))
     (λ k. let h = only-sections bs (rw k at e) in (rw k (h .0), rw k (ap (λ xs. b ∷ xs) (h .1))))
 
-module _ (s ws : List ℕ) (score : Score) (p : Place) (w : Loading s ws score p) (faultless : textFaults (blocksOf s) ≡ [])
+module _ (s ws : List ℕ) (mark : ℕ) (p : Place) (w : Loading s ws mark p) (faultless : textFaults (blocksOf s) ≡ [])
     (inside : p .at < length s) (kind : blockKind (blockAt s (p .number) (p .at)) ≡ definition → ⊥) where
   only : (definitionBlocks (blocksFrom s p) ≡ []) × (sectionBlocks (blocksFrom s p) ≡ blocksFrom s p)
   only =
@@ -351,12 +427,24 @@ module _ (s ws : List ℕ) (score : Score) (p : Place) (w : Loading s ws score p
       of none = refl
       of (some x) = refl
 
-  held-all : (n : ℕ) → Held (songOf s .definitions) ws (score .fill) (definitionOf n (songOf s .definitions))
-      (isMissing (score .definitions) (score .outlines) n) (stretchOf (score .definitions) n)
-      (lookUp (score .definitions) (score .outlines) n)
-  held-all n =
-      subst (λ (c : Option Definition). Held (songOf s .definitions) ws (score .fill) c (isMissing (score .definitions) (score .outlines) n)
-      (stretchOf (score .definitions) n) (lookUp (score .definitions) (score .outlines) n)) (sym (all-earlier n)) (w .held n)
+  module _ (vs : List ℕ) (same : take (mark + 1) vs ≡ take (mark + 1) ws) where
+    held-all : (n : ℕ) → Held (songOf s .definitions) vs mark (definitionOf n (songOf s .definitions)) (isMissing vs n) (stretchOf vs n) (lookUp vs n)
+    held-all n =
+        let before : take mark vs ≡ take mark ws = sym (take-take mark (mark + 1) vs (omega arith)) ∙ ap (take mark) same ∙ take-take mark (mark + 1) ws
+        (omega arith) in
+        rw (all-earlier n) (held-alike (songOf s .definitions) vs ws mark n (definitionOf n (w .earlier))
+        (alike-kept ws mark (w .count) (w .few) (w .chained) (w .marked) n vs (taken-below (mark + 1) vs ws same)) before (w .held n))
+
+    told-there : Told s vs
+    told-there =
+        record {
+          small = w .small;
+          missing = missing-told (songOf s .definitions) vs mark held-all;
+          filled = filled-told (songOf s .definitions) vs mark held-all;
+        }
+
+    carries-there : (n : ℕ) → Carries vs (namedText vs n) (patternItems (songOf s .definitions) (named n))
+    carries-there = carries-all (songOf s .definitions) vs mark held-all
 
   begins-there : Begins s p
   unfolding blocksFrom sectionsFrom songOf songIn
@@ -374,23 +462,13 @@ module _ (s ws : List ℕ) (score : Score) (p : Place) (w : Loading s ws score p
         sections = ap (map sectionIn) (sym (only .1) ∙ l .sections);
       }
 
-  pub loads-all : Loads s ws (record { score = score; sections = p; refusal = record { number = 0; line = 0 } })
+  pub loads-all : Loads s ws (record { mark = mark; sections = p; refusal = record { number = 0; line = 0 } })
   unfolding definitionsReferences
   loads-all =
       record {
         refused = λ n. absurd (n refl);
         clear = λ z. w .clear ∙ ap (definitionsReferences (w .earlier)) none-left;
-        ready = λ z. record {
-          told =
-              record {
-                small = w .small;
-                missing = missing-told (songOf s .definitions) ws score held-all;
-                filled = filled-told
-                    (songOf s .definitions) ws score held-all;
-              };
-          room = w .room;
-          carries = λ n vs same. carries-all (songOf s .definitions) ws score held-all vs same n;
-        };
+        ready = λ z. record { small = w .small; room = w .room; told = told-there; carries = λ n vs same. carries-there vs same n };
         begins = λ z. begins-there;
         filled = λ z. w .filled;
       }

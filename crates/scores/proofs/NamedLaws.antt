@@ -30,7 +30,7 @@ use Rattle.tokens.specs.TokenWords.{tokenWord}
 use Rattle.tokens.specs.Fitting.{Fit, kind, amount}
 use Rattle.tokens.specs.Lexing.{tokensFrom, Reads}
 use Rattle.tokens.proofs.KindLaws.{word-kind, word-amount}
-use Rattle.player.specs.Signs.{kindOf, numberOf}
+use Rattle.tokens.specs.Signs.{kindOf, numberOf}
 use Rattle.sections.specs.declared.runs.Run.{Run}
 use Rattle.sections.specs.Runs.{textLines, linesOf}
 use Rattle.sections.proofs.RunLaws.{lines-over}

@@ -1,177 +1,215 @@
--- Numbers looked up among the definitions with one more: the new one is found where its number is asked for, and the others as before.
-use Prim.Native.Nat.{ℕ, zero, suc, _+_, _<_, _≤_, min}
+-- Numbers looked up in the row with one more definition: the new one is found where its number is asked for, and the others as before.
+use Prim.Native.Nat.{ℕ, zero, suc, _+_, _/_, _<_, _≤_}
 use mathlib.Core.Path.{_≡_, refl, sym, ap, _∙_}
 use mathlib.Core.List.{List}
-use mathlib.Core.Bool.{Bool, true, false}
+use mathlib.Core.Bool.{true, false}
 use native.Mathlib.Omega.{arith}
-use borrow.Author.Tests.{eq-eqb, ne-eqb, leb-true, leb-false, le-leb, lt-leb}
-use lib.Dec.{eqb, leb}
-use lib.ListN.{getD, set, length-set}
-use lib.Seq.{getD-set-same, getD-set-other}
+use borrow.Author.Tests.{eq-eqb, ne-eqb}
+use lib.Dec.{eqb}
+use lib.ListN.{getD, take}
+use lib.Seq.{getD-take}
 use Rattle.songcode.specs.Lists.{if_then_else_}
 use Rattle.songcode.proofs.ListLaws.{by-cases, true-is-not-false}
-use Rattle.player.specs.declared.leaves.Definitions.{Definitions}
-use Rattle.player.specs.declared.leaves.Stretch.{Stretch}
-use Rattle.player.specs.Walks.{stretchBy, stretchOf}
-use Rattle.outlines.specs.declared.readings.Outline.{Outline}
-use Rattle.outlines.specs.declared.tables.Outlines.{Outlines}
-use Rattle.outlines.specs.Tables.{placeBy, placeOf, vacant, rowAt, atPlace, lookUp, isMissing, extended}
-use Rattle.outlines.proofs.TableLaws.{place-within, place-kept, place-added, count-added, row-added, row-kept, roomy-added}
-use Rattle.scores.specs.Scores.{numbered}
-use Rattle.scores.specs.Loading.{Even}
+use Rattle.score.specs.Places.{lengthAt, idAt, placeBy, placeOf, stretchOf}
+use Rattle.outlines.specs.Words.{vacant, outlineIn, lookUp, isMissing}
+use Rattle.scores.specs.Loading.{Chain}
 
--- The place of a number among one more.
-place-set : (k : ℕ) (ids : List ℕ) (c v i n : ℕ) → i + k ≤ c → placeBy k (set ids c v) i n ≡ placeBy k ids i n
-unfolding placeBy
-place-set zero ids c v i n h = refl
-place-set (suc k) ids c v i n h = rw (getD-set-other ids c i v 0 (λ e. let z : ⊥ = omega arith in z), place-set k ids c v (i + 1) n (omega arith))
+-- The words before a place are those of another buffer.
+abbrev pub Below : ℕ → List ℕ → List ℕ → Type 0
+Below place vs ws = (i : ℕ) → i < place → getD vs i 0 ≡ getD ws i 0
 
-place-more : (k : ℕ) (ids : List ℕ) (i n : ℕ) → placeBy (suc k) ids i n
-    ≡ (if leb (i + k) (placeBy k ids i n) then (if eqb (getD ids (i + k) 0) n then i + k else i + k + 1) else placeBy k ids i n)
-unfolding if_then_else_
-place-more k ids i n =
-    let w = place-within k ids i n in
-    by-cases (leb (i + k) (placeBy k ids i n))
-    (λ e. let h = leb-true (i + k) (placeBy k ids i n) e in rw e (place-added k ids i n (omega arith)))
-    (λ e. let h = leb-false (i + k) (placeBy k ids i n) e in rw e (place-kept k ids i n h))
+pub taken-below : (place : ℕ) (vs ws : List ℕ) → take place vs ≡ take place ws → Below place vs ws
+taken-below place vs ws e i h =
+    sym (getD-take place vs i 0 h) ∙ ap (λ (l : List ℕ). getD l i 0) e ∙ getD-take place ws i 0 h
 
-stretch-place : (k : ℕ) (ids from to : List ℕ) (i n : ℕ)
-    → stretchBy k ids from to i n ≡ (if leb (i + k) (placeBy k ids i n) then record { from = 0; to = 0 } else record
-    { from = getD from (placeBy k ids i n) 0; to = getD to (placeBy k ids i n) 0 })
-unfolding stretchBy placeBy if_then_else_
-stretch-place zero ids from to i n = rw (le-leb (i + 0) i (omega arith))
-stretch-place (suc k) ids from to i n =
-    by-cases (eqb (getD ids i 0) n)
-    (λ e. rw (e, lt-leb (i + suc k) i (omega arith)))
-    (λ e. let a : i + suc k ≡ i + 1 + k = omega arith in rw (e, a) (stretch-place k ids from to (i + 1) n))
+pub chain-onward : (k : ℕ) (ws : List ℕ) (at mark : ℕ) → Chain k ws at mark → at ≤ mark
+unfolding Chain
+chain-onward zero ws at mark c = omega arith
+chain-onward (suc k) ws at mark c = let h = chain-onward k ws (at + lengthAt ws at) mark (c .1) in let g = c .0 in omega arith
 
--- What is found of a number.
-pub record Seen (d : Definitions) (o : Outlines) (n : ℕ) (missing : Bool) (at : Stretch) (x : Outline) : Type 0 where
-  pub missing-is : isMissing d o n ≡ missing
-  pub at-is : stretchOf d n ≡ at
-  pub outline-is : lookUp d o n ≡ x
+pub chain-kept : (k : ℕ) (vs ws : List ℕ) (at mark : ℕ) → Below mark vs ws → Chain k ws at mark → Chain k vs at mark
+unfolding Chain
+chain-kept zero vs ws at mark b c = c
+chain-kept (suc k) vs ws at mark b c =
+    let h = chain-onward k ws (at + lengthAt ws at) mark (c .1) in
+    let g = c .0 in
+    let e : lengthAt vs at ≡ lengthAt ws at = ap (λ (x : ℕ). x / 32768) (b at (omega arith)) in
+    (rw e g, rw e (chain-kept k vs ws (at + lengthAt ws at) mark b (c .1)))
 
-module _ (d : Definitions) (o : Outlines) (c : ℕ) (here : d .count ≡ c) (same : o .count ≡ c) (few : c ≤ 26) (n : ℕ) where
-  abbrev pub place : ℕ
-  place = placeBy c (d .ids) 0 n
+pub chain-added : (k : ℕ) (ws : List ℕ) (at mark end : ℕ) → 2 ≤ lengthAt ws mark → mark + lengthAt ws mark ≡ end → Chain k ws at mark → Chain (suc k) ws at end
+unfolding Chain
+chain-added zero ws at mark end l e c = rw c (l, e)
+chain-added (suc k) ws at mark end l e c = (c .0, chain-added k ws (at + lengthAt ws at) mark end l e (c .1))
 
-  pub seen-past : leb c place ≡ true → Seen d o n true (record { from = 0; to = 0 }) vacant
-  unfolding isMissing stretchOf lookUp placeOf atPlace if_then_else_
-  seen-past t =
-      let a : min (o .count) 26 ≡ c = omega arith in
-      let b : min (d .count) 26 ≡ c = omega arith in
-      let z : 0 + c ≡ c = omega arith in
-      record { missing-is = rw a t; at-is = rw b (stretch-place c (d .ids) (d .from) (d .to) 0 n ∙ rw (z, t)); outline-is = rw a (rw t refl) }
+-- A place that is found: a definition before the mark, or the mark.
+module _ (ws : List ℕ) (mark : ℕ) (marked : lengthAt ws mark ≡ 0) (x : ℕ) where
+  place-mark : (f : ℕ) → placeBy f ws mark x ≡ mark
+  unfolding placeBy if_then_else_
+  place-mark zero = refl
+  place-mark (suc f) = rw (eq-eqb (lengthAt ws mark) 0 marked) refl
 
-  seen-at : leb c place ≡ false → Seen d o n false (record { from = getD (d .from) place 0; to = getD (d .to) place 0 }) (rowAt o place)
-  unfolding isMissing stretchOf lookUp placeOf atPlace if_then_else_
-  seen-at t =
-      let a : min (o .count) 26 ≡ c = omega arith in
-      let b : min (d .count) 26 ≡ c = omega arith in
-      let z : 0 + c ≡ c = omega arith in
-      record { missing-is = rw a t; at-is = rw b (stretch-place c (d .ids) (d .from) (d .to) 0 n ∙ rw (z, t)); outline-is = rw a (rw t refl) }
+  place-within : (k f at : ℕ) → Chain k ws at mark → k ≤ f → placeBy f ws at x ≤ mark
+  unfolding Chain placeBy if_then_else_
+  place-within zero f at c h = rw (c, place-mark f) (omega arith)
+  place-within (suc k) zero at c h = let z : ⊥ = omega arith in absurd z
+  place-within (suc k) (suc f) at c h =
+      let g = c .0 in
+      let o = chain-onward k ws (at + lengthAt ws at) mark (c .1) in
+      let e = ne-eqb (lengthAt ws at) 0 (λ z. let y : ⊥ = omega arith in y) in
+      by-cases (eqb (idAt ws at) x)
+      (λ t. rw (e, t) (omega arith))
+      (λ t. rw (e, t) (place-within k f (at + lengthAt ws at) (c .1) (omega arith)))
 
--- Two that are found alike.
-pub record Alike (d : Definitions) (o : Outlines) (d' : Definitions) (o' : Outlines) (n : ℕ) : Type 0 where
-  pub missing-same : isMissing d' o' n ≡ isMissing d o n
-  pub at-same : stretchOf d' n ≡ stretchOf d n
-  pub outline-same : lookUp d' o' n ≡ lookUp d o n
+  place-inside : (k f at : ℕ) → Chain k ws at mark → k ≤ f → (lengthAt ws (placeBy f ws at x) ≡ 0 → ⊥)
+      → (2 ≤ lengthAt ws (placeBy f ws at x)) × (placeBy f ws at x + lengthAt ws (placeBy f ws at x) ≤ mark)
+  unfolding Chain placeBy if_then_else_
+  place-inside zero f at c h n = absurd (n (rw (c, place-mark f) marked))
+  place-inside (suc k) zero at c h n = let z : ⊥ = omega arith in absurd z
+  place-inside (suc k) (suc f) at c h n =
+      let g = c .0 in
+      let o = chain-onward k ws (at + lengthAt ws at) mark (c .1) in
+      let e = ne-eqb (lengthAt ws at) 0 (λ z. let y : ⊥ = omega arith in y) in
+      by-cases (eqb (idAt ws at) x)
+      (λ t. rw (e, t) (g, o))
+      (λ t. let m : lengthAt ws (placeBy f ws (at + lengthAt ws at) x) ≡ 0 → ⊥ = rw (e, t) at n in
+      rw (e, t) (place-inside k f (at + lengthAt ws at) (c .1) (omega arith) m))
 
-alike : {d : Definitions} {o : Outlines} {d' : Definitions} {o' : Outlines} {n : ℕ} {m : Bool} {t : Stretch} {x : Outline}
-    → Seen d' o' n m t x → Seen d o n m t x → Alike d o d' o' n
-alike a b =
-    record {
-      missing-same = a .missing-is ∙ sym (b .missing-is);
-      at-same = a .at-is ∙ sym (b .at-is);
-      outline-same = a .outline-is ∙ sym
-          (b .outline-is);
-    }
+-- Two buffers that are the same up to the mark, and at it.
+module _ (vs ws : List ℕ) (mark : ℕ) (below : Below mark vs ws) (marked : lengthAt ws mark ≡ 0) (also-marked : lengthAt vs mark ≡ 0) (x : ℕ) where
+  place-same : (k f at : ℕ) → Chain k ws at mark → k ≤ f → placeBy f vs at x ≡ placeBy f ws at x
+  unfolding Chain placeBy if_then_else_
+  place-same zero f at c h = rw (c, place-mark vs mark also-marked x f, place-mark ws mark marked x f) refl
+  place-same (suc k) zero at c h = refl
+  place-same (suc k) (suc f) at c h =
+      let g = c .0 in
+      let o = chain-onward k ws (at + lengthAt ws at) mark (c .1) in
+      rw (below at (omega arith), place-same k f (at + lengthAt ws at) (c .1) (omega arith)) refl
 
-module _ (d : Definitions) (o : Outlines) (id : ℕ) (t : Stretch) (x : Outline) (even : Even d o) (few : d .count < 26) where
-  abbrev c : ℕ
-  c = d .count
+-- One more definition of a number at the mark, and the new mark behind it.
+module _ (vs ws : List ℕ) (mark end id : ℕ) (below : Below mark vs ws) (marked : lengthAt ws mark ≡ 0) (long : 2 ≤ lengthAt vs mark)
+    (ends : mark + lengthAt vs mark ≡ end) (is : idAt vs mark ≡ id) (new-mark : lengthAt vs end ≡ 0) (x : ℕ) where
+  place-new : (k f at : ℕ) → Chain k ws at mark → k < f
+      → placeBy f vs at x ≡ (if eqb (lengthAt ws (placeBy f ws at x)) 0 then (if eqb id x then mark else end) else placeBy f ws at x)
+  unfolding Chain placeBy if_then_else_
+  place-new zero zero at c h = let z : ⊥ = omega arith in absurd z
+  place-new zero (suc f) at c h =
+      let e = ne-eqb (lengthAt vs mark) 0 (λ z. let y : ⊥ = omega arith in y) in
+      rw (c, eq-eqb (lengthAt ws mark) 0 marked, eq-eqb (lengthAt ws mark) 0 marked, e, is, ends, place-mark vs end new-mark x f) refl
+  place-new (suc k) zero at c h = let z : ⊥ = omega arith in absurd z
+  place-new (suc k) (suc f) at c h =
+      let g = c .0 in
+      let o = chain-onward k ws (at + lengthAt ws at) mark (c .1) in
+      let e = ne-eqb (lengthAt ws at) 0 (λ z. let y : ⊥ = omega arith in y) in
+      by-cases (eqb (idAt ws at) x)
+      (λ t. rw (below at (omega arith), e, t, e) refl)
+      (λ t. rw (below at (omega arith), e, t) (place-new k f (at + lengthAt ws at) (c .1) (omega arith)))
 
-  abbrev d' : Definitions
-  d' = record { count = d .count + 1; ids = set (d .ids) (d .count) id; from = set (d .from) (d .count) (t .from); to = set (d .to) (d .count) (t .to) }
+-- A number is found alike in two buffers.
+pub record Alike (vs ws : List ℕ) (n : ℕ) : Type 0 where
+  pub missing-same : isMissing vs n ≡ isMissing ws n
+  pub at-same : stretchOf vs n ≡ stretchOf ws n
+  pub outline-same : lookUp vs n ≡ lookUp ws n
 
-  pub numbered-is : numbered d id t ≡ d'
-  unfolding numbered if_then_else_
-  numbered-is = rw (lt-leb 26 c few)
+module _ (vs ws : List ℕ) (n : ℕ) (same : placeOf vs n ≡ placeOf ws n) (head : getD vs (placeOf ws n) 0 ≡ getD ws (placeOf ws n) 0)
+    (behind : isMissing ws n ≡ false → getD vs (placeOf ws n + 1) 0 ≡ getD ws (placeOf ws n + 1) 0) where
+  missing-alike : isMissing vs n ≡ isMissing ws n
+  unfolding isMissing
+  missing-alike = rw (same, head) refl
 
-  count-is : extended o x .count ≡ c + 1
-  count-is = let e = even .count in count-added o x (omega arith) ∙ omega arith
+  outline-alike : lookUp vs n ≡ lookUp ws n
+  unfolding lookUp if_then_else_
+  outline-alike = by-cases (isMissing ws n) (λ t. rw (missing-alike, t) refl) (λ t. rw (missing-alike, t, same, behind t) refl)
 
-  row-new : rowAt (extended o x) c ≡ x
-  row-new = let e = even .count in ap (rowAt (extended o x)) (sym e) ∙ row-added o x (omega arith) (even .roomy)
+  alike-place : Alike vs ws n
+  unfolding stretchOf
+  alike-place = record { missing-same = missing-alike; at-same = rw (same, head) refl; outline-same = outline-alike }
 
-  row-before : (i : ℕ) → i < c → rowAt (extended o x) i ≡ rowAt o i
-  row-before i h = let e = even .count in row-kept o x i (omega arith) (λ z. let y : ⊥ = omega arith in y)
+module _ (ws : List ℕ) (mark count : ℕ) (few : count ≤ 26) (chained : Chain count ws 0 mark) (marked : lengthAt ws mark ≡ 0) (n : ℕ) where
+  -- A definition that is found stands before the mark.
+  found-inside : isMissing ws n ≡ false → (2 ≤ lengthAt ws (placeOf ws n)) × (placeOf ws n + lengthAt ws (placeOf ws n) ≤ mark)
+  unfolding isMissing placeOf
+  found-inside t = place-inside ws mark marked n count 26 0 chained few (λ z. true-is-not-false (eq-eqb _ 0 z) t)
 
-  pub even-added : Even (numbered d id t) (extended o x)
-  even-added =
-      rw numbered-is
-      (record {
-        count = count-is;
-        few = omega arith;
-        ids = length-set (d .ids) c id ∙ even .ids;
-        from = length-set (d .from) c (t .from) ∙ even .from;
-        to = length-set (d .to) c (t .to) ∙ even .to;
-        roomy = roomy-added o x (even .roomy);
-      })
+  module _ (vs : List ℕ) (below : Below (mark + 1) vs ws) where
+    pub still-marked : lengthAt vs mark ≡ 0
+    still-marked = rw (below mark (omega arith)) marked
 
-  module _ (n : ℕ) where
-    abbrev before : ℕ
-    before = placeBy c (d .ids) 0 n
+    before : Below mark vs ws
+    before i h = below i (omega arith)
 
-    abbrev after : ℕ
-    after = placeBy (c + 1) (set (d .ids) c id) 0 n
+    -- The same up to the mark, and at it.
+    pub alike-kept : Alike vs ws n
+    unfolding placeOf
+    alike-kept =
+        let w = place-within ws mark marked n count 26 0 chained few in
+        alike-place vs ws n (place-same vs ws mark before marked still-marked n count 26 0 chained few) (below (placeOf ws n) (omega arith))
+        (λ t. let i = found-inside t in let a = i .0 in let b = i .1 in below (placeOf ws n + 1) (omega arith))
 
-    after-is : after ≡ (if leb c before then (if eqb id n then c else c + 1) else before)
-    after-is =
-        let a : c + 1 ≡ suc c = omega arith in
-        let z : 0 + c ≡ c = omega arith in
-        let g = getD-set-same (d .ids) c id 0 (rw (even .ids) few) in
-        ap (λ (k : ℕ). placeBy k (set (d .ids) c id) 0 n) a ∙ place-more c (set (d .ids) c id) 0 n ∙ rw (z, place-set c (d .ids) c id 0 n (omega arith), g) refl
+  module _ (vs : List ℕ) (end id : ℕ) (less : count < 26) (below : Below mark vs ws) (long : 2 ≤ lengthAt vs mark) (ends : mark + lengthAt vs mark ≡ end)
+      (is : idAt vs mark ≡ id) (new-mark : lengthAt vs end ≡ 0) where
+    place-then : placeOf vs n ≡ (if isMissing ws n then (if eqb id n then mark else end) else placeOf ws n)
+    unfolding placeOf isMissing
+    place-then = place-new vs ws mark end id below marked long ends is new-mark n count 26 0 chained less
 
-    there : leb (c + 1) after ≡ false → Seen d' (extended o x) n false
-        (record { from = getD (set (d .from) c (t .from)) after 0; to = getD (set (d .to) c (t .to)) after 0 }) (rowAt (extended o x) after)
-    there = seen-at d' (extended o x) (c + 1) refl count-is (omega arith) n
+    -- The new one.
+    module _ (named : id ≡ n) (gone : isMissing ws n ≡ true) where
+      at-mark : placeOf vs n ≡ mark
+      unfolding if_then_else_
+      at-mark = place-then ∙ rw (gone, eq-eqb id n named) refl
 
-    gone : leb (c + 1) after ≡ true → Seen d' (extended o x) n true (record { from = 0; to = 0 }) vacant
-    gone = seen-past d' (extended o x) (c + 1) refl count-is (omega arith) n
+      pub new-there : isMissing vs n ≡ false
+      unfolding isMissing
+      new-there = rw at-mark (ne-eqb (lengthAt vs mark) 0 (λ z. let y : ⊥ = omega arith in y))
 
-    pub seen-new : id ≡ n → isMissing d o n ≡ true → Seen (numbered d id t) (extended o x) n false t x
+      pub new-stretch : stretchOf vs n ≡ record { from = mark + 2; to = end }
+      unfolding stretchOf
+      new-stretch = rw (at-mark, ends) refl
+
+      pub new-outline : lookUp vs n ≡ outlineIn (getD vs (mark + 1) 0)
+      unfolding lookUp if_then_else_
+      new-outline = rw (new-there, at-mark) refl
+
+    -- Another one that is there.
+    pub alike-other : isMissing ws n ≡ false → Alike vs ws n
     unfolding if_then_else_
-    seen-new e m =
-        by-cases (leb c before)
-        (λ y.
-        let p : after ≡ c = after-is ∙ rw (y, eq-eqb id n e) in
-        let s = there (rw p (lt-leb (c + 1) c (omega arith))) in
-        rw numbered-is
-        (record {
-          missing-is = s .missing-is;
-          at-is = s .at-is ∙ rw (p, getD-set-same (d .from) c (t .from) 0 (rw (even .from) few), getD-set-same (d .to) c (t .to) 0 (rw (even .to) few)) refl;
-          outline-is = s .outline-is ∙ rw p row-new;
-        }))
-        (λ y. true-is-not-false m (seen-at d o c refl (even .count) (even .few) n y .missing-is))
+    alike-other t =
+        let i = found-inside t in
+        let a = i .0 in
+        let b = i .1 in
+        alike-place vs ws n (place-then ∙ rw t refl) (below (placeOf ws n) (omega arith)) (λ u. below (placeOf ws n + 1) (omega arith))
 
-    pub alike-other : (id ≡ n → ⊥) → Alike d o (numbered d id t) (extended o x) n
-    unfolding if_then_else_
-    alike-other e =
-        rw numbered-is
-        (by-cases (leb c before)
-        (λ y.
-        let p : after ≡ c + 1 = after-is ∙ rw (y, ne-eqb id n e) in
-        alike (gone (rw p (le-leb (c + 1) (c + 1) (omega arith)))) (seen-past d o c refl (even .count) (even .few) n y))
-        (λ y.
-        let l : before < c = leb-false c before y in
-        let p : after ≡ before = after-is ∙ rw y in
-        let s = there (rw p (lt-leb (c + 1) before (omega arith))) in
-        let k : before ≡ c → ⊥ = λ z. let w : ⊥ = omega arith in w in
-        let moved : Seen d' (extended o x) n false (record { from = getD (d .from) before 0; to = getD (d .to) before 0 }) (rowAt o before)
-        = record {
-          missing-is = s .missing-is;
-          at-is = s .at-is ∙ rw (p, getD-set-other (d .from) c before (t .from) 0 k, getD-set-other (d .to) c before (t .to) 0 k) refl;
-          outline-is = s .outline-is ∙ rw p (row-before before l);
-        } in
-        alike moved (seen-at d o c refl (even .count) (even .few) n y)))
+    -- Another one that is not.
+    module _ (other : id ≡ n → ⊥) (gone : isMissing ws n ≡ true) where
+      at-end : placeOf vs n ≡ end
+      unfolding if_then_else_
+      at-end = place-then ∙ rw (gone, ne-eqb id n other) refl
+
+      pub still-missing : isMissing vs n ≡ true
+      unfolding isMissing
+      still-missing = rw at-end (eq-eqb (lengthAt vs end) 0 new-mark)
+
+      pub still-empty : stretchOf vs n .to ≤ stretchOf vs n .from
+      unfolding stretchOf
+      still-empty = rw (at-end, new-mark) (omega arith)
+
+      pub still-vacant : lookUp vs n ≡ vacant
+      unfolding lookUp if_then_else_
+      still-vacant = rw still-missing refl
+
+-- No number is found where the mark is the first word.
+module _ (ws : List ℕ) (marked : lengthAt ws 0 ≡ 0) (n : ℕ) where
+  at-first : placeOf ws n ≡ 0
+  unfolding placeOf
+  at-first = place-mark ws 0 marked n 26
+
+  pub none-there : isMissing ws n ≡ true
+  unfolding isMissing
+  none-there = rw at-first (eq-eqb (lengthAt ws 0) 0 marked)
+
+  pub none-stretch : stretchOf ws n .to ≤ stretchOf ws n .from
+  unfolding stretchOf
+  none-stretch = rw (at-first, marked) (omega arith)
+
+  pub none-outline : lookUp ws n ≡ vacant
+  unfolding lookUp if_then_else_
+  none-outline = rw none-there refl

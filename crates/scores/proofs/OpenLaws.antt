@@ -17,7 +17,7 @@ use Rattle.songcode.proofs.ListLaws.{append-is-nil}
 use Rattle.tokens.specs.TokenWords.{tokenWords}
 use Rattle.tokens.specs.Lexing.{laid}
 use Rattle.tokens.proofs.LaidLaws.{laid-length}
-use Rattle.outlines.specs.Tables.{lookUp}
+use Rattle.outlines.specs.Words.{lookUp}
 use Rattle.sections.specs.declared.blocks.Place.{Place}
 use Rattle.sections.specs.declared.walking.Met.{Met}
 use Rattle.sections.specs.Runs.{linesOf}
@@ -27,7 +27,6 @@ use Rattle.sections.specs.SectionSays.{sideSaid}
 use Rattle.sections.specs.Onward.{Onward, sectionAt, Meets}
 use Rattle.sections.proofs.SectionLaws.{clean-order}
 use Rattle.sections.proofs.TellLaws.{before-tells, after-tells}
-use Rattle.scores.specs.declared.definitions.Score.{Score}
 use Rattle.scores.specs.Laying.{runTokens, saidTokens, weight, saidWeight, Names}
 use Rattle.scores.specs.Scores.{namedText, Carries, Ready, sideItems}
 use Rattle.scores.proofs.LaidLaws.{laid-laid, laid-part, laid-before}
@@ -37,8 +36,8 @@ use Rattle.scores.proofs.NamedLaws.{pattern-shape, named-some}
 use Rattle.scores.proofs.SideLaws.{nothing-there}
 use Rattle.scores.proofs.TextLaws.{readText, side-carries, items-carries}
 
-module _ {s : List ℕ} {p : Place} {score : Score} {held : List ℕ} {met : Met} (o : Onward s p) (within : p .at < length s)
-    (ready : Ready s held score) (low : score .fill ≤ p .at) (m : Meets s p met) where
+module _ {s : List ℕ} {p : Place} {mark : ℕ} {held : List ℕ} {met : Met} (o : Onward s p) (within : p .at < length s)
+    (ready : Ready s held mark) (low : mark ≤ p .at) (m : Meets s p met) where
   abbrev lead : Option Setting
   lead = settingAt s (met .section .modifiers .before)
 
@@ -58,7 +57,7 @@ module _ {s : List ℕ} {p : Place} {score : Score} {held : List ℕ} {met : Met
   tailWords = tokenWords (saidTokens tail)
 
   -- There is room for all of it.
-  room : score .fill + (saidWeight lead + weight lines + saidWeight tail) ≤ length held
+  room : mark + 1 + (saidWeight lead + weight lines + saidWeight tail) ≤ length held
   room =
       let ls = body (blockAt s (p .number) (p .at)) in
       let w = weight-section s (p .number) (p .at) within in
@@ -68,7 +67,7 @@ module _ {s : List ℕ} {p : Place} {score : Score} {held : List ℕ} {met : Met
       let r = ready .room in
       omega arith
 
-  pub room-lead : score .fill + saidWeight lead ≤ length held
+  pub room-lead : mark + 1 + saidWeight lead ≤ length held
   room-lead = let r = room in omega arith
 
   -- The section is not faulted, so its lead-in and its tail have items.
@@ -94,12 +93,12 @@ module _ {s : List ℕ} {p : Place} {score : Score} {held : List ℕ} {met : Met
       let b = m .read .modifiers .after in
       b ∙ nothing-there ofAfter afterSaid sideSaid after-tells ls (k .0) (k .1) (ap (λ (x : Option Setting). andThen x sideSaid) (sym b) ∙ e)
 
-  module _ {first : List ℕ} {a : ℕ} (first-laid : first ≡ laid (score .fill) leadWords held) (first-fill : a ≡ score .fill + length leadWords) where
+  module _ {first : List ℕ} {a : ℕ} (first-laid : first ≡ laid (mark + 1) leadWords held) (first-fill : a ≡ mark + 1 + length leadWords) where
     first-length : length first ≡ length held
     first-length =
         let r = room in
         let w = said-words lead in
-        ap length first-laid ∙ laid-length (score .fill) leadWords held (omega arith)
+        ap length first-laid ∙ laid-length (mark + 1) leadWords held (omega arith)
 
     pub room-lines : a + weight lines ≤ length first
     room-lines = let r = room in let w = said-words lead in let l = first-length in omega arith
@@ -121,72 +120,73 @@ module _ {s : List ℕ} {p : Place} {score : Score} {held : List ℕ} {met : Met
             let w = said-words tail in
             ap length words-laid ∙ laid-length b tailWords second (omega arith) ∙ second-length
 
-        all : words ≡ laid (score .fill) (leadWords ++ (lineWords ++ tailWords)) held
+        all : words ≡ laid (mark + 1) (leadWords ++ (lineWords ++ tailWords)) held
         all =
             let r = room in
             let u = said-words lead in
             let v = run-words lines in
             let w = said-words tail in
             let k = length-append leadWords lineWords in
-            let x : second ≡ laid (score .fill) (leadWords ++ lineWords) held = second-laid ∙ rw first-laid
-            (laid-laid (score .fill) a leadWords lineWords held first-fill (omega arith)) in
-            words-laid ∙ rw x (laid-laid (score .fill) b (leadWords ++ lineWords) tailWords held (omega arith) (omega arith))
-            ∙ ap (λ (ws : List ℕ). laid (score .fill) ws held) (append-assoc leadWords lineWords tailWords)
+            let x : second ≡ laid (mark + 1) (leadWords ++ lineWords) held = second-laid ∙ rw first-laid
+            (laid-laid (mark + 1) a leadWords lineWords held first-fill (omega arith)) in
+            words-laid ∙ rw x (laid-laid (mark + 1) b (leadWords ++ lineWords) tailWords held (omega arith) (omega arith))
+            ∙ ap (λ (ws : List ℕ). laid (mark + 1) ws held) (append-assoc leadWords lineWords tailWords)
 
-        inside : score .fill ≤ length held
+        inside : mark + 1 ≤ length held
         inside = let r = room in omega arith
 
-        part-there : (x y z : List ℕ) (from to : ℕ) → leadWords ++ (lineWords ++ tailWords) ≡ x ++ (y ++ z) → from ≡ score .fill + length x
+        part-there : (x y z : List ℕ) (from to : ℕ) → leadWords ++ (lineWords ++ tailWords) ≡ x ++ (y ++ z) → from ≡ mark + 1 + length x
             → to ≡ from + length y → drop from (take to words) ≡ y
         part-there x y z from to e f t =
-            ap (λ (ws : List ℕ). drop from (take to ws)) all ∙ laid-part (score .fill) (leadWords ++ (lineWords ++ tailWords)) held inside x y z from to e f t
+            ap (λ (ws : List ℕ). drop from (take to ws)) all ∙ laid-part (mark + 1) (leadWords ++ (lineWords ++ tailWords)) held inside x y z from to e f t
 
         -- The definitions stand as before.
-        pub ready-again : Ready s words score
+        pub ready-again : Ready s words mark
         ready-again =
             let l = words-length in
             let r = ready .room in
-            let k : take (score .fill) words ≡ take (score .fill) held = ap (take (score .fill)) all ∙ laid-before (score .fill)
+            let k : take (mark + 1) words ≡ take (mark + 1) held = ap (take (mark + 1)) all ∙ laid-before (mark + 1)
             (leadWords ++ (lineWords ++ tailWords)) held inside in
             record {
-              told = ready .told;
+              small = ready .small;
               room = omega arith;
+              told = λ vs e. ready .told vs (e ∙ k);
               carries = λ n vs e. ready .carries n vs (e ∙ k);
             }
 
-        pub lead-carries : Carries words (score .definitions)
-            (readText (lookUp (score .definitions) (score .outlines)) words (record { from = score .fill; to = a }))
+        pub lead-carries : Carries words
+            (readText (lookUp words) words (record { from = mark + 1; to = a }))
             (sideItems (saidBy beforeSaid (sectionAt s p .modifiers)))
         lead-carries =
-            side-carries words (score .definitions) _ (record { from = score .fill; to = a }) lead
+            side-carries words _ (record { from = mark + 1; to = a }) lead
             (saidBy beforeSaid (sectionAt s p .modifiers)) (m .says .before) lead-clean
-            (said-good s (ready .told .small) (met .section .modifiers .before)) first-fill
-            (part-there [] leadWords (lineWords ++ tailWords) (score .fill) a refl (omega arith) first-fill)
+            (said-good s (ready .small) (met .section .modifiers .before)) first-fill
+            (part-there [] leadWords (lineWords ++ tailWords) (mark + 1) a refl (omega arith) first-fill)
 
-        pub tail-carries : Carries words (score .definitions)
-            (readText (lookUp (score .definitions) (score .outlines)) words (record { from = b; to = c }))
+        pub tail-carries : Carries words
+            (readText (lookUp words) words (record { from = b; to = c }))
             (sideItems (saidBy afterSaid (sectionAt s p .modifiers)))
         tail-carries =
             let k = length-append leadWords lineWords in
-            side-carries words (score .definitions) _ (record { from = b; to = c }) tail (saidBy afterSaid (sectionAt s p .modifiers))
+            side-carries words _ (record { from = b; to = c }) tail (saidBy afterSaid (sectionAt s p .modifiers))
             (m .says .after) tail-clean
-            (said-good s (ready .told .small) (met .section .modifiers .after)) words-fill
+            (said-good s (ready .small) (met .section .modifiers .after)) words-fill
             (part-there (leadWords ++ lineWords) tailWords [] b c
             (sym (append-assoc leadWords lineWords tailWords) ∙ ap (λ (ws : List ℕ). (leadWords ++ lineWords) ++ ws)
             (sym (append-nil tailWords))) (omega arith) words-fill)
 
         module _ {n : ℕ} (names : (x : Pattern) → patternIn lines ≡ some x → Names x n) where
-          pub items-pattern : n ≡ 0 → Carries words (score .definitions)
-              (readText (lookUp (score .definitions) (score .outlines)) words (record { from = a; to = b }))
+          pub items-pattern : n ≡ 0 → Carries words
+              (readText (lookUp words) words (record { from = a; to = b }))
               (patternItems (songOf s .definitions) (sectionAt s p .pattern))
           items-pattern e =
               let x = sectionAt s p .pattern in
               let h : Names x 0 = rw e at (names x (m .written)) in
-              items-carries words (score .definitions) _ (record { from = a; to = b }) (songOf s .definitions) x (runTokens lines) h
+              items-carries words _ (record { from = a; to = b }) (songOf s .definitions) x (runTokens lines) h
               (pattern-shape lines x (m .written))
-              (run-good s (ready .told .small) (met .section .pattern)) (part-there leadWords lineWords tailWords a b refl first-fill second-fill)
+              (run-good s (ready .small) (met .section .pattern)) (part-there leadWords lineWords tailWords a b refl first-fill second-fill)
 
-          pub named-pattern : (n ≡ 0 → ⊥) → Carries words (score .definitions) (namedText score n)
+          pub named-pattern : (n ≡ 0 → ⊥) → Carries words (namedText words n)
               (patternItems (songOf s .definitions) (sectionAt s p .pattern))
           named-pattern e =
               let x = sectionAt s p .pattern in

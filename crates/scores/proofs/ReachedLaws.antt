@@ -150,11 +150,12 @@ lines-reach l (x ∷ ks) s n m a b e k =
     let d = t .ended (g .inside) in
     omega arith
 
--- The words of a definition, laid from a place before it on, end before the block behind it.
-pub definition-reach : (s : List ℕ) (n at : ℕ) (r : DefinitionRead) → DefinitionAt s n at r → at < length s → (fill : ℕ) → fill ≤ at
-    → fill + length (tokenWords (runTokens (linesOf s (r .pattern)))) ≤ r .pattern .next
+-- The words of a definition, its head and its outline in front, laid from a place before it on, end before the block behind it.
+pub definition-reach : (s : List ℕ) (n at : ℕ) (r : DefinitionRead) → DefinitionAt s n at r → at < length s
+    → 2 ≤ length (blockAt s n at .first .text) → (mark : ℕ) → mark ≤ at
+    → mark + 2 + length (tokenWords (runTokens (linesOf s (r .pattern)))) ≤ r .pattern .next
 unfolding blockAt linesPast linesBehind runTokens tokenWords
-definition-reach s n at r d h fill f = go (linesOf s (r .pattern)) refl
+definition-reach s n at r d h long mark f = go (linesOf s (r .pattern)) refl
   where
     m : ℕ
     m = lineAt s n at .next
@@ -165,13 +166,18 @@ definition-reach s n at r d h fill f = go (linesOf s (r .pattern)) refl
         ∙ ap (λ (ls : List Line). ls ++ left (passing Full) (textLines s (n + 1) (lineAt s n at .next))) (sym (d .pattern))
         ∙ ap (λ (ls : List Line). linesOf s (r .pattern) ++ ls) (sym (d .past))
 
-    go : (ls : List Line) → linesOf s (r .pattern) ≡ ls → fill + length (tokenWords (runTokens (linesOf s (r .pattern)))) ≤ r .pattern .next
-    go [] e = let o = d .onward in rw e (omega arith)
+    go : (ls : List Line) → linesOf s (r .pattern) ≡ ls → mark + 2 + length (tokenWords (runTokens (linesOf s (r .pattern)))) ≤ r .pattern .next
+    go [] e =
+        let c : many s at ≡ suc (many s m) = many-next s at h ∙ ap (λ (k : ℕ). suc (many s k)) (sym (next-is s n at)) in
+        let g : many s m ≡ many s (r .pattern .next) = sym (many-is s (n + 1) m) ∙ ap length goes ∙ rw e (many-is s _ _) in
+        let k = many-past s at (r .pattern .next) h (d .pattern-placed .ends) (omega arith) in
+        let t = line-there s n at h .text in
+        let i = next-is s n at in
+        rw e (omega arith)
     go (l ∷ ls) e =
         let w = run-few l ls in
         let b = textLines s (r .pattern .number + r .pattern .lines) (r .pattern .next) in
         let x = lines-reach l ls s (n + 1) (r .pattern .number + r .pattern .lines) m (r .pattern .next)
         (goes ∙ ap (λ (ks : List Line). ks ++ b) e) (d .pattern-placed .ends) in
-        let t = line-there s n at h in
-        let g = t .further in
+        let t = line-there s n at h .text in
         rw e (omega arith)

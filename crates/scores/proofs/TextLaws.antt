@@ -17,11 +17,11 @@ use Rattle.songcode.proofs.PatternLaws.{none-some}
 use Rattle.songcode.proofs.SideAgree.{side-references, side-sound}
 use Rattle.songcode.proofs.TokensAgree.{text-complete}
 use Rattle.tokens.specs.TokenWords.{tokenWords}
-use Rattle.player.specs.declared.leaves.Definitions.{Definitions}
-use Rattle.player.specs.declared.leaves.Stretch.{Stretch}
-use Rattle.player.specs.Texts.{rowWords, Stands}
+use Rattle.score.specs.declared.stretches.Stretch.{Stretch}
+use Rattle.score.specs.Standing.{Stands}
+use Rattle.player.specs.Texts.{rowWords}
 use Rattle.player.proofs.Meaning.{row-meaning}
-use Rattle.player.proofs.PutInLaws.{putIn-same}
+use Rattle.songcode.proofs.GlueLaws.{putIn-same}
 use Rattle.player.proofs.Walkables.{plain-walkable, empty-row}
 use Rattle.outlines.specs.declared.readings.Outline.{Outline}
 use Rattle.outlines.specs.Readings.{outlined}
@@ -39,36 +39,36 @@ use Rattle.scores.proofs.NamedLaws.{Shape, named-nothing}
 abbrev pub readText : (ℕ → Outline) → List ℕ → Stretch → Text
 readText find ws t = record { at = t; outline = outlined find (drop (t .from) (take (t .to) ws)) }
 
-module _ (ws : List ℕ) (d : Definitions) (find : ℕ → Outline) (t : Stretch) where
+module _ (ws : List ℕ) (find : ℕ → Outline) (t : Stretch) where
   -- Items without a reference.
   pub plain-carries : (r : Items) (ts : List Token) → ts ≡ writeItems r [] → Each Good ts → depth r ≤ 1 → references r ≡ []
-      → drop (t .from) (take (t .to) ws) ≡ tokenWords ts → Carries ws d (readText find ws t) (some r)
+      → drop (t .from) (take (t .to) ws) ≡ tokenWords ts → Carries ws (readText find ws t) (some r)
   unfolding Carries Stands KnowsItems
   plain-carries r ts e good deep plain stands =
       let f : ℕ → Option Items = λ n. none in
       let fit = items-fit r ts e good in
       let there : Stands ws t r = stands ∙ ap tokenWords e in
       let known : KnowsItems (some r) (outlined find (drop (t .from) (take (t .to) ws))) = items-known find ws t r there fit deep in
-      let walkable = plain-walkable ws d f r fit plain (omega arith) in (
+      let walkable = plain-walkable ws f r fit plain (omega arith) in (
         known .0 .filled,
         known .2 plain,
-        λ n. row-meaning ws d f n r t walkable there ∙ ap (λ (q : Items). rowWords (measuresOf n none q)) (putIn-same f r plain),
+        λ n. row-meaning ws f n r t walkable there ∙ ap (λ (q : Items). rowWords (measuresOf n none q)) (putIn-same f r plain),
       )
 
   -- No items.
-  pub empty-carries : t .to ≤ t .from → drop (t .from) (take (t .to) ws) ≡ [] → Carries ws d (readText find ws t) none
+  pub empty-carries : t .to ≤ t .from → drop (t .from) (take (t .to) ws) ≡ [] → Carries ws (readText find ws t) none
   unfolding Carries KnowsItems
-  empty-carries h e = (empty-known find ws t e, λ n. empty-row d n ws t h)
+  empty-carries h e = (empty-known find ws t e, λ n. empty-row n ws t h)
 
   -- A lead-in or tail.
   pub side-carries : (o : Option Setting) (y : Option Side) → andThen o sideSaid ≡ y → (andThen o sideSaid ≡ none → o ≡ none) → Each Good (saidTokens o)
-      → t .to ≡ t .from + length (tokenWords (saidTokens o)) → drop (t .from) (take (t .to) ws) ≡ tokenWords (saidTokens o) → Carries ws d
+      → t .to ≡ t .from + length (tokenWords (saidTokens o)) → drop (t .from) (take (t .to) ws) ≡ tokenWords (saidTokens o) → Carries ws
       (readText find ws t) (sideItems y)
   unfolding saidTokens tokenWords andThen sideSaid sideOn sideItems loopsDeep
   side-carries none y e clean good size stands = rw (← e) (empty-carries (omega arith) stands)
   side-carries (some x) y e clean good size stands = go (sideText (x .text)) refl
     where
-      go : (q : Option Items) → sideText (x .text) ≡ q → Carries ws d (readText find ws t) (sideItems y)
+      go : (q : Option Items) → sideText (x .text) ≡ q → Carries ws (readText find ws t) (sideItems y)
       go none f = none-some (clean (rw f refl)) refl
       go (some r) f =
           let w = side-sound (x .text) r f in
@@ -77,7 +77,7 @@ module _ (ws : List ℕ) (d : Definitions) (find : ℕ → Outline) (t : Stretch
 
   -- A pattern that names nothing.
   pub items-carries : (ds : List Definition) (p : Pattern) (ts : List Token) → Names p 0 → Shape ts p → Each Good ts
-      → drop (t .from) (take (t .to) ws) ≡ tokenWords ts → Carries ws d (readText find ws t) (patternItems ds p)
+      → drop (t .from) (take (t .to) ws) ≡ tokenWords ts → Carries ws (readText find ws t) (patternItems ds p)
   unfolding Shape patternItems
   items-carries ds p ts n h good stands =
       let r = named-nothing p n in

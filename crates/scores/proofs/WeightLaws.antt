@@ -151,6 +151,19 @@ weight-block s n at h =
     let w = weight-lines s (n + 1) m b in
     omega arith
 
+-- The same behind a first line of two bytes.
+pub weight-behind : (s : List ℕ) (n at : ℕ) → at < length s → 2 ≤ length (blockAt s n at .first .text)
+    → at + 2 + weight (blockAt s n at .others) ≤ length s + 1
+unfolding blockAt
+weight-behind s n at h k =
+    let l = line-there s n at h in
+    let m = lineAt s n at .next in
+    let a = l .text in
+    let b = l .inside in
+    let t = weight-taken (passing Full) (textLines s (n + 1) m) in
+    let w = weight-lines s (n + 1) m b in
+    omega arith
+
 -- A setting is no longer than its line; two settings stand on two lines.
 left-length : (p : Byte → Bool) (bs : List Byte) → length (left p bs) ≤ length bs
 unfolding left if_then_else_

@@ -1,10 +1,10 @@
--- The definitions before a place are loaded: what the tables and the buffer hold of them, and what is left.
-use Prim.Native.Nat.{ℕ, _+_, _<_, _≤_}
+-- The definitions before a place are loaded: what the buffer holds of them, and what is left.
+use Prim.Native.Nat.{ℕ, zero, suc, _+_, _-_, _<_, _≤_}
 use mathlib.Core.Path.{_≡_}
 use mathlib.Core.List.{List, [], _∷_, map}
 use mathlib.Core.Bool.{Bool, true, false}
 use mathlib.Core.Option.{Option, none, some}
-use lib.ListN.{length}
+use lib.ListN.{length, set}
 use Rattle.songcode.specs.Lists.{gather, firstThere}
 use Rattle.songcode.specs.Complaints.{earliest}
 use Rattle.songcode.specs.answer.Lines.{Block, blocks}
@@ -17,18 +17,15 @@ use Rattle.songcode.specs.description.Fits.{ReferAll}
 use Rattle.songcode.specs.description.WrittenSong.{idOf}
 use Rattle.songcode.specs.answer.Answer.{blocksOf, songOf}
 use Rattle.text.specs.Refusals.{refusalOf}
-use Rattle.player.specs.declared.leaves.Definitions.{Definitions}
-use Rattle.player.specs.declared.leaves.Stretch.{Stretch}
-use Rattle.player.specs.Walks.{stretchOf}
-use Rattle.player.specs.Texts.{ItemsFit, Stands}
+use Rattle.score.specs.declared.stretches.Stretch.{Stretch}
+use Rattle.score.specs.Places.{lengthAt, headWord, stretchOf}
+use Rattle.score.specs.Standing.{ItemsFit, Stands}
 use Rattle.outlines.specs.declared.readings.Outline.{Outline}
-use Rattle.outlines.specs.declared.tables.Outlines.{Outlines}
-use Rattle.outlines.specs.Tables.{vacant, lookUp, isMissing}
-use Rattle.outlines.specs.Told.{Sketches, Tells, Roomy}
+use Rattle.outlines.specs.Words.{outlineWord, vacant, lookUp, isMissing}
+use Rattle.outlines.specs.Told.{Sketches, Tells}
 use Rattle.sections.specs.declared.blocks.Place.{Place}
 use Rattle.sections.specs.Runs.{textLines}
 use Rattle.sections.specs.BlockParts.{blockAt, linesPast}
-use Rattle.scores.specs.declared.definitions.Score.{Score}
 use Rattle.scores.specs.declared.definitions.Loaded.{Loaded}
 
 -- The text of a definition in the first words of the buffer, and its outline; its references are right among all definitions.
@@ -51,14 +48,15 @@ unfolding HeldItems
 Held ds ws fill none missing at o = (missing ≡ true) × (at .to ≤ at .from) × (o ≡ vacant)
 Held ds ws fill (some d) missing at o = (missing ≡ false) × HeldItems ds ws fill at o (d .items)
 
--- Both tables hold as many, and have room for 26.
-pub record Even (d : Definitions) (o : Outlines) : Type 0 where
-  pub count : o .count ≡ d .count
-  pub few : d .count ≤ 26
-  pub ids : length (d .ids) ≡ 26
-  pub from : length (d .from) ≡ 26
-  pub to : length (d .to) ≡ 26
-  pub roomy : Roomy o
+-- So many definitions one behind the other, from a place up to the mark.
+unfoldable pub Chain : ℕ → List ℕ → ℕ → ℕ → Type 0
+Chain zero ws at mark = at ≡ mark
+Chain (suc k) ws at mark = (2 ≤ lengthAt ws at) × Chain k ws (at + lengthAt ws at) mark
+
+-- The two words in front of a definition's text that stands from the mark's second next place up to an end, and the new mark there.
+unfoldable pub entered : ℕ → ℕ → ℕ → Outline → List ℕ → List ℕ
+unfolding outlineWord
+entered mark end id o ws = set (set (set ws mark (headWord (end - mark) id)) (mark + 1) (outlineWord o)) end 0
 
 -- The blocks from a place on, and the definitions among them.
 unfoldable pub blocksFrom : List ℕ → Place → List Block
@@ -81,21 +79,22 @@ pub record Leaves (s : List ℕ) (count : ℕ) (seen : List ℕ) (p : Place) : T
   pub texts : gather (λ b. definitionFaults (b .others)) (definitionBlocks (blocksFrom s p)) ≡ []
 
 -- The definitions before the place, the last one first; stage 3 complains of none of them.
-pub record Loading (s ws : List ℕ) (score : Score) (p : Place) : Type 0 where
+pub record Loading (s ws : List ℕ) (mark : ℕ) (p : Place) : Type 0 where
   pub small : length s ≤ 65536
-  pub room : length s ≤ length ws
-  pub filled : score .fill ≤ p .at
-  pub even : Even (score .definitions) (score .outlines)
+  pub room : length s < length ws
+  pub filled : mark ≤ p .at
+  pub count : ℕ
+  pub few : count ≤ 26
+  pub chained : Chain count ws 0 mark
+  pub marked : lengthAt ws mark ≡ 0
   pub earlier : List Definition
-  pub leaves : Leaves s (score .definitions .count) (map idOf earlier) p
+  pub leaves : Leaves s count (map idOf earlier) p
   pub found : (n : ℕ) → definitionOf n (songOf s .definitions) ≡ firstThere (definitionOf n earlier) (definitionOf n (definitionsFrom s p))
   pub clear : definitionsReferences [] (songOf s .definitions) ≡ definitionsReferences earlier (definitionsFrom s p)
-  pub held : (n : ℕ) → Held (songOf s .definitions) ws (score .fill) (definitionOf n earlier)
-      (isMissing (score .definitions) (score .outlines) n) (stretchOf (score .definitions) n)
-      (lookUp (score .definitions) (score .outlines) n)
+  pub held : (n : ℕ) → Held (songOf s .definitions) ws mark (definitionOf n earlier) (isMissing ws n) (stretchOf ws n) (lookUp ws n)
 
 -- One more definition is loaded, or stage 3 refuses it.
 pub record LoadsOne (s ws : List ℕ) (p : Place) (r : Loaded) : Type 0 where
   pub refused : (r .refusal .number ≡ 0 → ⊥) → r .refusal ≡ refusalOf (earliest (referenceFaults (songOf s)))
-  pub loading : r .refusal .number ≡ 0 → Loading s ws (r .score) (r .sections)
+  pub loading : r .refusal .number ≡ 0 → Loading s ws (r .mark) (r .sections)
   pub further : p .at < r .sections .at

@@ -1,12 +1,11 @@
 -- When the buffer holds the definitions of a song, and the texts of a section.
-use Prim.Native.Nat.{ℕ, _+_, _≤_}
+use Prim.Native.Nat.{ℕ, _+_, _<_, _≤_}
 use mathlib.Core.Path.{_≡_}
 use mathlib.Core.List.{List, []}
 use mathlib.Core.Bool.{false, not}
 use mathlib.Core.Option.{Option, none, some}
-use lib.Dec.{leb}
-use lib.ListN.{length, take, set}
-use Rattle.songcode.specs.Lists.{if_then_else_, isSome, andThen}
+use lib.ListN.{length, take}
+use Rattle.songcode.specs.Lists.{isSome, andThen}
 use Rattle.songcode.specs.Complaints.{earliest}
 use Rattle.songcode.specs.answer.Lines.{blocks}
 use Rattle.songcode.specs.Song.{Items, named, Definition, Section}
@@ -15,49 +14,42 @@ use Rattle.songcode.specs.answer.Playing.{Side, saidBy, beforeSaid, afterSaid, 
 use Rattle.songcode.specs.answer.SongText.{sectionBlocks}
 use Rattle.songcode.specs.answer.Answer.{blocksOf, songOf}
 use Rattle.text.specs.Refusals.{refusalOf}
-use Rattle.player.specs.declared.leaves.Definitions.{Definitions}
-use Rattle.player.specs.declared.leaves.Stretch.{Stretch}
-use Rattle.player.specs.Walks.{stretchOf, rowOf}
+use Rattle.score.specs.Places.{stretchOf}
+use Rattle.player.specs.Walks.{rowOf}
 use Rattle.player.specs.Texts.{rowWords}
-use Rattle.outlines.specs.Tables.{vacant, lookUp, isMissing}
+use Rattle.outlines.specs.Words.{vacant, lookUp, isMissing}
 use Rattle.outlines.specs.Told.{Tells}
 use Rattle.sections.specs.declared.blocks.Place.{Place}
 use Rattle.sections.specs.Runs.{textLines}
 use Rattle.sections.specs.Onward.{sectionsFrom, Onward, sectionAt, Meets}
-use Rattle.scores.specs.declared.definitions.Score.{Score}
 use Rattle.scores.specs.declared.definitions.Loaded.{Loaded}
 use Rattle.scores.specs.declared.texts.Text.{Text}
 use Rattle.scores.specs.declared.texts.Texts.{Texts}
 use Rattle.scores.specs.declared.texts.Opened.{Opened}
 
--- One more definition, its number and where its words stand.
-unfoldable pub numbered : Definitions → ℕ → Stretch → Definitions
-unfolding if_then_else_
-numbered d id t =
-    if leb 26 (d .count) then d
-    else record { count = d .count + 1; ids = set (d .ids) (d .count) id; from = set (d .from) (d .count) (t .from); to = set (d .to) (d .count) (t .to) }
-
 -- The text of the definition of that number, as it is found.
-unfoldable pub namedText : Score → ℕ → Text
-namedText score n = record { at = stretchOf (score .definitions) n; outline = lookUp (score .definitions) (score .outlines) n }
+unfoldable pub namedText : List ℕ → ℕ → Text
+unfolding stretchOf lookUp
+namedText ws n = record { at = stretchOf ws n; outline = lookUp ws n }
 
 -- A text in the buffer that plays these items, references put in, and whose outline tells of them; no items are an empty text.
-unfoldable pub Carries : List ℕ → Definitions → Text → Option Items → Type 0
-Carries ws d t none = (t .outline ≡ vacant) × ((n : ℕ) → rowOf d n ws (t .at) ≡ [])
-Carries ws d t (some r) = (t .outline .empty ≡ false) × Tells (t .outline) r × ((n : ℕ) → rowOf d n ws (t .at) ≡ rowWords (measuresOf n none r))
+unfoldable pub Carries : List ℕ → Text → Option Items → Type 0
+Carries ws t none = (t .outline ≡ vacant) × ((n : ℕ) → rowOf n ws (t .at) ≡ [])
+Carries ws t (some r) = (t .outline .empty ≡ false) × Tells (t .outline) r × ((n : ℕ) → rowOf n ws (t .at) ≡ rowWords (measuresOf n none r))
 
--- What is known of a song's definitions without their words: which are there, and which are not empty.
-pub record Told (s : List ℕ) (score : Score) : Type 0 where
+-- What is found of a song's definitions: which are there, and which are not empty.
+pub record Told (s ws : List ℕ) : Type 0 where
   pub small : length s ≤ 65536
-  pub missing : (n : ℕ) → isMissing (score .definitions) (score .outlines) n ≡ not (isSome (definitionOf n (songOf s .definitions)))
-  pub filled : (n : ℕ) → namedText score n .outline .empty ≡ not (isSome (patternItems (songOf s .definitions) (named n)))
+  pub missing : (n : ℕ) → isMissing ws n ≡ not (isSome (definitionOf n (songOf s .definitions)))
+  pub filled : (n : ℕ) → namedText ws n .outline .empty ≡ not (isSome (patternItems (songOf s .definitions) (named n)))
 
--- The definitions of the song stand in the first words of the buffer, whatever stands behind them.
-pub record Ready (s : List ℕ) (ws : List ℕ) (score : Score) : Type 0 where
-  pub told : Told s score
-  pub room : length s ≤ length ws
-  pub carries : (n : ℕ) (vs : List ℕ) → take (score .fill) vs ≡ take (score .fill) ws
-      → Carries vs (score .definitions) (namedText score n) (patternItems (songOf s .definitions) (named n))
+-- The definitions of the song stand in the first words of the buffer, up to the mark, whatever stands behind it.
+pub record Ready (s ws : List ℕ) (mark : ℕ) : Type 0 where
+  pub small : length s ≤ 65536
+  pub room : length s < length ws
+  pub told : (vs : List ℕ) → take (mark + 1) vs ≡ take (mark + 1) ws → Told s vs
+  pub carries : (n : ℕ) (vs : List ℕ) → take (mark + 1) vs ≡ take (mark + 1) ws
+      → Carries vs (namedText vs n) (patternItems (songOf s .definitions) (named n))
 
 -- All sections of the song stand from the place on.
 pub record Begins (s : List ℕ) (p : Place) : Type 0 where
@@ -69,21 +61,21 @@ pub record Begins (s : List ℕ) (p : Place) : Type 0 where
 pub record Loads (s : List ℕ) (ws : List ℕ) (r : Loaded) : Type 0 where
   pub refused : (r .refusal .number ≡ 0 → ⊥) → r .refusal ≡ refusalOf (earliest (referenceFaults (songOf s)))
   pub clear : r .refusal .number ≡ 0 → definitionsReferences [] (songOf s .definitions) ≡ []
-  pub ready : r .refusal .number ≡ 0 → Ready s ws (r .score)
+  pub ready : r .refusal .number ≡ 0 → Ready s ws (r .mark)
   pub begins : r .refusal .number ≡ 0 → Begins s (r .sections)
-  pub filled : r .refusal .number ≡ 0 → r .score .fill ≤ r .sections .at
+  pub filled : r .refusal .number ≡ 0 → r .mark ≤ r .sections .at
 
 unfoldable pub sideItems : Option Side → Option Items
 unfolding andThen
 sideItems o = andThen o (λ x. some (x .items))
 
 -- The texts of a section in the buffer.
-pub record TextsAre (ds : List Definition) (x : Section) (ws : List ℕ) (d : Definitions) (t : Texts) : Type 0 where
-  pub lead : Carries ws d (t .lead) (sideItems (saidBy beforeSaid (x .modifiers)))
-  pub pattern : Carries ws d (t .pattern) (patternItems ds (x .pattern))
-  pub tail : Carries ws d (t .tail) (sideItems (saidBy afterSaid (x .modifiers)))
+pub record TextsAre (ds : List Definition) (x : Section) (ws : List ℕ) (t : Texts) : Type 0 where
+  pub lead : Carries ws (t .lead) (sideItems (saidBy beforeSaid (x .modifiers)))
+  pub pattern : Carries ws (t .pattern) (patternItems ds (x .pattern))
+  pub tail : Carries ws (t .tail) (sideItems (saidBy afterSaid (x .modifiers)))
 
 -- The section at the place is opened.
-pub record Opens (s : List ℕ) (p : Place) (ws : List ℕ) (score : Score) (r : Opened) : Type 0 where
+pub record Opens (s : List ℕ) (p : Place) (ws : List ℕ) (r : Opened) : Type 0 where
   pub met : Meets s p (record { section = r .section; next = r .next })
-  pub texts : TextsAre (songOf s .definitions) (sectionAt s p) ws (score .definitions) (r .texts)
+  pub texts : TextsAre (songOf s .definitions) (sectionAt s p) ws (r .texts)

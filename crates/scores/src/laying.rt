@@ -1,10 +1,11 @@
 // Pattern text into the buffer of token words: the lines of a run, a lead-in or tail; and the number that a section's pattern names.
-use player::kind;
-use player::number;
+use tokens::kind;
+use tokens::number;
 use sections::Run;
 use sections::Said;
 use text::line_at;
 use tokens::Lexed;
+use tokens::REFERENCE;
 use tokens::end_line;
 use tokens::lex_line;
 use tokens::next_token;
@@ -71,5 +72,5 @@ pub fn named_in(s: &[u8], run: Run) -> u32
     let Lexed::Token(word, next) = next_token(s, first.start, first.stop) else {
         return 0;
     };
-    if kind(word) == 55 { number(word) } else { 0 }
+    if kind(word) == REFERENCE { number(word) } else { 0 }
 }

@@ -5,8 +5,6 @@ mod metadata;
 mod texts;
 
 pub use definitions::Loaded;
-pub use definitions::Score;
-pub use definitions::is_missing;
 pub use definitions::load;
 pub use laying::named_in;
 pub use metadata::lines_before;

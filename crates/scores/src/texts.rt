@@ -1,14 +1,12 @@
 // A section opened: what it says, and its three texts in the buffer behind the definitions, each with its outline.
-use super::definitions::Score;
 use super::laying::lay_run;
 use super::laying::lay_said;
 use super::laying::named_in;
 use outlines::Outline;
-use outlines::outline_at;
+use outlines::outline_for;
 use outlines::outline_of;
-use outlines::place_of;
-use player::Stretch;
-use player::stretch_of;
+use score::Stretch;
+use score::stretch_of;
 use sections::Place;
 use sections::Run;
 use sections::SectionRead;
@@ -23,7 +21,7 @@ ghost use Rattle.songcode.specs.answer.Sections.{patternIn};
 ghost use Rattle.songcode.specs.answer.References.{patternItems};
 ghost use Rattle.songcode.specs.answer.Answer.{songOf};
 ghost use Rattle.outlines.specs.Readings.{outlined};
-ghost use Rattle.outlines.specs.Tables.{lookUp};
+ghost use Rattle.outlines.specs.Words.{lookUp};
 ghost use Rattle.sections.specs.Runs.{linesOf};
 ghost use Rattle.sections.specs.BlockParts.{Placed};
 ghost use Rattle.sections.specs.Onward.{Onward};
@@ -49,57 +47,48 @@ pub struct Opened {
 }
 
 // A text that holds no reference.
-fn plain_text(words: &[u32], score: Score, at: Stretch) -> Text
+fn plain_text(words: &[u32], at: Stretch) -> Text
     ensures { λ r. ⌜ r ≡ record {
       at = at;
-      outline = outlined (lookUp (score .definitions) (score .outlines))
-          (drop (at .from) (take (at .to) (now (words .entry))));
+      outline = outlined (lookUp (now (words .entry))) (drop (at .from) (take (at .to) (now (words .entry))));
     } ⌝ }
 {
     Text {
         at,
-        outline: outline_of(words, score.definitions, score.outlines, at),
+        outline: outline_of(words, at),
     }
 }
 
 // The text of the definition of that number.
-fn named_text(score: Score, x: u32) -> Text
-    ensures { λ r. ⌜ r ≡ namedText score x ⌝ }
+fn named_text(words: &[u32], x: u32) -> Text
+    ensures { λ r. ⌜ r ≡ namedText (now (words .entry)) x ⌝ }
 {
-    let d = score.definitions;
-    let o = score.outlines;
     Text {
-        at: stretch_of(d, x),
-        outline: outline_at(o, place_of(d, o.count, x)),
+        at: stretch_of(words, x),
+        outline: outline_for(words, x),
     }
 }
 
 // The section at a place; its lead-in, pattern and tail are laid into the buffer behind the definitions.
-pub fn open_section(s: &[u8], p: Place, score: Score, words: &mut [u32]) -> Opened
-    requires { ⌜ Onward (now s) p × (p .at < length (now s)) × Ready (now s) (now words) score × (score .fill ≤ p .at) ⌝ }
-    ensures opens { λ r. ⌜ Opens (now (s .entry)) p (now (words .exit)) score r ⌝ }
-    ensures ready { λ r. ⌜ Ready (now (s .entry)) (now (words .exit)) score × (length (now (words .exit)) ≡ length (now (words .entry))) ⌝ }
+pub fn open_section(s: &[u8], p: Place, mark: usize, words: &mut [u32]) -> Opened
+    requires { ⌜ Onward (now s) p × (p .at < length (now s)) × Ready (now s) (now words) mark × (mark ≤ p .at) ⌝ }
+    ensures opens { λ r. ⌜ Opens (now (s .entry)) p (now (words .exit)) r ⌝ }
+    ensures ready { λ r. ⌜ Ready (now (s .entry)) (now (words .exit)) mark × (length (now (words .exit)) ≡ length (now (words .entry))) ⌝ }
 {
     let met = meet(s, p);
     let section = met.section;
     let modifiers = section.modifiers;
     let named = named_in(s, section.pattern);
-    let a = lay_said(s, modifiers.before, words, score.fill);
+    let fill = mark + 1;
+    let a = lay_said(s, modifiers.before, words, fill);
     let b = lay_run(s, section.pattern, words, a);
     let c = lay_said(s, modifiers.after, words, b);
-    let lead = plain_text(
-        words,
-        score,
-        Stretch {
-            from: score.fill,
-            to: a,
-        },
-    );
-    let tail = plain_text(words, score, Stretch { from: b, to: c });
+    let lead = plain_text(words, Stretch { from: fill, to: a });
+    let tail = plain_text(words, Stretch { from: b, to: c });
     let pattern = if named == 0 {
-        plain_text(words, score, Stretch { from: a, to: b })
+        plain_text(words, Stretch { from: a, to: b })
     } else {
-        named_text(score, named)
+        named_text(words, named)
     };
     let texts = Texts {
         lead,
@@ -115,8 +104,8 @@ pub fn open_section(s: &[u8], p: Place, score: Score, words: &mut [u32]) -> Open
 }
 
 // Whether a section's pattern is not empty.
-pub fn is_played(s: &[u8], pattern: Run, score: Score) -> bool
-    requires { ⌜ Placed (now s) pattern × Told (now s) score ⌝ }
+pub fn is_played(s: &[u8], pattern: Run, words: &[u32]) -> bool
+    requires { ⌜ Placed (now s) pattern × Told (now s) (now words) ⌝ }
     ensures { λ r. ⌜ ((x : Pattern) → patternIn (linesOf (now (s .entry)) pattern) ≡ some x
         → r ≡ isSome (patternItems (songOf (now (s .entry)) .definitions) x)) ⌝ }
 {
@@ -124,7 +113,7 @@ pub fn is_played(s: &[u8], pattern: Run, score: Score) -> bool
     if named == 0 {
         return true;
     }
-    let x = named_text(score, named);
+    let x = named_text(words, named);
     let o = x.outline;
     !o.empty
 }

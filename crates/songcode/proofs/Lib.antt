@@ -58,6 +58,7 @@ pub mod TextStops
 pub mod ReferencesAgree
 pub mod ReferenceStops
 pub mod SaidOnce
+pub mod GlueLaws
 pub mod PutInPlain
 pub mod PutInAgree
 pub mod PlayingAgree

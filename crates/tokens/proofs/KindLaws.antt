@@ -1,10 +1,11 @@
 -- A token's word tells its kind and its numbers.
-use Prim.Native.Nat.{_+_, _*_, _/_, _%_, _^_, _<_, _≤_}
+use Prim.Native.Nat.{ℕ, _+_, _*_, _/_, _%_, _^_, _<_, _≤_}
 use mathlib.Core.Path.{_≡_, refl}
 use native.Mathlib.Omega.{arith}
 use Rattle.songcode.specs.Song.{chord, again, silence}
 use Rattle.songcode.specs.answer.Tokens.{Token, sound, remover, reference, semicolon, colon, lineEnd, opens, closes, wrong}
 use Rattle.tokens.specs.TokenWords.{chordWord, tokenWord}
+use Rattle.tokens.specs.Signs.{kindOf}
 use Rattle.tokens.specs.Fitting.{Fit, kind, amount}
 
 word-is : (t : Token) → tokenWord t ≡ kind t * 2 ^ 26 + amount t
@@ -41,3 +42,7 @@ module _ (t : Token) (f : Fit t) where
 
   pub word-amount : tokenWord t % 2 ^ 26 ≡ amount t
   word-amount = let h = parts-fit t f in let e = word-is t in omega arith
+
+-- The word of a chord that fits is of a kind below 34.
+pub chord-kind : (w : ℕ) → w < 2281701376 → kindOf w < 34
+chord-kind w h = omega arith

@@ -8,7 +8,7 @@ use native.Mathlib.Omega.{arith}
 use native.Mathlib.Numerals.{add-one}
 use native.Mathlib.Nat.{add-suc}
 use borrow.Author.Tests.{leb-true, leb-false, ltb-true, lt-ltb, le-ltb, ne-eqb}
-use lib.Dec.{leb, ltb}
+use lib.Dec.{eqb, leb, ltb}
 use lib.ListN.{length, getD, drop, drop-of-length-le, List·getD-map, List·getD-eq-default}
 use lib.Seq.{drop-cons}
 use Rattle.songcode.specs.Lists.{if_then_else_, every}
@@ -172,3 +172,27 @@ row-of [] p q = absurd (omega arith)
 row-of (b ∷ w) p q =
     let e : 65 + (b - 65) ≡ b = omega arith in
     rw e at (row-enough (b - 65) (omega arith) w)
+
+-- A letter behind which no longer spelling goes on is a base by itself.
+abbrev alone : ℕ → songcode.Base
+alone r = record { number = firstOf r; length = 1 }
+
+letter-last : (r : ℕ) → r < 7 → longestFrom isTaken (firstOf r) (rowOf r) ((65 + r) ∷ []) none ≡ some (alone r)
+unfolding longestFrom isTaken isPassedOver endsInM begins longer if_then_else_ rowOf firstOf ascii
+letter-last =
+    seven (λ r. longestFrom isTaken (firstOf r) (rowOf r) ((65 + r) ∷ []) none ≡ some (alone r)) refl refl refl refl refl refl refl
+
+module _ (c : ℕ) (rest : List ℕ) (sharp : eqb 35 c ≡ false) (flat : eqb 98 c ≡ false) (minor : eqb 109 c ≡ false) where
+  letter-before : (r : ℕ) → r < 7 → longestFrom isTaken (firstOf r) (rowOf r) ((65 + r) ∷ c ∷ rest) none ≡ some (alone r)
+  unfolding longestFrom isTaken isPassedOver endsInM begins longer if_then_else_ rowOf firstOf ascii
+  letter-before =
+      seven (λ r. longestFrom isTaken (firstOf r) (rowOf r) ((65 + r) ∷ c ∷ rest) none ≡ some (alone r))
+      (rw (sharp, flat, minor) refl) (rw (flat, minor) refl) (rw (sharp, minor) refl) (rw (sharp, flat, minor) refl) (rw (flat, minor) refl)
+      (rw (sharp, minor) refl) (rw (sharp, flat, minor) refl)
+
+pub letter-alone : (r : ℕ) (w : List ℕ) → r < 7 → getD w 0 0 ≡ 65 + r → (getD w 1 0 ≡ 35 → ⊥) → (getD w 1 0 ≡ 98 → ⊥) → (getD w 1 0 ≡ 109 → ⊥)
+    → longestFrom isTaken (firstOf r) (rowOf r) w none ≡ some (alone r)
+letter-alone r [] h e a b c = absurd (omega arith)
+letter-alone r (x ∷ []) h e a b c = rw e (letter-last r h)
+letter-alone r (x ∷ y ∷ rest) h e a b c =
+    rw e (letter-before y rest (ne-eqb 35 y (λ z. a (sym z))) (ne-eqb 98 y (λ z. b (sym z))) (ne-eqb 109 y (λ z. c (sym z))) r h)

@@ -1,6 +1,7 @@
 // Base chords: seven rows of spellings, and the longest that is taken at the front of a word.
 use text::byte_at;
 ghost use mathlib.Core.Path.{_≡_};
+ghost use mathlib.Core.Bool.{false};
 ghost use mathlib.Core.Option.{none};
 ghost use Prim.Native.Nat.{_<_};
 ghost use Rattle.songcode.specs.Bytes.{placed};
@@ -92,7 +93,20 @@ fn longest_in(row: usize, w: &[u8]) -> Base
     best
 }
 
-// The longest base chord at the front of a word, looked up in the row of its letter.
+// A spelling of more than its letter goes on with one of three bytes.
+fn goes_on(b: u8) -> bool
+    ensures { λ r. ⌜ (r ≡ false → (b ≡ 35 → ⊥) × (b ≡ 98 → ⊥) × (b ≡ 109 → ⊥)) ⌝ }
+{
+    if b == b'#' {
+        return true;
+    }
+    if b == b'b' {
+        return true;
+    }
+    b == b'm'
+}
+
+// The longest base chord at the front of a word, looked up in the row of its letter; the letter itself where no other can fit.
 pub fn longest_base(w: &[u8]) -> Base
     ensures { λ r. ⌜ r ≡ baseOf (longestFrom isTaken 0 bases (now (w .entry)) none) ⌝ }
 {
@@ -109,7 +123,14 @@ pub fn longest_base(w: &[u8]) -> Base
             length: 0,
         };
     }
-    longest_in((b - 65) as usize, w)
+    let row = (b - 65) as usize;
+    if !goes_on(byte_at(w, 1)) {
+        return Base {
+            number: FIRSTS[row],
+            length: 1,
+        };
+    }
+    longest_in(row, w)
 }
 
 // The word is a base chord exactly.

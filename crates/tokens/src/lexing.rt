@@ -1,4 +1,8 @@
 // The tokens of a line, one after another, and the buffer that keeps their words.
+use super::signs::COLON_WORD;
+use super::signs::LINE_END_WORD;
+use super::signs::OPENS_WORD;
+use super::signs::SEMICOLON_WORD;
 use super::words::closing_token;
 use super::words::word_token;
 use text::front_blanks;
@@ -9,15 +13,6 @@ ghost use Prim.Native.Nat.{_+_, _*_, _-_, _^_, _≤_, _<_};
 ghost use lib.ListN.{length};
 ghost use Rattle.tokens.specs.TokenWords.{tokenWords};
 ghost use Rattle.tokens.specs.Lexing.{isPlain, plainLength, tokensFrom, Reads, laid};
-
-// The words of the signs.
-const SEMICOLON: u32 = 4026531840;
-
-const COLON: u32 = 3959422976;
-
-const LINE_END: u32 = 3892314112;
-
-const OPENS: u32 = 3825205248;
 
 // A token's word and the place where the next may begin; or no token is left.
 pub enum Lexed {
@@ -69,13 +64,13 @@ pub fn next_token(s: &[u8], at: usize, stop: usize) -> Lexed
     }
     let b = s[a];
     if b == b';' {
-        return Lexed::Token(SEMICOLON, a + 1);
+        return Lexed::Token(SEMICOLON_WORD, a + 1);
     }
     if b == b':' {
-        return Lexed::Token(COLON, a + 1);
+        return Lexed::Token(COLON_WORD, a + 1);
     }
     if b == b'[' {
-        return Lexed::Token(OPENS, a + 1);
+        return Lexed::Token(OPENS_WORD, a + 1);
     }
     let e = a + 1 + plain_len(&s[a + 1..stop]);
     if b == b']' {
@@ -108,6 +103,6 @@ pub fn end_line(words: &mut [u32], n: usize) -> usize
     ensures held { λ r. ⌜ now (words .exit) ≡ laid n (58 * 2 ^ 26 ∷ []) (now (words .entry)) ⌝ }
     ensures fill { λ r. ⌜ r ≡ n + 1 ⌝ }
 {
-    words[n] = LINE_END;
+    words[n] = LINE_END_WORD;
     n + 1
 }

@@ -2,6 +2,7 @@
 mod bases;
 mod lexing;
 mod numbers;
+mod signs;
 mod words;
 
 pub use bases::Base;
@@ -14,4 +15,17 @@ pub use lexing::lex_line;
 pub use lexing::next_token;
 pub use numbers::Number;
 pub use numbers::number_in;
+pub use signs::AGAIN;
+pub use signs::CHORDS;
+pub use signs::CLOSES;
+pub use signs::OPENS;
+pub use signs::REFERENCE;
+pub use signs::REMOVER;
+pub use signs::SILENCE_WORD;
+pub use signs::WRONG_WORD;
+pub use signs::is_position;
+pub use signs::is_separator;
+pub use signs::is_stop;
+pub use signs::kind;
+pub use signs::number;
 pub use words::has_slip;

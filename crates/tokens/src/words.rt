@@ -2,6 +2,13 @@
 use super::bases::longest_base;
 use super::numbers::Number;
 use super::numbers::number_in;
+use super::signs::AGAIN_WORD;
+use super::signs::CLOSES;
+use super::signs::KIND;
+use super::signs::REFERENCE;
+use super::signs::REMOVER_WORD;
+use super::signs::SILENCE_WORD;
+use super::signs::WRONG_WORD;
 ghost use mathlib.Core.Path.{_≡_};
 ghost use mathlib.Core.List.{[], _∷_};
 ghost use Prim.Native.Nat.{_≤_, _<_};
@@ -15,16 +22,12 @@ ghost use Rattle.text.specs.Spans.{part};
 ghost use Rattle.tokens.specs.TokenWords.{tokenWord};
 ghost use Rattle.tokens.specs.Lexing.{isSlipByte};
 
-// What a kind weighs in a word, and the words of the three signs and of a wrong word.
-const KIND: usize = 67108864;
+// What a kind weighs, and the words of a reference and of a closing bracket before their counts.
+const WEIGHT: usize = KIND as usize;
 
-const SILENCE: u32 = 4227858432;
+const REFERENCES: usize = REFERENCE as usize * WEIGHT;
 
-const AGAIN: u32 = 4160749568;
-
-const REMOVER: u32 = 4093640704;
-
-const WRONG: u32 = 3623878656;
+const CLOSINGS: usize = CLOSES as usize * WEIGHT;
 
 // The word is this one byte.
 fn is_sign(sign: u8, w: &[u8]) -> bool
@@ -41,9 +44,9 @@ fn reference_token(w: &[u8]) -> u32
     ensures { λ r. ⌜ r ≡ tokenWord (referenceToken (countIn (placed 0 (now (w .entry))))) ⌝ }
 {
     let Number::Is(n) = number_in(1, 9999, w) else {
-        return WRONG;
+        return WRONG_WORD;
     };
-    (55 * KIND + n) as u32
+    (REFERENCES + n) as u32
 }
 
 // The token of a `]` with the count behind it.
@@ -51,9 +54,9 @@ pub fn closing_token(w: &[u8]) -> u32
     ensures { λ r. ⌜ r ≡ tokenWord (closingToken (repeatIn (placed 0 (now (w .entry))))) ⌝ }
 {
     let Number::Is(n) = number_in(2, 9999, w) else {
-        return WRONG;
+        return WRONG_WORD;
     };
-    (56 * KIND + n) as u32
+    (CLOSINGS + n) as u32
 }
 
 // A byte that no extension holds.
@@ -93,19 +96,19 @@ fn chord_token(s: &[u8], a: usize, e: usize) -> u32
 {
     let base = longest_base(&s[a..e]);
     if base.length == 0 {
-        return WRONG;
+        return WRONG_WORD;
     }
-    let kind = base.number * KIND;
+    let kind = base.number * WEIGHT;
     let x = a + base.length;
     let k = e - x;
     if 31 < k {
-        return WRONG;
+        return WRONG_WORD;
     }
     if k == 0 {
         return kind as u32;
     }
     if has_slip(&s[x..e]) {
-        return WRONG;
+        return WRONG_WORD;
     }
     (kind + x * 1024 + k * 32) as u32
 }
@@ -116,13 +119,13 @@ pub fn word_token(s: &[u8], a: usize, e: usize) -> u32
     ensures { λ r. ⌜ r ≡ tokenWord (wordToken (placed a (part a e (now (s .entry))))) ⌝ }
 {
     if is_sign(b'%', &s[a..e]) {
-        return AGAIN;
+        return AGAIN_WORD;
     }
     if is_sign(b'_', &s[a..e]) {
-        return SILENCE;
+        return SILENCE_WORD;
     }
     if is_sign(b'=', &s[a..e]) {
-        return REMOVER;
+        return REMOVER_WORD;
     }
     if s[a] == b'$' {
         return reference_token(&s[a + 1..e]);

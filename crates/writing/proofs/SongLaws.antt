@@ -24,7 +24,6 @@ use Rattle.player.specs.Windows.{heads, flat}
 use Rattle.player.proofs.SectionMeaning.{heads-words, flat-words}
 use Rattle.sections.specs.declared.blocks.Place.{Place}
 use Rattle.sections.specs.Onward.{sectionsFrom, sectionAt}
-use Rattle.scores.specs.declared.definitions.Score.{Score}
 use Rattle.scores.specs.declared.texts.Opened.{Opened}
 use Rattle.scores.specs.Scores.{Ready, Opens}
 use Rattle.judging.specs.Sums.{rowOfTexts}
@@ -136,8 +135,8 @@ module _ (s : List ℕ) (p : Place) where
       (λ xs. Wrote old b new (gather (map beatWord) (gather (played (songOf s)) xs)) (tables (songOf s) .beats)) e w)
 
 -- The section that is opened behind m measures and b beats.
-module _ {s ws vs : List ℕ} {score : Score} {p : Place} {m b : ℕ} (a : Along s ws score p m b) (x : Opened) (o : Opens s p vs score x)
-    (ready : Ready s vs score) (n : ℕ) (e : n ≡ timeOf (songOf s) (sectionAt s p))
+module _ {s ws vs : List ℕ} {mark : ℕ} {p : Place} {m b : ℕ} (a : Along s ws mark p m b) (x : Opened) (o : Opens s p vs x)
+    (ready : Ready s vs mark) (n : ℕ) (e : n ≡ timeOf (songOf s) (sectionAt s p))
     (c d : ℕ) (measures : c ≡ length (played (songOf s) (sectionAt s p))) (beats : d ≡ total (played (songOf s) (sectionAt s p))) where
   pub sections-next : (old new all : List ℕ) (k w tempo : ℕ) → k < length old → w ≡ sectionWord (x .section .header) m c n tempo
       → tempo ≡ bpmOf (songOf s) (sectionAt s p)
@@ -152,14 +151,14 @@ module _ {s ws vs : List ℕ} {score : Score} {p : Place} {m b : ℕ} (a : Along
       wrote-put old k new (sectionWords (songOf s) (m + c) (sectionsFrom s (x .next))) all w h (subst (λ xs. Wrote old k new xs all) r t)
 
   pub measures-next : (old new all ys : List ℕ) → m ≤ length new → length new ≡ length old → length all ≤ length old
-      → ys ≡ sets (take (length new - m) (drop m new)) 0 (heads b (rowOfTexts vs score n (x .texts) (x .section .modifiers)))
+      → ys ≡ sets (take (length new - m) (drop m new)) 0 (heads b (rowOfTexts vs n (x .texts) (x .section .modifiers)))
       → Wrote old m new (measureWords b (gather (played (songOf s)) (sectionsFrom s p))) all
       → Wrote old (m + c) (putMid m (length new - m) new ys) (measureWords (b + d) (gather (played (songOf s)) (sectionsFrom s (x .next)))) all
   unfolding gather
   measures-next old new all ys h l room y t =
       let row = played (songOf s) (sectionAt s p) in
       let rest = gather (played (songOf s)) (sectionsFrom s (x .next)) in
-      let f : heads b (rowOfTexts vs score n (x .texts) (x .section .modifiers)) ≡ measureWords b row = ap
+      let f : heads b (rowOfTexts vs n (x .texts) (x .section .modifiers)) ≡ measureWords b row = ap
       (λ (r : List (List ℕ)). heads b r) (along-row a x o ready n e) ∙ heads-words b row in
       let r : measureWords b (gather (played (songOf s)) (sectionsFrom s p)) ≡ measureWords b row ++ measureWords (b + d) rest =
       ap (λ (xs : List Section). measureWords b (gather (played (songOf s)) xs)) (o .met .first) ∙ measure-words-append b row rest
@@ -169,14 +168,14 @@ module _ {s ws vs : List ℕ} {score : Score} {p : Place} {m b : ℕ} (a : Along
       (subst (λ xs. Wrote old m new xs all) r t)
 
   pub beats-next : (old new all ys : List ℕ) → b ≤ length new → length new ≡ length old → length all ≤ length old
-      → ys ≡ sets (take (length new - b) (drop b new)) 0 (flat (rowOfTexts vs score n (x .texts) (x .section .modifiers)))
+      → ys ≡ sets (take (length new - b) (drop b new)) 0 (flat (rowOfTexts vs n (x .texts) (x .section .modifiers)))
       → Wrote old b new (gather (map beatWord) (gather (played (songOf s)) (sectionsFrom s p))) all
       → Wrote old (b + d) (putMid b (length new - b) new ys) (gather (map beatWord) (gather (played (songOf s)) (sectionsFrom s (x .next)))) all
   unfolding gather
   beats-next old new all ys h l room y t =
       let row = played (songOf s) (sectionAt s p) in
       let rest = gather (played (songOf s)) (sectionsFrom s (x .next)) in
-      let f : flat (rowOfTexts vs score n (x .texts) (x .section .modifiers)) ≡ gather (map beatWord) row = ap flat
+      let f : flat (rowOfTexts vs n (x .texts) (x .section .modifiers)) ≡ gather (map beatWord) row = ap flat
       (along-row a x o ready n e) ∙ flat-words row in
       let r : gather (map beatWord) (gather (played (songOf s)) (sectionsFrom s p)) ≡ gather (map beatWord) row ++ gather (map beatWord) rest =
       ap (λ (xs : List Section). gather (map beatWord) (gather (played (songOf s)) xs)) (o .met .first) ∙ gather-append (map beatWord) row rest in

@@ -37,10 +37,10 @@ pub fn write_tables(
 {
     let end = chart.end;
     let song = chart.song;
-    let score = chart.score;
+    let mark = chart.mark;
     let first = chart.first;
     let totals = chart.totals;
     write_keys(s, end, keys);
-    write_song(s, score, first, song, words, sections, measures, beats);
+    write_song(s, mark, first, song, words, sections, measures, beats);
     write_items(s, first, totals.items, items);
 }

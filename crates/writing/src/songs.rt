@@ -2,7 +2,6 @@
 use judging::meter_of;
 use judging::play;
 use packing::section_word;
-use scores::Score;
 use scores::open_section;
 use sections::Keys;
 use sections::Place;
@@ -28,7 +27,7 @@ fn tempo_of(own: usize, song: usize) -> usize
 
 pub fn write_song(
     s: &[u8],
-    score: Score,
+    mark: usize,
     first: Place,
     song: Keys,
     words: &mut [u32],
@@ -36,7 +35,7 @@ pub fn write_song(
     measures: &mut [u32],
     beats: &mut [u32],
 )
-    requires ready { ⌜ Begins (now s) first × Ready (now s) (now words) score × (score .fill ≤ first .at) ⌝ }
+    requires ready { ⌜ Begins (now s) first × Ready (now s) (now words) mark × (mark ≤ first .at) ⌝ }
     requires keys { ⌜ (song .time ≡ orElse (timeAmong (songOf (now s) .keys)) 0) × (song .time ≤ 32)
         × (song .bpm ≡ orElse (bpmAmong (songOf (now s) .keys)) 511) × (song .bpm ≤ 511) ⌝ }
     requires clear { ⌜ (meterFaults (songOf (now s)) ≡ []) × (lengthFaults (songOf (now s)) 0 (songOf (now s) .sections) ≡ []) ⌝ }
@@ -51,13 +50,12 @@ pub fn write_song(
     let mut m = 0;
     let mut b = 0;
     while place.at < s.len() {
-        let x = open_section(s, place, score, words);
+        let x = open_section(s, place, mark, words);
         let section = x.section;
         let keys = section.keys;
         let n = meter_of(keys.time, song.time);
         let c = play(
             words,
-            score,
             n,
             x.texts,
             section.modifiers,

@@ -6,8 +6,8 @@ use Rattle.writing.proofs.write_tables.Tie as tie
 
 write-song-requires : tie.Need-write-song-requires
 write-song-requires c κs =
-    let pre = c .before .before .before .before .before .before .before .before .before .before .before .before .before .before .before
-    .before .before .before .before .before .pre in
+    let pre = c .before .before .before .before .before .before .before .before .before .before .before .before .before .before .before .before
+        .before .before .before .pre in
     let w = pre .0 .2 in
     let room = pre .1 .1 in (
       (w .begins, w .ready, w .filled),
@@ -19,14 +19,14 @@ write-song-requires c κs =
 
 write-items-requires : tie.Need-write-items-requires
 write-items-requires c κs =
-    let pre = c .before .before .before .before .before .before .before .before .before .before .before .before .before .before .before
-    .before .before .before .before .before .before .before .before .before .before .before .before .before .before .before .pre in
+    let pre = c .before .before .before .before .before .before .before .before .before .before .before .before .before .before .before .before
+        .before .before .before .before .before .before .before .before .before .before .before .before .before .pre in
     let w = pre .0 .2 in
     let room = pre .1 .1 .items in
     let holds = w .holds .items in (
       w .begins,
-      input-small (c .before .before .before .before .before .before .before .before .before .before .before .before .before
-          .before .before .before .before .before .before .before .before .before .before .before .before .before .before .before .before .before .args .s .now)
+      input-small (c .before .before .before .before .before .before .before .before .before .before .before .before .before .before .before
+          .before .before .before .before .before .before .before .before .before .before .before .before .before .before .args .s .now)
           (pre .0 .0),
       holds,
       omega arith,
@@ -37,8 +37,8 @@ write-items-requires c κs =
 returns : tie.Need-returns
 returns c =
     let song = c .before .before .before .before .before .before .before .before .before .before .before .before .write-song .ensures in (
-      c .before .before .before .before .before .before .before .before .before .before .before .before .before .before .before .before
-          .before .before .before .write-keys .ensures,
+      c .before .before .before .before .before .before .before .before .before .before .before .before .before .before .before .before .before
+          .before .before .write-keys .ensures,
       (song .0, (song .1 .0, (song .1 .1, c .before .before .write-items .ensures))),
     )
 

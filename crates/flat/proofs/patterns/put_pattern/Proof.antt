@@ -14,15 +14,15 @@ use Rattle.flat.proofs.patterns.put_pattern.Statement.{statement}
 use Rattle.flat.proofs.patterns.put_pattern.Tie as tie
 
 abbrev Inv-loop : tie.InvT-loop
-Inv-loop s words score n t m measures₀ beats₀ copy₀ at from₀ out₀ t16 measures beats copy from out =
+Inv-loop s words n t m measures₀ beats₀ copy₀ at from₀ out₀ t16 measures beats copy from out =
     (length measures ≡ length measures₀) × (length beats ≡ length beats₀) × (length copy ≡ length copy₀)
-    × PlaysWithin words score n t m 0 × Lent measures₀ beats₀
-    × Stands s n (rowOfTexts words score n t m) from (record { copy = copy; at = out })
-    (puts (patternLines s n (rowOfTexts words score n t m)) (record { copy = copy₀; at = out₀ }))
+    × PlaysWithin words n t m 0 × Lent measures₀ beats₀
+    × Stands s n (rowOfTexts words n t m) from (record { copy = copy; at = out })
+    (puts (patternLines s n (rowOfTexts words n t m)) (record { copy = copy₀; at = out₀ }))
 
 abbrev μ-loop : tie.MeasureT-loop
-μ-loop s words score n t m measures₀ beats₀ copy₀ at from₀ out₀ t16 measures beats copy from out =
-    total (rowOfTexts words score n t m) - from
+μ-loop s words n t m measures₀ beats₀ copy₀ at from₀ out₀ t16 measures beats copy from out =
+    total (rowOfTexts words n t m) - from
 
 loop-holds : tie.Need-loop-holds Inv-loop μ-loop
 loop-holds c =
@@ -33,14 +33,14 @@ within : (c : tie.At-loop Inv-loop μ-loop) → c .loop .from ≤ 2097120
 within c =
     let a = c .before .before .before .before .before .before .args in
     let w = stands-within _ _ _ _ _ _ (c .loop .inv .5) in
-    let t = texts-total (a .words .now) (a .score) (a .n) (a .t) (a .m) (c .loop .inv .3) in
+    let t = texts-total (a .words .now) (a .n) (a .t) (a .m) (c .loop .inv .3) in
     omega arith
 
 told : (p : tie.After-part-of Inv-loop μ-loop) →
     let l = p .before .before .before .loop in
     let a = p .before .before .before .before .before .before .before .before .before .args in
-    let row = rowOfTexts (a .words .now) (a .score) (a .n) (a .t) (a .m) in
-    let tables = p .part-of .last .1 .1 .1 .1 .1 .1 in
+    let row = rowOfTexts (a .words .now) (a .n) (a .t) (a .m) in
+    let tables = p .part-of .last .1 .1 .1 .1 .1 in
     Told (a .s .now) (a .n) row (l .measures) (l .beats) (tables .0) (tables .1 .0) (l .from) (p .part-of .result) (record { copy = l .copy; at = l .out })
     (puts (patternLines (a .s .now) (a .n) row) (record { copy = a .copy .now; at = a .at }))
 told p =
@@ -49,8 +49,8 @@ told p =
     let h = l .inv in
     let e = p .part-of .ensures in
     record {
-      filled = texts-filled (a .words .now) (a .score) (a .n) (a .t) (a .m) (h .3);
-      short = texts-short (a .words .now) (a .score) (a .n) (a .t) (a .m) (h .3);
+      filled = texts-filled (a .words .now) (a .n) (a .t) (a .m) (h .3);
+      short = texts-short (a .words .now) (a .n) (a .t) (a .m) (h .3);
       lent = lent-same (a .measures .now) (a .beats .now) (l .measures) (l .beats) (h .0) (h .1) (h .4);
       stands = h .5;
       counts = e .0;
@@ -58,7 +58,7 @@ told p =
       beats = e .1 .1;
     }
 
-lent : (p : tie.After-part-of Inv-loop μ-loop) → let tables = p .part-of .last .1 .1 .1 .1 .1 .1 in Lent (tables .0) (tables .1 .0)
+lent : (p : tie.After-part-of Inv-loop μ-loop) → let tables = p .part-of .last .1 .1 .1 .1 .1 in Lent (tables .0) (tables .1 .0)
 lent p =
     let h = p .before .before .before .loop .inv in
     lent-same _ _ _ _ (told-measures (told p) ∙ h .0) (told-beats (told p) ∙ h .1) (h .4)
@@ -111,7 +111,7 @@ next : (c : tie.After-struct-known4 Inv-loop μ-loop) →
     let q = c .before .before .before .before .before .before .before .before .before .before .before in
     let l = q .before .before .before .before .before .before .before .before .before .before .before in
     let a = l .before .before .before .before .before .before .args in
-    let row = rowOfTexts (a .words .now) (a .score) (a .n) (a .t) (a .m) in
+    let row = rowOfTexts (a .words .now) (a .n) (a .t) (a .m) in
     let written = c .before .before .before .before .before .before .put-measures2 in
     Stands (a .s .now) (a .n) row (l .loop .from + c .before .measure-of .result .first)
     (record { copy = written .last .1 .1 .1 .1 .1 .0; at = written .result })

@@ -17,21 +17,21 @@ use Rattle.flat.proofs.songs.has_empty.Statement.{statement}
 use Rattle.flat.proofs.songs.has_empty.Tie as tie
 
 abbrev Inv-loop : tie.InvT-loop
-Inv-loop s score place₀ place =
+Inv-loop s words place₀ place =
     Onward s place
     × Each (Silent (songOf s)) (sectionsFrom s place)
     × (any (playsNothing (songOf s)) (sectionsFrom s place) ≡ any (playsNothing (songOf s)) (songOf s .sections))
 
 abbrev μ-loop : tie.MeasureT-loop
-μ-loop s score place₀ place = length s - place .at
+μ-loop s words place₀ place = length s - place .at
 
 loop-holds : tie.Need-loop-holds Inv-loop μ-loop
 loop-holds c =
-    let begins = c .before .pre .0 in
-    let song = songOf (c .before .args .s .now) in
+    let begins = c .before .before .pre .0 in
+    let song = songOf (c .before .before .args .s .now) in
     let all = begins .sections in (
       begins .onward,
-      subst (λ (xs : List Section). Each (Silent song) xs) (sym all) (silent-all song 0 (song .sections) (c .before .pre .2)),
+      subst (λ (xs : List Section). Each (Silent song) xs) (sym all) (silent-all song 0 (song .sections) (c .before .before .pre .2)),
       ap (λ (xs : List Section). any (playsNothing song) xs) all,
     )
 
@@ -40,7 +40,7 @@ unfolding Each
 returns c =
     let q = c .before .before .before .before .before .before in
     let l = q .loop in
-    let s = q .before .before .args .s .now in
+    let s = q .before .before .before .args .s .now in
     let song = songOf s in
     let m = c .before .before .before .pass .ensures in
     let x = sectionAt s (l .place) in
@@ -54,7 +54,7 @@ unfolding Each
 loop-again c =
     let q = c .before .before .before .before .before .before .before in
     let l = q .loop in
-    let s = q .before .before .args .s .now in
+    let s = q .before .before .before .args .s .now in
     let song = songOf s in
     let m = c .before .before .before .before .pass .ensures in
     let x = sectionAt s (l .place) in
@@ -70,7 +70,7 @@ returns-2 : tie.Need-returns-2 Inv-loop μ-loop
 unfolding any
 returns-2 c =
     let l = c .before .before .loop in
-    let s = c .before .before .before .before .args .s .now in
+    let s = c .before .before .before .before .before .args .s .now in
     ap (λ (xs : List Section). any (playsNothing (songOf s)) xs) (sym (sections-over s (l .place) (c .if1 .left))) ∙ l .inv .2
 
 pub has-empty-spec : {M : Type 1} → statement M

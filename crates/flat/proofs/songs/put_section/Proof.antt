@@ -35,7 +35,7 @@ returns c =
     let header = block .before .before .before in
     let q = header .before .before .before .before .before .before .before in
     let a = q .args in
-    let row = rowOfTexts (a .words .now) (a .score) (a .n) (a .x .texts) (a .x .section .modifiers) in (
+    let row = rowOfTexts (a .words .now) (a .n) (a .x .texts) (a .x .section .modifiers) in (
       section-done (a .s .now) (a .p) (header .line-at .ensures) (a .n) row (q .pre .1 .0) (q .pre .1 .1 .1 .0) (q .pre .1 .1 .1 .1 .0) (a .at) _ _ _ _ _ _
           (block .begin-block .ensures) (line .put-line .ensures) (keys .put-keys .ensures) (pattern .put-pattern .ensures .0)
           (c .before .before .put-ending .ensures),

@@ -20,8 +20,8 @@ use Rattle.flat.proofs.songs.put_sections.Statement.{statement}
 use Rattle.flat.proofs.songs.put_sections.Tie as tie
 
 abbrev Inv-loop : tie.InvT-loop
-Inv-loop s words₀ measures₀ beats₀ copy₀ at song score place₀ out₀ words measures beats copy place out =
-    Along s words score place 0 0
+Inv-loop s words₀ measures₀ beats₀ copy₀ at song mark place₀ out₀ words measures beats copy place out =
+    Along s words mark place 0 0
     × Each (HeardIn s) (sectionsFrom s place)
     × Lent measures beats
     × (length words ≡ length words₀)
@@ -31,22 +31,22 @@ Inv-loop s words₀ measures₀ beats₀ copy₀ at song score place₀ out₀ w
     × (putBlocks (flatFrom s place) (record { copy = copy; at = out }) ≡ putBlocks (flatFrom s place₀) (record { copy = copy₀; at = out₀ }))
 
 abbrev μ-loop : tie.MeasureT-loop
-μ-loop s words₀ measures₀ beats₀ copy₀ at song score place₀ out₀ words measures beats copy place out = length s - place .at
+μ-loop s words₀ measures₀ beats₀ copy₀ at song mark place₀ out₀ words measures beats copy place out = length s - place .at
 
 -- The section's own N.
 meter : (c : tie.After-meter-of Inv-loop μ-loop)
     → (let l = c .before .before .before .before .before .before .before .before .before in
-    let s = l .before .before .before .before .before .before .before .before .before .args .s .now in
+    let s = l .before .before .before .before .before .before .before .before .args .s .now in
     c .meter-of .result ≡ timeOf (songOf s) (sectionAt s (l .loop .place)))
 meter c =
     let l = c .before .before .before .before .before .before .before .before .before in
     c .meter-of .ensures
     ∙ meter-is _ _ (c .before .before .before .before .before .open-section .ensures .0 .met .says .time)
-    (l .before .before .before .before .before .before .before .before .before .pre .0 .2 .keys .time)
+    (l .before .before .before .before .before .before .before .before .pre .0 .2 .keys .time)
 
 loop-holds : tie.Need-loop-holds Inv-loop μ-loop
 loop-holds c =
-    let q = c .before .before .before .before .before .before .before .before in
+    let q = c .before .before .before .before .before .before .before in
     let s = q .args .s .now in
     let w = q .pre .0 .2 in (
       along-start (w .begins) (w .ready) (w .filled) (w .clear .meters) (w .clear .lengths),
@@ -69,7 +69,7 @@ put-section-requires c κs =
     let o = y .before .before .before .before .before .open-section in
     let w = y .before .before .before .before .before .before .before .before .before in
     let l = w .loop in
-    let s = w .before .before .before .before .before .before .before .before .before .args .s .now in
+    let s = w .before .before .before .before .before .before .before .before .args .s .now in
     let x = o .result in
     let i = o .ensures .0 in
     let n = y .meter-of .result in
@@ -94,7 +94,7 @@ loop-again c =
     let o = y .before .before .before .before .before .open-section in
     let w = y .before .before .before .before .before .before .before .before .before in
     let l = w .loop in
-    let s = w .before .before .before .before .before .before .before .before .before .args .s .now in
+    let s = w .before .before .before .before .before .before .before .before .args .s .now in
     let x = o .result in
     let i = o .ensures .0 in
     let done = c .before .before .before .before .before .before .before .put-section in (
@@ -102,16 +102,16 @@ loop-again c =
       subst (λ (xs : List Section). Each (HeardIn s) xs) (i .met .first) (l .inv .1) .1,
       done .ensures .1,
       search needs,
-      done .kept .1 .1 .1 .1 .1 .1 .0 ∙ l .inv .4,
-      done .kept .1 .1 .1 .1 .1 .1 .1 .0 ∙ l .inv .5,
-      done .kept .1 .1 .1 .1 .1 .1 .1 .1 .0 ∙ l .inv .6,
+      done .kept .1 .1 .1 .1 .1 .0 ∙ l .inv .4,
+      done .kept .1 .1 .1 .1 .1 .1 .0 ∙ l .inv .5,
+      done .kept .1 .1 .1 .1 .1 .1 .1 .0 ∙ l .inv .6,
       ap (putBlocks (flatFrom s (x .next))) (done .ensures .0) ∙ sym (blocks-next s (l .place) (x .next) _ (i .met .opened)) ∙ l .inv .7,
     )
 
 returns : tie.Need-returns Inv-loop μ-loop
 returns c =
     let l = c .before .before .loop in
-    let q = c .before .before .before .before .before .before .before .before .before .before .before in
+    let q = c .before .before .before .before .before .before .before .before .before .before in
     let s = q .args .s .now in (
       sym (none-left s (l .place) _ (c .if1 .left)) ∙ l .inv .7,
       (writable-again (q .pre .0 .2) (l .inv .0 .ready), l .inv .2),

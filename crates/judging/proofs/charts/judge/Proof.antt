@@ -35,11 +35,11 @@ later-stages-requires c κs =
 
 returns : tie.Need-returns
 returns c =
-    let s = c .before .before .before .before .before .before .before .before .before .before .before .before .before .before .before .args .s .now in
-    let found = c .before .before .before .before .before .before .before .before .before .before .keys-of in
-    let ends = c .before .before .before .before .before .before .before .before .before .before .before .before .metadata-end in
-    let loads = c .before .before .before .before .before .before .before .before .load .ensures .0 in
-    let later = c .before .before .before .before .later-stages .ensures in
+    let s = c .before .before .before .before .before .before .before .before .before .before .before .before .before .before .args .s .now in
+    let found = c .before .before .before .before .before .before .before .before .before .keys-of in
+    let ends = c .before .before .before .before .before .before .before .before .before .before .before .metadata-end in
+    let loads = c .before .before .before .before .before .before .before .load .ensures .0 in
+    let later = c .before .before .before .later-stages .ensures in
     record {
       refusal = later .0;
       writable = λ z.
@@ -48,7 +48,7 @@ returns c =
             keys =
                 song-keys s (ends .result) (found .result) (ends .ensures)
                 (subst (λ (run : Run). KeysAre (linesOf s run) (found .result))
-                (c .before .before .before .before .before .before .before .before .before .before .before .lines-before .ensures)
+                (c .before .before .before .before .before .before .before .before .before .before .lines-before .ensures)
                 (found .ensures));
             ready = later .1 .1 z .1;
             begins = loads .begins (later .1 .1 z .0);

@@ -24,20 +24,20 @@ use Rattle.judging.proofs.lyrics.stage_six.Statement.{statement}
 use Rattle.judging.proofs.lyrics.stage_six.Tie as tie
 
 abbrev Inv-loop : tie.InvT-loop
-Inv-loop s score place₀ t₀ place t =
+Inv-loop s words place₀ t₀ place t =
     Onward s place
     × (t .counted || any isCounted (takenFrom (songOf s) (sectionsFrom s place)) ≡ hasCounts (songOf s))
     × (firstLine (t .bare) (bareLine (takenFrom (songOf s) (sectionsFrom s place))) ≡ bareLine (linesTaken (songOf s)))
     × (Numbered (takenFrom (songOf s) (sectionsFrom s place)) → Numbered (linesTaken (songOf s)))
 
 abbrev μ-loop : tie.MeasureT-loop
-μ-loop s score place₀ t₀ place t = length s - place .at
+μ-loop s words place₀ t₀ place t = length s - place .at
 
 loop-holds : tie.Need-loop-holds Inv-loop μ-loop
 unfolding hasCounts linesTaken firstLine if_then_else_
 loop-holds c =
-    let begins = c .before .pre .0 in
-    let song = songOf (c .before .args .s .now) in
+    let begins = c .before .before .pre .0 in
+    let song = songOf (c .before .before .args .s .now) in
     let all = begins .sections in (
       begins .onward,
       ap (λ (xs : List Section). any isCounted (takenFrom song xs)) all,
@@ -50,7 +50,7 @@ unfolding linesOf isPlayed
 loop-again c =
     let q = c .before .before .before .before .before .before .before .before in
     let l = q .loop in
-    let s = q .before .before .args .s .now in
+    let s = q .before .before .before .args .s .now in
     let song = songOf s in
     let met = c .before .before .before .before .before .pass in
     let m = met .ensures in
@@ -77,7 +77,7 @@ unfolding Each gather any bareLine countFault
 returns c =
     let q = c .before .before .before in
     let l = q .loop in
-    let s = q .before .before .args .s .now in
+    let s = q .before .before .before .args .s .now in
     let song = songOf s in
     let over = sections-over s (l .place) (c .before .if1 .left) in
     let counted = sym (or-false (l .t .counted)) ∙ ap (λ (xs : List Section). l .t .counted || any isCounted (takenFrom song xs)) (sym over) ∙ l .inv .1 in

@@ -19,12 +19,12 @@ use Rattle.judging.proofs.measures.measure_stages.Statement.{statement}
 use Rattle.judging.proofs.measures.measure_stages.Tie as tie
 
 abbrev Inv-loop : tie.InvT-loop
-Inv-loop s score time words₀ place₀ best₀ lengths₀ words place best lengths =
-    Onward s place × Ready s words score × (length words ≡ length words₀) × (score .fill ≤ place .at) × Judged s place best
+Inv-loop s mark time words₀ place₀ best₀ lengths₀ words place best lengths =
+    Onward s place × Ready s words mark × (length words ≡ length words₀) × (mark ≤ place .at) × Judged s place best
     × LengthsAre s place lengths
 
 abbrev μ-loop : tie.MeasureT-loop
-μ-loop s score time words₀ place₀ best₀ lengths₀ words place best lengths = length s - place .at
+μ-loop s mark time words₀ place₀ best₀ lengths₀ words place best lengths = length s - place .at
 
 loop-holds : tie.Need-loop-holds Inv-loop μ-loop
 loop-holds c = let h = c .before .before .pre in (h .0 .onward, h .1, refl, h .2, judged-start _ _ (h .0), lengths-start _ _ (h .0))
@@ -37,7 +37,7 @@ with-lengths-requires c κs =
     let q = c .before .before .before .before .before .before .before .before in
     let l = q .before .before .before .before .loop in (
       rw (c .before .before .before .meter-of .ensures)
-          (opened-measurable _ _ _ _ _ (q .open-section .ensures .0) (q .before .before .before .before .before .before .before .pre .3)),
+          (opened-measurable _ _ _ _ (q .open-section .ensures .0) (q .before .before .before .before .before .before .before .pre .3)),
       lengths-small _ _ _ (l .inv .5),
     )
 
@@ -55,13 +55,13 @@ loop-again c =
     let time = q .before .before .before .before .before .before .before .pre .3 in
     let meter = c .before .before .before .before .before .meter-of .ensures in
     let further = w .0 .met .further in
-    let fault = opened-fault _ _ _ _ _ (w .0) time meter (c .before .before .before .before .meter-fault .ensures) in (
+    let fault = opened-fault _ _ _ _ (w .0) time meter (c .before .before .before .before .meter-fault .ensures) in (
       w .0 .met .onward,
       w .1 .0,
       w .1 .1 ∙ i .2,
       omega (arith, i .3),
       rw (c .before .before .before .sooner .ensures) (judged-next _ _ _ _ _ (w .0 .met .first) fault (i .4)),
-      rw (c .before .with-lengths .ensures, meter) (lengths-next _ _ _ _ _ (w .0) time (i .0) (q .before .before .if1 .taken) _ (i .5)),
+      rw (c .before .with-lengths .ensures, meter) (lengths-next _ _ _ _ (w .0) time (i .0) (q .before .before .if1 .taken) _ (i .5)),
     )
 
 same-length : tie.Need-same-length Inv-loop μ-loop

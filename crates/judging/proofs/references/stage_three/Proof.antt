@@ -17,15 +17,15 @@ use Rattle.judging.proofs.references.stage_three.Statement.{statement}
 use Rattle.judging.proofs.references.stage_three.Tie as tie
 
 abbrev Inv-loop : tie.InvT-loop
-Inv-loop s score place₀ place =
-    Onward s place × Told s score × (gather (sectionFault (songOf s .definitions)) (sectionsFrom s place) ≡ gather
+Inv-loop s words place₀ place =
+    Onward s place × Told s words × (gather (sectionFault (songOf s .definitions)) (sectionsFrom s place) ≡ gather
     (sectionFault (songOf s .definitions)) (sectionsFrom s place₀))
 
 abbrev μ-loop : tie.MeasureT-loop
-μ-loop s score place₀ place = length s - place .at
+μ-loop s words place₀ place = length s - place .at
 
 loop-holds : tie.Need-loop-holds Inv-loop μ-loop
-loop-holds c = let p = c .before .pre in (p .0, p .1, refl)
+loop-holds c = let p = c .before .before .pre in (p .0, p .1, refl)
 
 pass-requires : tie.Need-pass-requires Inv-loop μ-loop
 pass-requires c κs = (c .before .before .loop .inv .0, c .if1 .taken)
@@ -38,7 +38,7 @@ unfolding sectionFault
 returns c =
     let m = c .before .before .before .before in
     let q = m .before .before .before in
-    let s = q .before .before .args .s .now in
+    let s = q .before .before .before .args .s .now in
     let ds = songOf s .definitions in
     let w = m .pass .ensures in
     let r = c .before .before .name-fault .result in
@@ -54,7 +54,7 @@ loop-again : tie.Need-loop-again Inv-loop μ-loop
 loop-again c =
     let m = c .before .before .before .before .before in
     let q = m .before .before .before in
-    let s = q .before .before .args .s .now in
+    let s = q .before .before .before .args .s .now in
     let ds = songOf s .definitions in
     let w = m .pass .ensures in
     let r = c .before .before .before .name-fault .result in
@@ -70,7 +70,7 @@ returns-2 : tie.Need-returns-2 Inv-loop μ-loop
 unfolding sectionFault refusalOf earliest gather
 returns-2 c =
     let q = c .before .before in
-    let s = q .before .before .args .s .now in
+    let s = q .before .before .before .args .s .now in
     let ds = songOf s .definitions in
     ap (λ (xs : List Section). refusalOf (earliest (gather (sectionFault ds) xs))) (sym (sections-over s (q .loop .place) (c .if1 .left)))
     ∙ ap (λ (cs : List Complaint). refusalOf (earliest cs)) (q .loop .inv .2)

@@ -6,7 +6,7 @@ use Rattle.judging.specs.declared.sums.Totals.{Totals}
 use Rattle.sections.specs.Onward.{sectionsFrom}
 use Rattle.songcode.specs.answer.Answer.{songOf}
 use Rattle.songcode.specs.answer.References.{referenceFaults}
-use mathlib.Core.Path.{sym, ap, _∙_}
+use mathlib.Core.Path.{refl, sym, ap, _∙_}
 use borrow.Author.Needs.{needs}
 use Rattle.judging.proofs.stages.later_stages.Statement.{statement}
 use Rattle.judging.proofs.stages.later_stages.Tie as tie
@@ -28,7 +28,7 @@ stage-three-requires : tie.Need-stage-three-requires
 stage-three-requires c κs =
     let loads = c .before .before .before .before .before .before .before .pre .0 in
     let z = c .before .before .if1 .left in
-    (loads .begins z .onward, loads .ready z .told)
+    (loads .begins z .onward, loads .ready z .told _ refl)
 
 returns-2 : tie.Need-returns-2
 unfolding laterFaults sectionFault
@@ -71,5 +71,5 @@ returns-3 c =
 pub later-stages-spec : {M : Type 1} → statement M
 later-stages-spec =
     tie.close
-    (tie.spec (λ c κs. search needs) returns stage-three-requires (λ c κs. search needs) returns-2 playing-stages-requires
+    (tie.spec (λ c κs. search needs) returns stage-three-requires (λ c κs. search needs) (λ c. search needs) returns-2 playing-stages-requires
     (λ c. search needs) returns-3)

@@ -20,8 +20,8 @@ use Rattle.judging.proofs.sums.stage_seven.Statement.{statement}
 use Rattle.judging.proofs.sums.stage_seven.Tie as tie
 
 abbrev Inv-loop : tie.InvT-loop
-Inv-loop s score time counted words₀ place₀ sums₀ words place sums =
-    Along s words score place (sums .measures) (sums .beats)
+Inv-loop s mark time counted words₀ place₀ sums₀ words place sums =
+    Along s words mark place (sums .measures) (sums .beats)
     × (length words ≡ length words₀)
     × (sums .sections ≤ place .at)
     × (sums .lines ≤ 65536 * sums .sections)
@@ -29,7 +29,7 @@ Inv-loop s score time counted words₀ place₀ sums₀ words place sums =
     × (sumFaults (songOf s) ≡ faultsLeft (songOf s) (sectionsFrom s place))
 
 abbrev μ-loop : tie.MeasureT-loop
-μ-loop s score time counted words₀ place₀ sums₀ words place sums = length s - place .at
+μ-loop s mark time counted words₀ place₀ sums₀ words place sums = length s - place .at
 
 -- The section that is opened is played in its own N.
 meter : (c : tie.After-meter-of Inv-loop μ-loop) → c .meter-of .result
@@ -63,7 +63,7 @@ counts-of-requires c κs = let o = c .before .before .before .before .before .be
 tally-lyrics-requires : tie.Need-tally-lyrics-requires Inv-loop μ-loop
 tally-lyrics-requires c κs = (
   c .before .before .before .before .before .before .before .before .before .before .open-section .ensures .0 .met .read .lyrics-placed,
-  c .before .before .before .before .before .before .before .before .before .before .before .before .before .before .loop .inv .0 .ready .told .small,
+  c .before .before .before .before .before .before .before .before .before .before .before .before .before .before .loop .inv .0 .ready .small,
 )
 
 same-length : tie.Need-same-length Inv-loop μ-loop
@@ -104,7 +104,7 @@ with-section-requires c κs = let y = c .before .before .before .before .before 
     (c .before .before .before .before .counts-of .ensures .0) in
     let b = along-beats (l .inv .0) (o .result) (o .ensures .0) (o .ensures .1 .0) (y .meter-of .result) (meter y) _
     (c .before .before .before .before .counts-of .ensures .1) in
-    let small = l .inv .0 .ready .told .small in
+    let small = l .inv .0 .ready .small in
     let lines = opened-few (o .result) (o .ensures .0) (c .before .before .before .tally-lyrics .result)
     (c .before .before .before .tally-lyrics .ensures) small in
     let inside = y .before .before .before .before .before .before .before .before .before .before .before .if1 .taken in
@@ -131,7 +131,7 @@ loop-again c = let y = c .before .before .before .before .before .before .before
     let a = along-next (l .inv .0) x i (o .ensures .1 .0) (y .meter-of .result) (meter y) in
     let m = along-measures (l .inv .0) x i (o .ensures .1 .0) (y .meter-of .result) (meter y) (counts .result .measures) (counts .ensures .0) in
     let b = along-beats (l .inv .0) x i (o .ensures .1 .0) (y .meter-of .result) (meter y) (counts .result .beats) (counts .ensures .1) in
-    let lines = opened-few x i (tally .result) (tally .ensures) (l .inv .0 .ready .told .small) in
+    let lines = opened-few x i (tally .result) (tally .ensures) (l .inv .0 .ready .small) in
     let w = c .before .with-section .ensures in
     let counted = with-counts (c .before .with-section .result) (l .sums) (counts .result) (tally .result .lines) (c .before .before .has-prompts .result) w in
     let off = opened-off x i (tally .result) (tally .ensures) _ _ _

@@ -1,5 +1,5 @@
 use Rattle.outlines.proofs.PartLaws.{faults-next, faults-over}
-use Rattle.outlines.specs.Tables.{lookUp, isMissing}
+use Rattle.outlines.specs.Words.{lookUp, isMissing}
 use Rattle.outlines.specs.Faults.{faultless, allFaults, faultNumber, faultIn}
 use lib.ListN.{take, drop}
 use Prim.Native.Nat.{_-_}
@@ -9,11 +9,11 @@ use Rattle.outlines.proofs.faults.reference_fault.Statement.{statement}
 use Rattle.outlines.proofs.faults.reference_fault.Tie as tie
 
 abbrev Inv-loop : tie.InvT-loop
-Inv-loop words d o text end i₀ f₀ i f = allFaults (isMissing d o) (lookUp d o) f (drop i (take (text .to) words)) ≡ allFaults (isMissing d o)
-    (lookUp d o) faultless (drop (text .from) (take (text .to) words))
+Inv-loop words text end i₀ f₀ i f = allFaults (isMissing words) (lookUp words) f (drop i (take (text .to) words)) ≡ allFaults (isMissing words)
+    (lookUp words) faultless (drop (text .from) (take (text .to) words))
 
 abbrev μ-loop : tie.MeasureT-loop
-μ-loop words d o text end i₀ f₀ i f = end - i
+μ-loop words text end i₀ f₀ i f = end - i
 
 loop-holds : tie.Need-loop-holds Inv-loop μ-loop
 unfolding faultless
@@ -21,14 +21,14 @@ loop-holds c = refl
 
 loop-again : tie.Need-loop-again Inv-loop μ-loop
 loop-again c = let a = c .before .before .before .before .before .before .args in let l = c .before .before .before .loop in let e
-    = c .before .before .before .before .least in faults-next (isMissing (a .d) (a .o)) (lookUp (a .d) (a .o)) (a .words .now) (a .text .to) (l .i)
+    = c .before .before .before .before .least in faults-next (isMissing (a .words .now)) (lookUp (a .words .now)) (a .words .now) (a .text .to) (l .i)
     (c .before .word-at .result) (e .result) (l .f) _ _ (c .before .before .loop-test .taken) (e .ensures) (c .before .word-at .ensures)
     (c .judge-word .ensures) (l .inv)
 
 returns : tie.Need-returns Inv-loop μ-loop
 unfolding faultIn
 returns c = let a = c .before .before .before .before .before .args in let l = c .before .before .loop in let e = c .before .before .before .least in
-    c .fault-number .ensures ∙ ap faultNumber (faults-over (isMissing (a .d) (a .o)) (lookUp (a .d) (a .o)) (a .words .now) (a .text .to) (l .i)
+    c .fault-number .ensures ∙ ap faultNumber (faults-over (isMissing (a .words .now)) (lookUp (a .words .now)) (a .words .now) (a .text .to) (l .i)
     (e .result) (l .f) _ (c .before .loop-test .left) (e .ensures) (l .inv))
 
 pub reference-fault-spec : {M : Type 1} → statement M

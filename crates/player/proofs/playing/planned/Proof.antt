@@ -9,7 +9,7 @@ returns : tie.Need-returns
 returns c =
     let q = c .before .before .before .before .before .before .before .before .before .before in
     let a = q .args in
-    let row = times (a .r) (rowOf (a .d) (a .n) (a .words .now) (a .s)) in
+    let row = times (a .r) (rowOf (a .n) (a .words .now) (a .s)) in
     let w = planned-is row (a .front) (a .back) _ _ _ _ _ _ _ (q .pre .1)
     (c .before .before .before .before .before .before .before .before .tally .ensures .0)
     (c .before .before .before .before .before .before .before .least .ensures)

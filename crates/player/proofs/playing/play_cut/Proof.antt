@@ -15,15 +15,15 @@ at-pattern-requires c κs =
     let q = plan .before .before .before .before in
     let a = q .args in
     let ws = a .words .now in
-    let lead = rowOf (a .d) (a .n) ws (a .lead) in
-    let row = rowOf (a .d) (a .n) ws (a .pattern) in
-    let tail = rowOf (a .d) (a .n) ws (a .tail) in
+    let lead = rowOf (a .n) ws (a .lead) in
+    let row = rowOf (a .n) ws (a .pattern) in
+    let tail = rowOf (a .n) ws (a .tail) in
     let pen = q .pre .1 .1 in
     let e = plan .planned .ensures in
     skip-fits (a .front) (a .back) (a .r) lead row tail (plan .planned .result) (e .0, e .1 .0, e .1 .1) (a .p) (led .rounds .result) (a .ms .now)
     (a .bs .now) _ _
     (pen .0, pen .1, pen .2) (q .pre .1 .0) (led .rounds .ensures) (q .pre .0 .1)
-    (short-times (a .r) row (short-row (a .d) (a .n) ws (q .pre .0 .0) (a .pattern))) (q .pre .0 .2) (pen .3)
+    (short-times (a .r) row (short-row (a .n) ws (q .pre .0 .0) (a .pattern))) (q .pre .0 .2) (pen .3)
 
 rounds-requires-2 : tie.Need-rounds-requires-2
 rounds-requires-2 c κs =
@@ -32,9 +32,9 @@ rounds-requires-2 c κs =
     let q = led .before .before .before .before .before .before .before in
     let a = q .args in
     let ws = a .words .now in
-    let lead = rowOf (a .d) (a .n) ws (a .lead) in
-    let row = rowOf (a .d) (a .n) ws (a .pattern) in
-    let tail = rowOf (a .d) (a .n) ws (a .tail) in
+    let lead = rowOf (a .n) ws (a .lead) in
+    let row = rowOf (a .n) ws (a .pattern) in
+    let tail = rowOf (a .n) ws (a .tail) in
     let pen = q .pre .1 .1 in (
       fine-pattern _ _ _ (fine-rounds (times 1 lead) _ _ _ _ (led .rounds .ensures)
           (record { few = omega (arith, pen .1); fits = omega (arith, pen .2, pen .4) })) (at .at-pattern .ensures),
@@ -50,9 +50,9 @@ rounds-requires-3 c κs =
     let q = led .before .before .before .before .before .before .before in
     let a = q .args in
     let ws = a .words .now in
-    let lead = rowOf (a .d) (a .n) ws (a .lead) in
-    let row = rowOf (a .d) (a .n) ws (a .pattern) in
-    let tail = rowOf (a .d) (a .n) ws (a .tail) in
+    let lead = rowOf (a .n) ws (a .lead) in
+    let row = rowOf (a .n) ws (a .pattern) in
+    let tail = rowOf (a .n) ws (a .tail) in
     let pen = q .pre .1 .1 in
     let f = fine-rounds (times 1 lead) _ _ _ _ (led .rounds .ensures) (record { few = omega (arith, pen .1); fits = omega (arith, pen .2, pen .4) }) in
     (fine-tail _ (times (a .r) row) _ _ _ _ _ _ _ _ f (at .at-pattern .ensures) (kept .rounds2 .ensures) (behind .at-tail .ensures), q .pre .0 .0)
@@ -88,9 +88,9 @@ returns c =
     let q = plan .before .before .before .before in
     let a = q .args in
     let ws = a .words .now in
-    let lead = rowOf (a .d) (a .n) ws (a .lead) in
-    let row = rowOf (a .d) (a .n) ws (a .pattern) in
-    let tail = rowOf (a .d) (a .n) ws (a .tail) in
+    let lead = rowOf (a .n) ws (a .lead) in
+    let row = rowOf (a .n) ws (a .pattern) in
+    let tail = rowOf (a .n) ws (a .tail) in
     let pen = q .pre .1 .1 in
     let e = plan .planned .ensures in
     let w =

@@ -14,10 +14,10 @@ returns c =
     let q = begun .before .before .before .before .before in
     let a = q .args in
     let ws = a .words .now in
-    let lead = rowOf (a .d) (a .n) ws (a .lead) in
-    let row = rowOf (a .d) (a .n) ws (a .pattern) in
-    let tail = rowOf (a .d) (a .n) ws (a .tail) in
-    let short = short-row (a .d) (a .n) ws (q .pre .0 .0) in
+    let lead = rowOf (a .n) ws (a .lead) in
+    let row = rowOf (a .n) ws (a .pattern) in
+    let tail = rowOf (a .n) ws (a .tail) in
+    let short = short-row (a .n) ws (q .pre .0 .0) in
     let e = begun .opening .ensures in
     told-part (a .front) (a .back) (a .r) lead row tail (short (a .lead)) (short (a .pattern)) (short (a .tail)) (begun .opening .result) (a .ms .now)
     (a .bs .now) _ _ _ (played .play-window .ensures)

@@ -25,7 +25,7 @@ returns c =
     let kept = ended .before .before .before .before .before .before .before in
     let led = kept .before .before .before .before .before .before .before in
     let a = led .before .before .before .before .before .before .args in
-    let row = rowOf (a .d) (a .n) (a .words .now) in
+    let row = rowOf (a .n) (a .words .now) in
     three-texts (row (a .lead)) (times (a .r) (row (a .pattern))) (row (a .tail)) _ _ _ _ (led .rounds .ensures) (kept .rounds2 .ensures)
     (ended .rounds3 .ensures)
 

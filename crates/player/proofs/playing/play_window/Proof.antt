@@ -11,7 +11,7 @@ returns c =
     let test = played .before .before .before in
     let q = test .before .before .before .before .before in
     let a = q .args in
-    let row = rowOf (a .d) (a .n) (a .words .now) in
+    let row = rowOf (a .n) (a .words .now) in
     let pen = q .pre .1 .1 in
     let w =
     wrote-uncut (a .front) (a .back) (a .r) (row (a .lead)) (row (a .pattern)) (row (a .tail)) (a .p) _ (a .ms .now) (a .bs .now) _ _

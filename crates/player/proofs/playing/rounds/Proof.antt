@@ -14,7 +14,7 @@ use Rattle.player.proofs.playing.rounds.Tie as tie
 returns : tie.Need-returns
 returns c =
     let a = c .before .before .before .before .args in
-    let row = rowOf (a .d) (a .n) (a .words .now) (a .s) in
+    let row = rowOf (a .n) (a .words .now) (a .s) in
     let g : Page = record { pen = a .p; ms = a .ms .now; bs = a .bs .now } in
     ⊎-elim (λ w. rounds-none row (a .r) g (w .taken)) (λ w. sym (play-none (times (a .r) row) g (eqb-true (a .p .todo) 0 (w .2 .taken)))) (c .if1 .came)
 
@@ -22,7 +22,7 @@ again-requires : tie.Need-again-requires
 again-requires c κs =
     let q = c .before .before .before .before .before .before .before .before .before .before .before .before .before .before .before in
     let a = q .args in
-    let l = (level 8 (a .d) (a .n) (a .words .now) (a .s .to) (a .s .from) 4227858432) in
+    let l = (level 8 (a .n) (a .words .now) (a .s .to) (a .s .from) 4227858432) in
     let e = c .before .before .before .before .before .before .items .ensures .0 in (
       fine-end _ l (record { pen = a .p; ms = a .ms .now; bs = a .bs .now }) e (q .pre .0),
       omega arith,
@@ -37,7 +37,7 @@ returns-2 c =
     let q = c .before .before .before .before .before .before .before .before .before .before .before .before .before .before .before
     .before .before .before .before .before in
     let a = q .args in
-    let l = (level 8 (a .d) (a .n) (a .words .now) (a .s .to) (a .s .from) 4227858432) in
+    let l = (level 8 (a .n) (a .words .now) (a .s .to) (a .s .from) 4227858432) in
     rounds-some (l .row) (a .r) (record { pen = a .p; ms = a .ms .now; bs = a .bs .now }) _ _
     (c .before .before .before .before .before .before .before .before .before .before .before .before .before .before .before .before .if1 .left)
     (end-page _ l (record { pen = a .p; ms = a .ms .now; bs = a .bs .now })

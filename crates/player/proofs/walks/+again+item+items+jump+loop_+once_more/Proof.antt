@@ -41,34 +41,34 @@ use Rattle.player.proofs.again.copies.Reads as copies-reads
 use Rattle.player.proofs.again.skipped.Reads as skipped-reads
 use Rattle.player.proofs.again.skips.Reads as skips-reads
 use Rattle.player.proofs.leaves.behind.Reads as behind-reads
-use Rattle.player.proofs.leaves.is_separator.Reads as is-separator-reads
-use Rattle.player.proofs.leaves.is_stop.Reads as is-stop-reads
-use Rattle.player.proofs.leaves.kind.Reads as kind-reads
-use Rattle.player.proofs.leaves.number.Reads as number-reads
+use Rattle.tokens.proofs.is_separator.Reads as is-separator-reads
+use Rattle.tokens.proofs.is_stop.Reads as is-stop-reads
+use Rattle.tokens.proofs.kind.Reads as kind-reads
+use Rattle.tokens.proofs.number.Reads as number-reads
 use Rattle.player.proofs.leaves.passes.Reads as passes-reads
-use Rattle.player.proofs.leaves.stretch_of.Reads as stretch-of-reads
-use Rattle.player.proofs.leaves.word_at.Reads as word-at-reads
 use Rattle.player.proofs.measures.measure.Reads as measure-reads
+use Rattle.score.proofs.stretch_of.Reads as stretch-of-reads
+use Rattle.score.proofs.word_at.Reads as word-at-reads
 use Rattle.player.proofs.walks.+again+item+items+jump+loop_+once_more.{statement}
 use Rattle.player.proofs.walks.+again+item+items+jump+loop_+once_more.Tie.{close}
 
 abbrev μ-again : Measures 3 again-kinds.ps ℕ
-μ-again κs a = 5 * (a .1 .1 .1 .1 .1 .1 .0) + 2
+μ-again κs a = 5 * (a .1 .1 .1 .1 .1 .0) + 2
 
 abbrev μ-item : Measures 3 item-kinds.ps ℕ
-μ-item κs a = 5 * (a .1 .1 .1 .1 .1 .1 .0) + 4
+μ-item κs a = 5 * (a .1 .1 .1 .1 .1 .0) + 4
 
 abbrev μ-items : Measures 3 items-kinds.ps ℕ
-μ-items κs a = 5 * (a .1 .1 .1 .1 .1 .1 .0)
+μ-items κs a = 5 * (a .1 .1 .1 .1 .1 .0)
 
 abbrev μ-jump : Measures 3 jump-kinds.ps ℕ
-μ-jump κs a = 5 * (a .1 .1 .1 .1 .1 .1 .0) + 3
+μ-jump κs a = 5 * (a .1 .1 .1 .1 .1 .0) + 3
 
 abbrev μ-loop- : Measures 3 loop--kinds.ps ℕ
-μ-loop- κs a = 5 * (a .1 .1 .1 .1 .1 .1 .0) + 3
+μ-loop- κs a = 5 * (a .1 .1 .1 .1 .1 .0) + 3
 
 abbrev μ-once-more : Measures 3 once-more-kinds.ps ℕ
-μ-once-more κs a = 5 * (a .1 .1 .1 .1 .1 .1 .0) + 1
+μ-once-more κs a = 5 * (a .1 .1 .1 .1 .1 .0) + 1
 
 abbrev again-at : ℕ → In 3 again-kinds.ps
 again-at t = and 3 again-kinds.ps (is 3 again-kinds.ps μ-again t) again.Pre
@@ -108,14 +108,14 @@ once-more-below t =
     and 3 once-more-kinds.ps (falls 3 once-more-kinds.ps _<_ μ-once-more t) once-more.Pre
 
 abbrev again-Inv-loop : again-lts.InvT-loop
-again-Inv-loop words d n to at last depth k ms₀ bs₀ before₀ after₀ i₀ ms bs before after i =
+again-Inv-loop words n to at last depth k ms₀ bs₀ before₀ after₀ i₀ ms bs before after i =
     (i ≤ k) × Fine after × (length ms ≡ length ms₀) × (length bs ≡ length bs₀)
-    × Took (level depth d n words to at last .row) before after ms bs
-    × (_≡_ {A = Page} (play (times (k - i) (level depth d n words to at last .row)) (record { pen = after; ms = ms; bs = bs }))
-    (play (times k (level depth d n words to at last .row)) (record { pen = after₀; ms = ms₀; bs = bs₀ })))
+    × Took (level depth n words to at last .row) before after ms bs
+    × (_≡_ {A = Page} (play (times (k - i) (level depth n words to at last .row)) (record { pen = after; ms = ms; bs = bs }))
+    (play (times k (level depth n words to at last .row)) (record { pen = after₀; ms = ms₀; bs = bs₀ })))
 
 abbrev again-μ-loop : again-lts.MeasureT-loop
-again-μ-loop words d n to at last depth k ms₀ bs₀ before₀ after₀ i₀ ms bs before after i = k - i
+again-μ-loop words n to at last depth k ms₀ bs₀ before₀ after₀ i₀ ms bs before after i = k - i
 
 again-skips-requires : (t : ℕ) → again-lts.Need-skips-requires (
   skips-reads.Asked,
@@ -148,7 +148,7 @@ again-returns : (t : ℕ) → again-lts.Need-returns (
 again-returns t c =
     let q = c .before .before .before .before .before .before in
     let a = q .args in
-    let r = (level (a .depth) (a .d) (a .n) (a .words .now) (a .to) (a .at) (a .last)) in
+    let r = (level (a .depth) (a .n) (a .words .now) (a .to) (a .at) (a .last)) in
     skipped-again (r .row) (a .p) (a .q) _ (a .k) (a .ms .now) (a .bs .now) (q .pre .1 .4)
     (c .before .before .skips .ensures (c .before .if1 .taken)) (c .skipped .ensures)
 
@@ -163,7 +163,7 @@ again-loop-holds : (t : ℕ) → again-lts.Need-loop-holds (
 again-loop-holds t c =
     let q = c .before .before .before .before .before in
     let a = q .args in
-    let r = (level (a .depth) (a .d) (a .n) (a .words .now) (a .to) (a .at) (a .last)) in
+    let r = (level (a .depth) (a .n) (a .words .now) (a .to) (a .at) (a .last)) in
     (omega arith, q .pre .1 .0, refl, refl, q .pre .1 .4, rw (sub-zero (a .k)))
 
 again-same-length : (t : ℕ) → again-lts.Need-same-length (
@@ -197,7 +197,7 @@ again-returns-2 : (t : ℕ) → again-lts.Need-returns-2 (
 again-returns-2 t c =
     let q = c .before .before .before .before .before .before .before .before .before in
     let a = q .args in
-    let r = (level (a .depth) (a .d) (a .n) (a .words .now) (a .to) (a .at) (a .last)) in
+    let r = (level (a .depth) (a .n) (a .words .now) (a .to) (a .at) (a .last)) in
     let l = c .before .before .before .loop in
     let g : Page = record { pen = l .after; ms = l .ms; bs = l .bs } in
     loop-early (r .row) _ g _ (c .if2 .taken) (l .inv .5)
@@ -243,7 +243,7 @@ again-loop-again : (t : ℕ) → again-lts.Need-loop-again (
 again-loop-again t c =
     let q = c .before .before .before .before .before .before .before .before .before .before .before .before .before .before .before .before in
     let a = q .args in
-    let r = (level (a .depth) (a .d) (a .n) (a .words .now) (a .to) (a .at) (a .last)) in
+    let r = (level (a .depth) (a .n) (a .words .now) (a .to) (a .at) (a .last)) in
     let l = c .before .before .before .before .before .before .before .before .before .before .loop in
     let g : Page = record { pen = l .after; ms = l .ms; bs = l .bs } in
     let e = c .before .before .before .before .once-more .ensures in (
@@ -287,7 +287,7 @@ again-returns-3 : (t : ℕ) → again-lts.Need-returns-3 (
 again-returns-3 t c =
     let q = c .before .before .before .before .before .before .before in
     let a = q .args in
-    let r = (level (a .depth) (a .d) (a .n) (a .words .now) (a .to) (a .at) (a .last)) in
+    let r = (level (a .depth) (a .n) (a .words .now) (a .to) (a .at) (a .last)) in
     let l = c .before .loop in
     let g : Page = record { pen = l .after; ms = l .ms; bs = l .bs } in
     loop-over (r .row) (a .k) (l .i) g _ (c .loop-test .left) (l .inv .5)
@@ -421,8 +421,8 @@ item-returns t c =
     let a = q .args in
     let ws = a .words .now in
     let g : Page = record { pen = a .p; ms = a .ms .now; bs = a .bs .now } in
-    let inner = level (a .depth) (a .d) (a .n) ws in (
-      item-loop inner (a .d) (a .n) ws (a .to) (a .at) (a .last) _ _ _ g
+    let inner = level (a .depth) (a .n) ws in (
+      item-loop inner (a .n) ws (a .to) (a .at) (a .last) _ _ _ g
           (c .before .before .before .before .before .before .before .before .before .word-at .ensures)
           (c .before .before .before .before .before .before .before .before .kind .ensures)
           (c .before .before .before .before .before .before .before .if1 .taken) (c .before .before .before .before .loop- .ensures .0),
@@ -522,8 +522,8 @@ item-returns-2 t c =
     let a = q .args in
     let ws = a .words .now in
     let g : Page = record { pen = a .p; ms = a .ms .now; bs = a .bs .now } in
-    let inner = level (a .depth) (a .d) (a .n) ws in (
-      item-refer inner (a .d) (a .n) ws (a .to) (a .at) (a .last) _ _ _ _ g
+    let inner = level (a .depth) (a .n) ws in (
+      item-refer inner (a .n) ws (a .to) (a .at) (a .last) _ _ _ _ g
           (c .before .before .before .before .before .before .before .before .before .before .before .word-at .ensures)
           (c .before .before .before .before .before .before .before .before .before .before .kind .ensures)
           (c .before .before .before .before .before .before .before .before .before .if1 .left)
@@ -551,7 +551,7 @@ item-is-separator-requires : (t : ℕ) → item-lts.Need-is-separator-requires (
 ) (item-at t) item.Post
 item-is-separator-requires t c κs = search needs
 
-item-add-t25 : (t : ℕ) → item-lts.Need-add-t25 (
+item-add-t24 : (t : ℕ) → item-lts.Need-add-t24 (
   word-at-reads.Asked,
   word-at-reads.Learnt,
   kind-reads.Asked,
@@ -567,7 +567,7 @@ item-add-t25 : (t : ℕ) → item-lts.Need-add-t25 (
   measure-reads.Asked,
   measure-reads.Learnt,
 ) (item-at t) item.Post
-item-add-t25 t c = search needs
+item-add-t24 t c = search needs
 
 item-returns-3 : (t : ℕ) → item-lts.Need-returns-3 (
   word-at-reads.Asked,
@@ -590,8 +590,8 @@ item-returns-3 t c =
     let a = q .args in
     let ws = a .words .now in
     let g : Page = record { pen = a .p; ms = a .ms .now; bs = a .bs .now } in
-    let inner = level (a .depth) (a .d) (a .n) ws in (
-      item-separator inner (a .d) (a .n) ws (a .to) (a .at) (a .last) _ _ _ g (c .before .before .before .before .before .word-at .ensures)
+    let inner = level (a .depth) (a .n) ws in (
+      item-separator inner (a .n) ws (a .to) (a .at) (a .last) _ _ _ g (c .before .before .before .before .before .word-at .ensures)
           (c .before .before .before .before .kind .ensures) (c .before .before .before .if1 .left) (c .before .before .if2 .left)
           (c .before .is-separator .ensures) (c .if3 .taken),
       q .pre .1 .1,
@@ -672,8 +672,8 @@ item-returns-4 t c =
     let a = q .args in
     let ws = a .words .now in
     let g : Page = record { pen = a .p; ms = a .ms .now; bs = a .bs .now } in
-    let inner = level (a .depth) (a .d) (a .n) ws in (
-      item-one inner (a .d) (a .n) ws (a .to) (a .at) (a .last) _ _ _ _ g
+    let inner = level (a .depth) (a .n) ws in (
+      item-one inner (a .n) ws (a .to) (a .at) (a .last) _ _ _ _ g
           (c .before .before .before .before .before .before .before .before .before .before .before .before .word-at .ensures)
           (c .before .before .before .before .before .before .before .before .before .before .before .kind .ensures)
           (c .before .before .before .before .before .before .before .before .before .before .if1 .left)
@@ -684,13 +684,13 @@ item-returns-4 t c =
     )
 
 abbrev items-Inv-loop : items-lts.InvT-loop
-items-Inv-loop words d n to at last depth ms₀ bs₀ w₀ ms bs w =
+items-Inv-loop words n to at last depth ms₀ bs₀ w₀ ms bs w =
     (f : ℕ) × (to ≤ w .at + f) × (w .last ≤ 4227858432) × Fine (w .pen) × (length ms ≡ length ms₀) × (length bs ≡ length bs₀)
-    × (_≡_ {A = End} (finish (rowsBy (level (depth - 1) d n words) d n words f to (w .at) (w .last))
-    (record { pen = w .pen; ms = ms; bs = bs })) (finish (level depth d n words to at last) (record { pen = w₀ .pen; ms = ms₀; bs = bs₀ })))
+    × (_≡_ {A = End} (finish (rowsBy (level (depth - 1) n words) n words f to (w .at) (w .last))
+    (record { pen = w .pen; ms = ms; bs = bs })) (finish (level depth n words to at last) (record { pen = w₀ .pen; ms = ms₀; bs = bs₀ })))
 
 abbrev items-μ-loop : items-lts.MeasureT-loop
-items-μ-loop words d n to at last depth ms₀ bs₀ w₀ ms bs w = to - w .at
+items-μ-loop words n to at last depth ms₀ bs₀ w₀ ms bs w = to - w .at
 
 items-returns : (t : ℕ) → items-lts.Need-returns (
   word-at-reads.Asked,
@@ -707,8 +707,8 @@ items-returns t c =
     let a = q .args in
     let ws = a .words .now in
     let g : Page = record { pen = a .p; ms = a .ms .now; bs = a .bs .now } in
-    let inner = level (a .depth) (a .d) (a .n) ws in
-    (level-none (a .depth) (a .d) (a .n) ws (a .to) (a .at) (a .last) g (c .if1 .taken), q .pre .1 .1)
+    let inner = level (a .depth) (a .n) ws in
+    (level-none (a .depth) (a .n) ws (a .to) (a .at) (a .last) g (c .if1 .taken), q .pre .1 .1)
 
 items-loop-holds : (t : ℕ) → items-lts.Need-loop-holds (
   word-at-reads.Asked,
@@ -725,14 +725,14 @@ items-loop-holds t c =
     let a = q .args in
     let ws = a .words .now in
     let g : Page = record { pen = a .p; ms = a .ms .now; bs = a .bs .now } in
-    let inner = level (a .depth) (a .d) (a .n) ws in (
+    let inner = level (a .depth) (a .n) ws in (
       a .to,
       omega arith,
       q .pre .1 .1,
       q .pre .1 .0,
       refl,
       refl,
-      ap (λ (r : Read). finish r g) (level-more (a .depth) (a .d) (a .n) ws (a .to) (a .at) (a .last) (c .if1 .left)),
+      ap (λ (r : Read). finish r g) (level-more (a .depth) (a .n) ws (a .to) (a .at) (a .last) (c .if1 .left)),
     )
 
 items-word-at-requires : (t : ℕ) → items-lts.Need-word-at-requires (
@@ -810,10 +810,10 @@ items-returns-2 t c =
     let ws = a .words .now in
     let l = c .before .before .before .before .loop in
     let g : Page = record { pen = l .w .pen; ms = l .ms; bs = l .bs } in
-    let inner = level (a .depth - 1) (a .d) (a .n) ws in
+    let inner = level (a .depth - 1) (a .n) ws in
     let t = stop-test ws (a .to) (l .w .at) _ _ (c .before .is-stop .result) _ (c .before .before .before .word-at .ensures)
     (c .before .before .kind .ensures) (c .before .is-stop .ensures) (c .if2 .taken) in
-    (rows-end _ (l .w .at) (l .w .last) g _ (rows-stop inner (a .d) (a .n) ws (l .inv .0) (a .to) (l .w .at) (l .w .last) t) (l .inv .6), l .inv .2)
+    (rows-end _ (l .w .at) (l .w .last) g _ (rows-stop inner (a .n) ws (l .inv .0) (a .to) (l .w .at) (l .w .last) t) (l .inv .6), l .inv .2)
 
 items-sub-item : (t : ℕ) → items-lts.Need-sub-item (
   word-at-reads.Asked,
@@ -842,7 +842,7 @@ items-item-requires t c κs =
     let ws = a .words .now in
     let l = c .before .before .before .before .before .before .loop in
     let g : Page = record { pen = l .w .pen; ms = l .ms; bs = l .bs } in
-    let inner = level (a .depth - 1) (a .d) (a .n) ws in
+    let inner = level (a .depth - 1) (a .n) ws in
     let t = stop-test ws (a .to) (l .w .at) _ _ (c .before .before .before .is-stop .result) _
     (c .before .before .before .before .before .word-at .ensures) (c .before .before .before .before .kind .ensures)
     (c .before .before .before .is-stop .ensures) (c .before .before .if2 .left) in
@@ -864,16 +864,16 @@ items-loop-less t c =
     let ws = a .words .now in
     let l = c .before .before .before .before .before .before .before .before .before .before .before .loop in
     let g : Page = record { pen = l .w .pen; ms = l .ms; bs = l .bs } in
-    let inner = level (a .depth - 1) (a .d) (a .n) ws in
+    let inner = level (a .depth - 1) (a .n) ws in
     let t = stop-test ws (a .to) (l .w .at) _ _ (c .before .before .before .before .before .before .before .before .is-stop .result) _
     (c .before .before .before .before .before .before .before .before .before .before .word-at .ensures)
     (c .before .before .before .before .before .before .before .before .before .kind .ensures)
     (c .before .before .before .before .before .before .before .before .is-stop .ensures)
     (c .before .before .before .before .before .before .before .if2 .left) in
     let h = stop-inside ws (a .to) (l .w .at) t in
-    let e = end-onward (l .w .at + 1) _ (itemOf inner (a .d) (a .n) ws (a .to) (l .w .at) (l .w .last)) g
+    let e = end-onward (l .w .at + 1) _ (itemOf inner (a .n) ws (a .to) (l .w .at) (l .w .last)) g
     (c .before .before .before .before .item .ensures .0)
-    (item-onward inner (a .d) (a .n) ws (a .to) (l .w .at) (l .w .last) (level-onward (a .depth - 1) (a .d) (a .n) ws) t) in
+    (item-onward inner (a .n) ws (a .to) (l .w .at) (l .w .last) (level-onward (a .depth - 1) (a .n) ws) t) in
     omega (arith, e, h)
 
 items-loop-again : (t : ℕ) → items-lts.Need-loop-again (
@@ -891,24 +891,24 @@ items-loop-again t c =
     let ws = a .words .now in
     let l = c .before .before .before .before .before .before .before .before .before .before .before .loop in
     let g : Page = record { pen = l .w .pen; ms = l .ms; bs = l .bs } in
-    let inner = level (a .depth - 1) (a .d) (a .n) ws in
+    let inner = level (a .depth - 1) (a .n) ws in
     let t = stop-test ws (a .to) (l .w .at) _ _ (c .before .before .before .before .before .before .before .before .is-stop .result) _
     (c .before .before .before .before .before .before .before .before .before .before .word-at .ensures)
     (c .before .before .before .before .before .before .before .before .before .kind .ensures)
     (c .before .before .before .before .before .before .before .before .is-stop .ensures)
     (c .before .before .before .before .before .before .before .if2 .left) in
     let h = stop-inside ws (a .to) (l .w .at) t in
-    let e = end-onward (l .w .at + 1) _ (itemOf inner (a .d) (a .n) ws (a .to) (l .w .at) (l .w .last)) g
+    let e = end-onward (l .w .at + 1) _ (itemOf inner (a .n) ws (a .to) (l .w .at) (l .w .last)) g
     (c .before .before .before .before .item .ensures .0)
-    (item-onward inner (a .d) (a .n) ws (a .to) (l .w .at) (l .w .last) (level-onward (a .depth - 1) (a .d) (a .n) ws) t) in (
+    (item-onward inner (a .n) ws (a .to) (l .w .at) (l .w .last) (level-onward (a .depth - 1) (a .n) ws) t) in (
       l .inv .0 - 1,
       omega (arith, e, h, l .inv .1),
       c .before .before .before .before .item .ensures .1,
-      fine-end _ (itemOf inner (a .d) (a .n) ws (a .to) (l .w .at) (l .w .last)) g (c .before .before .before .before .item .ensures .0)
+      fine-end _ (itemOf inner (a .n) ws (a .to) (l .w .at) (l .w .last)) g (c .before .before .before .before .item .ensures .0)
           (l .inv .3),
       search needs,
       search needs,
-      rows-next inner (a .d) (a .n) ws (l .inv .0) (a .to) (l .w .at) (l .w .last) g _ _
+      rows-next inner (a .n) ws (l .inv .0) (a .to) (l .w .at) (l .w .last) g _ _
           (omega (arith, h, l .inv .1)) t (c .before .before .before .before .item .ensures .0) (l .inv .6),
     )
 
@@ -928,13 +928,13 @@ jump-items-requires : (t : ℕ) → jump-lts.Need-items-requires (
 ) (jump-at t) jump.Post
 jump-items-requires t c κs = search needs
 
-jump-add-t18 : (t : ℕ) → jump-lts.Need-add-t18 (
+jump-add-t17 : (t : ℕ) → jump-lts.Need-add-t17 (
   stretch-of-reads.Asked,
   stretch-of-reads.Learnt,
   items-below t,
   items.Post,
 ) (jump-at t) jump.Post
-jump-add-t18 t c = search needs
+jump-add-t17 t c = search needs
 
 jump-same-length : (t : ℕ) → jump-lts.Need-same-length (
   stretch-of-reads.Asked,
@@ -963,8 +963,8 @@ jump-returns t c =
     let a = q .args in
     let ws = a .words .now in
     let g : Page = record { pen = a .p; ms = a .ms .now; bs = a .bs .now } in
-    let inner = level (a .depth) (a .d) (a .n) ws in (
-      refer-done inner (a .d) (a .n) ws (a .x) (a .at) (a .last) _ _ g
+    let inner = level (a .depth) (a .n) ws in (
+      refer-done inner (a .n) ws (a .x) (a .at) (a .last) _ _ g
           (c .before .before .before .before .before .before .before .before .stretch-of .ensures)
           (c .before .before .before .before .before .items .ensures .0),
       c .before .before .before .before .before .items .ensures .1,
@@ -1019,7 +1019,7 @@ loop--again-requires : (t : ℕ) → loop--lts.Need-again-requires (
 loop--again-requires t c κs =
     let q = c .before .before .before .before .before .before .before .before .before .before .before .before .before .before in
     let a = q .args in
-    let r = (level (a .depth) (a .d) (a .n) (a .words .now) (a .to) (a .at) (a .last)) in
+    let r = (level (a .depth) (a .n) (a .words .now) (a .to) (a .at) (a .last)) in
     let e = c .before .before .before .before .before .before .before .before .items .ensures .0 in (
       omega (arith, q .pre .0),
       (
@@ -1075,7 +1075,7 @@ loop--returns t c =
     .before .before .before .before .args in
     let ws = a .words .now in
     let e = c .before .before .before .before .before .before .before .before .before .before .before .before .before .items .ensures in (
-      loop-done (level (a .depth) (a .d) (a .n) ws) (a .d) (a .n) ws (a .to) (a .at) (a .last) _ _ _
+      loop-done (level (a .depth) (a .n) ws) (a .n) ws (a .to) (a .at) (a .last) _ _ _
           (record { pen = a .p; ms = a .ms .now; bs = a .bs .now }) _ (e .0)
           (c .before .before .before .before .before .before .before .before .passes .ensures .0)
           (c .before .before .before .before .before .before .before .behind .ensures .0) (c .before .before .before .before .again .ensures),
@@ -1125,7 +1125,7 @@ once-more-returns : (t : ℕ) → once-more-lts.Need-returns (
 once-more-returns t c =
     let q = c .before .before .before .before .before .before in
     let a = q .args in
-    let r = (level (a .depth) (a .d) (a .n) (a .words .now) (a .to) (a .at) (a .last)) in
+    let r = (level (a .depth) (a .n) (a .words .now) (a .to) (a .at) (a .last)) in
     skipped-once (r .row) (a .p) (a .q) _ (a .ms .now) (a .bs .now) (q .pre .1 .4)
     (c .before .before .skips .ensures (c .before .if1 .taken)) (c .skipped .ensures)
 
@@ -1158,7 +1158,7 @@ once-more-copied-requires : (t : ℕ) → once-more-lts.Need-copied-requires (
 once-more-copied-requires t c κs =
     let q = c .before .before .before .before .before .before .before .before .before in
     let a = q .args in
-    let r = (level (a .depth) (a .d) (a .n) (a .words .now) (a .to) (a .at) (a .last)) in
+    let r = (level (a .depth) (a .n) (a .words .now) (a .to) (a .at) (a .last)) in
     let o = took-onward (r .row) (a .p) (a .q) (a .ms .now) (a .bs .now) (q .pre .1 .4) in
     (q .pre .1 .0, c .before .before .before .copies .ensures (c .before .before .if2 .taken), o .0, o .1)
 
@@ -1205,7 +1205,7 @@ once-more-returns-2 : (t : ℕ) → once-more-lts.Need-returns-2 (
 once-more-returns-2 t c =
     let q = c .before .before .before .before .before .before .before .before .before .before .before .before .before .before in
     let a = q .args in
-    let r = (level (a .depth) (a .d) (a .n) (a .words .now) (a .to) (a .at) (a .last)) in
+    let r = (level (a .depth) (a .n) (a .words .now) (a .to) (a .at) (a .last)) in
     let e = c .before .before .before .before .copied .ensures in
     copied-again (r .row) (a .p) (a .q) _ (a .ms .now) (a .bs .now) _ _ (q .pre .1 .0) (q .pre .1 .4)
     (c .before .before .before .before .before .before .before .before .copies .ensures
@@ -1268,7 +1268,7 @@ once-more-returns-3 : (t : ℕ) → once-more-lts.Need-returns-3 (
 once-more-returns-3 t c =
     let q = c .before .before .before .before .before .before .before .before .before .before .before .before .before .before .before in
     let a = q .args in
-    let r = (level (a .depth) (a .d) (a .n) (a .words .now) (a .to) (a .at) (a .last)) in
+    let r = (level (a .depth) (a .n) (a .words .now) (a .to) (a .at) (a .last)) in
     end-page _ r (record { pen = a .q; ms = a .ms .now; bs = a .bs .now }) (c .before .before .before .before .before .items .ensures .0)
 
 pub +again+item+items+jump+loop-+once-more-spec : {M : Type 1} → statement M
@@ -1330,7 +1330,7 @@ pub +again+item+items+jump+loop-+once-more-spec : {M : Type 1} → statement M
     (item-same-length-4 t)
     (item-returns-2 t)
     (item-is-separator-requires t)
-    (item-add-t25 t)
+    (item-add-t24 t)
     (item-returns-3 t)
     (item-measure-requires t)
     (item-same-length-5 t)
@@ -1372,7 +1372,7 @@ pub +again+item+items+jump+loop-+once-more-spec : {M : Type 1} → statement M
     jump.Post
     (jump-stretch-of-requires t)
     (jump-items-requires t)
-    (jump-add-t18 t)
+    (jump-add-t17 t)
     (jump-same-length t)
     (jump-same-length-2 t)
     (jump-returns t))

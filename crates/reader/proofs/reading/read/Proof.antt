@@ -3,6 +3,7 @@ use Rattle.judging.proofs.VerdictLaws.{early-refused, first-clear}
 use Rattle.reader.proofs.AnswerLaws.{promised-refused}
 use Rattle.judging.proofs.StageLaws.{input-small}
 use Rattle.reader.specs.Answers.{Lent, roomOf}
+use native.Mathlib.Omega.{arith}
 use borrow.Author.Needs.{needs}
 use Rattle.reader.proofs.reading.read.Statement.{statement}
 use Rattle.reader.proofs.reading.read.Tie as tie
@@ -22,7 +23,7 @@ read-short-requires c κs =
     let early = c .before .before .before .before .before .before .before .before .first-stages in
     let clear = first-clear (c .before .before .before .before .before .before .before .before .before .before .before .before .before
     .before .before .args .text .now) (early .result) (early .ensures) (c .before .before .before .before .before .before .if1 .left) in
-    (clear .0, clear .1, c .before .before .before .before .before .if2 .taken)
+    (clear .0, clear .1, omega (arith, c .before .before .before .before .before .if2 .taken))
 
 returns-2 : tie.Need-returns-2
 returns-2 c = search needs
@@ -32,7 +33,7 @@ read-long-requires c κs =
     let s = c .before .before .before .before .before .before .before .before .before .before .before .before .before .before .before .args .text .now in
     let early = c .before .before .before .before .before .before .before .before .first-stages in
     let clear = first-clear s (early .result) (early .ensures) (c .before .before .before .before .before .before .if1 .left) in
-    (clear .0, clear .1, input-small s (clear .0))
+    (clear .0, clear .1, omega (arith, input-small s (clear .0)))
 
 pub read-spec : {M : Type 1} → statement M
 read-spec =

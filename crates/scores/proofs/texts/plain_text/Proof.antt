@@ -7,7 +7,7 @@ use Rattle.scores.proofs.texts.plain_text.Tie as tie
 returns : tie.Need-returns
 returns c =
     let a = c .before .before .args in
-    ap (λ (o : Outline). record { at = a .at; outline = o }) (c .outline-of .ensures)
+    ap (λ (o : Outline). record { at = a .at; outline = o }) (c .outline-of .ensures .0)
 
 pub plain-text-spec : {M : Type 1} → statement M
 plain-text-spec = tie.close (tie.spec (λ c κs. search needs) returns)

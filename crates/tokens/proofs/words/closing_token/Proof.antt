@@ -30,4 +30,4 @@ returns-2 c =
 pub closing-token-spec : {M : Type 1} → statement M
 closing-token-spec =
     tie.close
-    (tie.spec (λ c κs. search needs) (λ c. search needs) (λ c. search needs) returns (λ c. search needs) add-result cast-result returns-2)
+    (tie.spec (λ c κs. search needs) (λ c. search needs) (λ c. search needs) returns add-result cast-result returns-2)

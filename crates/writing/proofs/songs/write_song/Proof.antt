@@ -20,8 +20,8 @@ use Rattle.writing.proofs.songs.write_song.Statement.{statement}
 use Rattle.writing.proofs.songs.write_song.Tie as tie
 
 abbrev Inv-loop : tie.InvT-loop
-Inv-loop s score song words₀ sections₀ measures₀ beats₀ place₀ k₀ m₀ b₀ words sections measures beats place k m b =
-    Along s words score place m b
+Inv-loop s mark song words₀ sections₀ measures₀ beats₀ place₀ k₀ m₀ b₀ words sections measures beats place k m b =
+    Along s words mark place m b
     × (length words ≡ length words₀)
     × (length sections ≡ length sections₀)
     × (length measures ≡ length measures₀)
@@ -34,7 +34,7 @@ Inv-loop s score song words₀ sections₀ measures₀ beats₀ place₀ k₀ m�
     × Wrote beats₀ b beats (gather (map beatWord) (gather (played (songOf s)) (sectionsFrom s place))) (tables (songOf s) .beats)
 
 abbrev μ-loop : tie.MeasureT-loop
-μ-loop s score song words₀ sections₀ measures₀ beats₀ place₀ k₀ m₀ b₀ words sections measures beats place k m b = length s - place .at
+μ-loop s mark song words₀ sections₀ measures₀ beats₀ place₀ k₀ m₀ b₀ words sections measures beats place k m b = length s - place .at
 
 -- The section that is opened is played in its own N.
 meter : (c : tie.After-meter-of Inv-loop μ-loop) → c .meter-of .result
@@ -98,7 +98,7 @@ section-word-requires c κs = let y = c .before .before .before .before .before 
     let m = along-measures (l .inv .0) x i (o .ensures .1 .0) n (meter y) (counts .result .measures) (counts .ensures .0 .0) in
     let b = along-beats (l .inv .0) x i (o .ensures .1 .0) n (meter y) (counts .result .beats) (counts .ensures .0 .1) in
     let onward = l .inv .0 .onward in
-    let small = l .inv .0 .ready .told .small in
+    let small = l .inv .0 .ready .small in
     let header = i .met .read .header in
     let few = meter-range (songOf (y .before .before .before .before .before .before .before .before .before .before .before .before .before
     .before .before .args .s .now)) (sectionAt (y .before .before .before .before .before .before .before .before .before .before
@@ -117,7 +117,7 @@ mul-sections : tie.Need-mul-sections Inv-loop μ-loop
 mul-sections c =
     let l = c .before .before .before .before .before .before .before .before .before .before .before .before .before .before .before
     .before .before .before .before .loop in
-    omega (arith, l .inv .5, l .inv .0 .onward .inside, l .inv .0 .ready .told .small)
+    omega (arith, l .inv .5, l .inv .0 .onward .inside, l .inv .0 .ready .small)
 
 slice-write-sections : tie.Need-slice-write-sections Inv-loop μ-loop
 slice-write-sections c =
@@ -128,7 +128,7 @@ add-k : tie.Need-add-k Inv-loop μ-loop
 add-k c =
     let l = c .before .before .before .before .before .before .before .before .before .before .before .before .before .before .before
     .before .before .before .before .loop in
-    omega (arith, l .inv .5, l .inv .0 .onward .inside, l .inv .0 .ready .told .small)
+    omega (arith, l .inv .5, l .inv .0 .onward .inside, l .inv .0 .ready .small)
 
 add-m : tie.Need-add-m Inv-loop μ-loop
 add-m c = let y = c .before .before .before .before .before .before .before .before .before .before .before in

@@ -1,0 +1,3 @@
+-- Laws of the definitions that the proofs of the functions cite.
+pub mod WordLaws
+pub mod PlaceLaws
