@@ -10,13 +10,14 @@ use borrow.Author.Tests.{eq-eqb, le-leb}
 use Rattle.songcode.specs.Lists.{orElse, every, gather}
 use Rattle.songcode.specs.Song.{bpm, Key, Section, Song}
 use Rattle.songcode.specs.answer.Playing.{Beat}
-use Rattle.songcode.specs.answer.Tables.{Tables, sectionWord, measureWord, measureWords}
+use Rattle.songcode.specs.answer.Tables.{Tables}
+use Rattle.songcode.specs.description.Layout.{sectionsRow, measuresRow, laid}
 use Rattle.songcode.specs.answer.Answer.{Room, answer, accepted}
 use Rattle.songcode.specs.description.WrittenPattern.{Number}
 use Rattle.songcode.specs.description.WrittenSection.{Each, none-each, and-each}
 use Rattle.songcode.specs.description.Performance.{Says, Parts, PlaysSection, joined}
 use Rattle.songcode.specs.description.Fits.{Fits}
-use Rattle.songcode.specs.description.WrittenTables.{partsWords}
+use Rattle.songcode.specs.description.WrittenTables.{partsWords, rowWords}
 use Rattle.songcode.specs.FlatDemands.{Within}
 use Rattle.songcode.specs.description.Joined.{firstBeat, beatCount, endBeat, follows, isShort, measuresJoin, firstMeasure, measureCount, covers, joinUp}
 use Rattle.songcode.proofs.AnswerAgree.{accepted-exactly}
@@ -39,8 +40,8 @@ tempo-fits s x p h =
 
 -- A section's word gives back the two fields that have to follow on one another.
 section-says : (header first measures n tempo : ℕ) → first < 65536 → measures < 65536 → n < 64 → tempo < 512
-    → (firstMeasure (sectionWord header first measures n tempo) ≡ first) × (measureCount (sectionWord header first measures n tempo) ≡ measures)
-unfolding sectionWord firstMeasure measureCount
+    → let word = laid sectionsRow (header ∷ first ∷ measures ∷ n ∷ tempo ∷ []) in (firstMeasure word ≡ first) × (measureCount word ≡ measures)
+unfolding laid sectionsRow firstMeasure measureCount
 section-says header first measures n tempo f m b t = (omega arith, omega arith)
 
 sections-cover : (s : Song) (first total : ℕ) {xs : List Section} {ps : List Parts} → Each (PlaysSection s) xs ps → first + allLength ps ≡ total → total ≤ 65535
@@ -53,13 +54,13 @@ sections-cover s first total (and-each {x} {y = p} h hs) e l =
     rw (r .0, r .1, eq-eqb first first refl) (sections-cover s (first + length (joined p)) total hs (omega arith) l)
 
 -- A measure's word gives back its first beat, wherever that is, and its beats.
-measure-says : (first beats : ℕ) → beats ≤ 32 → (firstBeat (measureWord first beats) ≡ first) × (beatCount (measureWord first beats) ≡ beats)
-unfolding measureWord firstBeat beatCount
+measure-says : (first beats : ℕ) → beats ≤ 32 → let word = laid measuresRow (first ∷ beats ∷ []) in (firstBeat word ≡ first) × (beatCount word ≡ beats)
+unfolding laid measuresRow firstBeat beatCount
 measure-says first beats b = (omega arith, omega arith)
 
 measures-follow : (beat : ℕ) (row : List (List Beat)) → Within 32 row
-    → (follows beat (measureWords beat row) ≡ true) × (every isShort (measureWords beat row) ≡ true) × (length (measureWords beat row) ≡ length row)
-unfolding follows every isShort endBeat measureWords Within
+    → (follows beat (rowWords beat row) ≡ true) × (every isShort (rowWords beat row) ≡ true) × (length (rowWords beat row) ≡ length row)
+unfolding follows every isShort endBeat rowWords Within
 measures-follow beat [] w = (refl, refl, refl)
 measures-follow beat (m ∷ row) w =
     let r = measure-says beat (length m) (w .1) in
@@ -86,7 +87,7 @@ all-within s (and-each {x} {y = p} {ys = ps} h hs) r =
     let l = length-append (joined p) (gather joined ps) in
     (within-behind (p .meter) (joined p) (gather joined ps) (meter-most s x p h) (r .0 .0) (g .0), omega arith)
 
-words-join : (s : Song) (ps : List Parts) → Fits s ps → Ready ps → joinUp (partsWords 0 (s .sections) ps) (measureWords 0 (gather joined ps)) ≡ true
+words-join : (s : Song) (ps : List Parts) → Fits s ps → Ready ps → joinUp (partsWords 0 (s .sections) ps) (rowWords 0 (gather joined ps)) ≡ true
 unfolding joinUp measuresJoin
 words-join s ps f r =
     let w = all-within s (f .plays) r in

@@ -5,15 +5,15 @@ use mathlib.Core.List.{List, [], _∷_, _++_}
 use mathlib.Core.Bool.{Bool, true, false, not, _&&_}
 use mathlib.Core.Option.{Option, none, some}
 use lib.Dec.{leb, ltb}
-use borrow.Author.Tests.{not-false}
 use Rattle.songcode.specs.Lists.{isEmpty, isSome, any}
 use Rattle.songcode.specs.Complaints.{complainIf}
-use Rattle.songcode.specs.Song.{Items, Modifier, Section, Song}
+use Rattle.songcode.specs.Song.{Items, Section, Song, Modifiers, unmodified}
 use Rattle.songcode.specs.answer.References.{patternItems}
-use Rattle.songcode.specs.answer.Playing.{saidBy, beforeSaid, afterSaid, sideMeasures, keptMeasures, timeOf, played}
+use Rattle.songcode.specs.answer.Playing.{sideMeasures, keptMeasures, timeOf, played}
 use Rattle.songcode.specs.answer.Meter.{sectionCount, mostMeasures, cutFaults, lengthFaults}
 use Rattle.songcode.specs.answer.Flat.{playsNothing}
-use Rattle.songcode.proofs.ListLaws.{Each, append-is-nil, complainIf-nil, isEmpty-true, true-is-not-false}
+use Rattle.songcode.proofs.ListLaws.{Each, append-is-nil, complainIf-nil, true-is-not-false}
+use Rattle.songcode.proofs.SectionPlays.{none-said}
 
 -- A list with something in its middle is not empty.
 some-between : {A : Type 0} (a b c : List A) → isEmpty b ≡ false → isEmpty (a ++ b ++ c) ≡ false
@@ -22,18 +22,17 @@ some-between [] [] c e = true-is-not-false refl e
 some-between [] (y ∷ b) c e = refl
 some-between (x ∷ a) b c e = refl
 
-nothing-said : (n : ℕ) (ms : List Modifier) → ms ≡ []
-    → isEmpty (sideMeasures n (saidBy beforeSaid ms) ++ keptMeasures n ms none ++ sideMeasures n (saidBy afterSaid ms)) ≡ true
-unfolding saidBy sideMeasures keptMeasures isEmpty
+nothing-said : (n : ℕ) (ms : Modifiers) → ms ≡ unmodified
+    → isEmpty (sideMeasures n (ms .before) ++ keptMeasures n ms none ++ sideMeasures n (ms .after)) ≡ true
+unfolding unmodified sideMeasures keptMeasures isEmpty
 nothing-said n ms e = rw e
 
-module _ (n header : ℕ) (ms : List Modifier) where
+module _ (n header : ℕ) (ms : Modifiers) where
   silent : (o : Option Items) → cutFaults n header ms o ≡ []
-      → isEmpty (sideMeasures n (saidBy beforeSaid ms) ++ keptMeasures n ms o ++ sideMeasures n (saidBy afterSaid ms)) ≡ not (isSome o)
+      → isEmpty (sideMeasures n (ms .before) ++ keptMeasures n ms o ++ sideMeasures n (ms .after)) ≡ not (isSome o)
   unfolding cutFaults isSome
-  silent none e =
-      nothing-said n ms (isEmpty-true ms (not-false (isEmpty ms) (complainIf-nil _ 15 header e)))
-  silent (some r) e = some-between (sideMeasures n (saidBy beforeSaid ms)) (keptMeasures n ms (some r)) (sideMeasures n (saidBy afterSaid ms))
+  silent none e = nothing-said n ms (none-said ms .0 (complainIf-nil _ 15 header e))
+  silent (some r) e = some-between (sideMeasures n (ms .before)) (keptMeasures n ms (some r)) (sideMeasures n (ms .after))
       (complainIf-nil _ 15 header e)
 
 -- It plays nothing exactly where its pattern is empty.

@@ -10,9 +10,9 @@ use lib.Dec.{leb}
 use lib.ListN.{length, length-map}
 use borrow.Author.Tests.{leb-true, leb-false}
 use Rattle.songcode.specs.Lists.{andThen, times}
-use Rattle.songcode.specs.Song.{Items, Section, Song}
+use Rattle.songcode.specs.Song.{Items, Section, Song, Side}
 use Rattle.songcode.specs.answer.References.{patternItems}
-use Rattle.songcode.specs.answer.Playing.{Side, saidBy, beforeSaid, afterSaid, repeats, measuresOf}
+use Rattle.songcode.specs.answer.Playing.{repeats, measuresOf}
 use Rattle.songcode.specs.answer.Meter.{measuresIn, sideCount, sectionCount}
 use Rattle.songcode.proofs.ListLaws.{by-cases, times-length}
 use Rattle.songcode.proofs.RowLaws.{length-items}
@@ -77,13 +77,13 @@ pub section-counted : (song : Song) (x : Section) (ws : List ℕ) (m : Modifiers
     → Counted (countOfTexts m t) (sectionCount song x)
 unfolding countOfTexts sectionCount
 section-counted song x ws m t w e h =
-    let a = carried-count ws (t .lead) (sideItems (saidBy beforeSaid (x .modifiers))) (w .lead) ∙ ap (min 65536)
-    (side-count (saidBy beforeSaid (x .modifiers))) in
+    let a = carried-count ws (t .lead) (sideItems (x .modifiers .before)) (w .lead) ∙ ap (min 65536)
+    (side-count (x .modifiers .before)) in
     let p = carried-count ws (t .pattern) (patternItems (song .definitions) (x .pattern)) (w .pattern) in
-    let b = carried-count ws (t .tail) (sideItems (saidBy afterSaid (x .modifiers))) (w .tail) ∙ ap (min 65536)
-    (side-count (saidBy afterSaid (x .modifiers))) in
-    rw (a, p, b, ← e) (all-counted (m .repeat) (sideCount (saidBy beforeSaid (x .modifiers)))
-    (measuresIn (patternItems (song .definitions) (x .pattern))) (sideCount (saidBy afterSaid (x .modifiers))) h)
+    let b = carried-count ws (t .tail) (sideItems (x .modifiers .after)) (w .tail) ∙ ap (min 65536)
+    (side-count (x .modifiers .after)) in
+    rw (a, p, b, ← e) (all-counted (m .repeat) (sideCount (x .modifiers .before))
+    (measuresIn (patternItems (song .definitions) (x .pattern))) (sideCount (x .modifiers .after)) h)
 
 pub pattern-within : (song : Song) (x : Section) → repeats (x .modifiers) * measuresIn (patternItems (song .definitions) (x .pattern)) ≤ sectionCount song x
 unfolding sectionCount

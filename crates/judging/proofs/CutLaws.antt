@@ -2,7 +2,7 @@
 use Prim.Native.Nat.{ℕ, suc, _-_, _*_, _≤_, min}
 use mathlib.Core.Path.{_≡_, refl, sym, ap, _∙_}
 use mathlib.Core.List.{List, [], _∷_, append-nil}
-use mathlib.Core.Bool.{true, false, not}
+use mathlib.Core.Bool.{true, false}
 use mathlib.Core.Option.{Option, none, some}
 use native.Mathlib.Omega.{arith}
 use native.Mathlib.Nat.{mul-le-mul}
@@ -11,10 +11,11 @@ use lib.ListN.{length}
 use borrow.Author.Tests.{eq-eqb, ne-eqb, eqb-true, eqb-false}
 use Rattle.songcode.specs.Lists.{if_then_else_, isEmpty, times}
 use Rattle.songcode.specs.Complaints.{complainIf}
-use Rattle.songcode.specs.Song.{Cut, Items, Modifier}
-use Rattle.songcode.specs.answer.Playing.{Beat, saidBy, cutStartSaid, cutEndSaid, applied, cutRow, repeats, measuresOf, keptMeasures}
+use Rattle.songcode.specs.Song.{Cut, Items}
+use Rattle.songcode.specs.Song as song
+use Rattle.songcode.specs.answer.Playing.{Beat, applied, cutRow, repeats, measuresOf, keptMeasures}
 use Rattle.songcode.specs.description.Performance.{total}
-use Rattle.songcode.specs.answer.Meter.{allFit, count, cutFaults}
+use Rattle.songcode.specs.answer.Meter.{allFit, count, anySaid, cutFaults}
 use Rattle.songcode.proofs.ListLaws.{by-cases, true-is-not-false, none-passes, isEmpty-true, times-length}
 use Rattle.songcode.specs.EitherOrder.{Filled}
 use Rattle.songcode.proofs.RowLaws.{filled-items, length-items}
@@ -58,12 +59,12 @@ kept-empty f b row =
     (λ t. absurd (eqb-false _ 0 e (sym (kept-total f b row) ∙ ap total (isEmpty-true (keptOf f b row) t))))
     (λ t. rw (t, e)))
 
-kept-words : (ms : List Modifier) (row : List (List Beat)) → Filled row
-    → keptOf (cutSaid (saidBy cutStartSaid ms)) (cutSaid (saidBy cutEndSaid ms)) (times (repeats ms) (rowWords row)) ≡ rowWords
+kept-words : (ms : song.Modifiers) (row : List (List Beat)) → Filled row
+    → keptOf (cutSaid (ms .cutStart)) (cutSaid (ms .cutEnd)) (times (repeats ms) (rowWords row)) ≡ rowWords
     (cutRow ms (times (repeats ms) row))
 unfolding sectionRow wholeOf window rowWords Filled
 kept-words ms row f =
-    let kept = keptOf (cutSaid (saidBy cutStartSaid ms)) (cutSaid (saidBy cutEndSaid ms)) (times (repeats ms) (rowWords row)) in
+    let kept = keptOf (cutSaid (ms .cutStart)) (cutSaid (ms .cutEnd)) (times (repeats ms) (rowWords row)) in
     sym (append-nil kept) ∙ section-words ms [] row [] tt f tt ∙ ap rowWords (append-nil (cutRow ms (times (repeats ms) row)))
 
 empty-words : (row : List (List Beat)) → isEmpty (rowWords row) ≡ isEmpty row
@@ -92,15 +93,15 @@ uncut-empty n k r h =
     empty-length (times k (measuresOf n none r)) ∙ ap (λ x. eqb x 0)
     (times-length k (measuresOf n none r) ∙ ap (λ x. k * x) (length-items n none r)) ∙ zero-times k (count r) h
 
-module _ (ws : List ℕ) (n header : ℕ) (ms : List Modifier) (m : Modifiers) (t : Texts) (often : m .repeat ≡ repeats ms) (played : 1 ≤ m .repeat)
-    (front : m .front ≡ cutIs (saidBy cutStartSaid ms)) (back : m .back ≡ cutIs (saidBy cutEndSaid ms)) where
+module _ (ws : List ℕ) (n header : ℕ) (ms : song.Modifiers) (m : Modifiers) (t : Texts) (often : m .repeat ≡ repeats ms) (played : 1 ≤ m .repeat)
+    (front : m .front ≡ cutIs (ms .cutStart)) (back : m .back ≡ cutIs (ms .cutEnd)) where
   row-cut : (r : Items) → Carries ws (t .pattern) (some r) → 1 ≤ n → allFit n r ≡ true → hasCut m ≡ true
       → cutAway ws n m t ≡ isEmpty (keptMeasures n ms (some r))
   unfolding Carries cutAway keptMeasures if_then_else_
   row-cut r w one fit e =
       let row = measuresOf n none r in
-      rw (w .0, e, front, back, cut-said (saidBy cutStartSaid ms), cut-said (saidBy cutEndSaid ms), often, w .2 n)
-      (sym (kept-empty (cutSaid (saidBy cutStartSaid ms)) (cutSaid (saidBy cutEndSaid ms)) (times (repeats ms) (rowWords row)))
+      rw (w .0, e, front, back, cut-said (ms .cutStart), cut-said (ms .cutEnd), often, w .2 n)
+      (sym (kept-empty (cutSaid (ms .cutStart)) (cutSaid (ms .cutEnd)) (times (repeats ms) (rowWords row)))
       ∙ ap isEmpty (kept-words ms row (filled-items n none r one fit)) ∙ empty-words (cutRow ms (times (repeats ms) row)))
 
   row-uncut : (r : Items) → Carries ws (t .pattern) (some r) → hasCut m ≡ false
@@ -108,12 +109,12 @@ module _ (ws : List ℕ) (n header : ℕ) (ms : List Modifier) (m : Modifiers) (
   unfolding Carries cutAway keptMeasures cutRow applied hasCut if_then_else_
   row-uncut r w e =
       let q = none-passes (isCut (m .front)) (isCut (m .back)) e in
-      let f = no-cut (saidBy cutStartSaid ms) (ap isCut (sym front) ∙ q .0) in
-      let b = no-cut (saidBy cutEndSaid ms) (ap isCut (sym back) ∙ q .1) in
+      let f = no-cut (ms .cutStart) (ap isCut (sym front) ∙ q .0) in
+      let b = no-cut (ms .cutEnd) (ap isCut (sym back) ∙ q .1) in
       rw (w .0, q .0, q .1, f, b, w .1 .measures, ← often) (sym (uncut-empty n (m .repeat) r played))
 
   pub cut-away-is : (o : Option Items) → Carries ws (t .pattern) o → 1 ≤ n
-      → ((r : Items) → o ≡ some r → allFit n r ≡ true) → isModified m ≡ not (isEmpty ms)
+      → ((r : Items) → o ≡ some r → allFit n r ≡ true) → isModified m ≡ anySaid ms
       → cutFaults n header ms o ≡ complainIf (cutAway ws n m t) 15 header
   unfolding Carries cutFaults cutAway vacant if_then_else_
   cut-away-is none w one fit changed = let e : t .pattern .outline .empty ≡ true = ap (λ (x : Outline). x .empty) (w .0) in rw (e, changed)

@@ -10,10 +10,10 @@ use borrow.Author.Tests.{eq-eqb, le-ltb}
 use Rattle.songcode.specs.Lists.{if_then_else_, andThen, when}
 use Rattle.songcode.specs.Bytes.{placed}
 use Rattle.songcode.specs.Complaints.{Complaint, complaint, complainIf, goesFirst, earlier, earliest}
-use Rattle.songcode.specs.Song.{Items, Section, Song}
+use Rattle.songcode.specs.Song.{Items, Section, Song, Side}
 use Rattle.songcode.specs.answer.PatternText.{sideText}
 use Rattle.songcode.specs.answer.References.{patternItems}
-use Rattle.songcode.specs.answer.Playing.{Side, timeOf, saidBy, beforeSaid, afterSaid}
+use Rattle.songcode.specs.answer.Playing.{timeOf}
 use Rattle.songcode.specs.answer.Meter.{allFit, stray, rowFaults, playedFaults, sideFaults, sectionMeter}
 use Rattle.songcode.proofs.ListLaws.{by-cases, Each, each-append}
 use Rattle.songcode.proofs.PatternLaws.{none-some}
@@ -96,24 +96,24 @@ unfolding sectionMeter
 numbered-section s x =
     let n = timeOf s x in
     let p = patternItems (s .definitions) (x .pattern) in
-    let y = saidBy beforeSaid (x .modifiers) in
-    let z = saidBy afterSaid (x .modifiers) in
+    let y = x .modifiers .before in
+    let z = x .modifiers .after in
     each-append Numbered (playedFaults n (x .header) p ++ sideFaults n y) (sideFaults n z)
     (each-append Numbered (playedFaults n (x .header) p) (sideFaults n y) (numbered-played n (x .header) p) (numbered-side n y))
     (numbered-side n z)
 
 -- The three texts of a section.
 pub section-fault : (song : Song) (x : Section) (s ws : List ℕ) (m : Modifiers) (t : Texts) → TextsAre (song .definitions) x ws t
-    → andThen (settingAt s (m .before)) sideSaid ≡ saidBy beforeSaid (x .modifiers)
-    → andThen (settingAt s (m .after)) sideSaid ≡ saidBy afterSaid (x .modifiers)
+    → andThen (settingAt s (m .before)) sideSaid ≡ x .modifiers .before
+    → andThen (settingAt s (m .after)) sideSaid ≡ x .modifiers .after
     → 1 ≤ timeOf song x → timeOf song x ≤ 32
     → meterFault (x .header) m t (timeOf song x) ≡ refusalOf (earliest (sectionMeter song x))
 unfolding meterFault sectionMeter
 section-fault song x s ws m t w before after a b =
     let n = timeOf song x in
     let p = playedFaults n (x .header) (patternItems (song .definitions) (x .pattern)) in
-    let y = saidBy beforeSaid (x .modifiers) in
-    let z = saidBy afterSaid (x .modifiers) in
+    let y = x .modifiers .before in
+    let z = x .modifiers .after in
     let f = carried-fault ws (t .pattern) (patternItems (song .definitions) (x .pattern)) n (x .header) (w .pattern) a b in
     let g = carried-fault ws (t .lead) (sideItems y) n (m .before .line) (w .lead) a b
     ∙ ap (λ (l : List Complaint). refusalOf (earliest l)) (side-faults n (m .before .line) y (side-line s (m .before) before)) in

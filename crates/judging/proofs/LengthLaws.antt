@@ -2,17 +2,17 @@
 use Prim.Native.Nat.{ℕ, _+_, _<_, _≤_}
 use mathlib.Core.Path.{_≡_, refl, sym, ap, _∙_}
 use mathlib.Core.List.{List, [], _∷_, _++_}
-use mathlib.Core.Bool.{Bool, true, false, not, _&&_}
+use mathlib.Core.Bool.{Bool, true, false, _&&_}
 use mathlib.Core.Option.{Option, none, some}
 use native.Mathlib.Omega.{arith}
 use lib.Dec.{leb, ltb}
 use borrow.Author.Tests.{le-leb, le-ltb, lt-ltb, eq-eqb}
 use Rattle.songcode.specs.Lists.{if_then_else_, isEmpty, when}
 use Rattle.songcode.specs.Complaints.{complaint, complainIf, goesFirst, earlier, earliest}
-use Rattle.songcode.specs.Song.{Items, Modifier, Section, Song}
+use Rattle.songcode.specs.Song.{Items, Section, Song, Modifiers}
 use Rattle.songcode.specs.answer.References.{patternItems}
 use Rattle.songcode.specs.answer.Playing.{timeOf, keptMeasures}
-use Rattle.songcode.specs.answer.Meter.{sectionCount, mostMeasures, cutFaults, lengthFaults}
+use Rattle.songcode.specs.answer.Meter.{sectionCount, mostMeasures, cutFaults, lengthFaults, anySaid}
 use Rattle.songcode.proofs.ListLaws.{Each, each-append, each-map, nil-is-not-cons}
 use Rattle.text.specs.Refusals.{refusalOf}
 use Rattle.sections.specs.Onward.{Later}
@@ -27,9 +27,9 @@ behind-if : (b : Bool) (n line header : ℕ) → line < header → Each (Behind 
 unfolding Behind
 behind-if b n line header h = each-map (λ c e. omega arith) (complainIf b n header) (line-if b n header)
 
-behind-cut : (n line header : ℕ) (ms : List Modifier) (o : Option Items) → line < header → Each (Behind line) (cutFaults n header ms o)
+behind-cut : (n line header : ℕ) (ms : Modifiers) (o : Option Items) → line < header → Each (Behind line) (cutFaults n header ms o)
 unfolding cutFaults
-behind-cut n line header ms none h = behind-if (not (isEmpty ms)) 15 line header h
+behind-cut n line header ms none h = behind-if (anySaid ms) 15 line header h
 behind-cut n line header ms (some r) h = behind-if (isEmpty (keptMeasures n ms (some r))) 15 line header h
 
 -- Sections behind a line are complained of behind it.

@@ -12,7 +12,7 @@ use Rattle.songcode.specs.Lists.{gather, orElse}
 use Rattle.songcode.specs.Complaints.{Complaint, complainIf, earliest}
 use Rattle.songcode.specs.Song.{Items, Section, Song}
 use Rattle.songcode.specs.answer.References.{patternItems}
-use Rattle.songcode.specs.answer.Playing.{timeAmong, timeOf, saidBy, beforeSaid, afterSaid}
+use Rattle.songcode.specs.answer.Playing.{timeAmong, timeOf}
 use Rattle.songcode.specs.answer.Meter.{allFit, stray, rowFaults, playedFaults, sideFaults, sectionMeter, meterFaults, sectionCount, measuresIn, cutFaults}
 use Rattle.songcode.specs.answer.Meter.{lengthFaults}
 use Rattle.songcode.specs.answer.Answer.{songOf}
@@ -62,8 +62,8 @@ pub pattern-fits : (song : Song) (x : Section) → sectionMeter song x ≡ [] �
 unfolding sectionMeter playedFaults
 pattern-fits song x e r h =
     let n = timeOf song x in
-    let a = append-is-nil _ (sideFaults n (saidBy afterSaid (x .modifiers))) e .0 in
-    let b = append-is-nil (playedFaults n (x .header) (patternItems (song .definitions) (x .pattern))) (sideFaults n (saidBy beforeSaid (x .modifiers))) a .0 in
+    let a = append-is-nil _ (sideFaults n (x .modifiers .after)) e .0 in
+    let b = append-is-nil (playedFaults n (x .header) (patternItems (song .definitions) (x .pattern))) (sideFaults n (x .modifiers .before)) a .0 in
     row-fits n (x .header) r (ap (playedFaults n (x .header)) (sym h) ∙ b)
 
 module _ (s ws : List ℕ) (p : Place) (r : Opened) (w : Opens s p ws r) where
@@ -100,9 +100,9 @@ module _ (s ws : List ℕ) (p : Place) (r : Opened) (w : Opens s p ws r) where
           meter = subst (λ (j : ℕ). j ≤ 32) (sym n-is) (meter-range song x .1);
           cuts = w .met .read .modifiers .front-fits;
           repeat = w .met .read .modifiers .repeat-fits .1;
-          lead = carried-fits ws (r .texts .lead) (sideItems (saidBy beforeSaid (x .modifiers))) (w .texts .lead);
+          lead = carried-fits ws (r .texts .lead) (sideItems (x .modifiers .before)) (w .texts .lead);
           pattern = carried-fits ws (r .texts .pattern) (patternItems (song .definitions) (x .pattern)) (w .texts .pattern);
-          tail = carried-fits ws (r .texts .tail) (sideItems (saidBy afterSaid (x .modifiers))) (w .texts .tail);
+          tail = carried-fits ws (r .texts .tail) (sideItems (x .modifiers .after)) (w .texts .tail);
           played = λ h.
               let e = all-counted 0 (omega arith) in
               let l = played-length ws (r .texts .pattern) (patternItems (song .definitions) (x .pattern)) n

@@ -6,9 +6,10 @@ use mathlib.Core.Option.{Option, none, some}
 use native.Mathlib.Omega.{arith}
 use lib.ListN.{length}
 use Rattle.songcode.specs.Lists.{times, andThen}
-use Rattle.songcode.specs.Song.{Items, Modifier, Section, Song}
+use Rattle.songcode.specs.Song.{Items, Section, Song, Side}
 use Rattle.songcode.specs.answer.References.{patternItems}
-use Rattle.songcode.specs.answer.Playing.{Beat, Side, cutStartSaid, cutEndSaid, saidBy, beforeSaid, afterSaid, repeats, cutRow, measuresOf}
+use Rattle.songcode.specs.Song as song
+use Rattle.songcode.specs.answer.Playing.{Beat, repeats, cutRow, measuresOf}
 use Rattle.songcode.specs.answer.Playing.{sideMeasures, keptMeasures, timeOf, played}
 use Rattle.songcode.specs.description.Performance.{total}
 use Rattle.songcode.specs.answer.Meter.{rowFaults, playedFaults, sideFaults, sectionMeter, measuresIn, sideCount, sectionCount}
@@ -65,7 +66,7 @@ no-length : {A : Type 0} (xs : List A) → length xs ≤ 0 → xs ≡ []
 no-length [] h = refl
 no-length (x ∷ xs) h = absurd (omega arith)
 
-kept-pass : (n : ℕ) (ms : List Modifier) (o : Option Items) → cutRow ms (times (repeats ms) (pass-of n o)) ≡ keptMeasures n ms o
+kept-pass : (n : ℕ) (ms : song.Modifiers) (o : Option Items) → cutRow ms (times (repeats ms) (pass-of n o)) ≡ keptMeasures n ms o
 unfolding pass-of keptMeasures
 kept-pass n ms none =
     let row : List (List Beat) = [] in
@@ -77,15 +78,15 @@ kept-pass n ms (some r) = refl
 -- A section whose texts stand in the buffer.
 module _ (s : Song) (x : Section) (ws : List ℕ) (t : Texts) (m : Modifiers) (h : TextsAre (s .definitions) x ws t)
     (again : m .repeat ≡ repeats (x .modifiers)) where
-  pub texts-play : m .front ≡ cutIs (saidBy cutStartSaid (x .modifiers)) → m .back ≡ cutIs (saidBy cutEndSaid (x .modifiers)) → sectionMeter s x ≡ []
+  pub texts-play : m .front ≡ cutIs (x .modifiers .cutStart) → m .back ≡ cutIs (x .modifiers .cutEnd) → sectionMeter s x ≡ []
       → rowOfTexts ws (timeOf s x) t m ≡ rowWords (played s x)
   unfolding rowOfTexts played sectionMeter
   texts-play f b e =
       let n = timeOf s x in
       let ms = x .modifiers in
       let o = patternItems (s .definitions) (x .pattern) in
-      let lead = saidBy beforeSaid ms in
-      let tail = saidBy afterSaid ms in
+      let lead = ms .before in
+      let tail = ms .after in
       let p = append-is-nil (playedFaults n (x .header) o ++ sideFaults n lead) (sideFaults n tail) e in
       let q = append-is-nil (playedFaults n (x .header) o) (sideFaults n lead) (p .0) in
       let some-beat = meter-some s x in
@@ -95,8 +96,8 @@ module _ (s : Song) (x : Section) (ws : List ℕ) (t : Texts) (m : Modifiers) (h
         again,
         f,
         b,
-        cut-said (saidBy cutStartSaid ms),
-        cut-said (saidBy cutEndSaid ms),
+        cut-said (ms .cutStart),
+        cut-said (ms .cutEnd),
         carried-side ws n (t .lead) lead (h .lead),
         carried ws n (t .pattern) o (h .pattern),
         carried-side ws n (t .tail) tail (h .tail),
@@ -104,15 +105,15 @@ module _ (s : Song) (x : Section) (ws : List ℕ) (t : Texts) (m : Modifiers) (h
       ) w
 
   -- Its measures before cuts are those that stage 5 counts.
-  lead-length : (n : ℕ) → length (rowOf n ws (t .lead .at)) ≡ sideCount (saidBy beforeSaid (x .modifiers))
+  lead-length : (n : ℕ) → length (rowOf n ws (t .lead .at)) ≡ sideCount (x .modifiers .before)
   lead-length n =
-      rw (carried-side ws n (t .lead) (saidBy beforeSaid (x .modifiers)) (h .lead))
-      (rows-length _ ∙ length-side n (saidBy beforeSaid (x .modifiers)))
+      rw (carried-side ws n (t .lead) (x .modifiers .before) (h .lead))
+      (rows-length _ ∙ length-side n (x .modifiers .before))
 
-  tail-length : (n : ℕ) → length (rowOf n ws (t .tail .at)) ≡ sideCount (saidBy afterSaid (x .modifiers))
+  tail-length : (n : ℕ) → length (rowOf n ws (t .tail .at)) ≡ sideCount (x .modifiers .after)
   tail-length n =
-      rw (carried-side ws n (t .tail) (saidBy afterSaid (x .modifiers)) (h .tail))
-      (rows-length _ ∙ length-side n (saidBy afterSaid (x .modifiers)))
+      rw (carried-side ws n (t .tail) (x .modifiers .after) (h .tail))
+      (rows-length _ ∙ length-side n (x .modifiers .after))
 
   pattern-length : (n : ℕ) → length (times (m .repeat) (rowOf n ws (t .pattern .at)))
       ≡ repeats (x .modifiers) * measuresIn (patternItems (s .definitions) (x .pattern))

@@ -10,10 +10,10 @@ use lib.ListN.{length, drop, length-append, length-drop}
 use borrow.Author.Tests.{le-leb, ltb-false}
 use Rattle.songcode.specs.Lists.{times}
 use Rattle.songcode.specs.Complaints.{complainIf}
-use Rattle.songcode.specs.Song.{Cut, Items, Modifier, Section, Song}
+use Rattle.songcode.specs.Song.{Cut, Items, Section, Song, Modifiers}
 use Rattle.songcode.specs.answer.References.{patternItems}
-use Rattle.songcode.specs.answer.Playing.{keep, dropBeats, dropMeasures, cutFront, turned, cutBack, applied, cutRow, cutStartSaid}
-use Rattle.songcode.specs.answer.Playing.{cutEndSaid, saidBy, beforeSaid, afterSaid, repeats, measuresOf, keptMeasures, timeOf}
+use Rattle.songcode.specs.answer.Playing.{keep, dropBeats, dropMeasures, cutFront, turned, cutBack, applied, cutRow}
+use Rattle.songcode.specs.answer.Playing.{repeats, measuresOf, keptMeasures, timeOf}
 use Rattle.songcode.specs.answer.Playing.{played}
 use Rattle.songcode.specs.answer.Meter.{count, measuresIn, sectionCount, mostMeasures, cutFaults, lengthFaults}
 use Rattle.songcode.proofs.ListLaws.{append-is-nil, complainIf-nil, times-length}
@@ -57,14 +57,14 @@ module _ {A : Type 0} where
   applied-short f h none row = omega arith
   applied-short f h (some c) row = h c row
 
-  pub cut-short : (ms : List Modifier) (row : List (List A)) → length (cutRow ms row) ≤ length row
+  pub cut-short : (ms : Modifiers) (row : List (List A)) → length (cutRow ms row) ≤ length row
   unfolding cutRow
   cut-short ms row =
-      let a = applied-short cutFront front-short (saidBy cutStartSaid ms) row in
-      let b = applied-short cutBack back-short (saidBy cutEndSaid ms) (applied cutFront (saidBy cutStartSaid ms) row) in
+      let a = applied-short cutFront front-short (ms .cutStart) row in
+      let b = applied-short cutBack back-short (ms .cutEnd) (applied cutFront (ms .cutStart) row) in
       omega arith
 
-kept-short : (n : ℕ) (ms : List Modifier) (o : Option Items) → length (keptMeasures n ms o) ≤ repeats ms * measuresIn o
+kept-short : (n : ℕ) (ms : Modifiers) (o : Option Items) → length (keptMeasures n ms o) ≤ repeats ms * measuresIn o
 unfolding keptMeasures measuresIn
 kept-short n ms none = omega arith
 kept-short n ms (some r) =
@@ -77,9 +77,9 @@ pub played-short : (s : Song) (x : Section) → length (played s x) ≤ sectionC
 unfolding played sectionCount
 played-short s x =
     let n = timeOf s x in
-    let a = length-side n (saidBy beforeSaid (x .modifiers)) in
+    let a = length-side n (x .modifiers .before) in
     let b = kept-short n (x .modifiers) (patternItems (s .definitions) (x .pattern)) in
-    let d = length-side n (saidBy afterSaid (x .modifiers)) in
+    let d = length-side n (x .modifiers .after) in
     rw (length-append, length-append) (omega arith)
 
 -- Where stage 5 refuses nothing, the sections so far and the next one have at most 65,535 measures.

@@ -10,10 +10,10 @@ use lib.Dec.{eqb, leb, ltb}
 use lib.ListN.{length}
 use Rattle.songcode.specs.Lists.{if_then_else_, gather, isEmpty}
 use Rattle.songcode.specs.Complaints.{Complaint, complaint, complainIf, earliest, stageOr, verdict}
-use Rattle.songcode.specs.Song.{Items, Modifier, Section, Song, LyricLine}
+use Rattle.songcode.specs.Song.{Items, Section, Song, LyricLine, Modifiers}
 use Rattle.songcode.specs.answer.Playing.{timeOf, keptMeasures, played}
 use Rattle.songcode.specs.answer.References.{patternItems}
-use Rattle.songcode.specs.answer.Meter.{sectionMeter, meterFaults, sectionCount, mostMeasures, cutFaults, lengthFaults}
+use Rattle.songcode.specs.answer.Meter.{sectionMeter, meterFaults, sectionCount, mostMeasures, cutFaults, lengthFaults, anySaid}
 use Rattle.songcode.specs.answer.Lyrics.{isCounted, isPlayed, counted, linesTaken, hasCounts, countFaults, sumFault, sumFaults}
 use Rattle.songcode.specs.answer.Characters.{goodBytes}
 use Rattle.songcode.specs.answer.Answer.{mostBytes, lineOfPlace, inputFaults}
@@ -80,9 +80,9 @@ module _ (song : Song) where
   unfolding meterFaults
   numbered-meters = numbered-gather (sectionMeter song) (numbered-section song) (song .sections)
 
-  numbered-cuts : (n h : ℕ) (ms : List Modifier) (o : Option Items) → Each Numbered (cutFaults n h ms o)
+  numbered-cuts : (n h : ℕ) (ms : Modifiers) (o : Option Items) → Each Numbered (cutFaults n h ms o)
   unfolding cutFaults
-  numbered-cuts n h ms none = numbered-if (not (isEmpty ms)) 15 h (omega arith)
+  numbered-cuts n h ms none = numbered-if (anySaid ms) 15 h (omega arith)
   numbered-cuts n h ms (some r) = numbered-if (isEmpty (keptMeasures n ms (some r))) 15 h (omega arith)
 
   pub numbered-lengths : (sofar : ℕ) (xs : List Section) → Each Numbered (lengthFaults song sofar xs)

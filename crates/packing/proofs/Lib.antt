@@ -1,5 +1,6 @@
 -- Laws on words and their fields.
 pub mod Bits
 pub mod RoundTrips
+pub mod RowsRead
 pub mod ReadBackProved
 pub mod WrittenLaws

@@ -2,6 +2,7 @@
 use Rattle.packing.specs.ReadBack.{ReadBack}
 use Rattle.packing.proofs.RoundTrips.{one-section, one-measure, one-beat, one-item, section-fields, measure-fields}
 use Rattle.packing.proofs.RoundTrips.{section-read, measure-read, chord-read, silence-read, item-read}
+use Rattle.packing.proofs.RowsRead.{section-row, measure-row, beat-row, item-row}
 
 pub read-back : ReadBack
 read-back =
@@ -17,4 +18,8 @@ read-back =
       item-read = λ p a b c d e i h. item-read p a b c d e h;
       section-fields = λ word s h. section-fields h;
       measure-fields = λ word m h. measure-fields h;
+      section-row = section-row;
+      measure-row = measure-row;
+      beat-row = beat-row;
+      item-row = item-row;
     }

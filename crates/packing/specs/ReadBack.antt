@@ -2,13 +2,15 @@
 -- words of sections and measures hold the fields that the definitions take out of them.
 use Prim.Native.Nat.{ℕ, _^_, _<_}
 use mathlib.Core.Path.{_≡_}
+use mathlib.Core.List.{[], _∷_}
 use mathlib.Core.Bool.{Bool}
 use mathlib.Core.Option.{none, some}
 use lib.ListN.{length}
 use Rattle.songcode.specs.answer.Chords.{Chord}
 use Rattle.songcode.specs.answer.Lyrics.{Prompt}
 use Rattle.songcode.specs.description.Joined.{firstBeat, beatCount, firstMeasure, measureCount, sectionBpm}
-use Rattle.songcode.specs.answer.Tables.{offset, sectionWord, measureWord, beatBy, itemWord}
+use Rattle.songcode.specs.answer.Tables.{offset, sectionWord, measureWord, headBit, beatBy, itemWord}
+use Rattle.songcode.specs.description.Layout.{sectionsRow, measuresRow, beatsRow, itemsRow, fieldsOf}
 use Rattle.packing.specs.declared.fields.SectionFields.{SectionFields}
 use Rattle.packing.specs.declared.fields.MeasureFields.{MeasureFields}
 use Rattle.packing.specs.declared.fields.BeatFields.{BeatFields}
@@ -37,3 +39,10 @@ pub record ReadBack : Type 0 where
   pub section-fields : (word : ℕ) (s : SectionFields) → HoldsSection word s
       → (s .first ≡ firstMeasure word) × (s .measures ≡ measureCount word) × (s .tempo ≡ sectionBpm word)
   pub measure-fields : (word : ℕ) (m : MeasureFields) → HoldsMeasure word m → (m .first ≡ firstBeat word) × (m .beats ≡ beatCount word)
+  -- They are the fields of the word's row in the table of tables, as `songcode` reads a row back.
+  pub section-row : (word : ℕ) (s : SectionFields) → HoldsSection word s
+      → fieldsOf sectionsRow word ≡ s .header ∷ s .first ∷ s .measures ∷ s .meter ∷ s .tempo ∷ []
+  pub measure-row : (word : ℕ) (m : MeasureFields) → HoldsMeasure word m → fieldsOf measuresRow word ≡ m .first ∷ m .beats ∷ []
+  pub beat-row : (word : ℕ) (b : BeatFields) → HoldsBeat word b → fieldsOf beatsRow word ≡ b .base ∷ b .extension ∷ b .length ∷ headBit (b .head) ∷ []
+  pub item-row : (word : ℕ) (i : ItemFields) → HoldsItem word i
+      → fieldsOf itemsRow word ≡ i .offset ∷ i .length ∷ i .first ∷ i .measures ∷ i .style ∷ []

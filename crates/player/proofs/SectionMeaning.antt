@@ -6,8 +6,8 @@ use mathlib.Core.Option.{Option, none, some}
 use native.Mathlib.Omega.{arith}
 use lib.ListN.{length, take, drop}
 use Rattle.songcode.specs.Lists.{gather, times}
-use Rattle.songcode.specs.Song.{Cut, Modifier}
-use Rattle.songcode.specs.answer.Playing.{Beat, keep, cutFront, cutBack, cutStartSaid, cutEndSaid, saidBy, applied, cutRow, repeats}
+use Rattle.songcode.specs.Song.{Cut, Modifiers}
+use Rattle.songcode.specs.answer.Playing.{Beat, keep, cutFront, cutBack, applied, cutRow, repeats}
 use Rattle.songcode.specs.description.Performance.{total}
 use Rattle.songcode.specs.answer.Tables.{beatWord, measureWords}
 use Rattle.songcode.specs.EitherOrder.{Filled}
@@ -110,13 +110,13 @@ whole-words row f = rw (rows-total row, rows-window 0 (total row) row) (ap rowWo
     whole f = whole-filled row f
 
 -- A section: lead-in, the pattern repeated less the cuts, tail.
-pub section-words : (ms : List Modifier) (lead row tail : List (List Beat)) → Filled lead → Filled row → Filled tail
-    → sectionRow (cutSaid (saidBy cutStartSaid ms)) (cutSaid (saidBy cutEndSaid ms)) (repeats ms) (rowWords lead) (rowWords row)
+pub section-words : (ms : Modifiers) (lead row tail : List (List Beat)) → Filled lead → Filled row → Filled tail
+    → sectionRow (cutSaid (ms .cutStart)) (cutSaid (ms .cutEnd)) (repeats ms) (rowWords lead) (rowWords row)
     (rowWords tail) ≡ rowWords (lead ++ cutRow ms (times (repeats ms) row) ++ tail)
 unfolding sectionRow cutRow
 section-words ms lead row tail f g h =
-    let a = saidBy cutStartSaid ms in
-    let b = saidBy cutEndSaid ms in
+    let a = ms .cutStart in
+    let b = ms .cutEnd in
     let all = times (repeats ms) row in
     let k = kept-applied a b all (filled-times (repeats ms) row g) in
     rw (whole-words lead f, whole-words tail h, ← words-times (repeats ms) row, kept-words (cutSaid a) (cutSaid b) all, ← k)

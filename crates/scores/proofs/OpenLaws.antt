@@ -8,10 +8,9 @@ use lib.ListN.{length, take, drop, length-append}
 use Rattle.songcode.specs.Lists.{gather, andThen}
 use Rattle.songcode.specs.answer.Lines.{Line, blocks}
 use Rattle.songcode.specs.Song.{Pattern}
-use Rattle.songcode.specs.answer.Modifiers.{ofBefore, ofAfter, modifierPlace}
+use Rattle.songcode.specs.answer.Modifiers.{ofBefore, ofAfter, modifierPlace, beforeSaid, afterSaid}
 use Rattle.songcode.specs.answer.Sections.{patternIn, patternRun, body, sectionFaults}
 use Rattle.songcode.specs.answer.References.{patternItems}
-use Rattle.songcode.specs.answer.Playing.{saidBy, beforeSaid, afterSaid}
 use Rattle.songcode.specs.answer.Answer.{songOf}
 use Rattle.songcode.proofs.ListLaws.{append-is-nil}
 use Rattle.tokens.specs.TokenWords.{tokenWords}
@@ -156,19 +155,19 @@ module _ {s : List ℕ} {p : Place} {mark : ℕ} {held : List ℕ} {met : Met} (
 
         pub lead-carries : Carries words
             (readText (lookUp words) words (record { from = mark + 1; to = a }))
-            (sideItems (saidBy beforeSaid (sectionAt s p .modifiers)))
+            (sideItems (sectionAt s p .modifiers .before))
         lead-carries =
             side-carries words _ (record { from = mark + 1; to = a }) lead
-            (saidBy beforeSaid (sectionAt s p .modifiers)) (m .says .before) lead-clean
+            (sectionAt s p .modifiers .before) (m .says .before) lead-clean
             (said-good s (ready .small) (met .section .modifiers .before)) first-fill
             (part-there [] leadWords (lineWords ++ tailWords) (mark + 1) a refl (omega arith) first-fill)
 
         pub tail-carries : Carries words
             (readText (lookUp words) words (record { from = b; to = c }))
-            (sideItems (saidBy afterSaid (sectionAt s p .modifiers)))
+            (sideItems (sectionAt s p .modifiers .after))
         tail-carries =
             let k = length-append leadWords lineWords in
-            side-carries words _ (record { from = b; to = c }) tail (saidBy afterSaid (sectionAt s p .modifiers))
+            side-carries words _ (record { from = b; to = c }) tail (sectionAt s p .modifiers .after)
             (m .says .after) tail-clean
             (said-good s (ready .small) (met .section .modifiers .after)) words-fill
             (part-there (leadWords ++ lineWords) tailWords [] b c

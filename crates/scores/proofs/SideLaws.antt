@@ -8,9 +8,8 @@ use lib.Dec.{eqb}
 use Rattle.songcode.specs.Lists.{gather, collect, andThen, firstThere}
 use Rattle.songcode.specs.answer.Lines.{Line}
 use Rattle.songcode.specs.Song.{Modifier}
-use Rattle.songcode.specs.answer.Modifiers.{ModifierName, modifierPlace}
+use Rattle.songcode.specs.answer.Modifiers.{ModifierName, modifierPlace, saidBy}
 use Rattle.songcode.specs.answer.Sections.{modifierOn, amongKeys, order, faults}
-use Rattle.songcode.specs.answer.Playing.{saidBy}
 use Rattle.songcode.proofs.PatternLaws.{none-some}
 use Rattle.sections.specs.Slots.{Setting, settingAmong}
 use Rattle.sections.specs.BlockParts.{lateLines}

@@ -6,11 +6,11 @@ use mathlib.Core.Option.{Option, none, some}
 use native.Mathlib.Omega.{arith}
 use lib.ListN.{length, take, drop}
 use Rattle.songcode.specs.Lists.{andThen}
-use Rattle.songcode.specs.Song.{Items, Pattern, items, Definition}
+use Rattle.songcode.specs.Song.{Items, Pattern, items, Definition, Side}
 use Rattle.songcode.specs.answer.Tokens.{Token, tokens}
 use Rattle.songcode.specs.answer.PatternText.{depth, loopsDeep, references, sideText}
 use Rattle.songcode.specs.answer.References.{patternItems}
-use Rattle.songcode.specs.answer.Playing.{Side, measuresOf}
+use Rattle.songcode.specs.answer.Playing.{measuresOf}
 use Rattle.songcode.specs.description.WrittenPattern.{writeItems}
 use Rattle.songcode.proofs.ListLaws.{Each}
 use Rattle.songcode.proofs.PatternLaws.{none-some}

@@ -8,9 +8,9 @@ use lib.ListN.{length, take}
 use Rattle.songcode.specs.Lists.{isSome, andThen}
 use Rattle.songcode.specs.Complaints.{earliest}
 use Rattle.songcode.specs.answer.Lines.{blocks}
-use Rattle.songcode.specs.Song.{Items, named, Definition, Section}
+use Rattle.songcode.specs.Song.{Items, named, Definition, Section, Side}
 use Rattle.songcode.specs.answer.References.{definitionOf, patternItems, definitionsReferences, referenceFaults}
-use Rattle.songcode.specs.answer.Playing.{Side, saidBy, beforeSaid, afterSaid, measuresOf}
+use Rattle.songcode.specs.answer.Playing.{measuresOf}
 use Rattle.songcode.specs.answer.SongText.{sectionBlocks}
 use Rattle.songcode.specs.answer.Answer.{blocksOf, songOf}
 use Rattle.text.specs.Refusals.{refusalOf}
@@ -71,9 +71,9 @@ sideItems o = andThen o (λ x. some (x .items))
 
 -- The texts of a section in the buffer.
 pub record TextsAre (ds : List Definition) (x : Section) (ws : List ℕ) (t : Texts) : Type 0 where
-  pub lead : Carries ws (t .lead) (sideItems (saidBy beforeSaid (x .modifiers)))
+  pub lead : Carries ws (t .lead) (sideItems (x .modifiers .before))
   pub pattern : Carries ws (t .pattern) (patternItems ds (x .pattern))
-  pub tail : Carries ws (t .tail) (sideItems (saidBy afterSaid (x .modifiers)))
+  pub tail : Carries ws (t .tail) (sideItems (x .modifiers .after))
 
 -- The section at the place is opened.
 pub record Opens (s : List ℕ) (p : Place) (ws : List ℕ) (r : Opened) : Type 0 where

@@ -13,14 +13,13 @@ use Rattle.songcode.specs.answer.Lines.{Line}
 use Rattle.songcode.specs.Song as song
 use Rattle.songcode.specs.Song.{Key, Modifier}
 use Rattle.songcode.specs.answer.Keys.{keyPlace}
-use Rattle.songcode.specs.answer.Modifiers.{ModifierName, ofRepeat, ofCutStart, ofCutEnd, ofBefore, ofAfter, modifierPlace, modifierIn, settingRefusal}
+use Rattle.songcode.specs.answer.Modifiers.{ModifierName, ofRepeat, ofCutStart, ofCutEnd, ofBefore, ofAfter, modifierPlace, modifierIn, settingRefusal, saidBy}
 use Rattle.songcode.specs.answer.Sections.{Kind, keyLine, modifierLine, patternLine, kindOfLine, keyNameOf, modifierNameOf, settingOf, keyOf, modifierOf}
 use Rattle.songcode.specs.answer.Sections.{keyIn, modifierOn, modifierFaultsBy, modifierFaults, faults}
 use Rattle.songcode.specs.Complaints.{complainIf}
 use Rattle.songcode.proofs.ListLaws.{append-is-nil, complainIf-nil, by-cases}
 use Rattle.songcode.proofs.ChoiceLaws.{isSome-some}
 use Rattle.songcode.specs.answer.Playing as playing
-use Rattle.songcode.specs.answer.Playing.{saidBy}
 use Rattle.songcode.proofs.LineAgree.{by-kind}
 use Rattle.sections.specs.Slots.{slotBy, slotOf, Setting, settingAmong}
 

@@ -10,12 +10,13 @@ use Rattle.songcode.specs.Song as song
 use Rattle.songcode.specs.answer.Keys.{keyPlace, timeIn, bpmIn}
 use Rattle.songcode.specs.answer.Numbers.{repeatIn}
 use Rattle.songcode.specs.answer.Modifiers.{ModifierName, ofRepeat, ofCutStart, ofCutEnd, ofBefore, ofAfter, modifierPlace, cutIn}
+use Rattle.songcode.specs.answer.Modifiers.{saidBy, repeatSaid, cutStartSaid, cutEndSaid, beforeSaid, afterSaid}
 use Rattle.songcode.specs.answer.Sections.{keyIn, modifierOn, body, fromDashes, headerFaults, amongKeys, order, twice, keySaid, modifierSaid, faults}
 use Rattle.songcode.specs.answer.Sections.{patternRun}
 use Rattle.songcode.specs.answer.Sections.{patternFaults, lyricFaults, sectionFaults, patternIn, lyricLine, lyricsIn, sectionIn}
 use Rattle.songcode.specs.answer.SongText.{definitionItems, definitionIn}
 use Rattle.songcode.specs.answer.Playing as playing
-use Rattle.songcode.specs.answer.Playing.{timeAmong, bpmAmong, saidBy, repeats, repeatSaid, cutStartSaid, cutEndSaid, beforeSaid, afterSaid}
+use Rattle.songcode.specs.answer.Playing.{timeAmong, bpmAmong, repeats}
 use Rattle.songcode.proofs.ListLaws.{append-is-nil}
 use Rattle.text.specs.Spans.{lineOf}
 use Rattle.settings.specs.Cuts.{cutIs}

@@ -7,8 +7,8 @@ use Rattle.songcode.specs.Lists.{andThen}
 use Rattle.songcode.specs.answer.Numbers.{repeatIn}
 use Rattle.songcode.specs.Song.{repeated, cutStart, cutEnd, before, after}
 use Rattle.songcode.specs.answer.Modifiers.{ofRepeat, ofCutStart, ofCutEnd, ofBefore, ofAfter, modifierPlace, modifierIn, cutIn}
+use Rattle.songcode.specs.answer.Modifiers.{repeatSaid, cutStartSaid, cutEndSaid, beforeSaid, afterSaid}
 use Rattle.songcode.specs.answer.PatternText.{sideText}
-use Rattle.songcode.specs.answer.Playing.{repeatSaid, cutStartSaid, cutEndSaid, beforeSaid, afterSaid}
 use Rattle.sections.specs.SectionSays.{sideOn, sideSaid}
 use Rattle.sections.proofs.SaidLaws.{Told, Tells}
 

@@ -4,10 +4,10 @@ use mathlib.Core.Path.{_≡_}
 use mathlib.Core.List.{List, map}
 use mathlib.Core.Option.{Option, some}
 use Rattle.songcode.specs.Lists.{andThen, orElse}
-use Rattle.songcode.specs.Song.{Items, named, Section}
+use Rattle.songcode.specs.Song.{Items, named, Section, Side}
 use Rattle.songcode.specs.answer.PatternText.{sideText}
 use Rattle.songcode.specs.answer.Sections.{patternIn, lyricLine}
-use Rattle.songcode.specs.answer.Playing.{timeAmong, bpmAmong, saidBy, repeats, cutStartSaid, cutEndSaid, Side, beforeSaid, afterSaid}
+use Rattle.songcode.specs.answer.Playing.{timeAmong, bpmAmong, repeats}
 use Rattle.settings.specs.Cuts.{cutIs}
 use Rattle.sections.specs.declared.blocks.Parts.{Parts}
 use Rattle.sections.specs.declared.blocks.SectionRead.{SectionRead}
@@ -33,9 +33,9 @@ pub record SectionSays (s : List ℕ) (x : Section) (r : SectionRead) : Type 0 w
   pub time : r .keys .time ≡ orElse (timeAmong (x .keys)) 0
   pub bpm : r .keys .bpm ≡ orElse (bpmAmong (x .keys)) 511
   pub repeat : r .modifiers .repeat ≡ repeats (x .modifiers)
-  pub front : r .modifiers .front ≡ cutIs (saidBy cutStartSaid (x .modifiers))
-  pub back : r .modifiers .back ≡ cutIs (saidBy cutEndSaid (x .modifiers))
-  pub before : andThen (settingAt s (r .modifiers .before)) sideSaid ≡ saidBy beforeSaid (x .modifiers)
-  pub after : andThen (settingAt s (r .modifiers .after)) sideSaid ≡ saidBy afterSaid (x .modifiers)
+  pub front : r .modifiers .front ≡ cutIs (x .modifiers .cutStart)
+  pub back : r .modifiers .back ≡ cutIs (x .modifiers .cutEnd)
+  pub before : andThen (settingAt s (r .modifiers .before)) sideSaid ≡ x .modifiers .before
+  pub after : andThen (settingAt s (r .modifiers .after)) sideSaid ≡ x .modifiers .after
   pub pattern : orElse (patternIn (linesOf s (r .pattern))) (named 0) ≡ x .pattern
   pub lyrics : map lyricLine (linesOf s (r .lyrics)) ≡ x .lyrics

@@ -9,9 +9,10 @@ use lib.ListN.{length, take, drop, length-append}
 use lib.Seq.{drop-at, take-append-seam}
 use Rattle.songcode.specs.Lists.{gather, times, sum}
 use Rattle.songcode.specs.answer.Chords.{Chord}
-use Rattle.songcode.specs.Song.{Sounds, only, also, Measure, Item, measure, loop, refer, Items, one, next, Cut, Modifier, Section, Song}
+use Rattle.songcode.specs.Song.{Sounds, only, also, Measure, Item, measure, loop, refer, Items, one, next, Cut, Section, Song, Side, Modifiers}
+use Rattle.songcode.specs.Song.{unmodified}
 use Rattle.songcode.specs.answer.References.{patternItems}
-use Rattle.songcode.specs.answer.Playing.{Beat, Side, lasting, soundCount, positions, saidBy, beforeSaid, afterSaid, cutStartSaid, cutEndSaid, repeats}
+use Rattle.songcode.specs.answer.Playing.{Beat, lasting, soundCount, positions, repeats}
 use Rattle.songcode.specs.answer.Tables.{Tables}
 use Rattle.songcode.specs.answer.Answer.{Room}
 use Rattle.songcode.specs.description.WrittenSection.{Each}
@@ -53,7 +54,7 @@ module _ {A : Type 0} where
   sum-lengths (m ∷ row) = ap (λ k. length m + k) (sum-lengths row)
 
 -- What is played has the widths that the text counts.
-heard-length : (last : Option Chord) (ss : Sounds) (heard : List (Option Chord)) (later : Option Chord)
+pub heard-length : (last : Option Chord) (ss : Sounds) (heard : List (Option Chord)) (later : Option Chord)
     → HearsAll last ss heard later → length heard ≡ soundCount ss
 unfolding HearsAll soundCount
 heard-length last (only s) heard later (h, p, e) = rw e
@@ -181,26 +182,26 @@ module _ {A : Type 0} where
       let s : total kept ≡ total (p .rest) + (length (p .stays) + 0) = rw (p .keeps, total-append (p .rest) (p .stays ∷ [])) refl in
       rw (t, sum-lengths g) (omega arith)
 
-pattern-total : (n : ℕ) (ms : List Modifier) (o : Option Items) (pass middle : List (List Beat)) → PlaysPattern n ms o pass middle
-    → total middle + (namedFront (saidBy cutStartSaid ms) (repeatedWidths n (repeats ms) o)
-    + namedBack (saidBy cutEndSaid ms) (repeatedWidths n (repeats ms) o)) ≡ repeats ms * patternBeats n o
-unfolding PlaysPattern repeatedWidths patternBeats total saidBy namedFront namedBack repeats
+pattern-total : (n : ℕ) (ms : Modifiers) (o : Option Items) (pass middle : List (List Beat)) → PlaysPattern n ms o pass middle
+    → total middle + (namedFront (ms .cutStart) (repeatedWidths n (repeats ms) o)
+    + namedBack (ms .cutEnd) (repeatedWidths n (repeats ms) o)) ≡ repeats ms * patternBeats n o
+unfolding PlaysPattern repeatedWidths patternBeats total namedFront namedBack repeats unmodified
 pattern-total n ms none pass middle (e, p, m) = rw (e, m) nothing
   where
-    nothing : 0 + (namedFront (saidBy cutStartSaid []) [] + namedBack (saidBy cutEndSaid []) []) ≡ repeats [] * 0
+    nothing : 0 + (namedFront (unmodified .cutStart) [] + namedBack (unmodified .cutEnd) []) ≡ repeats unmodified * 0
     nothing = refl
 pattern-total n ms (some r) pass middle (shorter, alone, front, back, some-left) =
     let w : lengths (times (repeats ms) pass) ≡ times (repeats ms) (textWidths n r) = rw (lengths-times (repeats ms) pass, alone-widths n r pass alone) refl in
-    let f = front-named (saidBy cutStartSaid ms) (times (repeats ms) pass) shorter front in
-    let b = back-named (saidBy cutStartSaid ms) (saidBy cutEndSaid ms) (times (repeats ms) pass) shorter middle front back in
+    let f = front-named (ms .cutStart) (times (repeats ms) pass) shorter front in
+    let b = back-named (ms .cutStart) (ms .cutEnd) (times (repeats ms) pass) shorter middle front back in
     let t : total (times (repeats ms) pass) ≡ repeats ms * textBeats n r = rw (← (sum-lengths (times (repeats ms) pass)), w, sum-times, sum-text) refl in
     rw (← w, ← t) (omega arith)
 
 section-counted : (s : Song) (x : Section) (p : Parts) → PlaysSection s x p → BeatsCounted s x p
 unfolding BeatsCounted beatsWritten beatsNamed joined
 section-counted s x p w =
-    let l = side-total (p .meter) (saidBy beforeSaid (x .modifiers)) (p .leadIn) (w .leadIn) in
-    let t = side-total (p .meter) (saidBy afterSaid (x .modifiers)) (p .tail) (w .tail) in
+    let l = side-total (p .meter) (x .modifiers .before) (p .leadIn) (w .leadIn) in
+    let t = side-total (p .meter) (x .modifiers .after) (p .tail) (w .tail) in
     let m = pattern-total (p .meter) (x .modifiers) (patternItems (s .definitions) (x .pattern)) (p .pass) (p .middle) (w .pattern) in
     rw (total-append (p .leadIn) (p .middle ++ p .tail), total-append (p .middle) (p .tail)) (omega arith)
 

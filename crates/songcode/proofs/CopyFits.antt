@@ -10,10 +10,10 @@ use lib.Dec.{eqb}
 use lib.ListN.{length, length-append}
 use Rattle.songcode.specs.Lists.{if_then_else_, isEmpty, any, when, times, andThen, orElse}
 use Rattle.songcode.specs.Bytes.{Byte, values}
-use Rattle.songcode.specs.Song.{KeyName, bpm, time, Key, Items, items, named, Cut, Modifier, LyricLine, Definition, Section, Song}
+use Rattle.songcode.specs.Song.{KeyName, bpm, time, Key, Items, items, named, Cut, LyricLine, Definition, Section, Song, Modifiers, unmodified}
 use Rattle.songcode.specs.answer.Keys.{keyPlace}
 use Rattle.songcode.specs.answer.References.{definitionOf, itemsOf, patternItems}
-use Rattle.songcode.specs.answer.Playing.{Beat, settingNamed, saidBy, beforeSaid, afterSaid, cutStartSaid, cutEndSaid, repeats}
+use Rattle.songcode.specs.answer.Playing.{Beat, settingNamed, repeats}
 use Rattle.songcode.specs.description.WrittenPattern.{Number}
 use Rattle.songcode.specs.description.WrittenSection.{Each, none-each, and-each, TimeText}
 use Rattle.songcode.specs.description.Performance.{total, CutsFront, CutsBack, CutIf, Says, Inherits}
@@ -89,13 +89,13 @@ unfolding rowHeads measureHeads total
 some-beat k at b m ms = omega arith
 
 alone-plays : (k : ℕ) (r : Items) (ds : List Definition) (pass : List (List Beat)) → PlaysAlone k r pass → 1 ≤ total pass
-    → PlaysPattern k [] (patternItems ds (items r)) pass pass
-unfolding PlaysPattern patternItems saidBy repeats times orElse CutIf
+    → PlaysPattern k unmodified (patternItems ds (items r)) pass pass
+unfolding PlaysPattern patternItems repeats unmodified times orElse CutIf
 alone-plays k r ds pass p t = (pass, p, sym (append-nil pass), refl, t)
 
 pattern-again : (k at : ℕ) (row : List (List Beat)) (needed : Bool) (head : ℕ) → Within k row → (isEmpty row ≡ true → needed ≡ true)
-    → PlaysPattern k [] (patternItems (emptyDefinition needed head) (patternAt k at row)) (rowHeads k at row) (rowHeads k at row)
-unfolding PlaysPattern patternAt rowHeads isEmpty Within saidBy
+    → PlaysPattern k unmodified (patternItems (emptyDefinition needed head) (patternAt k at row)) (rowHeads k at row) (rowHeads k at row)
+unfolding PlaysPattern patternAt rowHeads isEmpty Within
 pattern-again k at [] needed head w h = rw (h refl, empty-named head) (refl, refl, refl)
 pattern-again k at ([] ∷ ms) needed head w h = absurd (let l = w .0 in omega arith)
 pattern-again k at ((b ∷ m) ∷ ms) needed head w h =
@@ -105,7 +105,7 @@ pattern-again k at ((b ∷ m) ∷ ms) needed head w h =
 section-plays : (s t : Song) (x y : Section) (p : Parts) (needed : Bool) (head at : ℕ) → Each AlikeKey (t .keys) (s .keys)
     → t .definitions ≡ emptyDefinition needed head → FlatSection x (p .meter) at (joined p) y → (silentPart p ≡ true → needed ≡ true)
     → Within (p .meter) (joined p) → PlaysSection s x p → PlaysSection t y (partsAt p at)
-unfolding partsAt silentPart PlaysSide saidBy
+unfolding partsAt silentPart PlaysSide unmodified
 section-plays s t x y p needed head at k d f n w h =
     record {
       meter = inherits-alike time TimeText (λ a b n e m. time-alike a b e m) k (f .keys) (h .meter);
@@ -178,16 +178,16 @@ unfolding CutIf
 back-shorter none row kept p = rw p (omega arith)
 back-shorter (some c) row kept p = rw (p .keeps, p .written, length-append, length-append, length-append) (omega arith)
 
-pub middle-shorter : (n : ℕ) (ms : List Modifier) (o : Option Items) (pass middle : List (List Beat)) → PlaysPattern n ms o pass middle
+pub middle-shorter : (n : ℕ) (ms : Modifiers) (o : Option Items) (pass middle : List (List Beat)) → PlaysPattern n ms o pass middle
     → length middle ≤ length (times (repeats ms) pass)
 unfolding PlaysPattern
 middle-shorter n ms none pass middle p = rw (p .2) (omega arith)
 middle-shorter n ms (some r) pass middle (shorter, alone, front, back, some-left) =
-    let a = front-shorter (saidBy cutStartSaid ms) (times (repeats ms) pass) shorter front in
-    let b = back-shorter (saidBy cutEndSaid ms) shorter middle back in omega arith
+    let a = front-shorter (ms .cutStart) (times (repeats ms) pass) shorter front in
+    let b = back-shorter (ms .cutEnd) shorter middle back in omega arith
 
-one-pass : (ms : List Modifier) (row : List (List Beat)) → ms ≡ [] → length (times (repeats ms) row ++ []) ≡ length row
-unfolding repeats saidBy orElse times
+one-pass : (ms : Modifiers) (row : List (List Beat)) → ms ≡ unmodified → length (times (repeats ms) row ++ []) ≡ length row
+unfolding repeats unmodified orElse times
 one-pass ms row e = rw (e, append-nil (row ++ []), append-nil row) refl
 
 pub uncut-longer : (k : ℕ) (p : Parts) → length (p .middle) ≤ length (times k (p .pass)) → length (joined p) ≤ length (uncut k p)
@@ -273,12 +273,12 @@ uncounted-by k at ((b ∷ m) ∷ r) needed head (some q) ms ls a n w h t = uncou
 
 -- An empty pattern plays nothing.
 pub plays-nothing : (s : Song) (x : Section) (p : Parts) → PlaysSection s x p → patternItems (s .definitions) (x .pattern) ≡ none → joined p ≡ []
-unfolding joined PlaysPattern PlaysSide saidBy
+unfolding joined PlaysPattern PlaysSide unmodified
 plays-nothing s x p h e =
     let q : PlaysPattern (p .meter) (x .modifiers) none (p .pass) (p .middle) =
     subst (λ o. PlaysPattern (p .meter) (x .modifiers) o (p .pass) (p .middle)) e (h .pattern) in
-    let l : p .leadIn ≡ [] = subst (λ m. PlaysSide (p .meter) (saidBy beforeSaid m) (p .leadIn)) (q .0) (h .leadIn) in
-    let t : p .tail ≡ [] = subst (λ m. PlaysSide (p .meter) (saidBy afterSaid m) (p .tail)) (q .0) (h .tail) in
+    let l : p .leadIn ≡ [] = subst (λ m. PlaysSide (p .meter) (m .before) (p .leadIn)) (q .0) (h .leadIn) in
+    let t : p .tail ≡ [] = subst (λ m. PlaysSide (p .meter) (m .after) (p .tail)) (q .0) (h .tail) in
     rw (l, q .2, t) refl
 
 pub joined-length : (p : Parts) (at : ℕ) → Within (p .meter) (joined p) → length (joined (partsAt p at)) ≡ length (joined p)

@@ -1,5 +1,5 @@
 -- The sections of a copy have the original's words, but for the lines of their headers; all fields fit.
-use Prim.Native.Nat.{ℕ, suc, _+_, _*_, _^_, _<_, _≤_}
+use Prim.Native.Nat.{ℕ, suc, _+_, _<_, _≤_}
 use mathlib.Core.Path.{_≡_, refl, subst}
 use mathlib.Core.List.{List, [], _∷_, map}
 use mathlib.Core.Option.{Option, none, some}
@@ -20,7 +20,8 @@ use Rattle.songcode.specs.description.WrittenSong.{SectionBlock, Written
 use Rattle.songcode.specs.description.Performance.{Says, Inherits, Parts, PlaysSection, joined}
 use Rattle.songcode.specs.description.Fits.{uncutLength, Fits}
 use Rattle.songcode.specs.description.WrittenTables.{partsWords}
-use Rattle.songcode.specs.description.Layout.{without}
+use Rattle.songcode.specs.description.Layout.{sectionsRow, laid, without}
+use Rattle.songcode.proofs.LayoutLaws.{words-laid}
 use Rattle.songcode.proofs.ByteLaws.{length-placed}
 use Rattle.songcode.proofs.ListLaws.{Each, append-each}
 use Rattle.songcode.proofs.CopySong.{Ready, FlatSections, no-flat, a-flat, partsAt, flatParts}
@@ -118,9 +119,16 @@ sections-by s first (a-flat {x} {y} {p} at f fs) r (and-each h hs) l a b =
     (rw m (sections-by s (first + length (joined p)) fs (r .1) hs (omega arith) (a .1) (b .1)))
   where
     same : (h g f l m n t : ℕ) → l ≡ m → h < 131072 → g < 131072 → f < 65536 → m < 65536 → n < 64 → t < 512 → {ws us : List ℕ} → ws ≡ us
-        → without 47 17 (h * 2 ^ 47 + f * 2 ^ 31 + l * 2 ^ 15 + n * 2 ^ 9 + t) ∷ ws ≡ without 47 17 (g * 2 ^ 47 + f * 2 ^ 31 + m * 2 ^ 15 + n * 2 ^ 9 + t) ∷ us
+        → without 47 17 (laid sectionsRow (h ∷ f ∷ l ∷ n ∷ t ∷ [])) ∷ ws ≡ without 47 17 (laid sectionsRow (g ∷ f ∷ m ∷ n ∷ t ∷ [])) ∷ us
     same h g f l m n t q i j k o c d e =
-        rw (q, section-without h f m n t i k o c d, section-without g f m n t j k o c d, e)
+        rw (
+          q,
+          ← (words-laid .section h f m n t),
+          ← (words-laid .section g f m n t),
+          section-without h f m n t i k o c d,
+          section-without g f m n t j k o c d,
+          e,
+        )
 
 pub sections-kept : (s : Song) {ps : List Parts} {xs ys : List Section} (g : FlatSections xs ps ys) → Ready ps → Written.Each (PlaysSection s) xs ps
     → allLength ps ≤ 65535

@@ -10,15 +10,15 @@ use native.Mathlib.Nat.{div-add-mod', mul-le-mul}
 use lib.Dec.{eqb}
 use lib.ListN.{length, length-append}
 use borrow.Author.Tests.{eqb-true}
-use Rattle.songcode.specs.Lists.{if_then_else_, times, andThen, firstThere}
+use Rattle.songcode.specs.Lists.{if_then_else_, times, andThen}
 use Rattle.songcode.specs.Bytes.{Byte, placed, values, isBlank}
 use Rattle.songcode.specs.answer.Chords.{Chord}
 use Rattle.songcode.specs.answer.Lines.{Line, Block}
 use Rattle.songcode.specs.Song.{Sounds, only, also, Measure, Item, measure, loop, refer, Items, one, next, Pattern}
-use Rattle.songcode.specs.Song.{items, named, Cut, Modifier, repeated, cutStart, cutEnd, before, after, Definition, Section, Song}
+use Rattle.songcode.specs.Song.{items, named, Cut, Modifier, before, after, Definition, Section, Song, Side, Modifiers}
 use Rattle.songcode.specs.answer.References.{definitionOf, itemsOf, putIn, patternItems}
-use Rattle.songcode.specs.answer.Playing.{Beat, Side, voices, soundCount, positions, beatsOf, lastItems}
-use Rattle.songcode.specs.answer.Playing.{measuresItem, measuresOf, saidBy, beforeSaid, afterSaid, cutStartSaid, cutEndSaid, repeats}
+use Rattle.songcode.specs.answer.Playing.{Beat, voices, soundCount, positions, beatsOf, lastItems}
+use Rattle.songcode.specs.answer.Playing.{measuresItem, measuresOf, repeats}
 use Rattle.songcode.specs.answer.Meter.{fits, allFitItem, allFit}
 use Rattle.songcode.specs.description.WrittenText.{All, Inside, Characters}
 use Rattle.songcode.specs.description.WrittenPattern.{WrittenPattern, WrittenSide}
@@ -28,7 +28,8 @@ use Rattle.songcode.specs.description.WrittenSong.{DefinitionLines, Writ
 use Rattle.songcode.specs.description.Performance.{CutsFront, CutsBack, CutIf, Parts, PlaysAlone, PlaysSide, PlaysPattern, PlaysSection, joined}
 use Rattle.songcode.specs.description.Fits.{Fits}
 use Rattle.songcode.specs.FlatDemands.{Within}
-use Rattle.songcode.proofs.ListLaws.{by-cases, Each, append-each, both-pass}
+use Rattle.songcode.proofs.ListLaws.{by-cases, Each, each-at, append-each, both-pass}
+use Rattle.songcode.proofs.EachLaws.{each-member}
 use Rattle.songcode.proofs.ByteLaws.{values-placed}
 use Rattle.songcode.proofs.PatternLaws.{none-some}
 use Rattle.songcode.proofs.PlayingAgree.{items-by, sounds-some}
@@ -131,24 +132,24 @@ module _ (file : List Byte) where
   side-good n none row h s p = rw p (tt, tt)
   side-good n (some y) row h s p = alone-good n (y .items) row h (s y refl) p
 
-  pattern-good : (n : ℕ) (ms : List Modifier) (o : Option Items) (pass middle : List (List Beat)) → 1 ≤ n
+  pattern-good : (n : ℕ) (ms : Modifiers) (o : Option Items) (pass middle : List (List Beat)) → 1 ≤ n
       → ((r : Items) → o ≡ some r → OfItems (Known file) r) → PlaysPattern n ms o pass middle → Good n middle
   unfolding PlaysPattern Good Within OfRow
   pattern-good n ms none pass middle h s p = rw (p .2) (tt, tt)
   pattern-good n ms (some r) pass middle h s (shorter, alone, front, back, some-left) =
       let g = alone-good n r pass h (s r refl) alone in
       let row = times (repeats ms) pass in (
-        back-within n (saidBy cutEndSaid ms) shorter middle back
-            (front-within n (saidBy cutStartSaid ms) row shorter front (within-times n (repeats ms) pass (g .0))),
-        back-of (Known file) (saidBy cutEndSaid ms) shorter middle back
-            (front-of (Known file) (saidBy cutStartSaid ms) row shorter front (row-times (Known file) (repeats ms) pass (g .1))),
+        back-within n (ms .cutEnd) shorter middle back
+            (front-within n (ms .cutStart) row shorter front (within-times n (repeats ms) pass (g .0))),
+        back-of (Known file) (ms .cutEnd) shorter middle back
+            (front-of (Known file) (ms .cutStart) row shorter front (row-times (Known file) (repeats ms) pass (g .1))),
       )
 
   -- A section whose texts are spelled.
   pub record SpeltSection (s : Song) (x : Section) : Type 0 where
     pub pattern : (r : Items) → patternItems (s .definitions) (x .pattern) ≡ some r → OfItems (Known file) r
-    pub lead : (y : Side) → saidBy beforeSaid (x .modifiers) ≡ some y → OfItems (Known file) (y .items)
-    pub tail : (y : Side) → saidBy afterSaid (x .modifiers) ≡ some y → OfItems (Known file) (y .items)
+    pub lead : (y : Side) → x .modifiers .before ≡ some y → OfItems (Known file) (y .items)
+    pub tail : (y : Side) → x .modifiers .after ≡ some y → OfItems (Known file) (y .items)
 
   section-good : (s : Song) (x : Section) (p : Parts) → 1 ≤ p .meter → SpeltSection s x → PlaysSection s x p → Good (p .meter) (joined p)
   unfolding joined
@@ -224,43 +225,13 @@ module _ (file : List Byte) where
       let h = setting-fine (code "_") (modifierSpelling m) (l .text) setting s (f .within) (f .whole) in
       items-written (Known file) r [] (text-known file (w .text) (h .0) (h .1) (setting-stands s (f .stands))) .0
 
-  before-spelt : (l : Line) (m : Modifier) (y : Side) → FineLine file l → ModifierLine l m → beforeSaid m ≡ some y → OfItems (Known file) (y .items)
-  unfolding beforeSaid ModifierSetting
-  before-spelt l (repeated n) y f w e = none-some refl e
-  before-spelt l (cutStart c) y f w e = none-some refl e
-  before-spelt l (cutEnd c) y f w e = none-some refl e
-  before-spelt l (before k r) y f w e =
-      let z : r ≡ y .items = some-items e in subst (λ q. OfItems (Known file) q) z (side-spelt l (w .setting) (before k r) r f (w .written) (w .allowed .1))
-    where
-      some-items : _≡_ {A = Option Side} (some (record { line = k; items = r })) (some y) → r ≡ y .items
-      some-items h = let z : _≡_ {A = Side} (record { line = k; items = r }) y = cc in ap (λ (q : Side). q .items) z
-  before-spelt l (after k r) y f w e = none-some refl e
+  lead-spelt : (l : Line) (k : ℕ) (r : Items) → FineLine file l → ModifierLine l (before k r) → OfItems (Known file) r
+  unfolding ModifierSetting
+  lead-spelt l k r f w = side-spelt l (w .setting) (before k r) r f (w .written) (w .allowed .1)
 
-  after-spelt : (l : Line) (m : Modifier) (y : Side) → FineLine file l → ModifierLine l m → afterSaid m ≡ some y → OfItems (Known file) (y .items)
-  unfolding afterSaid ModifierSetting
-  after-spelt l (repeated n) y f w e = none-some refl e
-  after-spelt l (cutStart c) y f w e = none-some refl e
-  after-spelt l (cutEnd c) y f w e = none-some refl e
-  after-spelt l (before k r) y f w e = none-some refl e
-  after-spelt l (after k r) y f w e =
-      let z : r ≡ y .items = some-items e in subst (λ q. OfItems (Known file) q) z (side-spelt l (w .setting) (after k r) r f (w .written) (w .allowed .1))
-    where
-      some-items : _≡_ {A = Option Side} (some (record { line = k; items = r })) (some y) → r ≡ y .items
-      some-items h = let z : _≡_ {A = Side} (record { line = k; items = r }) y = cc in ap (λ (q : Side). q .items) z
-
-  first-or : {o later : Option Side} {y : Side} (P : Type 0) → firstThere o later ≡ some y → (o ≡ some y → P) → (later ≡ some y → P) → P
-  unfolding firstThere
-  first-or {o = none} P e f g = g e
-  first-or {o = some z} P e f g = f e
-
-  said-spelt : (said : Modifier → Option Side)
-      → ((l : Line) (m : Modifier) (y : Side) → FineLine file l → ModifierLine l m → said m ≡ some y → OfItems (Known file) (y .items))
-      → {ls : List Line} {ms : List Modifier} → Written.Each ModifierLine ls ms → Each (FineLine file) ls → (y : Side) → saidBy said ms ≡ some y
-      → OfItems (Known file) (y .items)
-  unfolding saidBy Each
-  said-spelt said of none-each f y e = none-some refl e
-  said-spelt said of (and-each {x = l} {y = m} w ws) f y e =
-      first-or (OfItems (Known file) (y .items)) e (λ h. of l m y (f .0) w h) (λ h. said-spelt said of ws (f .1) y h)
+  tail-spelt : (l : Line) (k : ℕ) (r : Items) → FineLine file l → ModifierLine l (after k r) → OfItems (Known file) r
+  unfolding ModifierSetting
+  tail-spelt l k r f w = side-spelt l (w .setting) (after k r) r f (w .written) (w .allowed .1)
 
   section-spelt : (s : Song) (b : Block) (x : Section) → Each SpeltDefinition (s .definitions) → BlockFine file b → WrittenSection b x → SpeltSection s x
   unfolding BlockFine Each
@@ -271,8 +242,12 @@ module _ (file : List Byte) where
       let m = append-each (FineLine file) (w .modifierLines) (w .lastLines) (q .1) .0 in
       record {
         pattern = pattern-spelt (s .definitions) (w .firstPattern) (w .morePattern) (x .pattern) d (q .0 .0) (q .0 .1) (w .pattern);
-        lead = said-spelt beforeSaid before-spelt (w .modifiers) m;
-        tail = said-spelt afterSaid after-spelt (w .modifiers) m;
+        lead =
+            λ y e.
+            let l = each-member (w .eachSays) (w .modifiers .before y .0 e) in lead-spelt (l .0) (y .line) (y .items) (each-at (FineLine file) m (l .1)) (l .2);
+        tail =
+            λ y e.
+            let l = each-member (w .eachSays) (w .modifiers .after y .0 e) in tail-spelt (l .0) (y .line) (y .items) (each-at (FineLine file) m (l .1)) (l .2);
       }
 
   -- Every section plays what fits its N, and chords of the file.

@@ -13,17 +13,19 @@ use Rattle.songcode.specs.Bytes.{placed, values, ascii, isByte, isLetter
 use Rattle.songcode.specs.answer.Chords.{Chord, bases}
 use Rattle.songcode.specs.answer.Numbers.{isDigit, digits, isDecimal, valueFrom}
 use Rattle.songcode.specs.answer.Lines.{Line, Block}
-use Rattle.songcode.specs.Song.{Key, Pattern, items, named, LyricLine, Section}
+use Rattle.songcode.specs.Song.{Key, Pattern, items, named, LyricLine, Section, unmodified}
+use Rattle.songcode.specs.answer.Modifiers.{modifiersSaid}
 use Rattle.songcode.specs.answer.Tokens.{reference, class}
 use Rattle.songcode.specs.answer.Playing.{Beat}
 use Rattle.songcode.specs.description.WrittenPattern.{Number, Plain, NoPlain, spells-reference, Text, t-end, t-word, one-line, WrittenPattern}
-use Rattle.songcode.specs.description.WrittenSection.{Each, none-each, and-each, Distinct, SectionKey, OfSection}
+use Rattle.songcode.specs.description.WrittenSection.{Each, none-each, and-each, Distinct, SectionKey, OfSection, Together}
 use Rattle.songcode.specs.description.WrittenSection.{PatternBytes, PatternLine, PatternLines, LyricLines, no-lyrics, with-lyrics, WrittenSection}
 use Rattle.songcode.specs.description.Performance.{Parts, joined}
 use Rattle.songcode.specs.answer.Flat.{textOf, letters, lettersOf, parted, spaced, flatMeasure, flatPattern}
 use Rattle.songcode.specs.FlatDemands.{Within}
 use Rattle.songcode.proofs.ListLaws.{true-is-not-false, nil-is-not-cons, both-pass}
 use Rattle.songcode.proofs.PatternLaws.{none-some}
+use Rattle.songcode.proofs.SaidOnce.{said-together}
 use Rattle.songcode.proofs.ByteLaws.{values-placed, values-append}
 use Rattle.songcode.proofs.CopyLines.{behind, behindAll, rowLines}
 use Rattle.songcode.proofs.CopyMeasure.{SpeltIf, SpeltAll, letters-spelt}
@@ -191,8 +193,12 @@ pattern-rows n at k ((b ∷ m) ∷ ms) w s =
 pub record FlatSection (x : Section) (k at : ℕ) (row : List (List Beat)) (y : Section) : Type 0 where
   pub keys : Each AlikeKey (y .keys) (x .keys)
   pub pattern : y .pattern ≡ patternAt k at row
-  pub modifiers : y .modifiers ≡ []
+  pub modifiers : y .modifiers ≡ unmodified
   pub lyrics : Each AlikeLyric (y .lyrics) (x .lyrics)
+
+none-together : Together [] unmodified
+unfolding modifiersSaid unmodified Distinct
+none-together = said-together [] tt
 
 pub section-again : (b : Block) (x : Section) (w : WrittenSection b x) (p : Parts) (n at : ℕ) → Within (p .meter) (joined p) → SpeltRow (joined p)
     → let header = textOf (b .first) in let rest = map textOf (w .keyLines) ++ (flatPattern (p .meter) (joined p) ++ map textOf (w .lastLines)) in
@@ -215,7 +221,7 @@ section-again b x w p n at i s =
     let t = pattern-rows n2 at2 (p .meter) (joined p) i s in
     let k = section-keys (rowLines (suc n) at1 keyRows) (w .keyLines) (x .keys) (rows-text (suc n) at1 keyRows) (w .keys) in
     let y = lyrics-alike (rowLines n3 at3 lastRows) (w .lastLines) (x .lyrics) (rows-text n3 at3 lastRows) (w .lyrics) in (
-      record { header = n; keys = k .0; pattern = patternAt (p .meter) at2 (joined p); modifiers = []; lyrics = y .0 },
+      record { header = n; keys = k .0; pattern = patternAt (p .meter) at2 (joined p); modifiers = unmodified; lyrics = y .0 },
       record {
         keyLines = rowLines (suc n) at1 keyRows;
         firstPattern = t .first;
@@ -231,8 +237,10 @@ section-again b x w p n at i s =
         keysOnce = rw (numbers-alike (k .2)) (w .keysOnce);
         patternLines = t .areLines;
         pattern = t .written;
-        modifiers = none-each;
+        said = [];
+        eachSays = none-each;
         modifiersOnce = tt;
+        modifiers = none-together;
         lyrics = y .1;
       },
       record { keys = k .2; pattern = refl; modifiers = refl; lyrics = y .2 },

@@ -7,15 +7,17 @@ use lib.ListN.{length}
 use Rattle.songcode.specs.Lists.{any, gather}
 use Rattle.songcode.specs.Bytes.{placed}
 use Rattle.songcode.specs.Song.{Section, Song}
-use Rattle.songcode.specs.answer.Tables.{Tables, keyOrder, keyWords, measureWords, beatWord, itemWord}
+use Rattle.songcode.specs.answer.Tables.{Tables, keyOrder, keyWords}
 use Rattle.songcode.specs.description.WrittenSection.{Each, none-each}
 use Rattle.songcode.specs.description.WrittenSong.{WrittenChart}
 use Rattle.songcode.specs.description.Performance.{Parts, joined}
 use Rattle.songcode.specs.description.Fits.{Fits}
-use Rattle.songcode.specs.description.WrittenTables.{partsWords, WrittenItems, items-there, no-items, WrittenTables}
+use Rattle.songcode.specs.description.WrittenTables.{keysLaid, partsWords, rowWords, beatLaid, itemLaid, WrittenItems, items-there, no-items}
+use Rattle.songcode.specs.description.WrittenTables.{WrittenTables}
 use Rattle.songcode.specs.description.Layout.{without}
 use Rattle.songcode.specs.description.WrittenFlat.{silentPart, stretchAt, ReadsBack}
 use Rattle.songcode.proofs.EachLaws.{each-behind}
+use Rattle.songcode.proofs.WordsLaid.{keys-laid, rows-laid, beats-laid, items-laid}
 use Rattle.songcode.proofs.CopySong.{FlatSections, no-flat, a-flat, partsAt, flatParts, joined-at, FlatSong}
 use Rattle.songcode.proofs.CopyReady.{Good, KnownParts, known, ready}
 use Rattle.songcode.proofs.CopyFits.{any-needs}
@@ -53,7 +55,12 @@ module _ (bs copy : List ℕ) (s t : Song) (ps : List Parts) (g : FlatSong s ps 
       let there =
       items-fit copy (v .short) 0 (a .0) (sung-counted t (flatParts (g .sections)) h again) (let m = measures-few h in omega arith) (chart-lyrics v) (a .1) in
       let k = items-kept bs copy (w .short) (v .short) (a .2) there here in
-      record { copied = map itemWord (a .0); written = items-there (a .0) again (a .1) refl; kept = rw e (k .0); texts = rw e (k .1) }
+      record {
+        copied = map itemLaid (a .0);
+        written = items-there (a .0) again (a .1) refl;
+        kept = rw (e, ← (items-laid prompts), ← (items-laid (a .0))) (k .0);
+        texts = rw (e, ← (items-laid prompts), ← (items-laid (a .0))) (k .1);
+      }
   items-again words (no-items n e) =
       record {
         copied = [];
@@ -71,22 +78,23 @@ module _ (bs copy : List ℕ) (s t : Song) (ps : List Parts) (g : FlatSong s ps 
       let keysThere = chart-keys v in
       let items = items-again (u .items) (a .items) in (
         record {
-          keys = keyWords t;
+          keys = keysLaid (t .keys);
           sections = partsWords 0 (t .sections) qs;
-          measures = measureWords 0 (gather joined qs);
-          beats = gather (map beatWord) (gather joined qs);
+          measures = rowWords 0 (gather joined qs);
+          beats = gather (map beatLaid) (gather joined qs);
           items = items .copied;
         },
         record { keys = refl; sections = refl; measures = refl; beats = refl; items = items .written },
         record {
-          keys = rw (a .keys) (keys-kept bs copy (w .short) (v .short) (g .keys) keysThere keys keyOrder);
+          keys = rw (a .keys, ← (keys-laid s), ← (keys-laid t)) (keys-kept bs copy (w .short) (v .short) (g .keys) keysThere keys keyOrder);
           sections = rw (a .sections) (sections-kept s (g .sections) (ready bs s ps w f) (f .plays) (measures-few f) (chart-headers w) (chart-headers v));
-          measures = rw (a .measures) (measures-alike 0 beats);
-          beats = rw (a .beats) (beats-kept bs copy (w .short) (v .short) beats);
-          heads = rw (a .beats) (heads-set bs copy (w .short) (v .short) beats);
+          measures = rw (a .measures, ← (rows-laid 0 (gather joined ps)), ← (rows-laid 0 (gather joined qs))) (measures-alike 0 beats);
+          beats = rw (a .beats, ← (beats-laid (gather joined ps)), ← (beats-laid (gather joined qs))) (beats-kept bs copy (w .short) (v .short) beats);
+          heads = rw (a .beats, ← (beats-laid (gather joined ps)), ← (beats-laid (gather joined qs))) (heads-set bs copy (w .short) (v .short) beats);
           items = items .kept;
-          settings = rw (a .keys) (settings-kept bs copy (w .short) (v .short) (g .keys) keysThere keys keyOrder);
-          extensions = rw (a .beats) (extensions-kept bs copy (w .short) (v .short) beats);
+          settings = rw (a .keys, ← (keys-laid s), ← (keys-laid t)) (settings-kept bs copy (w .short) (v .short) (g .keys) keysThere keys keyOrder);
+          extensions =
+              rw (a .beats, ← (beats-laid (gather joined ps)), ← (beats-laid (gather joined qs))) (extensions-kept bs copy (w .short) (v .short) beats);
           words = items .texts;
         },
       )

@@ -8,14 +8,14 @@ use lib.ListN.{length, length-append}
 use Rattle.songcode.specs.Lists.{gather}
 use Rattle.songcode.specs.Song.{Section, Song}
 use Rattle.songcode.specs.answer.Playing.{Beat}
-use Rattle.songcode.specs.answer.Tables.{Tables, sectionWord, measureWord, measureWords, beatWord}
+use Rattle.songcode.specs.answer.Tables.{Tables}
 use Rattle.songcode.specs.answer.Answer.{Room, accepted, answer}
 use Rattle.songcode.specs.description.WrittenSection.{Each, none-each, and-each}
 use Rattle.songcode.specs.description.Performance.{Parts, PlaysSection, joined, total}
-use Rattle.songcode.specs.description.WrittenTables.{partsWords, WrittenTables}
+use Rattle.songcode.specs.description.WrittenTables.{partsWords, rowWords, beatLaid, WrittenTables}
+use Rattle.songcode.specs.description.Layout.{sectionsRow, measuresRow, laid}
 use Rattle.songcode.specs.EachSection.{Stretch, EachSection}
 use Rattle.songcode.proofs.ListLaws.{gather-append, nil-is-not-cons}
-use Rattle.songcode.proofs.LayoutLaws.{words-laid}
 use Rattle.songcode.proofs.AnswerAgree.{accepted-exactly}
 
 -- Things that stand at the places of sections parted as the sections are.
@@ -52,7 +52,7 @@ parted {R = R} (f ∷ front) x behind xs ys e (and-each {x = a} {y = b} {xs = cs
 
 -- Words of sections, measures and beats in a row.
 abbrev section-word : Section → ℕ → Parts → ℕ
-section-word x first p = sectionWord (x .header) first (length (joined p)) (p .meter) (p .tempo)
+section-word x first p = laid sectionsRow (x .header ∷ first ∷ length (joined p) ∷ p .meter ∷ p .tempo ∷ [])
 
 sections-parted : {R : Section → Parts → Type 0} (first : ℕ) (front : List Section) (x : Section) (behind : List Section)
     (ps : List Parts) (p : Parts) (qs : List Parts) → Each R front ps
@@ -66,16 +66,16 @@ sections-parted {R = R} first (f ∷ front) x behind (g ∷ ps) p qs (and-each h
     let r = sections-parted {R = R} (first + length (joined g)) front x behind ps p qs hs in
     let e : first + length (joined g ++ gather joined ps) ≡ first + length (joined g) + length (gather joined ps) =
     rw (length-append (joined g) (gather joined ps)) (omega arith) in
-    (rw e (ap (λ z. sectionWord (f .header) first (length (joined g)) (g .meter) (g .tempo) ∷ z) (r .0)), let s = r .1 in omega arith)
+    (rw e (ap (λ z. section-word f first g ∷ z) (r .0)), let s = r .1 in omega arith)
 
 measures-joined : (first : ℕ) (a b : List (List Beat))
-    → (measureWords first (a ++ b) ≡ measureWords first a ++ measureWords (first + total a) b) × (length (measureWords first a) ≡ length a)
-unfolding measureWords total
+    → (rowWords first (a ++ b) ≡ rowWords first a ++ rowWords (first + total a) b) × (length (rowWords first a) ≡ length a)
+unfolding rowWords total
 measures-joined first [] b = (rw (add-zero first), refl)
 measures-joined first (m ∷ a) b =
     let h = measures-joined (first + length m) a b in
     let l = h .1 in
-    (rw (← add-assoc first (length m) (total a)) (ap (λ z. measureWord first (length m) ∷ z) (h .0)), omega arith)
+    (rw (← add-assoc first (length m) (total a)) (ap (λ z. laid measuresRow (first ∷ length m ∷ []) ∷ z) (h .0)), omega arith)
 
 gathered-length : {A B : Type 0} (f : A → B) (rows : List (List A)) → length (gather (map f) rows) ≡ total rows
 unfolding gather total
@@ -94,30 +94,30 @@ module _ (s : Song) (ps : List Parts) (t : Tables) (w : WrittenTables s ps t) (e
       let rest = gather joined (r .after) in
       let all : gather joined ps ≡ rows ++ (joined p ++ rest) = ap (λ z. gather joined z) (r .written) ∙ gather-append joined (r .before) (p ∷ r .after) in
       let words = sections-parted {R = PlaysSection s} 0 front x behind (r .before) p (r .after) (r .ofFront) in
-      let measures : t .measures ≡ measureWords 0 rows ++ (measureWords (total rows) (joined p) ++ measureWords (total rows + total (joined p)) rest) =
-      w .measures ∙ ap (λ z. measureWords 0 z) all ∙ measures-joined 0 rows (joined p ++ rest) .0
-      ∙ rw (zero-add (total rows)) (ap (λ z. measureWords 0 rows ++ z) (measures-joined (total rows) (joined p) rest .0)) in
-      let beats : t .beats ≡ gather (map beatWord) rows ++ (gather (map beatWord) (joined p) ++ gather (map beatWord) rest) =
-      w .beats ∙ ap (λ z. gather (map beatWord) z) all ∙ gather-append (map beatWord) rows (joined p ++ rest)
-      ∙ ap (λ z. gather (map beatWord) rows ++ z) (gather-append (map beatWord) (joined p) rest) in
+      let measures : t .measures ≡ rowWords 0 rows ++ (rowWords (total rows) (joined p) ++ rowWords (total rows + total (joined p)) rest) =
+      w .measures ∙ ap (λ z. rowWords 0 z) all ∙ measures-joined 0 rows (joined p ++ rest) .0
+      ∙ rw (zero-add (total rows)) (ap (λ z. rowWords 0 rows ++ z) (measures-joined (total rows) (joined p) rest .0)) in
+      let beats : t .beats ≡ gather (map beatLaid) rows ++ (gather (map beatLaid) (joined p) ++ gather (map beatLaid) rest) =
+      w .beats ∙ ap (λ z. gather (map beatLaid) z) all ∙ gather-append (map beatLaid) rows (joined p ++ rest)
+      ∙ ap (λ z. gather (map beatLaid) rows ++ z) (gather-append (map beatLaid) (joined p) rest) in
       let sections : t .sections ≡ partsWords 0 front (r .before)
       ++
-      (sectionWord (x .header) (0 + length rows) (length (joined p)) (p .meter) (p .tempo) ∷ partsWords (0 + length rows + length (joined p)) behind
+      (section-word x (0 + length rows) p ∷ partsWords (0 + length rows + length (joined p)) behind
       (r .after)) =
       w .sections ∙ ap (λ z. partsWords 0 z ps) e ∙ ap (λ z. partsWords 0 (front ++ (x ∷ behind)) z) (r .written) ∙ words .0 in
-      let long : length (measureWords 0 rows) ≡ length rows = measures-joined 0 rows [] .1 in
-      let beaten : length (gather (map beatWord) rows) ≡ total rows = gathered-length beatWord rows in (
+      let long : length (rowWords 0 rows) ≡ length rows = measures-joined 0 rows [] .1 in
+      let beaten : length (gather (map beatLaid) rows) ≡ total rows = gathered-length beatLaid rows in (
         p,
         r .holds,
         record {
           sectionsBefore = partsWords 0 front (r .before);
           sectionsBehind = partsWords (0 + length rows + length (joined p)) behind (r .after);
-          measuresBefore = measureWords 0 rows;
-          measuresBehind = measureWords (total rows + total (joined p)) rest;
-          beatsBefore = gather (map beatWord) rows;
-          beatsBehind = gather (map beatWord) rest;
+          measuresBefore = rowWords 0 rows;
+          measuresBehind = rowWords (total rows + total (joined p)) rest;
+          beatsBefore = gather (map beatLaid) rows;
+          beatsBehind = gather (map beatLaid) rest;
           inPlace = words .1;
-          sections = sections ∙ rw (zero-add (length rows), long, words-laid .section (x .header) (length rows) (length (joined p)) (p .meter) (p .tempo));
+          sections = sections ∙ rw (zero-add (length rows), long);
           measures = rw beaten measures;
           beats = beats;
         },

@@ -12,20 +12,19 @@ use Rattle.songcode.specs.answer.Chords.{Chord, bases}
 use Rattle.songcode.specs.Song.{KeyName, Key, Section, Song}
 use Rattle.songcode.specs.answer.Playing.{settingNamed, Beat}
 use Rattle.songcode.specs.answer.Lyrics.{Prompt}
-use Rattle.songcode.specs.answer.Tables.{Tables, offset, keyWord, keyOrder, keyWords, headBit, beatBy, beatWord, itemWord, measureWords}
+use Rattle.songcode.specs.answer.Tables.{Tables, keyOrder}
 use Rattle.songcode.specs.answer.Answer.{Room, accepted, answer}
 use Rattle.songcode.specs.description.WrittenSection.{none-each, and-each}
 use Rattle.songcode.specs.description.WrittenSection as Written
 use Rattle.songcode.specs.description.WrittenSong.{WrittenChart}
 use Rattle.songcode.specs.description.Performance.{Parts, PlaysSection, joined}
 use Rattle.songcode.specs.description.Fits.{Fits}
-use Rattle.songcode.specs.description.WrittenTables.{partsWords, WrittenItems, items-there, no-items, WrittenTables}
+use Rattle.songcode.specs.description.WrittenTables.{keysLaid, partsWords, rowWords, beatLaid, itemLaid, WrittenItems, items-there, no-items}
+use Rattle.songcode.specs.description.WrittenTables.{WrittenTables}
 use Rattle.songcode.specs.FlatDemands.{Within}
-use Rattle.songcode.specs.description.Layout.{keysRow, sectionsRow, measuresRow, beatsRow, itemsRow, Fit}
+use Rattle.songcode.specs.description.Layout.{keysRow, sectionsRow, measuresRow, beatsRow, itemsRow, Fit, beatFields, keyFields, itemFields, laid}
 use Rattle.songcode.specs.FieldsFit.{WordOf, FieldsFit}
-use Rattle.songcode.proofs.ListLaws.{Each, each-append}
-use Rattle.songcode.proofs.LayoutLaws.{words-laid}
-use Rattle.songcode.proofs.WholeCharactersProved.{each-member}
+use Rattle.songcode.proofs.ListLaws.{each-at, Each, each-append}
 use Rattle.songcode.proofs.ChordsPlayed.{OfIf, OfAll, OfRow}
 use Rattle.songcode.proofs.SpeltChords.{Known}
 use Rattle.songcode.proofs.CopyReady.{Good, KnownParts, known}
@@ -44,25 +43,26 @@ get-before (y ∷ xs) (suc n) x e = let h = get-before xs n x e in omega arith
 
 module _ (bs : List ℕ) (small : length bs ≤ 65536) where
   -- keys
-  key-word : (o : Option (List Byte)) → SaidStands bs o → WordOf keysRow (keyWord o)
-  unfolding SaidStands Fit keysRow
-  key-word none s = record { fields = 0 ∷ 0 ∷ 0 ∷ []; fit = (omega arith, (omega arith, (omega arith, tt))); made = words-laid .absent-key }
+  key-word : (o : Option (List Byte)) → SaidStands bs o → WordOf keysRow (laid keysRow (keyFields o))
+  unfolding SaidStands Fit keysRow keyFields
+  key-word none s = record { fields = keyFields none; fit = (omega arith, (omega arith, (omega arith, tt))); made = refl }
   key-word (some text) s =
       let o = place-fits bs text small (s .0) in
       let l = s .1 in
-      record { fields = 1 ∷ offset text ∷ length text ∷ []; fit = (omega arith, (omega arith, (omega arith, tt))); made = words-laid .present-key text }
+      record { fields = keyFields (some text); fit = (omega arith, (omega arith, (omega arith, tt))); made = refl }
 
-  key-words : (ks : List Key) → Each (KeyStands bs) ks → (order : List KeyName) → Each (WordOf keysRow) (map (λ k. keyWord (settingNamed k ks)) order)
+  key-words : (ks : List Key) → Each (KeyStands bs) ks → (order : List KeyName)
+      → Each (WordOf keysRow) (map (λ k. laid keysRow (keyFields (settingNamed k ks))) order)
   unfolding Each
   key-words ks f [] = tt
   key-words ks f (k ∷ order) = (key-word (settingNamed k ks) (said-stands bs k ks f), key-words ks f order)
 
   -- beats
-  beat-word : (o : Option Chord) (head : Bool) → OfIf (Known (placed 0 bs)) o → WordOf beatsRow (beatBy o head)
-  unfolding OfIf Fit beatsRow bases
+  beat-word : (o : Option Chord) (head : Bool) → OfIf (Known (placed 0 bs)) o → WordOf beatsRow (laid beatsRow (beatFields o head))
+  unfolding OfIf Fit beatsRow beatFields bases
   beat-word none head k =
       let h = bit-small head in
-      record { fields = 63 ∷ 0 ∷ 0 ∷ headBit head ∷ []; fit = (omega arith, (omega arith, (omega arith, (omega arith, tt)))); made = words-laid .silence head }
+      record { fields = beatFields none head; fit = (omega arith, (omega arith, (omega arith, (omega arith, tt)))); made = refl }
   beat-word (some c) head k =
       let h = bit-small head in
       let f = chord-fits bs c small k in
@@ -70,23 +70,23 @@ module _ (bs : List ℕ) (small : length bs ≤ 65536) where
       let l = f .1 in
       let b = get-before bases (c .base) _ (k .spelt .spelled .numbered) in
       record {
-        fields = c .base ∷ offset (c .extension) ∷ length (c .extension) ∷ headBit head ∷ [];
+        fields = beatFields (some c) head;
         fit = (omega arith, (omega arith, (omega arith, (omega arith, tt))));
-        made = words-laid .chord c head;
+        made = refl;
       }
 
-  beat-words : (row : List (List Beat)) → OfRow (Known (placed 0 bs)) row → Each (WordOf beatsRow) (gather (map beatWord) row)
-  unfolding Each OfRow gather beatWord
+  beat-words : (row : List (List Beat)) → OfRow (Known (placed 0 bs)) row → Each (WordOf beatsRow) (gather (map beatLaid) row)
+  unfolding Each OfRow gather beatLaid
   beat-words [] k = tt
-  beat-words (m ∷ row) k = each-append (WordOf beatsRow) (map beatWord m) (gather (map beatWord) row) (measure m (k .0)) (beat-words row (k .1))
+  beat-words (m ∷ row) k = each-append (WordOf beatsRow) (map beatLaid m) (gather (map beatLaid) row) (measure m (k .0)) (beat-words row (k .1))
     where
-      measure : (m : List Beat) → OfAll (Known (placed 0 bs)) m → Each (WordOf beatsRow) (map beatWord m)
+      measure : (m : List Beat) → OfAll (Known (placed 0 bs)) m → Each (WordOf beatsRow) (map beatLaid m)
       measure [] k = tt
       measure (b ∷ m) k = (beat-word (b .sounds) (b .head) (k .0), measure m (k .1))
 
   -- items
-  item-words : (ps : List Prompt) → Each (ItemFits bs) ps → Each (WordOf itemsRow) (map itemWord ps)
-  unfolding Each Fit itemsRow
+  item-words : (ps : List Prompt) → Each (ItemFits bs) ps → Each (WordOf itemsRow) (map itemLaid ps)
+  unfolding Each Fit itemLaid itemsRow itemFields
   item-words [] f = tt
   item-words (p ∷ ps) f =
       let i = f .0 in
@@ -96,9 +96,9 @@ module _ (bs : List ℕ) (small : length bs ≤ 65536) where
       let m = i .measures in
       let k = i .style in (
         record {
-          fields = offset (p .words .text) ∷ length (p .words .text) ∷ p .first ∷ p .measures ∷ p .words .style ∷ [];
+          fields = itemFields p;
           fit = (omega arith, (omega arith, (omega arith, (omega arith, (omega arith, tt)))));
-          made = words-laid .item p;
+          made = refl;
         },
         item-words ps (f .1),
       )
@@ -115,7 +115,7 @@ section-words s first (and-each {x} {y = p} e more) l h =
       record {
         fields = x .header ∷ first ∷ length (joined p) ∷ p .meter ∷ p .tempo ∷ [];
         fit = (omega arith, (omega arith, (omega arith, (omega arith, (omega arith, tt)))));
-        made = words-laid .section (x .header) first (length (joined p)) (p .meter) (p .tempo);
+        made = refl;
       },
       section-words s (first + length (joined p)) more (omega arith) (h .1),
     )
@@ -124,12 +124,12 @@ section-words s first (and-each {x} {y = p} e more) l h =
 unfoldable Short : List Beat → Type 0
 Short m = length m ≤ 32
 
-measure-words : (first : ℕ) (row : List (List Beat)) → Each Short row → first + 32 * length row ≤ 2097120 → Each (WordOf measuresRow) (measureWords first row)
-unfolding Each Short measureWords Fit measuresRow
+measure-words : (first : ℕ) (row : List (List Beat)) → Each Short row → first + 32 * length row ≤ 2097120 → Each (WordOf measuresRow) (rowWords first row)
+unfolding Each Short rowWords Fit measuresRow
 measure-words first [] s l = tt
 measure-words first (m ∷ row) s l =
     let h = s .0 in (
-      record { fields = first ∷ length m ∷ []; fit = (omega arith, (omega arith, tt)); made = words-laid .measure first (length m) },
+      record { fields = first ∷ length m ∷ []; fit = (omega arith, (omega arith, tt)); made = refl },
       measure-words (first + length m) row (s .1) (omega arith),
     )
 
@@ -170,7 +170,7 @@ module _ (bs : List ℕ) (s : Song) (ps : List Parts) (w : WrittenChart bs s) (f
   items-word words (no-items n e) = rw e tt
 
   tables-fit : (t : Tables) → WrittenTables s ps t → FieldsFit t
-  unfolding keyWords
+  unfolding keysLaid
   tables-fit t a =
       let few = measures-few f in
       let count = all-length ps in
@@ -181,11 +181,11 @@ module _ (bs : List ℕ) (s : Song) (ps : List Parts) (w : WrittenChart bs s) (f
       rw (a .measures) (measure-words 0 (gather joined ps) (all-short (placed 0 bs) s (f .plays) parts) (omega arith)) in
       let beats : Each (WordOf beatsRow) (t .beats) = rw (a .beats) (beat-words bs (w .short) (gather joined ps) (all-known (placed 0 bs) s ps parts)) in
       record {
-        keys = λ word m. each-member (WordOf keysRow) keys m;
-        sections = λ word m. each-member (WordOf sectionsRow) sections m;
-        measures = λ word m. each-member (WordOf measuresRow) measures m;
-        beats = λ word m. each-member (WordOf beatsRow) beats m;
-        items = λ word m. each-member (WordOf itemsRow) (items-word (t .items) (a .items)) m;
+        keys = λ word m. each-at (WordOf keysRow) keys m;
+        sections = λ word m. each-at (WordOf sectionsRow) sections m;
+        measures = λ word m. each-at (WordOf measuresRow) measures m;
+        beats = λ word m. each-at (WordOf beatsRow) beats m;
+        items = λ word m. each-at (WordOf itemsRow) (items-word (t .items) (a .items)) m;
       }
 
 pub fields-fit : (room : Room) (bs : List ℕ) (t : Tables) → answer room bs ≡ accepted t → FieldsFit t

@@ -2,14 +2,20 @@
 use Prim.Native.Nat.{ℕ, zero, suc, _+_, _*_, _/_, _%_, _^_, _<_}
 use mathlib.Core.Path.{_≡_, refl, ap, sym, _∙_}
 use mathlib.Core.List.{List, [], _∷_}
+use mathlib.Core.Bool.{Bool}
+use mathlib.Core.Option.{Option, none, some}
 use native.Mathlib.Nat.{pow-zero, pow-suc, zero-add, add-zero, suc-add, suc-mul, mul-assoc, mul-right-comm, mul-le-mul-right, mul-add-div-right}
 use native.Mathlib.Nat.{mul-add-mod-self-right, mod-eq-of-lt, div-eq-of-lt, div-add-mod', mod-lt, div-lt-iff-lt-mul, add-assoc}
 use native.Mathlib.Omega.{arith}
 use Rattle.songcode.specs.Lists.{sum}
-use Rattle.songcode.specs.answer.Tables.{offset, keyWord, sectionWord, measureWord, headBit, beatBy, itemWord}
+use Rattle.songcode.specs.Bytes.{Byte}
+use Rattle.songcode.specs.answer.Chords.{Chord}
+use Rattle.songcode.specs.answer.Lyrics.{Prompt}
+use Rattle.songcode.specs.answer.Tables.{keyWord, sectionWord, measureWord, beatBy, itemWord, headBit, offset}
 use Rattle.songcode.specs.description.Joined.{firstBeat, beatCount}
 use Rattle.songcode.specs.description.Layout.{keysRow, sectionsRow, measuresRow, beatsRow, itemsRow, spare, packed, laid, field, unpacked, fieldsOf, Fit}
 use Rattle.songcode.specs.description.Layout.{Laid}
+use Rattle.songcode.specs.description.Layout.{keyFields, beatFields, itemFields}
 
 power-sum : (a b : ℕ) → 2 ^ (a + b) ≡ 2 ^ a * 2 ^ b
 power-sum zero b = rw (zero-add b, pow-zero 2) (omega arith)
@@ -93,20 +99,40 @@ packed-unpacked low (w ∷ ws) word h =
         (add-assoc (q * 2 ^ (sum ws + low)) (packed low ws (unpacked low ws m)) (m % 2 ^ low) ∙ ap (λ x. q * 2 ^ (sum ws + low) + x) below ∙ e)
 
 -- Each word of the five tables, and the fields that the second call reads.
+key-laid : (o : Option (List Byte)) → keyWord o ≡ laid keysRow (keyFields o)
+unfolding keyWord laid keysRow keyFields
+key-laid none = refl
+key-laid (some setting) = omega arith
+
+section-laid : (header first measures n bpm : ℕ) → sectionWord header first measures n bpm ≡ laid sectionsRow (header ∷ first ∷ measures ∷ n ∷ bpm ∷ [])
+unfolding sectionWord laid sectionsRow
+section-laid header first measures n bpm = omega arith
+
+measure-laid : (first beats : ℕ) → measureWord first beats ≡ laid measuresRow (first ∷ beats ∷ [])
+unfolding measureWord laid measuresRow
+measure-laid first beats = omega arith
+
+beat-laid : (o : Option Chord) (head : Bool) → beatBy o head ≡ laid beatsRow (beatFields o head)
+unfolding beatBy laid beatsRow beatFields
+beat-laid none head = omega arith
+beat-laid (some c) head = omega arith
+
+item-laid : (p : Prompt) → itemWord p ≡ laid itemsRow (itemFields p)
+unfolding itemWord laid itemsRow itemFields
+item-laid p = omega arith
+
 pub words-laid : Laid
-unfolding laid fieldsOf keyWord sectionWord measureWord beatBy itemWord headBit offset firstBeat beatCount keysRow sectionsRow measuresRow beatsRow itemsRow
+unfolding fieldsOf laid measuresRow headBit offset firstBeat beatCount
 words-laid =
     record {
       read-back = λ r vs low f h. unpacked-packed (spare r) (r .fields) vs low f h;
       laid-back = λ r word h. packed-unpacked (spare r) (r .fields) word h;
-      absent-key = refl;
-      present-key = λ setting. omega arith;
-      section = λ header first measures n bpm. omega arith;
-      measure = λ first beats. omega arith;
-      silence = λ head. omega arith;
-      chord = λ c head. omega arith;
+      key = key-laid;
+      section = section-laid;
+      measure = measure-laid;
+      beat = beat-laid;
+      item = item-laid;
       head = (refl, refl);
-      item = λ p. omega arith;
       nowhere = refl;
       somewhere = λ b bs. refl;
       sought = λ word h. ap (λ x. x ∷ word / 2 ^ 5 % 2 ^ 6 ∷ []) (sym (mod-eq-of-lt (first-fits word h)));

@@ -3,7 +3,7 @@ use Prim.Native.Nat.{ℕ, _+_, _<_, _≤_}
 use mathlib.Core.Path.{_≡_, refl, ap, sym, subst, _∙_}
 use mathlib.Core.Logic.{_↔_, _⊎_, inl, inr, ⊎-elim}
 use mathlib.Core.List.{List, [], _∷_, _++_, map, List·Memᴰ, List·Memᴰ·head, List·Memᴰ·tail, List·Memᴰ·not-nil, Memᴰ·append-left, Memᴰ·append-right}
-use mathlib.Core.Bool.{true, _&&_, not}
+use mathlib.Core.Bool.{_&&_}
 use mathlib.Core.Option.{Option, none, some}
 use native.Mathlib.Omega.{arith}
 use lib.Dec.{leb, ltb}
@@ -11,19 +11,19 @@ use lib.ListN.{length}
 use borrow.Author.Tests.{leb-true, le-leb, ltb-true, lt-ltb}
 use Rattle.songcode.specs.Lists.{sum, isEmpty, gather}
 use Rattle.songcode.specs.Complaints.{Complaint, complaint, complainIf}
-use Rattle.songcode.specs.Song.{Items, Modifier, Section, Song}
+use Rattle.songcode.specs.Song.{Items, Section, Song}
 use Rattle.songcode.specs.answer.PatternText.{references}
 use Rattle.songcode.specs.answer.References.{patternItems}
-use Rattle.songcode.specs.answer.Playing.{Beat, timeOf, measuresOf, saidBy, beforeSaid, afterSaid, sideMeasures, keptMeasures}
+use Rattle.songcode.specs.answer.Playing.{Beat, timeOf, measuresOf, sideMeasures, keptMeasures}
 use Rattle.songcode.specs.answer.Meter.{playedFaults, sideFaults, sectionMeter, meterFaults, measuresIn, sideCount, sectionCount, mostMeasures, cutFaults}
-use Rattle.songcode.specs.answer.Meter.{lengthFaults}
+use Rattle.songcode.specs.answer.Meter.{lengthFaults, anySaid}
 use Rattle.songcode.specs.description.WrittenSection.{Each, none-each, and-each}
 use Rattle.songcode.specs.description.Performance.{PlaysAlone, PlaysPattern}
 use Rattle.songcode.specs.description.StoppedSong.{PlaysPass, Uncut, Stops5, too-long, no-beat, empty-modified}
 use Rattle.songcode.proofs.ListLaws.{by-cases, true-is-not-false, both-pass, pass-both, append-is-nil, complainIf-nil, nil-complainIf}
 use Rattle.songcode.proofs.MemberLaws.{either, in-complaint, complaint-in}
 use Rattle.songcode.proofs.InheritsAgree.{says-meter}
-use Rattle.songcode.proofs.SectionPlays.{meter-some, pass-of, row-plays, plays-row, side-plays, plays-side, pattern-plays, plays-pattern}
+use Rattle.songcode.proofs.SectionPlays.{meter-some, pass-of, row-plays, plays-row, side-plays, plays-side, pattern-plays, plays-pattern, none-said}
 use Rattle.songcode.proofs.MeterAgree.{PlainSection, PlainSections, length-side, length-pass}
 use Rattle.songcode.proofs.MeterStops.{plain-member}
 
@@ -35,19 +35,19 @@ gather-silent f {xs = y ∷ xs} e (List·Memᴰ·tail m) = gather-silent f (appe
 -- What stage 4 leaves of a section.
 record Fine (s : Song) (x : Section) : Type 0 where
   pattern : playedFaults (timeOf s x) (x .header) (patternItems (s .definitions) (x .pattern)) ≡ []
-  lead : sideFaults (timeOf s x) (saidBy beforeSaid (x .modifiers)) ≡ []
-  tail : sideFaults (timeOf s x) (saidBy afterSaid (x .modifiers)) ≡ []
+  lead : sideFaults (timeOf s x) (x .modifiers .before) ≡ []
+  tail : sideFaults (timeOf s x) (x .modifiers .after) ≡ []
 
 fine-of : (s : Song) (x : Section) → sectionMeter s x ≡ [] → Fine s x
 unfolding sectionMeter
 fine-of s x e =
     let a =
     append-is-nil
-    (playedFaults (timeOf s x) (x .header) (patternItems (s .definitions) (x .pattern)) ++ sideFaults (timeOf s x) (saidBy beforeSaid (x .modifiers)))
-    (sideFaults (timeOf s x) (saidBy afterSaid (x .modifiers))) e in
+    (playedFaults (timeOf s x) (x .header) (patternItems (s .definitions) (x .pattern)) ++ sideFaults (timeOf s x) (x .modifiers .before))
+    (sideFaults (timeOf s x) (x .modifiers .after)) e in
     let b =
     append-is-nil (playedFaults (timeOf s x) (x .header) (patternItems (s .definitions) (x .pattern)))
-    (sideFaults (timeOf s x) (saidBy beforeSaid (x .modifiers))) (a .0) in
+    (sideFaults (timeOf s x) (x .modifiers .before)) (a .0) in
     record { pattern = b .0; lead = b .1; tail = a .1 }
 
 -- A section's measures before cuts.
@@ -65,18 +65,18 @@ uncut-of : (s : Song) (x : Section) → PlainSection s x → sectionMeter s x �
 unfolding sectionCount
 uncut-of s x p e =
     let f = fine-of s x e in
-    let a = length-side (timeOf s x) (saidBy beforeSaid (x .modifiers)) in
+    let a = length-side (timeOf s x) (x .modifiers .before) in
     let b = length-pass (timeOf s x) (patternItems (s .definitions) (x .pattern)) in
-    let c = length-side (timeOf s x) (saidBy afterSaid (x .modifiers)) in
+    let c = length-side (timeOf s x) (x .modifiers .after) in
     record {
       meter = timeOf s x;
-      leadIn = sideMeasures (timeOf s x) (saidBy beforeSaid (x .modifiers));
+      leadIn = sideMeasures (timeOf s x) (x .modifiers .before);
       pass = pass-of (timeOf s x) (patternItems (s .definitions) (x .pattern));
-      tail = sideMeasures (timeOf s x) (saidBy afterSaid (x .modifiers));
+      tail = sideMeasures (timeOf s x) (x .modifiers .after);
       inherits = p .meter;
-      leads = side-plays (timeOf s x) (saidBy beforeSaid (x .modifiers)) (p .plainLead) (f .lead);
+      leads = side-plays (timeOf s x) (x .modifiers .before) (p .plainLead) (f .lead);
       passes = passes-of (timeOf s x) (x .header) (patternItems (s .definitions) (x .pattern)) (p .plainPattern) (f .pattern);
-      tails = side-plays (timeOf s x) (saidBy afterSaid (x .modifiers)) (p .plainTail) (f .tail);
+      tails = side-plays (timeOf s x) (x .modifiers .after) (p .plainTail) (f .tail);
       counts = rw (a, b, c);
     }
 
@@ -84,9 +84,9 @@ uncut-once : (s : Song) (x : Section) (k : ℕ) → Uncut s x k → k ≡ sectio
 unfolding sectionCount
 uncut-once s x k u =
     let n = u .meter in
-    let a : length (u .leadIn) ≡ sideCount (saidBy beforeSaid (x .modifiers)) = ap length (plays-side n _ (u .leadIn) (u .leads) .1) ∙ length-side n _ in
+    let a : length (u .leadIn) ≡ sideCount (x .modifiers .before) = ap length (plays-side n _ (u .leadIn) (u .leads) .1) ∙ length-side n _ in
     let b : length (u .pass) ≡ measuresIn (patternItems (s .definitions) (x .pattern)) = ap length (pass-once n _ (u .pass) (u .passes)) ∙ length-pass n _ in
-    let c : length (u .tail) ≡ sideCount (saidBy afterSaid (x .modifiers)) = ap length (plays-side n _ (u .tail) (u .tails) .1) ∙ length-side n _ in
+    let c : length (u .tail) ≡ sideCount (x .modifiers .after) = ap length (plays-side n _ (u .tail) (u .tails) .1) ∙ length-side n _ in
     u .counts ∙ rw (a, b, c)
 
 each-uncut : (s : Song) (xs : List Section) → ((x : Section) → List·Memᴰ x xs → Uncut s x (sectionCount s x)) → Each (Uncut s) xs (map (sectionCount s) xs)
@@ -170,23 +170,12 @@ in-cuts s sofar {xs = y ∷ xs} (List·Memᴰ·tail i) m =
 
 -- The cuts of a section that stage 4 leaves.
 module _ (s : Song) (x : Section) (i : List·Memᴰ x (s .sections)) (p : PlainSection s x) (q : sectionMeter s x ≡ []) where
-  some-modifier : (ms : List Modifier) → not (isEmpty ms) ≡ true → (m : Modifier) × List·Memᴰ m ms
-  unfolding isEmpty
-  some-modifier [] e = true-is-not-false e refl
-  some-modifier (m ∷ ms) e = (m, List·Memᴰ·head refl)
-
-  modifier-some : {m : Modifier} {ms : List Modifier} → List·Memᴰ m ms → not (isEmpty ms) ≡ true
-  unfolding isEmpty
-  modifier-some (List·Memᴰ·head e) = refl
-  modifier-some (List·Memᴰ·tail j) = refl
-
   cuts-in : (o : Option Items) → patternItems (s .definitions) (x .pattern) ≡ o → {c : Complaint}
       → List·Memᴰ c (cutFaults (timeOf s x) (x .header) (x .modifiers) o) → Stops5 s c
   unfolding cutFaults playedFaults
   cuts-in none e m =
-      let h = in-complaint (not (isEmpty (x .modifiers))) 15 (x .header) m in
-      let a = some-modifier (x .modifiers) (h .0) in
-      subst (λ z. Stops5 s z) (sym (h .1)) (empty-modified x (a .0) i e (a .1))
+      let h = in-complaint (anySaid (x .modifiers)) 15 (x .header) m in
+      subst (λ z. Stops5 s z) (sym (h .1)) (empty-modified x i e (λ d. true-is-not-false (h .0) (none-said (x .modifiers) .1 d)))
   cuts-in (some r) e m =
       let h = in-complaint (isEmpty (keptMeasures (timeOf s x) (x .modifiers) (some r))) 15 (x .header) m in
       let f : playedFaults (timeOf s x) (x .header) (some r) ≡ [] = subst (λ o. playedFaults (timeOf s x) (x .header) o ≡ []) e (fine-of s x q .pattern) in
@@ -257,10 +246,10 @@ module _ (s : Song) (plain : PlainSections s (s .sections)) (metered : meterFaul
       beat-gone s x i (plain-at x i) (metered-at x i) r pass e (subst (λ k. PlaysAlone k r pass) same w)
       (λ middle v. none-left middle (subst (λ k. PlaysPattern k (x .modifiers) (some r) pass middle) (sym same) v)) in
       in-cuts s 0 i (subst (λ o. List·Memᴰ (complaint 15 (x .header)) (cutFaults (timeOf s x) (x .header) (x .modifiers) o)) (sym e) gone)
-  stated-length (empty-modified x m i e j) =
+  stated-length (empty-modified x i e h) =
       in-cuts s 0 i
       (subst (λ o. List·Memᴰ (complaint 15 (x .header)) (cutFaults (timeOf s x) (x .header) (x .modifiers) o)) (sym e)
-      (complaint-in 15 (x .header) (modifier-some s x i (plain-at x i) (metered-at x i) j)))
+      (complaint-in 15 (x .header) (by-cases (anySaid (x .modifiers)) (λ t. t) (λ f. absurd (h (none-said (x .modifiers) .0 f))))))
 
   pub length-stops-exact : {c : Complaint} → List·Memᴰ c (lengthFaults s 0 (s .sections)) ↔ Stops5 s c
   length-stops-exact = (length-stated, stated-length)

@@ -41,6 +41,7 @@ pub mod SignedAgree
 pub mod LineAgree
 pub mod KeyAgree
 pub mod ModifierAgree
+pub mod SaidOnce
 pub mod LineStops
 pub mod LineOrder
 pub mod OrderStops
@@ -57,7 +58,6 @@ pub mod TextStops
 -- References and playing.
 pub mod ReferencesAgree
 pub mod ReferenceStops
-pub mod SaidOnce
 pub mod GlueLaws
 pub mod PutInPlain
 pub mod PutInAgree
@@ -75,6 +75,7 @@ pub mod MeterAgree
 pub mod PlainAgree
 pub mod MeterStops
 pub mod LengthStops
+pub mod HeadsAgree
 -- Lyrics and tables.
 pub mod LyricLineAgree
 pub mod StyleAgree
@@ -82,6 +83,7 @@ pub mod LyricsAgree
 pub mod LyricStops
 pub mod PromptsAgree
 pub mod ItemsWritten
+pub mod WordsLaid
 pub mod TablesAgree
 -- The whole.
 pub mod AnswerAgree

@@ -2,7 +2,7 @@
 use Prim.Native.Nat.{ℕ, _*_, _/_, _%_}
 use mathlib.Core.Path.{_≡_, refl, ap, sym, subst, _∙_}
 use mathlib.Core.Logic.{_↔_, _⊎_, inl, inr, ⊎-elim}
-use mathlib.Core.List.{List, [], _∷_, _++_, map, List·Memᴰ, List·Memᴰ·not-nil, List·Memᴰ·cases-cons, Memᴰ·append-left}
+use mathlib.Core.List.{List, [], _∷_, _++_, List·Memᴰ, List·Memᴰ·not-nil, List·Memᴰ·cases-cons, Memᴰ·append-left}
 use mathlib.Core.List.{Memᴰ·append-right}
 use mathlib.Core.Bool.{Bool, true, false, _||_, _&&_, not}
 use mathlib.Core.Option.{Option, none, some}
@@ -14,12 +14,11 @@ use Rattle.songcode.specs.answer.Lines.{Block}
 use Rattle.songcode.specs.Complaints.{Complaint, complainIf}
 use Rattle.songcode.specs.answer.Chords.{Chord}
 use Rattle.songcode.specs.Song.{Sound, chord, again, silence, Sounds, only, also, Measure, Item, measure, loop, refer, Items, one, next}
-use Rattle.songcode.specs.Song.{Section, Song}
+use Rattle.songcode.specs.Song.{Section, Song, Side}
 use Rattle.songcode.specs.answer.References.{patternItems}
-use Rattle.songcode.specs.answer.Playing.{Side, timeOf, positions, chordAfter, lastSounds, lastItem, lastItems, saidBy, beforeSaid, afterSaid}
+use Rattle.songcode.specs.answer.Playing.{timeOf, positions, chordAfter, lastSounds, lastItem, lastItems}
 use Rattle.songcode.specs.answer.Meter.{fits, allFitItem, allFit, strays, strayAmong, strayItem, stray, rowFaults, playedFaults, sideFaults, sectionMeter}
 use Rattle.songcode.specs.answer.Meter.{meterFaults}
-use Rattle.songcode.specs.description.WrittenSection.{Each, none-each, and-each, Distinct, modifierNumber}
 use Rattle.songcode.specs.description.WrittenSong.{WrittenSong}
 use Rattle.songcode.specs.description.Fits.{DefinitionsRefer}
 use Rattle.songcode.specs.description.StoppedSong.{MeasureOf, MeasureIn, soundsWritten, itemWritten, itemsWritten, NoChord, RowStops, undivided}
@@ -27,7 +26,6 @@ use Rattle.songcode.specs.description.StoppedSong.{again-first}
 use Rattle.songcode.specs.description.StoppedSong.{Stops4, of-pattern, of-lead-in, of-tail}
 use Rattle.songcode.proofs.ListLaws.{by-cases, true-is-not-false}
 use Rattle.songcode.proofs.MemberLaws.{either, in-gather, gather-in, in-complaint, complaint-in}
-use Rattle.songcode.proofs.SaidOnce.{lead-in-said, tail-said}
 use Rattle.songcode.proofs.PlayingAgree.{positions-some, share-is}
 use Rattle.songcode.proofs.InheritsAgree.{says-meter}
 use Rattle.songcode.proofs.MeterAgree.{PlainSection, PlainSections}
@@ -193,10 +191,6 @@ in-row n line r (again-first a) =
     (complaint-in 13 line (items-stray none r ∙ ap (λ z. stray-list none z) (a .written) ∙ found-stray (a .front) (a .back) (a .noneBefore)))
 
 -- Sections of a written song.
-pub each-member : {A B : Type 0} {R : A → B → Type 0} {xs : List A} {ys : List B} {y : B} → Each R xs ys → List·Memᴰ y ys → (x : A) × R x y
-each-member none-each m = absurd (List·Memᴰ·not-nil m)
-each-member {R = R} (and-each {x} {y} h hs) m = ⊎-elim (λ e. (x, subst (λ z. R x z) (sym e) h)) (λ i. each-member hs i) (List·Memᴰ·cases-cons m)
-
 pub plain-member : (s : Song) (xs : List Section) (x : Section) → PlainSections s xs → List·Memᴰ x xs → PlainSection s x
 unfolding PlainSections
 plain-member s [] x p m = absurd (List·Memᴰ·not-nil m)
@@ -206,39 +200,36 @@ module _ (s : Song) {bs : List Block} (w : WrittenSong bs s) (refers : Definitio
   plain : (x : Section) → List·Memᴰ x (s .sections) → PlainSection s x
   plain x m = plain-member s (s .sections) x (song-plain s w refers) m
 
-  once : (x : Section) → List·Memᴰ x (s .sections) → Distinct (map modifierNumber (x .modifiers))
-  once x m = each-member (w .sections) m .1 .section .modifiersOnce
-
   pattern-in : (x : Section) → List·Memᴰ x (s .sections) → (o : Option Items) → patternItems (s .definitions) (x .pattern) ≡ o → {c : Complaint}
       → List·Memᴰ c (playedFaults (timeOf s x) (x .header) o) → Stops4 s c
   unfolding playedFaults
   pattern-in x i none e m = absurd (List·Memᴰ·not-nil m)
   pattern-in x i (some r) e m = of-pattern x (timeOf s x) r i (plain x i .meter) e (row-in (timeOf s x) (x .header) r m)
 
-  lead-in : (x : Section) → List·Memᴰ x (s .sections) → (o : Option Side) → saidBy beforeSaid (x .modifiers) ≡ o → {c : Complaint}
+  lead-in : (x : Section) → List·Memᴰ x (s .sections) → (o : Option Side) → x .modifiers .before ≡ o → {c : Complaint}
       → List·Memᴰ c (sideFaults (timeOf s x) o) → Stops4 s c
   unfolding sideFaults
   lead-in x i none e m = absurd (List·Memᴰ·not-nil m)
   lead-in x i (some y) e m =
-      of-lead-in x (timeOf s x) (y .line) (y .items) i (plain x i .meter) (lead-in-said .member (x .modifiers) y e) (row-in (timeOf s x) (y .line) (y .items) m)
+      of-lead-in x (timeOf s x) (y .line) (y .items) i (plain x i .meter) e (row-in (timeOf s x) (y .line) (y .items) m)
 
-  tail-in : (x : Section) → List·Memᴰ x (s .sections) → (o : Option Side) → saidBy afterSaid (x .modifiers) ≡ o → {c : Complaint}
+  tail-in : (x : Section) → List·Memᴰ x (s .sections) → (o : Option Side) → x .modifiers .after ≡ o → {c : Complaint}
       → List·Memᴰ c (sideFaults (timeOf s x) o) → Stops4 s c
   unfolding sideFaults
   tail-in x i none e m = absurd (List·Memᴰ·not-nil m)
   tail-in x i (some y) e m =
-      of-tail x (timeOf s x) (y .line) (y .items) i (plain x i .meter) (tail-said .member (x .modifiers) y e) (row-in (timeOf s x) (y .line) (y .items) m)
+      of-tail x (timeOf s x) (y .line) (y .items) i (plain x i .meter) e (row-in (timeOf s x) (y .line) (y .items) m)
 
   meter-stated : {c : Complaint} → List·Memᴰ c (meterFaults s) → Stops4 s c
   unfolding meterFaults sectionMeter
   meter-stated m =
       let g = in-gather (sectionMeter s) (s .sections) m in
       let x = g .0 in
-      either (playedFaults (timeOf s x) (x .header) (patternItems (s .definitions) (x .pattern)) ++ sideFaults (timeOf s x) (saidBy beforeSaid (x .modifiers)))
+      either (playedFaults (timeOf s x) (x .header) (patternItems (s .definitions) (x .pattern)) ++ sideFaults (timeOf s x) (x .modifiers .before))
       (either (playedFaults (timeOf s x) (x .header) (patternItems (s .definitions) (x .pattern)))
       (pattern-in x (g .1) (patternItems (s .definitions) (x .pattern)) refl)
-      (lead-in x (g .1) (saidBy beforeSaid (x .modifiers)) refl))
-      (tail-in x (g .1) (saidBy afterSaid (x .modifiers)) refl)
+      (lead-in x (g .1) (x .modifiers .before) refl))
+      (tail-in x (g .1) (x .modifiers .after) refl)
       (g .2)
 
   of-section : (x : Section) → List·Memᴰ x (s .sections) → {c : Complaint} → List·Memᴰ c (sectionMeter s x) → List·Memᴰ c (meterFaults s)
@@ -255,13 +246,13 @@ module _ (s : Song) {bs : List Block} (w : WrittenSong bs s) (refers : Definitio
       of-section x i
       (Memᴰ·append-left _
       (Memᴰ·append-right (playedFaults (timeOf s x) (x .header) (patternItems (s .definitions) (x .pattern)))
-      (subst (λ o. List·Memᴰ c (sideFaults (timeOf s x) o)) (sym (lead-in-said .said (x .modifiers) (record { line = l; items = r }) (once x i) m)) row)))
+      (subst (λ o. List·Memᴰ c (sideFaults (timeOf s x) o)) (sym m) row)))
   stated-meter {c} (of-tail x n l r i h m t) =
       let row = subst (λ k. List·Memᴰ c (rowFaults k l r)) (says-meter s x n h) (in-row n l r t) in
       of-section x i
       (Memᴰ·append-right
-      (playedFaults (timeOf s x) (x .header) (patternItems (s .definitions) (x .pattern)) ++ sideFaults (timeOf s x) (saidBy beforeSaid (x .modifiers)))
-      (subst (λ o. List·Memᴰ c (sideFaults (timeOf s x) o)) (sym (tail-said .said (x .modifiers) (record { line = l; items = r }) (once x i) m)) row))
+      (playedFaults (timeOf s x) (x .header) (patternItems (s .definitions) (x .pattern)) ++ sideFaults (timeOf s x) (x .modifiers .before))
+      (subst (λ o. List·Memᴰ c (sideFaults (timeOf s x) o)) (sym m) row))
 
   pub meter-stops-exact : {c : Complaint} → List·Memᴰ c (meterFaults s) ↔ Stops4 s c
   meter-stops-exact = (meter-stated, stated-meter)

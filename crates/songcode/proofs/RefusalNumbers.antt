@@ -117,7 +117,7 @@ of-4 (of-tail x n l r i h m t) = of-row t
 of-5 : {s : Song} {c : Complaint} → Stops5 s c → Numbered c
 of-5 (too-long front behind x counts k w us u h j) = (omega arith, omega arith)
 of-5 (no-beat x n r pass i h e w g) = (omega arith, omega arith)
-of-5 (empty-modified x m i e j) = (omega arith, omega arith)
+of-5 (empty-modified x i e h) = (omega arith, omega arith)
 
 of-6 : {s : Song} {c : Complaint} → Stops6 s c → Numbered c
 of-6 (uncounted l o w n v k) = (omega arith, omega arith)

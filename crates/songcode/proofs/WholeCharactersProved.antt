@@ -2,7 +2,7 @@
 use Prim.Native.Nat.{ℕ, _≤_}
 use Prim.Native.Char.{code}
 use mathlib.Core.Path.{sym, subst}
-use mathlib.Core.List.{List, [], _∷_, _++_, append-nil, List·Memᴰ, List·Memᴰ·head, List·Memᴰ·tail}
+use mathlib.Core.List.{List, [], _∷_, _++_, append-nil, List·Memᴰ}
 use native.Mathlib.Omega.{arith}
 use lib.ListN.{length}
 use borrow.Author.Tests.{eqb-true}
@@ -12,20 +12,15 @@ use Rattle.songcode.specs.answer.Lines.{Line}
 use Rattle.songcode.specs.description.WrittenText.{All, Characters, WrittenLines}
 use Rattle.songcode.specs.description.WrittenSection.{Signed, Phrase, CommentMarked}
 use Rattle.songcode.specs.WholeCharacters.{Long, WholeCharacters}
-use Rattle.songcode.proofs.ListLaws.{Each}
+use Rattle.songcode.proofs.ListLaws.{each-at}
 use Rattle.songcode.proofs.ByteLaws.{values-placed}
 use Rattle.songcode.proofs.CharacterCounts.{characters-count}
 use Rattle.songcode.proofs.FineLines.{FineLine, lines-fine, cut-at, blanks-off, blank-ascii}
 
-pub each-member : {A : Type 0} (P : A → Type 0) {xs : List A} {x : A} → Each P xs → List·Memᴰ x xs → P x
-unfolding Each
-each-member P {xs = y ∷ ys} e (List·Memᴰ·head q) = rw q (e .0)
-each-member P {xs = y ∷ ys} e (List·Memᴰ·tail m) = each-member P (e .1) m
-
 line-whole : (bs : List ℕ) (ls : List Line) (l : Line) → Characters bs → WrittenLines (placed 0 bs) ls → List·Memᴰ l ls → Characters (values (l .text))
 unfolding FineLine
 line-whole bs ls l c w m =
-    each-member (FineLine (placed 0 bs)) (lines-fine (placed 0 bs) (subst (λ x. Characters x) (sym (values-placed 0 bs)) c) w) m .whole
+    each-at (FineLine (placed 0 bs)) (lines-fine (placed 0 bs) (subst (λ x. Characters x) (sym (values-placed 0 bs)) c) w) m .whole
 
 -- Whole characters are counted as they are.
 counted : (bs : List Byte) (least most : ℕ) → Characters (values bs) → least ≤ characters bs → characters bs ≤ most → Long least most bs

@@ -1,25 +1,25 @@
--- What the answer and the description share, described once more in other words: references put in, decimals, loops in loops, modifiers looked up.
+-- What the answer and the description share, described once more in other words: references put in, decimals, loops in loops, repeats, heads.
 use Prim.Native.Nat.{ℕ, _+_, _*_, _<_, _≤_}
 use Prim.Native.Char.{code}
 use mathlib.Core.Path.{_≡_}
 use mathlib.Core.Logic.{_↔_, _⊎_}
-use mathlib.Core.List.{List, [], _∷_, _++_, map, List·Memᴰ}
+use mathlib.Core.List.{List, [], _∷_, _++_, List·Memᴰ}
 use mathlib.Core.Bool.{true}
 use mathlib.Core.Option.{Option, none, some}
+use lib.ListN.{length}
 use Rattle.songcode.specs.Bytes.{Byte}
 use Rattle.songcode.specs.answer.Numbers.{isDecimal, valueFrom}
-use Rattle.songcode.specs.Song.{Item, measure, loop, refer, Items, one, next, Pattern, items, named, Cut, Modifier, repeated, cutStart, cutEnd, before}
-use Rattle.songcode.specs.Song.{after}
-use Rattle.songcode.specs.Song.{Definition, Section, Song}
+use Rattle.songcode.specs.Song.{Measure, Item, measure, loop, refer, Items, one, next, Pattern, items, named}
+use Rattle.songcode.specs.Song.{Side, Modifiers, Definition, Section, Song}
 use Rattle.songcode.specs.answer.Tokens.{Token, reference}
 use Rattle.songcode.specs.answer.PatternText.{depth, loopsDeep}
 use Rattle.songcode.specs.answer.References.{patternItems}
-use Rattle.songcode.specs.answer.Playing.{saidBy, cutStartSaid, cutEndSaid, Side, beforeSaid, afterSaid, repeats}
+use Rattle.songcode.specs.answer.Playing.{Beat, soundCount, positions, repeats}
 use Rattle.songcode.specs.description.WrittenPattern.{writeItems}
-use Rattle.songcode.specs.description.WrittenSection.{Distinct, modifierNumber}
 use Rattle.songcode.specs.description.WrittenSong.{WrittenChart}
+use Rattle.songcode.specs.description.Performance.{Parts, PlaysSection, joined}
 use Rattle.songcode.specs.description.Fits.{DefinitionsRefer, PatternRefers}
-use Rattle.songcode.specs.description.StoppedSong.{HoldsLoop}
+use Rattle.songcode.specs.description.StoppedSong.{HoldsLoop, MeasureIn}
 
 -- "`$n` means an earlier definition's items, put in its place": in the written text each `$n` gives way to what that definition is written as.
 pub data InPlace (ds : List Definition) : Token → List Token → Type 0 where
@@ -56,8 +56,22 @@ Simple (one i) = SimpleItem i
 Simple (next r s i) = Simple r × SimpleItem i
 
 -- "_repeat n ... loop and repeat counts start at 2": without it the pattern is played once.
-unfoldable pub Repeats : List Modifier → ℕ → Type 0
-Repeats ms n = List·Memᴰ (repeated n) ms ⊎ (((k : ℕ) → List·Memᴰ (repeated k) ms → ⊥) × (n ≡ 1))
+unfoldable pub Repeats : Modifiers → ℕ → Type 0
+Repeats ms n = (ms .repeat ≡ some n) ⊎ ((ms .repeat ≡ none) × (n ≡ 1))
+
+-- "Head is 1 on the first beat of a position as written", and "each position lasts N/p beats": of a measure that has lost so many beats at its front, a beat
+-- is a head exactly where the beats before it, those lost among them, are a multiple of N/p. It has no more beats than its positions that sound.
+pub record FirstBeats (n : ℕ) (m : Measure) (lost : ℕ) (beats : List Beat) : Type 0 where
+  pub share : ℕ
+  pub divides : share * positions m ≡ n
+  pub within : lost + length beats ≤ soundCount (m .sounds) * share
+  pub heads : (front behind : List Beat) (b : Beat) → beats ≡ front ++ (b ∷ behind) → (b .head ≡ true) ↔ ((i : ℕ) × (lost + length front ≡ i * share))
+
+-- The texts that a section plays: its lead-in, its pattern, its tail.
+pub data TextOf (s : Song) (x : Section) : Items → Type 0 where
+  its-lead-in : (y : Side) → x .modifiers .before ≡ some y → TextOf s x (y .items)
+  its-pattern : (r : Items) → patternItems (s .definitions) (x .pattern) ≡ some r → TextOf s x r
+  its-tail : (y : Side) → x .modifiers .after ≡ some y → TextOf s x (y .items)
 
 -- Both ways of saying it agree.
 pub record Apart : Type 0 where
@@ -65,11 +79,7 @@ pub record Apart : Type 0 where
       → PatternRefers (s .definitions) (x .pattern) → (patternItems (s .definitions) (x .pattern) ≡ o) ↔ PatternSays (s .definitions) (x .pattern) o
   pub decimals : (bs : List Byte) (n : ℕ) → ((isDecimal bs ≡ true) × (valueFrom 0 bs ≡ n)) ↔ Decimal bs n
   pub simple : (r : Items) → (depth r ≤ loopsDeep) ↔ Simple r
-  -- "modifier lines, each kind at most once, in any order"
-  pub cut-start-said : (ms : List Modifier) (c : Cut) → Distinct (map modifierNumber ms) → (saidBy cutStartSaid ms ≡ some c) ↔ List·Memᴰ (cutStart c) ms
-  pub cut-end-said : (ms : List Modifier) (c : Cut) → Distinct (map modifierNumber ms) → (saidBy cutEndSaid ms ≡ some c) ↔ List·Memᴰ (cutEnd c) ms
-  pub lead-in-said : (ms : List Modifier) (x : Side) → Distinct (map modifierNumber ms)
-      → (saidBy beforeSaid ms ≡ some x) ↔ List·Memᴰ (before (x .line) (x .items)) ms
-  pub tail-said : (ms : List Modifier) (x : Side) → Distinct (map modifierNumber ms)
-      → (saidBy afterSaid ms ≡ some x) ↔ List·Memᴰ (after (x .line) (x .items)) ms
-  pub repeats-said : (ms : List Modifier) (n : ℕ) → Distinct (map modifierNumber ms) → (repeats ms ≡ n) ↔ Repeats ms n
+  pub repeats-said : (ms : Modifiers) (n : ℕ) → (repeats ms ≡ n) ↔ Repeats ms n
+  -- Every measure of a section is one that stands in its texts, or what the cuts have left of it.
+  pub heads : (s : Song) (x : Section) (p : Parts) → PlaysSection s x p → (beats : List Beat) → List·Memᴰ beats (joined p)
+      → (r : Items) × (m : Measure) × (lost : ℕ) × TextOf s x r × MeasureIn m r × FirstBeats (p .meter) m lost beats

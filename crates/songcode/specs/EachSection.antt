@@ -6,10 +6,11 @@ use mathlib.Core.List.{List, [], _∷_, _++_, map}
 use lib.ListN.{length}
 use Rattle.songcode.specs.Lists.{gather}
 use Rattle.songcode.specs.Song.{Section, Song}
-use Rattle.songcode.specs.answer.Tables.{Tables, measureWords, beatWord}
+use Rattle.songcode.specs.answer.Tables.{Tables}
 use Rattle.songcode.specs.description.Performance.{Parts, PlaysSection, joined}
 use Rattle.songcode.specs.description.WrittenSong.{WrittenChart}
 use Rattle.songcode.specs.description.Layout.{sectionsRow, laid}
+use Rattle.songcode.specs.description.WrittenTables.{rowWords, beatLaid}
 
 -- A section's own stretch: its word at its place, which names the measures before it, and its measures and beats behind those of the sections before.
 pub record Stretch (t : Tables) (place : ℕ) (x : Section) (p : Parts) : Type 0 where
@@ -23,8 +24,8 @@ pub record Stretch (t : Tables) (place : ℕ) (x : Section) (p : Parts) : Type 0
   pub sections :
       t .sections
       ≡ sectionsBefore ++ (laid sectionsRow (x .header ∷ length measuresBefore ∷ length (joined p) ∷ p .meter ∷ p .tempo ∷ []) ∷ sectionsBehind)
-  pub measures : t .measures ≡ measuresBefore ++ (measureWords (length beatsBefore) (joined p) ++ measuresBehind)
-  pub beats : t .beats ≡ beatsBefore ++ (gather (map beatWord) (joined p) ++ beatsBehind)
+  pub measures : t .measures ≡ measuresBefore ++ (rowWords (length beatsBefore) (joined p) ++ measuresBehind)
+  pub beats : t .beats ≡ beatsBefore ++ (gather (map beatLaid) (joined p) ++ beatsBehind)
 
 -- Each section of the song that the bytes are, with what it plays.
 pub record EachSection (bs : List ℕ) (t : Tables) : Type 0 where

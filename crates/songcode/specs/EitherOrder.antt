@@ -9,10 +9,10 @@ use mathlib.Core.Option.{Option, none, some}
 use lib.ListN.{length, take, drop}
 use Rattle.songcode.specs.Lists.{times, sum}
 use Rattle.songcode.specs.Bytes.{ascii}
-use Rattle.songcode.specs.Song.{Measure, Item, measure, loop, refer, Items, one, next, Cut, Section, Song}
+use Rattle.songcode.specs.Song.{Measure, Item, measure, loop, refer, Items, one, next, Cut, Section, Song, Side}
 use Rattle.songcode.specs.answer.Modifiers.{cut}
 use Rattle.songcode.specs.answer.References.{patternItems}
-use Rattle.songcode.specs.answer.Playing.{Side, timeOf, positions, cutFront, cutBack, saidBy, beforeSaid, afterSaid, cutStartSaid, cutEndSaid, repeats}
+use Rattle.songcode.specs.answer.Playing.{timeOf, positions, cutFront, cutBack, repeats}
 use Rattle.songcode.specs.answer.Tables.{Tables}
 use Rattle.songcode.specs.answer.Answer.{Room, songOf}
 use Rattle.songcode.specs.description.WrittenSection.{Each}
@@ -93,18 +93,18 @@ repeatedWidths n k (some r) = times k (textWidths n r)
 
 -- "repeat times the pattern's beats, plus lead-in and tail"
 unfoldable pub beatsWritten : Song → Section → ℕ → ℕ
-unfolding patternBeats sideBeats repeats saidBy beforeSaid afterSaid patternItems
+unfolding patternBeats sideBeats repeats patternItems
 beatsWritten s x n =
     repeats (x .modifiers) * patternBeats n (patternItems (s .definitions) (x .pattern))
-    + sideBeats n (saidBy beforeSaid (x .modifiers))
-    + sideBeats n (saidBy afterSaid (x .modifiers))
+    + sideBeats n (x .modifiers .before)
+    + sideBeats n (x .modifiers .after)
 
 -- "the beats the cuts name"
 unfoldable pub beatsNamed : Song → Section → ℕ → ℕ
-unfolding namedFront namedBack repeatedWidths repeats saidBy cutStartSaid cutEndSaid patternItems
+unfolding namedFront namedBack repeatedWidths repeats patternItems
 beatsNamed s x n =
-    namedFront (saidBy cutStartSaid (x .modifiers)) (repeatedWidths n (repeats (x .modifiers)) (patternItems (s .definitions) (x .pattern)))
-    + namedBack (saidBy cutEndSaid (x .modifiers)) (repeatedWidths n (repeats (x .modifiers)) (patternItems (s .definitions) (x .pattern)))
+    namedFront (x .modifiers .cutStart) (repeatedWidths n (repeats (x .modifiers)) (patternItems (s .definitions) (x .pattern)))
+    + namedBack (x .modifiers .cutEnd) (repeatedWidths n (repeats (x .modifiers)) (patternItems (s .definitions) (x .pattern)))
 
 -- What a section plays and what its cuts name are together what is written. (The cuts stand beside the beats played, so that "less" never stops at 0.)
 unfoldable pub BeatsCounted : Song → Section → Parts → Type 0

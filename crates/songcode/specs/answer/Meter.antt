@@ -8,9 +8,9 @@ use Rattle.songcode.specs.Lists.{gather, isEmpty, isSome}
 use Rattle.songcode.specs.Complaints.{Complaint, complainIf}
 use Rattle.songcode.specs.answer.Chords.{Chord}
 use Rattle.songcode.specs.Song.{Sound, chord, again, silence, Sounds, only, also, Measure, Item, measure, loop, refer, Items, one, next}
-use Rattle.songcode.specs.Song.{Modifier, Section, Song}
+use Rattle.songcode.specs.Song.{Section, Song, Side, Modifiers}
 use Rattle.songcode.specs.answer.References.{patternItems}
-use Rattle.songcode.specs.answer.Playing.{Side, timeOf, positions, lastSounds, lastItems, saidBy, beforeSaid, afterSaid, repeats, keptMeasures}
+use Rattle.songcode.specs.answer.Playing.{timeOf, positions, lastSounds, lastItems, repeats, keptMeasures}
 
 -- "A measure of p positions needs p to divide N".
 unfoldable pub fits : ℕ → Measure → Bool
@@ -70,17 +70,17 @@ sideFaults n none = []
 sideFaults n (some x) = rowFaults n (x .line) (x .items)
 
 unfoldable pub sectionMeter : Song → Section → List Complaint
-unfolding playedFaults sideFaults timeOf patternItems saidBy beforeSaid afterSaid
+unfolding playedFaults sideFaults timeOf patternItems
 sectionMeter s x =
     playedFaults (timeOf s x) (x .header) (patternItems (s .definitions) (x .pattern))
-    ++ sideFaults (timeOf s x) (saidBy beforeSaid (x .modifiers))
-    ++ sideFaults (timeOf s x) (saidBy afterSaid (x .modifiers))
+    ++ sideFaults (timeOf s x) (x .modifiers .before)
+    ++ sideFaults (timeOf s x) (x .modifiers .after)
 
 unfoldable pub meterFaults : Song → List Complaint
 unfolding gather sectionMeter
 meterFaults s = gather (sectionMeter s) (s .sections)
 
--- How many measures a row has, its loops written out.
+-- How many measures a row has, its loops written out. "A shortened measure counts as one measure."
 unfoldable mutual
   pub countItem : Item → ℕ
   countItem (measure m) = 1
@@ -103,19 +103,24 @@ sideCount (some x) = count (x .items)
 
 -- A section's measures, "lead-ins and tails in, before cuts".
 unfoldable pub sectionCount : Song → Section → ℕ
-unfolding measuresIn sideCount saidBy beforeSaid afterSaid repeats patternItems
+unfolding measuresIn sideCount repeats patternItems
 sectionCount s x =
-    sideCount (saidBy beforeSaid (x .modifiers))
+    sideCount (x .modifiers .before)
     + repeats (x .modifiers) * measuresIn (patternItems (s .definitions) (x .pattern))
-    + sideCount (saidBy afterSaid (x .modifiers))
+    + sideCount (x .modifiers .after)
 
 unfoldable pub mostMeasures : ℕ
 mostMeasures = 65535
 
+-- Some modifier is there.
+unfoldable pub anySaid : Modifiers → Bool
+unfolding isSome
+anySaid m = isSome (m .repeat) || isSome (m .cutStart) || isSome (m .cutEnd) || isSome (m .before) || isSome (m .after)
+
 -- 15: "cuts leave no beat, or a modifier on an empty pattern".
-unfoldable pub cutFaults : ℕ → ℕ → List Modifier → Option Items → List Complaint
-unfolding complainIf isEmpty keptMeasures
-cutFaults n header ms none = complainIf (not (isEmpty ms)) 15 header
+unfoldable pub cutFaults : ℕ → ℕ → Modifiers → Option Items → List Complaint
+unfolding complainIf anySaid isEmpty keptMeasures
+cutFaults n header ms none = complainIf (anySaid ms) 15 header
 cutFaults n header ms (some r) = complainIf (isEmpty (keptMeasures n ms (some r))) 15 header
 
 -- 14: "song passes 65,535 measures", on the header "where it passes".

@@ -4,11 +4,11 @@ use Prim.Native.Char.{code}
 use mathlib.Core.List.{List, [], _∷_}
 use mathlib.Core.Bool.{Bool, not}
 use mathlib.Core.Option.{Option, none, some}
-use Rattle.songcode.specs.Lists.{if_then_else_, taken, left, andThen}
+use Rattle.songcode.specs.Lists.{if_then_else_, taken, left, andThen, firstThere}
 use Rattle.songcode.specs.Bytes.{Byte, is, isByte}
 use Rattle.songcode.specs.answer.Numbers.{countIn, repeatIn}
 use Rattle.songcode.specs.answer.Chords.{Reading, chordIn}
-use Rattle.songcode.specs.Song.{Cut, Modifier, repeated, cutStart, cutEnd, before, after}
+use Rattle.songcode.specs.Song.{Cut, Modifier, repeated, cutStart, cutEnd, before, after, Side, Modifiers}
 use Rattle.songcode.specs.answer.PatternText.{sideTextAs}
 
 pub data ModifierName : Type 0 where
@@ -65,6 +65,60 @@ modifierPlace ofCutStart = 1
 modifierPlace ofCutEnd = 2
 modifierPlace ofBefore = 3
 modifierPlace ofAfter = 4
+
+-- What one modifier says of each kind.
+unfoldable pub repeatSaid : Modifier → Option ℕ
+repeatSaid (repeated n) = some n
+repeatSaid (cutStart c) = none
+repeatSaid (cutEnd c) = none
+repeatSaid (before l r) = none
+repeatSaid (after l r) = none
+
+unfoldable pub cutStartSaid : Modifier → Option Cut
+cutStartSaid (repeated n) = none
+cutStartSaid (cutStart c) = some c
+cutStartSaid (cutEnd c) = none
+cutStartSaid (before l r) = none
+cutStartSaid (after l r) = none
+
+unfoldable pub cutEndSaid : Modifier → Option Cut
+cutEndSaid (repeated n) = none
+cutEndSaid (cutStart c) = none
+cutEndSaid (cutEnd c) = some c
+cutEndSaid (before l r) = none
+cutEndSaid (after l r) = none
+
+unfoldable pub beforeSaid : Modifier → Option Side
+beforeSaid (repeated n) = none
+beforeSaid (cutStart c) = none
+beforeSaid (cutEnd c) = none
+beforeSaid (before l r) = some (record { line = l; items = r })
+beforeSaid (after l r) = none
+
+unfoldable pub afterSaid : Modifier → Option Side
+afterSaid (repeated n) = none
+afterSaid (cutStart c) = none
+afterSaid (cutEnd c) = none
+afterSaid (before l r) = none
+afterSaid (after l r) = some (record { line = l; items = r })
+
+-- The first that is said.
+unfoldable pub saidBy : {A B : Type 0} → (A → Option B) → List A → Option B
+unfolding firstThere
+saidBy f [] = none
+saidBy f (x ∷ xs) = firstThere (f x) (saidBy f xs)
+
+-- What a section's modifiers say, each kind looked up among them.
+unfoldable pub modifiersSaid : List Modifier → Modifiers
+unfolding saidBy repeatSaid cutStartSaid cutEndSaid beforeSaid afterSaid
+modifiersSaid ms =
+    record {
+      repeat = saidBy repeatSaid ms;
+      cutStart = saidBy cutStartSaid ms;
+      cutEnd = saidBy cutEndSaid ms;
+      before = saidBy beforeSaid ms;
+      after = saidBy afterSaid ms;
+    }
 
 -- The same with chords as they are read today.
 unfoldable abbrev pub modifierIn : ModifierName → ℕ → List Byte → Option Modifier

@@ -5,12 +5,12 @@ use mathlib.Core.Bool.{Bool, true, false}
 use mathlib.Core.Option.{Option, none, some}
 use lib.Dec.{eqb}
 use lib.ListN.{length, drop, replicate}
-use Rattle.songcode.specs.Lists.{if_then_else_, gather, times, orElse, andThen, firstThere}
+use Rattle.songcode.specs.Lists.{if_then_else_, gather, times, orElse, andThen}
 use Rattle.songcode.specs.Bytes.{Byte}
 use Rattle.songcode.specs.answer.Chords.{Chord}
 use Rattle.songcode.specs.Song.{Sound, chord, again, silence, Sounds, only, also, Measure, Item, measure, loop, refer, Items, one, next}
-use Rattle.songcode.specs.Song.{KeyName, bpm, time, Key, Measures, Beats, Cut, Modifier, repeated, cutStart, cutEnd, before, after, Section}
-use Rattle.songcode.specs.Song.{Song}
+use Rattle.songcode.specs.Song.{KeyName, bpm, time, Key, Measures, Beats, Cut, Section}
+use Rattle.songcode.specs.Song.{Side, Modifiers, Song}
 use Rattle.songcode.specs.answer.Keys.{keyPlace, bpmIn, timeIn}
 use Rattle.songcode.specs.answer.References.{patternItems}
 
@@ -137,65 +137,18 @@ unfoldable pub cutBack : {A : Type 0} → Cut → List (List A) → List (List A
 unfolding turned cutFront
 cutBack c row = turned (cutFront c (turned row))
 
--- What the modifiers of a section say.
-unfoldable pub repeatSaid : Modifier → Option ℕ
-repeatSaid (repeated n) = some n
-repeatSaid (cutStart c) = none
-repeatSaid (cutEnd c) = none
-repeatSaid (before l r) = none
-repeatSaid (after l r) = none
-
-unfoldable pub cutStartSaid : Modifier → Option Cut
-cutStartSaid (repeated n) = none
-cutStartSaid (cutStart c) = some c
-cutStartSaid (cutEnd c) = none
-cutStartSaid (before l r) = none
-cutStartSaid (after l r) = none
-
-unfoldable pub cutEndSaid : Modifier → Option Cut
-cutEndSaid (repeated n) = none
-cutEndSaid (cutStart c) = none
-cutEndSaid (cutEnd c) = some c
-cutEndSaid (before l r) = none
-cutEndSaid (after l r) = none
-
--- A lead-in or tail: the number of its line, and its items.
-pub record Side : Type 0 where
-  pub line : ℕ
-  pub items : Items
-
-unfoldable pub beforeSaid : Modifier → Option Side
-beforeSaid (repeated n) = none
-beforeSaid (cutStart c) = none
-beforeSaid (cutEnd c) = none
-beforeSaid (before l r) = some (record { line = l; items = r })
-beforeSaid (after l r) = none
-
-unfoldable pub afterSaid : Modifier → Option Side
-afterSaid (repeated n) = none
-afterSaid (cutStart c) = none
-afterSaid (cutEnd c) = none
-afterSaid (before l r) = none
-afterSaid (after l r) = some (record { line = l; items = r })
-
--- The first that is said.
-unfoldable pub saidBy : {A B : Type 0} → (A → Option B) → List A → Option B
-unfolding firstThere
-saidBy f [] = none
-saidBy f (x ∷ xs) = firstThere (f x) (saidBy f xs)
-
 unfoldable pub applied : {A : Type 0} → (Cut → A → A) → Option Cut → A → A
 applied f none row = row
 applied f (some c) row = f c row
 
 -- The pattern repeated, less the two cuts.
-unfoldable pub cutRow : {A : Type 0} → List Modifier → List (List A) → List (List A)
-unfolding applied cutFront cutBack saidBy cutStartSaid cutEndSaid
-cutRow ms row = applied cutBack (saidBy cutEndSaid ms) (applied cutFront (saidBy cutStartSaid ms) row)
+unfoldable pub cutRow : {A : Type 0} → Modifiers → List (List A) → List (List A)
+unfolding applied cutFront cutBack
+cutRow ms row = applied cutBack (ms .cutEnd) (applied cutFront (ms .cutStart) row)
 
-unfoldable pub repeats : List Modifier → ℕ
-unfolding orElse saidBy repeatSaid
-repeats ms = orElse (saidBy repeatSaid ms) 1
+unfoldable pub repeats : Modifiers → ℕ
+unfolding orElse
+repeats ms = orElse (ms .repeat) 1
 
 -- A lead-in or tail, if there is one.
 unfoldable pub sideMeasures : ℕ → Option Side → List (List Beat)
@@ -204,15 +157,15 @@ sideMeasures n none = []
 sideMeasures n (some x) = measuresOf n none (x .items)
 
 -- The pattern as it is kept: an empty pattern has no measures.
-unfoldable pub keptMeasures : ℕ → List Modifier → Option Items → List (List Beat)
+unfoldable pub keptMeasures : ℕ → Modifiers → Option Items → List (List Beat)
 unfolding cutRow times repeats measuresOf
 keptMeasures n ms none = []
 keptMeasures n ms (some r) = cutRow ms (times (repeats ms) (measuresOf n none r))
 
 -- "Then lead-in and tail are joined on."
 unfoldable pub played : Song → Section → List (List Beat)
-unfolding sideMeasures keptMeasures saidBy beforeSaid afterSaid timeOf patternItems
+unfolding sideMeasures keptMeasures timeOf patternItems
 played s x =
-    sideMeasures (timeOf s x) (saidBy beforeSaid (x .modifiers))
+    sideMeasures (timeOf s x) (x .modifiers .before)
     ++ keptMeasures (timeOf s x) (x .modifiers) (patternItems (s .definitions) (x .pattern))
-    ++ sideMeasures (timeOf s x) (saidBy afterSaid (x .modifiers))
+    ++ sideMeasures (timeOf s x) (x .modifiers .after)

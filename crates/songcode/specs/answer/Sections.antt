@@ -13,7 +13,7 @@ use Rattle.songcode.specs.answer.Lines.{Line, Block}
 use Rattle.songcode.specs.Complaints.{Complaint, complaint, complainIf}
 use Rattle.songcode.specs.Song.{KeyName, Key, Modifier, Pattern, named, Section, LyricLine}
 use Rattle.songcode.specs.answer.Keys.{nameIn, settingIn, keyNamed, isSetting, ofSection, keyPlace}
-use Rattle.songcode.specs.answer.Modifiers.{ModifierName, modifierNamed, modifierInAs, settingRefusal, modifierPlace}
+use Rattle.songcode.specs.answer.Modifiers.{ModifierName, modifierNamed, modifierInAs, settingRefusal, modifierPlace, modifiersSaid}
 use Rattle.songcode.specs.answer.PatternText.{sectionTextAs}
 
 -- "a line starting with `@` is a key and one starting with `_` and an ASCII letter a modifier, wherever it stands; any other is a pattern line"
@@ -236,13 +236,13 @@ unfolding modifierByAs kindOfLine
 modifierOnAs read l = modifierByAs read (kindOfLine l) l
 
 unfoldable pub sectionInAs : Reading → Block → Section
-unfolding collect keyIn modifierOnAs orElse patternInAs patternRun lyricsIn body fromDashes
+unfolding collect keyIn modifierOnAs modifiersSaid orElse patternInAs patternRun lyricsIn body fromDashes
 sectionInAs read b =
     record {
       header = b .first .number;
       keys = collect keyIn (body b);
       pattern = orElse (patternInAs read (patternRun (body b))) (named 0);
-      modifiers = collect (modifierOnAs read) (body b);
+      modifiers = modifiersSaid (collect (modifierOnAs read) (body b));
       lyrics = lyricsIn (fromDashes b);
     }
 

@@ -3,7 +3,7 @@ use Prim.Native.Nat.{ℕ, _+_, _-_, _*_, _/_, _%_, _^_, _<_}
 use mathlib.Core.Path.{_≡_}
 use mathlib.Core.List.{List, [], _∷_}
 use mathlib.Core.Bool.{Bool, true, false}
-use mathlib.Core.Option.{none, some}
+use mathlib.Core.Option.{Option, none, some}
 use lib.ListN.{length}
 use Rattle.songcode.specs.Lists.{sum}
 use Rattle.songcode.specs.Bytes.{Byte}
@@ -82,21 +82,36 @@ Fit [] (v ∷ vs) = ⊥
 Fit (w ∷ ws) [] = ⊥
 Fit (w ∷ ws) (v ∷ vs) = (v < 2 ^ w) × Fit ws vs
 
+-- What a key's fields are: "present 1, offset 16, length 9 (absent: all 0)".
+unfoldable pub keyFields : Option (List Byte) → List ℕ
+unfolding offset
+keyFields none = 0 ∷ 0 ∷ 0 ∷ []
+keyFields (some setting) = 1 ∷ offset setting ∷ length setting ∷ []
+
+-- A beat's: "base 6 (63 silence), extension offset 16 (0 if empty), length 5, head 1".
+unfoldable pub beatFields : Option Chord → Bool → List ℕ
+unfolding offset headBit
+beatFields none head = 63 ∷ 0 ∷ 0 ∷ headBit head ∷ []
+beatFields (some c) head = c .base ∷ offset (c .extension) ∷ length (c .extension) ∷ headBit head ∷ []
+
+-- A prompter item's: "text offset 16, length 16, first measure 16, measures 14, style 2".
+unfoldable pub itemFields : Prompt → List ℕ
+unfolding offset
+itemFields p = offset (p .words .text) ∷ length (p .words .text) ∷ p .first ∷ p .measures ∷ p .words .style ∷ []
+
 -- What is promised of the words of all tables.
 pub record Laid : Type 0 where
   -- Fields are read back as they were packed, whatever the bits are that are not named; and every word is its fields and these bits.
   pub read-back : (r : Row) (vs : List ℕ) (low : ℕ) → Fit (r .fields) vs → low < 2 ^ spare r → fieldsOf r (laid r vs + low) ≡ vs
   pub laid-back : (r : Row) (word : ℕ) → word < 2 ^ (sum (r .fields) + spare r) → laid r (fieldsOf r word) + word % 2 ^ spare r ≡ word
-  -- "present 1, offset 16, length 9 (absent: all 0)"
-  pub absent-key : keyWord none ≡ laid keysRow (0 ∷ 0 ∷ 0 ∷ [])
-  pub present-key : (setting : List Byte) → keyWord (some setting) ≡ laid keysRow (1 ∷ offset setting ∷ length setting ∷ [])
+  -- The words that the answer packs are these.
+  pub key : (o : Option (List Byte)) → keyWord o ≡ laid keysRow (keyFields o)
   pub section : (header first measures n bpm : ℕ) → sectionWord header first measures n bpm ≡ laid sectionsRow (header ∷ first ∷ measures ∷ n ∷ bpm ∷ [])
   pub measure : (first beats : ℕ) → measureWord first beats ≡ laid measuresRow (first ∷ beats ∷ [])
-  -- "63 silence", "0 if empty"; "Head is 1 on the first beat of a position as written"
-  pub silence : (head : Bool) → beatBy none head ≡ laid beatsRow (63 ∷ 0 ∷ 0 ∷ headBit head ∷ [])
-  pub chord : (c : Chord) (head : Bool) → beatBy (some c) head ≡ laid beatsRow (c .base ∷ offset (c .extension) ∷ length (c .extension) ∷ headBit head ∷ [])
+  pub beat : (o : Option Chord) (head : Bool) → beatBy o head ≡ laid beatsRow (beatFields o head)
+  pub item : (p : Prompt) → itemWord p ≡ laid itemsRow (itemFields p)
+  -- "Head is 1 on the first beat of a position as written"
   pub head : (headBit true ≡ 1) × (headBit false ≡ 0)
-  pub item : (p : Prompt) → itemWord p ≡ laid itemsRow (offset (p .words .text) ∷ length (p .words .text) ∷ p .first ∷ p .measures ∷ p .words .style ∷ [])
   -- "Offsets are into the file": the place of a text's first byte; "0 if empty".
   pub nowhere : offset [] ≡ 0
   pub somewhere : (b : Byte) (bs : List Byte) → offset (b ∷ bs) ≡ b .place

@@ -8,11 +8,11 @@ use Rattle.songcode.specs.Lists.{times, gather, orElse}
 use Rattle.songcode.specs.Bytes.{Byte}
 use Rattle.songcode.specs.answer.Chords.{Chord}
 use Rattle.songcode.specs.Song.{Sound, chord, again, silence, Sounds, only, also, Measure, Item, measure, loop, refer, Items, one, next}
-use Rattle.songcode.specs.Song.{KeyName, bpm, time, Key, Cut, Modifier, Section, Song}
+use Rattle.songcode.specs.Song.{KeyName, bpm, time, Key, Cut, Section, Song, Side, Modifiers, unmodified}
 use Rattle.songcode.specs.description.WrittenPattern.{Number}
 use Rattle.songcode.specs.description.WrittenSection.{TimeText}
 use Rattle.songcode.specs.answer.References.{patternItems}
-use Rattle.songcode.specs.answer.Playing.{Beat, Side, settingNamed, positions, lasting, saidBy, beforeSaid, afterSaid, cutStartSaid, cutEndSaid, repeats}
+use Rattle.songcode.specs.answer.Playing.{Beat, settingNamed, positions, lasting, repeats}
 
 -- What a position sounds behind the last chord, and the last chord behind it.
 -- "`%` is the last chord before it in the written order of its own text ...; silence isn't a chord."
@@ -118,14 +118,14 @@ pub record Parts : Type 0 where
 
 -- "Loops are written out, then the pattern repeated." The two cuts take from the whole repeated row, and "at least one beat of the pattern must remain".
 -- An empty pattern plays nothing and has no modifier.
-unfoldable pub PlaysPattern : ℕ → List Modifier → Option Items → List (List Beat) → List (List Beat) → Type 0
+unfoldable pub PlaysPattern : ℕ → Modifiers → Option Items → List (List Beat) → List (List Beat) → Type 0
 unfolding CutIf
-PlaysPattern n ms none pass middle = (ms ≡ []) × (pass ≡ []) × (middle ≡ [])
+PlaysPattern n ms none pass middle = (ms ≡ unmodified) × (pass ≡ []) × (middle ≡ [])
 PlaysPattern n ms (some r) pass middle =
     (shorter : List (List Beat))
     × PlaysAlone n r pass
-    × CutIf CutsFront (saidBy cutStartSaid ms) (times (repeats ms) pass) shorter
-    × CutIf CutsBack (saidBy cutEndSaid ms) shorter middle
+    × CutIf CutsFront (ms .cutStart) (times (repeats ms) pass) shorter
+    × CutIf CutsBack (ms .cutEnd) shorter middle
     × (1 ≤ total middle)
 
 -- The third demand: "each section is, beat for beat, its lead-in, then its pattern as often as it is repeated less the two cuts, then its tail,
@@ -133,9 +133,9 @@ PlaysPattern n ms (some r) pass middle =
 pub record PlaysSection (s : Song) (x : Section) (p : Parts) : Type 0 where
   pub meter : Inherits time TimeText 4 s x (p .meter)
   pub tempo : Inherits bpm (Number 0 400) 511 s x (p .tempo)
-  pub leadIn : PlaysSide (p .meter) (saidBy beforeSaid (x .modifiers)) (p .leadIn)
+  pub leadIn : PlaysSide (p .meter) (x .modifiers .before) (p .leadIn)
   pub pattern : PlaysPattern (p .meter) (x .modifiers) (patternItems (s .definitions) (x .pattern)) (p .pass) (p .middle)
-  pub tail : PlaysSide (p .meter) (saidBy afterSaid (x .modifiers)) (p .tail)
+  pub tail : PlaysSide (p .meter) (x .modifiers .after) (p .tail)
 
 -- The measures of the section, and those that it has "lead-ins and tails in, before cuts".
 unfoldable pub joined : Parts → List (List Beat)

@@ -9,10 +9,10 @@ use Rattle.songcode.specs.Lists.{sum}
 use Rattle.songcode.specs.Bytes.{Byte, placed}
 use Rattle.songcode.specs.Complaints.{Complaint, complaint}
 use Rattle.songcode.specs.Song.{Sound, chord, again, silence, Sounds, only, also, Measure, Item, measure, loop, refer, Items, one, next, named, time}
-use Rattle.songcode.specs.Song.{Modifier, before, after, LyricLine, Definition, Section, Song}
+use Rattle.songcode.specs.Song.{unmodified, LyricLine, Definition, Section, Song}
 use Rattle.songcode.specs.answer.PatternText.{references}
 use Rattle.songcode.specs.answer.References.{patternItems}
-use Rattle.songcode.specs.answer.Playing.{Beat, positions, saidBy, beforeSaid, afterSaid, repeats}
+use Rattle.songcode.specs.answer.Playing.{Beat, positions, repeats}
 use Rattle.songcode.specs.answer.Tables.{Tables}
 use Rattle.songcode.specs.answer.Answer.{Room}
 use Rattle.songcode.specs.description.WrittenText.{FirstBad, Cuts}
@@ -125,9 +125,9 @@ pub data Stops4 (s : Song) : Complaint → Type 0 where
   of-pattern : {c : Complaint} (x : Section) (n : ℕ) (r : Items) → List·Memᴰ x (s .sections) → Inherits time TimeText 4 s x n
       → patternItems (s .definitions) (x .pattern) ≡ some r → RowStops n (x .header) r c → Stops4 s c
   of-lead-in : {c : Complaint} (x : Section) (n line : ℕ) (r : Items) → List·Memᴰ x (s .sections) → Inherits time TimeText 4 s x n
-      → List·Memᴰ (before line r) (x .modifiers) → RowStops n line r c → Stops4 s c
+      → x .modifiers .before ≡ some (record { line = line; items = r }) → RowStops n line r c → Stops4 s c
   of-tail : {c : Complaint} (x : Section) (n line : ℕ) (r : Items) → List·Memᴰ x (s .sections) → Inherits time TimeText 4 s x n
-      → List·Memᴰ (after line r) (x .modifiers) → RowStops n line r c → Stops4 s c
+      → x .modifiers .after ≡ some (record { line = line; items = r }) → RowStops n line r c → Stops4 s c
 
 -- A section's measures, "lead-ins and tails in, before cuts".
 unfoldable pub PlaysPass : ℕ → Option Items → List (List Beat) → Type 0
@@ -140,9 +140,9 @@ pub record Uncut (s : Song) (x : Section) (measures : ℕ) : Type 0 where
   pub pass : List (List Beat)
   pub tail : List (List Beat)
   pub inherits : Inherits time TimeText 4 s x meter
-  pub leads : PlaysSide meter (saidBy beforeSaid (x .modifiers)) leadIn
+  pub leads : PlaysSide meter (x .modifiers .before) leadIn
   pub passes : PlaysPass meter (patternItems (s .definitions) (x .pattern)) pass
-  pub tails : PlaysSide meter (saidBy afterSaid (x .modifiers)) tail
+  pub tails : PlaysSide meter (x .modifiers .after) tail
   pub counts : measures ≡ length leadIn + repeats (x .modifiers) * length pass + length tail
 
 -- Stage 5, on the header.
@@ -155,7 +155,7 @@ pub data Stops5 (s : Song) : Complaint → Type 0 where
       → patternItems (s .definitions) (x .pattern) ≡ some r → PlaysAlone n r pass
       → ((middle : List (List Beat)) → PlaysPattern n (x .modifiers) (some r) pass middle → ⊥) → Stops5 s (complaint 15 (x .header))
   -- 15: "or a modifier on an empty pattern"
-  empty-modified : (x : Section) (m : Modifier) → List·Memᴰ x (s .sections) → patternItems (s .definitions) (x .pattern) ≡ none → List·Memᴰ m (x .modifiers)
+  empty-modified : (x : Section) → List·Memᴰ x (s .sections) → patternItems (s .definitions) (x .pattern) ≡ none → (x .modifiers ≡ unmodified → ⊥)
       → Stops5 s (complaint 15 (x .header))
 
 -- "Take the lyric lines of all sections whose pattern isn't empty".

@@ -2,7 +2,8 @@
 use Prim.Native.Nat.{ℕ, _≤_}
 use Prim.Native.Char.{code}
 use mathlib.Core.Path.{_≡_}
-use mathlib.Core.List.{List, [], _∷_, _++_, map}
+use mathlib.Core.Logic.{_↔_}
+use mathlib.Core.List.{List, [], _∷_, _++_, map, List·Memᴰ}
 use mathlib.Core.Bool.{true, false}
 use mathlib.Core.Option.{some}
 use lib.ListN.{length, getElem?}
@@ -11,7 +12,7 @@ use Rattle.songcode.specs.answer.Characters.{characters}
 use Rattle.songcode.specs.answer.Lines.{Line, Block}
 use Rattle.songcode.specs.answer.Chords.{bases}
 use Rattle.songcode.specs.Song.{KeyName, name, artist, original, capo, bpm, time, warning, end, Key, Cut, Modifier, repeated, cutStart, cutEnd}
-use Rattle.songcode.specs.Song.{before, after, LyricLine, Section}
+use Rattle.songcode.specs.Song.{before, after, Side, Modifiers, LyricLine, Section}
 use Rattle.songcode.specs.description.WrittenText.{All, Stops}
 use Rattle.songcode.specs.description.WrittenPattern.{Number, WrittenPattern, WrittenSide}
 
@@ -137,6 +138,14 @@ pub record ModifierLine (l : Line) (m : Modifier) : Type 0 where
   pub written : Signed (code "_") (modifierSpelling m) (l .text) setting
   pub allowed : ModifierSetting (l .number) m setting
 
+-- "modifier lines, each kind at most once, in any order": a section says what one of its lines says, and nothing else.
+pub record Together (ms : List Modifier) (m : Modifiers) : Type 0 where
+  pub repeat : (n : ℕ) → (m .repeat ≡ some n) ↔ List·Memᴰ (repeated n) ms
+  pub cutStart : (c : Cut) → (m .cutStart ≡ some c) ↔ List·Memᴰ (cutStart c) ms
+  pub cutEnd : (c : Cut) → (m .cutEnd ≡ some c) ↔ List·Memᴰ (cutEnd c) ms
+  pub before : (x : Side) → (m .before ≡ some x) ↔ List·Memᴰ (before (x .line) (x .items)) ms
+  pub after : (x : Side) → (m .after ≡ some x) ↔ List·Memᴰ (after (x .line) (x .items)) ms
+
 -- "a line starting with `@` is a key and one starting with `_` and an ASCII letter a modifier ...; any other is a pattern line"; `--` alone is none.
 unfoldable pub PatternBytes : List Byte → Type 0
 PatternBytes [] = Unit {0}
@@ -190,6 +199,8 @@ pub record WrittenSection (b : Block) (s : Section) : Type 0 where
   pub keysOnce : Distinct (map keyNumber (s .keys))
   pub patternLines : PatternLines (firstPattern ∷ morePattern)
   pub pattern : WrittenPattern firstPattern morePattern (s .pattern)
-  pub modifiers : Each ModifierLine modifierLines (s .modifiers)
-  pub modifiersOnce : Distinct (map modifierNumber (s .modifiers))
+  pub said : List Modifier
+  pub eachSays : Each ModifierLine modifierLines said
+  pub modifiersOnce : Distinct (map modifierNumber said)
+  pub modifiers : Together said (s .modifiers)
   pub lyrics : LyricLines lastLines (s .lyrics)

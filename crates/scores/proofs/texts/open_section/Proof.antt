@@ -1,7 +1,6 @@
 -- The three texts are laid behind the definitions, one behind the other, and each is told by what it names.
 use mathlib.Core.Path.{sym, _∙_, subst}
 use mathlib.Core.Logic.{⊎-elim}
-use Rattle.songcode.specs.answer.Playing.{saidBy, beforeSaid, afterSaid}
 use Rattle.songcode.specs.answer.References.{patternItems}
 use Rattle.songcode.specs.answer.Answer.{songOf}
 use Rattle.sections.specs.Onward.{sectionAt}
@@ -61,10 +60,10 @@ returns c =
     .before .before .before .named-in in
     let ready = ready-again (q .pre .0) (q .pre .1) (q .pre .2) (q .pre .3) m (a .0) (a .1) (b .0) (b .1) (d .0) (d .1) in
     let same = words-length (q .pre .0) (q .pre .1) (q .pre .2) (q .pre .3) m (a .0) (a .1) (b .0) (b .1) (d .0) (d .1) in
-    let lead = subst (λ (t : Text). Carries ws t (sideItems (saidBy beforeSaid (x .modifiers))))
+    let lead = subst (λ (t : Text). Carries ws t (sideItems (x .modifiers .before)))
     (sym (c .before .before .before .before .plain-text .ensures))
     (lead-carries (q .pre .0) (q .pre .1) (q .pre .2) (q .pre .3) m (a .0) (a .1) (b .0) (b .1) (d .0) (d .1)) in
-    let tail = subst (λ (t : Text). Carries ws t (sideItems (saidBy afterSaid (x .modifiers))))
+    let tail = subst (λ (t : Text). Carries ws t (sideItems (x .modifiers .after)))
     (sym (c .before .before .plain-text2 .ensures)) (tail-carries (q .pre .0) (q .pre .1) (q .pre .2) (q .pre .3) m (a .0) (a .1) (b .0)
     (b .1) (d .0) (d .1)) in
     let pattern =
