@@ -1,6 +1,6 @@
 -- What is found keeps the promise: where the verdict names no line, and where it names one.
 use Prim.Native.Nat.{ℕ, _≤_}
-use mathlib.Core.Path.{_≡_, refl, sym, ap, _∙_}
+use mathlib.Core.Path.{_≡_, refl, sym, ap, _∙_, subst}
 use mathlib.Core.List.{List}
 use Rattle.songcode.specs.answer.Answer as songcode
 use Rattle.songcode.specs.answer.Answer.{refused, accepted, songAnswer}
@@ -16,7 +16,8 @@ use Rattle.slips.specs.Finds.{LineOf, Finds}
 use Rattle.explain.specs.declared.Explained.{Explained}
 use Rattle.explain.specs.Causes.{Belongs, clauses, clauseOfCause}
 use Rattle.explain.specs.Explained.{Explains}
-use Rattle.explain.proofs.FirstLaws.{not-line-0, as-refused, uncounted-first, summed-first}
+use Rattle.explain.proofs.FirstLaws.{not-line-0, as-refused, stray-first, stray-named, uncounted-first, summed-first}
+use Rattle.explain.proofs.StrayThere.{stray-listed}
 use Rattle.explain.proofs.VerdictLines.{lyric-listed, header-listed}
 use native.Mathlib.Omega.{arith}
 
@@ -49,6 +50,8 @@ module _ (text : List ℕ) (a : Answer) (h : a ≡ answerOf (songAnswer text)) (
         belongs = same (e .0) (e .2);
         nowhere = λ _. (e .3, e .4, e .5);
         placed = λ n. absurd (n (e .1));
+        stray-named = λ f. absurd (unlined 13 (λ w. stray-listed text w) (λ y. let x : ⊥ = omega arith in x) (sym (e .0) ∙ f) z);
+        stray = λ f l k. absurd (not-line-0 text l (subst (λ (i : ℕ). LineOf text i l) (e .1) k));
         uncounted = λ f. absurd (unlined 16 (λ w. lyric-listed text 0 w .1) (λ y. let x : ⊥ = omega arith in x) (sym (e .0) ∙ f) z);
         summed = λ f. absurd (unlined 17 (λ w. header-listed text 0 w .1) (λ y. let x : ⊥ = omega arith in x) (sym (e .0) ∙ f) z);
       }
@@ -64,6 +67,8 @@ module _ (text : List ℕ) (a : Answer) (h : a ≡ answerOf (songAnswer text)) (
         belongs = same (e .0) (e .2);
         nowhere = λ z. absurd (n (sym (e .1) ∙ z));
         placed = λ _. rw (e .3) o;
+        stray-named = λ f. stray-named text a h x finds p o covers cause told r e (sym (e .0) ∙ f);
+        stray = λ f. stray-first text a h x finds p o covers cause told r e (sym (e .0) ∙ f);
         uncounted = λ f. uncounted-first text a h x finds p o covers cause told r e (sym (e .0) ∙ f);
         summed = λ f. summed-first text a h x finds p o covers cause told r e (sym (e .0) ∙ f);
       }

@@ -2,4 +2,6 @@
 pub mod ExplainLaws
 pub mod StageLaws
 pub mod VerdictLines
+pub mod SoundLaws
+pub mod StrayThere
 pub mod FirstLaws

@@ -1,11 +1,17 @@
--- The stages of the verdicts 16 and 17: what the first five stages state has a lower number, and what these state is said of the song's lines.
-use Prim.Native.Nat.{ℕ, _≤_}
-use mathlib.Core.Path.{_≡_, refl}
+-- The stages of the verdicts 13, 16 and 17: what the first five stages state has a number below 16, and what the next two state is said of the song's lines.
+use Prim.Native.Nat.{ℕ, _<_, _≤_}
+use mathlib.Core.Path.{_≡_, refl, ap, _∙_}
+use mathlib.Core.Logic.{_⊎_, inl, inr}
+use mathlib.Core.Option.{some}
 use mathlib.Core.List.{List, List·Memᴰ}
 use native.Mathlib.Omega.{arith}
+use borrow.Author.Tests.{ltb-true, ltb-false}
+use lib.Dec.{ltb}
+use lib.ListN.{length}
 use Rattle.songcode.specs.answer.Lines.{Line, Block}
 use Rattle.songcode.specs.Complaints.{Complaint, complaint}
 use Rattle.songcode.specs.Song.{KeyName, Items, LyricLine, Section, Song}
+use Rattle.songcode.specs.answer.References.{patternItems}
 use Rattle.songcode.specs.answer.Answer.{Room, refused, songAnswer}
 use Rattle.songcode.specs.description.Performance.{Parts}
 use Rattle.songcode.specs.description.WrittenSong.{WrittenChart}
@@ -18,14 +24,20 @@ use Rattle.songcode.specs.description.StoppedText.{no-key, DefinitionStops, hea
 use Rattle.songcode.specs.description.StoppedText.{in-metadata, in-definition, in-section, Stops2, stated, no-section}
 use Rattle.songcode.specs.description.StoppedSong.{Stops1, over-long, bad-bytes, Stops3, undefined, undefined-named, too-deep, loop-in-loop, to-empty, RowStops}
 use Rattle.songcode.specs.description.StoppedSong.{undivided, again-first, Stops4, of-pattern, of-lead-in, of-tail, Stops5, too-long, no-beat, empty-modified}
-use Rattle.songcode.specs.description.StoppedSong.{Taken, Stops6, uncounted, Stops7, sums-not, Stops8, keys-short, sections-short, measures-short, beats-short}
+use Rattle.songcode.specs.description.StoppedSong.{AgainFirst, Taken, Stops6, uncounted, Stops7, sums-not, Stops8, keys-short, sections-short, measures-short}
+use Rattle.songcode.specs.description.StoppedSong.{beats-short}
 use Rattle.songcode.specs.description.StoppedSong.{items-short}
-use Rattle.songcode.specs.description.Refusals.{Stage, stage1, stage2, stage3, stage4, stage5, stage6, stage7, stage8, Stated}
+use Rattle.songcode.specs.description.Refusals.{Stage, stage1, stage2, stage3, stage4, stage5, stage6, stage7, stage8, Stated, Nothing, NothingIn}
+use Rattle.songcode.specs.description.Refusals as refusals
+use Rattle.songcode.proofs.ListLaws.{by-cases}
 use Rattle.songcode.proofs.RefusalsAgree.{refused-as-stated}
 use Rattle.songcode.proofs.SongAlone.{refused-with-tables}
 
 abbrev Early : Complaint → Type 0
-Early c = c .number ≤ 15
+Early c = c .number ≤ 11
+
+abbrev Middle : Complaint → Type 0
+Middle c = c .number ≤ 15
 
 of-key-stops : {allowed : KeyName → Type 0} {l : Line} {c : Complaint} → KeyStops allowed l c → Early c
 of-key-stops (key-unknown s h) = omega arith
@@ -83,6 +95,10 @@ of-1 : {bs : List ℕ} {c : Complaint} → Stops1 bs c → Early c
 of-1 (over-long h) = omega arith
 of-1 (bad-bytes place w lines h k cuts) = omega arith
 
+low-1 : {bs : List ℕ} {c : Complaint} → Stops1 bs c → c .number ≤ 2
+low-1 (over-long h) = omega arith
+low-1 (bad-bytes place w lines h k cuts) = omega arith
+
 of-2 : {bs : List Block} {c : Complaint} → Stops2 bs c → Early c
 of-2 (stated h) = of-text h
 of-2 (no-section k n) = omega arith
@@ -94,19 +110,41 @@ of-3 (too-deep d e r q xs n v i m h j) = omega arith
 of-3 (loop-in-loop d e r q xs v i m h l) = omega arith
 of-3 (to-empty d e r xs v i m h) = omega arith
 
-of-row : {n line : ℕ} {r : Items} {c : Complaint} → RowStops n line r c → Early c
+of-row : {n line : ℕ} {r : Items} {c : Complaint} → RowStops n line r c → Middle c
 of-row (undivided m h u) = omega arith
 of-row (again-first a) = omega arith
 
-of-4 : {s : Song} {c : Complaint} → Stops4 s c → Early c
+of-4 : {s : Song} {c : Complaint} → Stops4 s c → Middle c
 of-4 (of-pattern x n r i h e t) = of-row t
 of-4 (of-lead-in x n l r i h m t) = of-row t
 of-4 (of-tail x n l r i h m t) = of-row t
 
-of-5 : {s : Song} {c : Complaint} → Stops5 s c → Early c
+of-5 : {s : Song} {c : Complaint} → Stops5 s c → Middle c
 of-5 (too-long front behind x counts k w us u h j) = omega arith
 of-5 (no-beat x n r pass i h e w g) = omega arith
 of-5 (empty-modified x i e h) = omega arith
+
+high-5 : {s : Song} {c : Complaint} → Stops5 s c → 14 ≤ c .number
+high-5 (too-long front behind x counts k w us u h j) = omega arith
+high-5 (no-beat x n r pass i h e w g) = omega arith
+high-5 (empty-modified x i e h) = omega arith
+
+-- 13: a row whose first `%` stands before every chord, a section's pattern or the lead-in or tail on that line.
+pub data StrayIn (s : Song) (line : ℕ) : Type 0 where
+  in-text : (x : Section) (r : Items) → List·Memᴰ x (s .sections) → patternItems (s .definitions) (x .pattern) ≡ some r → AgainFirst r
+      → x .header ≡ line → StrayIn s line
+  in-side : (x : Section) (r : Items) → List·Memᴰ x (s .sections)
+      → (x .modifiers .before ≡ some (record { line = line; items = r })) ⊎ (x .modifiers .after ≡ some (record { line = line; items = r }))
+      → AgainFirst r → StrayIn s line
+
+row-again : {n line : ℕ} {r : Items} {c : Complaint} → RowStops n line r c → c .number ≡ 13 → AgainFirst r × (line ≡ c .line)
+row-again (undivided m h u) e = let z : ⊥ = omega arith in absurd z
+row-again (again-first a) e = (a, refl)
+
+stray-4 : {s : Song} {c : Complaint} → Stops4 s c → c .number ≡ 13 → StrayIn s (c .line)
+stray-4 (of-pattern x n r i h e t) k = let g = row-again t k in in-text x r i e (g .0) (g .1)
+stray-4 (of-lead-in x n l r i h m t) k = let g = row-again t k in in-side x r i (inl (m ∙ ap (λ (j : ℕ). some (record { line = j; items = r })) (g .1))) (g .0)
+stray-4 (of-tail x n l r i h m t) k = let g = row-again t k in in-side x r i (inr (m ∙ ap (λ (j : ℕ). some (record { line = j; items = r })) (g .1))) (g .0)
 
 of-6 : {s : Song} {c : Complaint} → Stops6 s c → (c .number ≡ 16) × ((l : LyricLine) × Taken s l × (l .number ≡ c .line))
 of-6 (uncounted l o w n v k) = (refl, (l, w, refl))
@@ -124,6 +162,43 @@ of-8 (items-short t w h) = refl
 module _ (bs : List ℕ) (line : ℕ) where
   abbrev room : Room
   room = record { keys = 0; sections = 0; measures = 0; beats = 0; items = 0 }
+
+  over-long-first : (k : Stage) (n : ℕ) → Stated room bs k (complaint n line) → NothingIn room bs (refusals.stagesBefore k) → 3 ≤ n → 65536 < length bs → ⊥
+  unfolding Stated NothingIn Nothing refusals.stagesBefore
+  over-long-first stage1 n h e l o = let k = low-1 h in let z : ⊥ = omega arith in z
+  over-long-first stage2 n h e l o = e .0 _ (over-long o)
+  over-long-first stage3 n h e l o = e .0 _ (over-long o)
+  over-long-first stage4 n h e l o = e .0 _ (over-long o)
+  over-long-first stage5 n h e l o = e .0 _ (over-long o)
+  over-long-first stage6 n h e l o = e .0 _ (over-long o)
+  over-long-first stage7 n h e l o = e .0 _ (over-long o)
+  over-long-first stage8 n h e l o = e .0 _ (over-long o)
+
+  -- A text that is refused with a number of a later stage is not too long.
+  pub short-text : (n : ℕ) → songAnswer bs ≡ refused n line → 3 ≤ n → length bs ≤ 65536
+  short-text n e l =
+      let r = refused-as-stated room bs n line .0 (refused-with-tables room bs n line e) in
+      by-cases (ltb 65536 (length bs))
+      (λ o. absurd (over-long-first (r .stage) n (r .stated) (r .noneEarlier) l (ltb-true 65536 (length bs) o)))
+      (λ o. let k = ltb-false 65536 (length bs) o in omega arith)
+
+  abbrev StrayRefused : Type 0
+  StrayRefused = (s : Song) × WrittenChart bs s × StrayIn s line
+
+  in-stage-4 : (k : Stage) → Stated room bs k (complaint 13 line) → StrayRefused
+  unfolding Stated
+  in-stage-4 stage1 h = let e = of-1 h in let z : ⊥ = omega arith in absurd z
+  in-stage-4 stage2 h = let e = of-2 (h .4) in let z : ⊥ = omega arith in absurd z
+  in-stage-4 stage3 h = let e = of-3 (h .2) in let z : ⊥ = omega arith in absurd z
+  in-stage-4 stage4 h = (h .0, h .1, stray-4 (h .2) refl)
+  in-stage-4 stage5 h = let e = high-5 (h .2) in let z : ⊥ = omega arith in absurd z
+  in-stage-4 stage6 h = let e = of-6 (h .2) .0 in let z : ⊥ = omega arith in absurd z
+  in-stage-4 stage7 h = let e = of-7 (h .2) .0 in let z : ⊥ = omega arith in absurd z
+  in-stage-4 stage8 h = let e = of-8 (h .4) in let z : ⊥ = omega arith in absurd z
+
+  pub stray-refused : songAnswer bs ≡ refused 13 line → StrayRefused
+  stray-refused e =
+      let r = refused-as-stated room bs 13 line .0 (refused-with-tables room bs 13 line e) in in-stage-4 (r .stage) (r .stated)
 
   -- 16: a taken lyric line of the chart.
   abbrev LyricRefused : Type 0

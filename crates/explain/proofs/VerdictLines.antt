@@ -1,14 +1,14 @@
--- The line of the verdicts 16 and 17 is a line of the text: a lyric line, a header.
+-- The line of a verdict is a line of the text: of 16 a lyric line, of 17 a header; the block of a section.
 use Prim.Native.Nat.{ℕ, _≤_}
 use lib.ListN.{length}
 use mathlib.Core.Path.{_≡_, refl, sym, ap, subst, _∙_}
 use mathlib.Core.Logic.{⊎-elim}
 use mathlib.Core.List.{List, [], _∷_, map, List·Memᴰ, List·Memᴰ·head, List·Memᴰ·tail, List·Memᴰ·not-nil, List·Memᴰ·cases-cons}
-use mathlib.Core.List.{Memᴰ·append-left, Memᴰ·append-right}
+use mathlib.Core.List.{Memᴰ·append-right}
 use Rattle.songcode.specs.answer.Lines.{Line, Block}
 use Rattle.songcode.specs.Song.{LyricLine, Section, Song}
 use Rattle.songcode.specs.answer.Answer.{blocksOf, refused, songAnswer}
-use Rattle.songcode.specs.description.WrittenText.{WrittenBlocks, no-block, a-blank, a-block}
+use Rattle.songcode.specs.description.WrittenText.{WrittenBlocks}
 use Rattle.songcode.specs.description.WrittenSection.{Each, none-each, and-each, LyricLines, no-lyrics, with-lyrics, WrittenSection}
 use Rattle.songcode.specs.description.WrittenSong.{WrittenSong}
 use Rattle.songcode.proofs.BlocksAgree.{blocks-sound}
@@ -17,6 +17,7 @@ use Rattle.text.specs.declared.lines.Line as text
 use Rattle.text.specs.Spans.{lineText, spans}
 use Rattle.text.proofs.LineLaws.{blocks-spans}
 use Rattle.slips.specs.Finds.{LineOf}
+use Rattle.slips.proofs.BlockLaws.{in-blocks}
 use Rattle.explain.proofs.StageLaws.{lyric-refused, header-refused}
 
 in-map : {A B : Type 0} (f : A → B) (xs : List A) {y : B} → List·Memᴰ y (map f xs) → (x : A) × List·Memᴰ x xs × (y ≡ f x)
@@ -27,29 +28,13 @@ in-map f (x ∷ xs) m =
     (λ i. let r = in-map f xs i in (r .0, List·Memᴰ·tail (r .1), r .2))
     (List·Memᴰ·cases-cons m)
 
-each-right : {A B : Type 0} {R : A → B → Type 0} {xs : List A} {ys : List B} {y : B} → Each R xs ys → List·Memᴰ y ys → (x : A) × List·Memᴰ x xs × R x y
+pub each-right : {A B : Type 0} {R : A → B → Type 0} {xs : List A} {ys : List B} {y : B} → Each R xs ys → List·Memᴰ y ys → (x : A) × List·Memᴰ x xs × R x y
 each-right none-each m = absurd (List·Memᴰ·not-nil m)
 each-right {R = R} (and-each {x} {y} h hs) m =
     ⊎-elim
     (λ e. (x, List·Memᴰ·head refl, subst (λ z. R x z) (sym e) h))
     (λ i. let r = each-right hs i in (r .0, List·Memᴰ·tail (r .1), r .2))
     (List·Memᴰ·cases-cons m)
-
--- A block's lines are lines of the file.
-in-blocks : {ls : List Line} {bs : List Block} → WrittenBlocks ls bs → (b : Block) → List·Memᴰ b bs
-    → (m : Line) → List·Memᴰ m (b .first ∷ b .others) → List·Memᴰ m ls
-in-blocks no-block b i m j = absurd (List·Memᴰ·not-nil i)
-in-blocks (a-blank e w) b i m j = List·Memᴰ·tail (in-blocks w b i m j)
-in-blocks (a-block {l} {w} {ls} {zs} e n s z rest) b i m j =
-    ⊎-elim
-    (λ k.
-    let here : List·Memᴰ m (l ∷ w) = subst (λ (x : Block). List·Memᴰ m (x .first ∷ x .others)) k j in
-    ⊎-elim
-    (λ f. List·Memᴰ·head f)
-    (λ t. List·Memᴰ·tail (subst (λ (xs : List Line). List·Memᴰ m xs) (sym z) (Memᴰ·append-left ls t)))
-    (List·Memᴰ·cases-cons here))
-    (λ k. List·Memᴰ·tail (subst (λ (xs : List Line). List·Memᴰ m xs) (sym z) (Memᴰ·append-right w (in-blocks rest b k m j))))
-    (List·Memᴰ·cases-cons i)
 
 lyric-line : {ls : List Line} {ys : List LyricLine} {y : LyricLine} → LyricLines ls ys → List·Memᴰ y ys → (m : Line) × List·Memᴰ m ls × (m .number ≡ y .number)
 lyric-line no-lyrics i = absurd (List·Memᴰ·not-nil i)
@@ -62,16 +47,22 @@ lyric-line (with-lyrics {dashes} {l} {ls} e) i =
     (List·Memᴰ·cases-cons i)
 
 module _ (bs : List ℕ) where
-  -- A line of one of the text's blocks, by its number.
-  of-block : (b : Block) → List·Memᴰ b (blocksOf bs) → (m : Line) → List·Memᴰ m (b .first ∷ b .others)
+  -- A line of one of the text's blocks is a line of the text; by its number.
+  pub line-of-block : (b : Block) → List·Memᴰ b (blocksOf bs) → (m : Line) → List·Memᴰ m (b .first ∷ b .others)
+      → (l : text.Line) × List·Memᴰ l (spans bs) × (m ≡ lineText bs l)
+  line-of-block b i m j =
+      let w : WrittenBlocks (map (lineText bs) (spans bs)) (blocksOf bs) = rw (blocks-spans bs) (blocks-sound (map (lineText bs) (spans bs))) in
+      in-map (lineText bs) (spans bs) (in-blocks w b i m j)
+
+  pub of-block : (b : Block) → List·Memᴰ b (blocksOf bs) → (m : Line) → List·Memᴰ m (b .first ∷ b .others)
       → (n : ℕ) → m .number ≡ n → (l : text.Line) × LineOf bs n l
   of-block b i m j n e =
-      let w : WrittenBlocks (map (lineText bs) (spans bs)) (blocksOf bs) = rw (blocks-spans bs) (blocks-sound (map (lineText bs) (spans bs))) in
-      let r = in-map (lineText bs) (spans bs) (in-blocks w b i m j) in
+      let r = line-of-block b i m j in
       (r .0, record { listed = r .1; number = sym (ap (λ (x : Line). x .number) (r .2)) ∙ e })
 
   -- The block of a section.
-  block-of : (s : Song) → WrittenSong (blocksOf bs) s → (x : Section) → List·Memᴰ x (s .sections) → (b : Block) × List·Memᴰ b (blocksOf bs) × WrittenSection b x
+  pub block-of : (s : Song) → WrittenSong (blocksOf bs) s → (x : Section) → List·Memᴰ x (s .sections)
+      → (b : Block) × List·Memᴰ b (blocksOf bs) × WrittenSection b x
   block-of s w x m =
       let r = each-right (w .sections) m in
       (r .0, rw (w .written) (Memᴰ·append-right (w .metadata) (Memᴰ·append-right (w .definitionBlocks) (r .1))), r .2 .section)

@@ -4,3 +4,8 @@ pub mod TokenLaws
 pub mod LineLaws
 pub mod FindLaws
 pub mod StartLaws
+pub mod StrayLaws
+pub mod MarkLaws
+pub mod AgainLaws
+pub mod BlockLaws
+pub mod TextLaws

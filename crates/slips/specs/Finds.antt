@@ -1,4 +1,4 @@
--- What is found on the line that a verdict names: refusals 16 and 17.
+-- What is found for the line that a verdict names: refusals 13, 16 and 17.
 use Prim.Native.Nat.{ℕ, _<_, _≤_}
 use mathlib.Core.Path.{_≡_}
 use mathlib.Core.List.{List, List·Memᴰ}
@@ -6,6 +6,7 @@ use lib.ListN.{getD}
 use Rattle.text.specs.declared.lines.Line.{Line}
 use Rattle.text.specs.Spans.{spans}
 use Rattle.slips.specs.declared.slip.Slip.{Slip}
+use Rattle.slips.specs.MeterTold.{MeterTold}
 
 -- The line of a text that has this number, with its places.
 pub record LineOf (s : List ℕ) (n : ℕ) (l : Line) : Type 0 where
@@ -38,5 +39,6 @@ pub record BareOn (s : List ℕ) (l : Line) (clause from to : ℕ) : Type 0 wher
 
 -- What is promised of a slip, by its refusal, if the text has a line of that number.
 pub record Finds (s : List ℕ) (refusal line : ℕ) (x : Slip) : Type 0 where
+  pub stray : refusal ≡ 13 → (l : Line) → LineOf s line l → MeterTold s line l (x .clause) (x .from) (x .to)
   pub uncounted : refusal ≡ 16 → (l : Line) → LineOf s line l → BareOn s l (x .clause) (x .from) (x .to)
   pub summed : refusal ≡ 17 → (l : Line) → LineOf s line l → (x .clause ≡ 1) × NameOn s l (x .from) (x .to)

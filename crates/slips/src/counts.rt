@@ -3,13 +3,12 @@ use super::blocks::name_stop;
 use super::meters::parts_at;
 use super::meters::time_of;
 use super::rows::left_of;
-use super::scans::LAYING;
-use super::scans::named_number;
-use super::scans::scan_for;
+use super::scans::scan_in;
 use super::scans::scan_pattern;
 use super::scans::scan_plain_line;
 use super::signs::capped;
 use super::signs::minus;
+use super::signs::named_number;
 use super::slip::Slip;
 use super::slip::at_place;
 use super::slip::beside;
@@ -252,7 +251,7 @@ fn side_measures(s: &[u8], time: usize, side: Said, row: &mut [u8]) -> usize
     if s.len() < side.stop {
         return 0;
     }
-    let x = scan_plain_line(s, scan_for(LAYING, time), side.start, side.stop, row);
+    let x = scan_plain_line(s, scan_in(time), side.start, side.stop, row);
     x.fill
 }
 
@@ -263,7 +262,7 @@ fn measures_played(s: &[u8], v: Survey, parts: Parts, time: usize, m: Modifiers)
     let mut row = [0u8; 65536];
     let lead = side_measures(s, time, m.before, &mut row);
     let tail = side_measures(s, time, m.after, &mut row);
-    let x = scan_pattern(s, v, scan_for(LAYING, time), parts.pattern, &mut row);
+    let x = scan_pattern(s, v, scan_in(time), parts.pattern, &mut row);
     let front = m.front;
     let back = m.back;
     let own = left_of(&row, x.fill, m.repeat, front, back);

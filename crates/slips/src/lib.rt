@@ -7,6 +7,7 @@ mod keys;
 mod meters;
 mod patterns;
 mod places;
+mod readings;
 mod references;
 mod rows;
 mod scans;

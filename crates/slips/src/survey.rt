@@ -12,6 +12,7 @@ use text::line_at;
 use tokens::Number;
 ghost use Prim.Native.Nat.{_+_, _≤_, _<_};
 ghost use lib.ListN.{length};
+ghost use Rattle.slips.specs.BlocksMet.{Behind, BlockOf};
 
 // At most so many definitions are kept.
 const KEPT: usize = 26;
@@ -109,11 +110,30 @@ fn nothing() -> Survey {
 // Behind the block that begins at a place: the next one, or the end of the text.
 pub fn block_behind(s: &[u8], p: Place) -> Place
     requires { ⌜ (1 ≤ p .number) × (p .number ≤ p .at + 1) × (p .at < length (now s)) ⌝ }
-    ensures { λ r. ⌜ (1 ≤ r .number) × (r .number ≤ r .at + 1) × (p .at < r .at) × (r .at ≤ length (now (s .entry))) ⌝ }
+    ensures { λ r. ⌜ (1 ≤ r .number) × (r .number ≤ r .at + 1) × (p .at < r .at) × (r .at ≤ length (now (s .entry)))
+        × Behind (now (s .entry)) p r ⌝ }
 {
     let first = line_at(s, p.number, p.at);
     let rest = run_of(s, Test::Full, p.number + 1, first.next);
     next_block(s, rest.number + rest.lines, rest.next)
+}
+
+// The block that holds the line of this number: the last one that begins on this line or before it.
+pub fn block_of(s: &[u8], wanted: usize) -> Place
+    ensures { λ r. ⌜ BlockOf (now (s .entry)) wanted r ⌝ }
+{
+    let mut p = next_block(s, 1, 0);
+    while p.at < s.len() {
+        let q = block_behind(s, p);
+        if s.len() <= q.at {
+            return p;
+        }
+        if wanted < q.number {
+            return p;
+        }
+        p = q;
+    }
+    p
 }
 
 pub fn survey_of(s: &[u8]) -> Survey {
@@ -158,7 +178,9 @@ pub fn no_run() -> Run
 }
 
 // The pattern lines of a definition.
-pub fn lines_of(s: &[u8], v: Survey, i: usize) -> Run {
+pub fn lines_of(s: &[u8], v: Survey, i: usize) -> Run
+    ensures { λ r. ⌜ (r .number ≤ r .at + 1) × (r .at ≤ length (now (s .entry))) ⌝ }
+{
     if KEPT <= i {
         return no_run();
     }

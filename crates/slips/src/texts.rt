@@ -37,7 +37,7 @@ fn byte_slip(s: &[u8]) -> Slip {
     counted(at_place(clause, at, at + 1), wide(s[at]), 0, 0)
 }
 
-// The slip of every refusal but 16 and 17.
+// The slip of every refusal but 12, 13, 16 and 17.
 fn slip_on(s: &[u8], p: Spot, refusal: usize) -> Slip
     requires { ⌜ (p .line .start ≤ p .line .stop) × (p .line .stop ≤ length (now s)) × (length (now s) ≤ 65536) ⌝ }
     requires { ⌜ (p .line .number ≤ p .line .start + 1) × (1 ≤ p .line .number) ⌝ }
@@ -54,8 +54,6 @@ fn slip_on(s: &[u8], p: Spot, refusal: usize) -> Slip
         8 => line_slip(s, p),
         10 => reference_slip(s, p, refusal),
         11 => reference_slip(s, p, refusal),
-        12 => meter_slip(s, p, refusal),
-        13 => meter_slip(s, p, refusal),
         14 => header_name(1, s, l),
         15 => cut_slip(s, p),
         _ => at_place(1, 0, 0),
@@ -73,6 +71,12 @@ pub fn find_slip(s: &[u8], refusal: usize, line: usize) -> Slip
     }
     if refusal == 17 {
         return sum_slip(s, p);
+    }
+    if refusal == 12 {
+        return meter_slip(s, p.line, line, refusal);
+    }
+    if refusal == 13 {
+        return meter_slip(s, p.line, line, refusal);
     }
     slip_on(s, p, refusal)
 }

@@ -1,4 +1,5 @@
 use native.Mathlib.Omega.{arith}
+use Rattle.slips.proofs.BlockLaws.{pattern-lines}
 use borrow.Author.Needs.{needs}
 use Rattle.slips.proofs.meters.parts_at.Statement.{statement}
 use Rattle.slips.proofs.meters.parts_at.Tie as tie
@@ -22,7 +23,16 @@ returns c =
     let n = f .next in
     let o = f .over in
     let w = f .onward in
-    search needs
+    let one = h .0 in
+    let fits = h .1 in
+    let within = h .2 in
+    let a = c .before .before .before .before .before .before .before .before .before .before .args in (
+      search needs,
+      (
+        (omega arith, omega arith, pattern-lines (a .s .now) (a .p .number) (a .p .at) within one fits f _ _ (e .5) (p .5)),
+        (search needs, search needs),
+      ),
+    )
 
 pub parts-at-spec : {M : Type 1} → statement M
 parts-at-spec =

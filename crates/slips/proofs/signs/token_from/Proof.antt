@@ -1,6 +1,6 @@
 use lib.ListN.{length-take, length-drop}
 use native.Mathlib.Omega.{arith}
-use Rattle.slips.proofs.TokenLaws.{token-ends}
+use Rattle.slips.proofs.TokenLaws.{token-ends, token-there, token-none}
 use borrow.Author.Needs.{needs}
 use Rattle.slips.proofs.signs.token_from.Statement.{statement}
 use Rattle.slips.proofs.signs.token_from.Tie as tie
@@ -38,10 +38,20 @@ returns c =
     let b = e .1 in
     let f = c .front-blanks .ensures .1 in
     let g = simp (length-take, length-drop) at f in
-    (omega arith, omega arith, omega arith)
+    let h = c .before .before .before .before .before .next-token .ensures in (
+      omega arith,
+      omega arith,
+      omega arith,
+      token-there (q .args .s .now) (q .args .at) (q .args .to) h (c .before .before .before .word .given .1) (c .front-blanks .ensures .0),
+    )
+
+returns-2 : tie.Need-returns-2
+returns-2 c =
+    let a = c .before .before .before .before .args in
+    (omega arith, omega arith, omega arith, token-none (a .s .now) (a .at) (a .to) (c .before .before .next-token .ensures) (c .enum-told .given .1))
 
 pub token-from-spec : {M : Type 1} → statement M
 token-from-spec =
     tie.close
     (tie.spec (λ c κs. search needs) (λ c. search needs) sub-front-blanks part-front-blanks-start part-front-blanks-end
-    (λ c κs. search needs) (λ c. search needs) (λ c. search needs) returns (λ c. search needs))
+    (λ c κs. search needs) (λ c. search needs) (λ c. search needs) returns returns-2)

@@ -1,6 +1,8 @@
+-- Each refusal has its own finder, of the line that the verdict names.
 use mathlib.Core.Path.{subst}
 use native.Mathlib.Omega.{arith}
 use Rattle.slips.specs.Finds.{NameOn, BareOn}
+use Rattle.slips.specs.MeterTold.{MeterTold}
 use borrow.Author.Needs.{needs}
 use Rattle.slips.proofs.texts.find_slip.Statement.{statement}
 use Rattle.slips.proofs.texts.find_slip.Tie as tie
@@ -12,6 +14,7 @@ returns c =
     let x = c .count-slip .result in
     let k = c .before .if1 .taken in
     record {
+      stray = λ e. let z : ⊥ = omega arith in absurd z;
       uncounted = λ e l h. subst (λ y. BareOn s y (x .clause) (x .from) (x .to)) (q .spot-of .ensures .1 .1 l h) (c .count-slip .ensures);
       summed = λ e. let z : ⊥ = omega arith in absurd z;
     }
@@ -23,18 +26,42 @@ returns-2 c =
     let x = c .sum-slip .result in
     let k = c .before .if2 .taken in
     record {
+      stray = λ e. let z : ⊥ = omega arith in absurd z;
       uncounted = λ e. let z : ⊥ = omega arith in absurd z;
       summed = λ e l h. (c .sum-slip .ensures .0, subst (λ y. NameOn s y (x .from) (x .to)) (q .spot-of .ensures .1 .1 l h) (c .sum-slip .ensures .1));
     }
 
 returns-3 : tie.Need-returns-3
 returns-3 c =
+    let k = c .before .if3 .taken in
     record {
-      uncounted = λ e. absurd (c .before .before .if1 .left e);
-      summed = λ e. absurd (c .before .if2 .left e);
+      stray = λ e. let z : ⊥ = omega arith in absurd z;
+      uncounted = λ e. let z : ⊥ = omega arith in absurd z;
+      summed = λ e. let z : ⊥ = omega arith in absurd z;
+    }
+
+returns-4 : tie.Need-returns-4
+returns-4 c =
+    let q = c .before .before .before .before .before in
+    let a = q .before .before .args in
+    let x = c .meter-slip2 .result in
+    let k = c .before .if4 .taken in
+    record {
+      stray = λ e l h. subst (λ y. MeterTold (a .s .now) (a .line) y (x .clause) (x .from) (x .to)) (q .spot-of .ensures .1 .1 l h) (c .meter-slip2 .ensures e);
+      uncounted = λ e. let z : ⊥ = omega arith in absurd z;
+      summed = λ e. let z : ⊥ = omega arith in absurd z;
+    }
+
+returns-5 : tie.Need-returns-5
+returns-5 c =
+    record {
+      stray = λ e. absurd (c .before .if4 .left e);
+      uncounted = λ e. absurd (c .before .before .before .before .if1 .left e);
+      summed = λ e. absurd (c .before .before .before .if2 .left e);
     }
 
 pub find-slip-spec : {M : Type 1} → statement M
 find-slip-spec =
     tie.close
-    (tie.spec (λ c κs. search needs) (λ c κs. search needs) returns (λ c κs. search needs) returns-2 (λ c κs. search needs) returns-3)
+    (tie.spec (λ c κs. search needs) (λ c κs. search needs) returns (λ c κs. search needs) returns-2 (λ c κs. search needs) returns-3
+    (λ c κs. search needs) returns-4 (λ c κs. search needs) returns-5)

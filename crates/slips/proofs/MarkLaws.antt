@@ -1,0 +1,107 @@
+-- A text read token by token, and line by line.
+use Prim.Native.Nat.{ℕ, zero, suc, _+_, _-_, _/_, _<_, _≤_}
+use mathlib.Core.Path.{_≡_, refl, sym, ap, _∙_, subst}
+use mathlib.Core.List.{List, [], _∷_, _++_, append-assoc}
+use native.Mathlib.Omega.{arith}
+use lib.ListN.{length, take}
+use Rattle.songcode.specs.answer.Tokens.{Token, lineEnd}
+use Rattle.text.specs.declared.lines.Line.{Line}
+use Rattle.text.specs.Spans.{Found}
+use Rattle.text.proofs.WalkLaws.{spans-found, spans-over}
+use Rattle.tokens.specs.Fitting.{Fit, AllFit, kind}
+use Rattle.tokens.specs.Lexing.{tokensFrom}
+use Rattle.tokens.proofs.KindLaws.{word-kind}
+use Rattle.grammar.proofs.LineLaws.{part-fits}
+use Rattle.slips.specs.declared.readings.Stray.{Stray}
+use Rattle.slips.specs.declared.readings.Reading.{Reading}
+use Rattle.slips.specs.declared.signs.Token as slips
+use Rattle.slips.specs.Marks.{Mark, Marked, endMark, MarkedLines}
+use Rattle.slips.specs.Tokens.{TokenAt}
+use Rattle.slips.specs.Strays.{heard, hearingSign}
+use Rattle.slips.specs.Readings.{Follows}
+use Rattle.slips.proofs.LineLaws.{From}
+use Rattle.slips.proofs.StrayLaws.{hearing-sign, sign-within, heard-behind}
+
+pub follows-none : (x : Reading) → Follows x [] x
+unfolding heard
+follows-none x = record { stray = refl; within = λ h. h; known = refl }
+
+pub follows-both : {x y z : Reading} {ms ns : List Mark} → Follows x ms y → Follows y ns z → Follows x (ms ++ ns) z
+follows-both {x} {y} {z} {ms} {ns} f g =
+    record {
+      stray = g .stray ∙ ap (λ (v : Stray). heard v ns) (f .stray) ∙ sym (heard-behind (x .stray) ms ns);
+      within = λ h. g .within (f .within h);
+      known = g .known ∙ f .known;
+    }
+
+-- What is promised of one more token, by its sign.
+abbrev pub Taken : Reading → ℕ → ℕ → Reading → Type 0
+Taken x sign from r = (r .stray ≡ hearingSign (x .stray) sign from) × (r .known ≡ x .known)
+
+follows-one : {x r : Reading} (t : Token) (from to : ℕ) → from ≤ 65536 → Fit t → Taken x (kind t) from r
+    → Follows x (record { token = t; from = from; to = to } ∷ []) r
+unfolding heard
+follows-one {x} t from to a f h =
+    record {
+      stray = h .0 ∙ hearing-sign (x .stray) t from f;
+      within = λ b. rw (h .0) (sign-within (x .stray) (kind t) from a b);
+      known = h .1;
+    }
+
+pub follows-end : {x r : Reading} (to : ℕ) → to ≤ 65536 → Taken x 58 to r → Follows x (endMark to ∷ []) r
+unfolding kind Fit
+follows-end to a h = follows-one lineEnd to to a tt h
+
+-- The token that was found, and those behind it.
+module _ (s : List ℕ) (at to : ℕ) (p : at ≤ to) (q : to ≤ length s) (u : to ≤ 65536) (t : slips.Token)
+    (h : TokenAt s at to t) (a : at < t .next) (b : t .next ≤ to) where
+  abbrev pub mark : Mark
+  mark = record { token = h .some a .0; from = t .from; to = t .next }
+
+  fits : Fit (h .some a .0)
+  unfolding AllFit
+  fits = subst AllFit (h .some a .2) (part-fits s at to p q u) .0
+
+  pub follows-token : {x r : Reading} {sign : ℕ} → sign ≡ t .word / 67108864 → Taken x sign (t .from) r → Follows x (mark ∷ []) r
+  follows-token {x} {r} e k =
+      let i : t .word / 67108864 ≡ kind (h .some a .0) = ap (λ (w : ℕ). w / 67108864) (h .some a .1) ∙ word-kind (h .some a .0) fits in
+      let j = h .some a .4 in
+      follows-one (h .some a .0) (t .from) (t .next) (omega arith) fits (subst (λ (n : ℕ). Taken x n (t .from) r) (e ∙ i) k)
+
+  pub marked-more : (ms : List Mark) → Marked s (t .next) to ms → Marked s at to (mark ∷ ms)
+  unfolding Marked
+  marked-more ms m = (h .some a .3, h .some a .4, b, h .some a .2, m)
+
+pub marked-none : (s : List ℕ) (at to : ℕ) → tokensFrom at to s ≡ [] → Marked s at to []
+unfolding Marked
+marked-none s at to h = h
+
+-- No line is left.
+pub lines-none : (s : List ℕ) (n at left : ℕ) → left ≡ 0 → MarkedLines s (take left (From s n at)) []
+unfolding MarkedLines
+lines-none s n at left h = subst (λ (k : ℕ). MarkedLines s (take k (From s n at)) []) (sym h) refl
+
+pub lines-past : (s : List ℕ) (n at left : ℕ) → length s ≤ at → MarkedLines s (take left (From s n at)) []
+unfolding MarkedLines
+lines-past s n at left h = subst (λ (ls : List Line). MarkedLines s ls []) (sym (ap (take left) (spans-over s n at h) ∙ take-nothing left)) refl
+  where
+    take-nothing : (k : ℕ) → _≡_ {A = List Line} (take k []) []
+    take-nothing zero = refl
+    take-nothing (suc k) = refl
+
+-- One more line.
+pub lines-more : (s : List ℕ) (n at left : ℕ) {l : Line} → Found s n at l → at < length s → (left ≡ 0 → ⊥) → (here rest : List Mark)
+    → Marked s (l .start) (l .stop) here → MarkedLines s (take (left - 1) (From s (n + 1) (l .next))) rest
+    → MarkedLines s (take left (From s n at)) (here ++ (endMark (l .stop) ∷ rest))
+unfolding MarkedLines
+lines-more s n at left {l} f h z here rest m r =
+    let e : left ≡ suc (left - 1) = omega arith in
+    let o = f .over in
+    let p = f .next in
+    let all : take left (From s n at) ≡ l ∷ take (left - 1) (From s (n + 1) (l .next)) =
+    ap (take left) (spans-found f h) ∙ ap (λ (k : ℕ). take k (l ∷ From s (n + 1) (l .next))) e in
+    subst (λ (ls : List Line). MarkedLines s ls (here ++ (endMark (l .stop) ∷ rest))) (sym all) (here, rest, omega arith, m, r, refl)
+
+-- Some marks, others and one between, behind marks that were read before.
+pub regroup : (done here ms : List Mark) (m : Mark) → (done ++ (here ++ (m ∷ []))) ++ ms ≡ done ++ (here ++ (m ∷ ms))
+regroup done here ms m = append-assoc done (here ++ (m ∷ [])) ms ∙ ap (λ (ns : List Mark). done ++ ns) (append-assoc here (m ∷ []) ms)
