@@ -1,4 +1,5 @@
 -- "moved by a signed number of semitones from -11 to 20": a root moved, and the sharp name of what it comes to.
+use mathlib.Core.Option.{Option·getD}
 use Prim.Native.Nat.{ℕ, suc, _+_, _*_, _%_}
 use Prim.Native.String.{String}
 use mathlib.Core.List.{List, [], _∷_, _++_}
@@ -6,7 +7,7 @@ use mathlib.Core.Bool.{Bool, _&&_}
 use lib.IntN.{ℤ, pos, negsuc}
 use lib.Signed.{leZ}
 use lib.ListN.{getD}
-use Rattle.songcode.specs.Lists.{if_then_else_, orElse}
+use Rattle.songcode.specs.Lists.{if_then_else_}
 use Rattle.songcode.specs.Bytes.{ascii}
 use Rattle.songcode.specs.answer.Chords.{spellings, spellingOf, numberOf, rootOf, isMinor}
 
@@ -33,8 +34,8 @@ unfolding if_then_else_ spellings sharps ascii
 sharpName root minor = getD (spellings sharps) root [] ++ (if minor then ascii "m" else [])
 
 unfoldable pub sharpBase : ℕ → Bool → ℕ
-unfolding orElse numberOf sharpName
-sharpBase root minor = orElse (numberOf (sharpName root minor)) 0
+unfolding numberOf sharpName
+sharpBase root minor = Option·getD (numberOf (sharpName root minor)) 0
 
 -- The base that a base comes to.
 unfoldable pub movedBase : ℤ → ℕ → ℕ

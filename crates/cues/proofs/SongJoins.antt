@@ -1,13 +1,13 @@
 -- The tables of a song that is read join up: what its words are made of fits their fields, and every measure has 1 to 32 beats.
 use Prim.Native.Nat.{ℕ, _+_, _<_, _≤_}
 use mathlib.Core.Path.{_≡_, refl}
-use mathlib.Core.List.{List, [], _∷_, _++_}
+use mathlib.Core.List.{List, [], _∷_, _++_, flatMap}
 use mathlib.Core.Bool.{true}
-use mathlib.Core.Option.{Option, none, some}
+use mathlib.Core.Option.{Option, none, some, Option·getD}
 use native.Mathlib.Omega.{arith}
 use lib.ListN.{length, length-append}
 use borrow.Author.Tests.{eq-eqb, le-leb}
-use Rattle.songcode.specs.Lists.{orElse, every, gather}
+use Rattle.songcode.specs.Lists.{every}
 use Rattle.songcode.specs.Song.{bpm, Key, Section, Song}
 use Rattle.songcode.specs.answer.Playing.{Beat}
 use Rattle.songcode.specs.answer.Tables.{Tables}
@@ -27,14 +27,14 @@ use Rattle.songcode.proofs.CopyHeaders.{meter-most, allLength, measures-few}
 
 -- "bpm (section's, else song's, else 511)": 9 bits hold it.
 tempo-fits : (s : Song) (x : Section) (p : Parts) → PlaysSection s x p → p .tempo < 512
-unfolding orElse Says
+unfolding Says
 tempo-fits s x p h =
     let i = h .tempo in
     let song = said (i .songs) (s .keys) 511 (i .songSays) (omega arith) in
-    let own = said (i .own) (x .keys) (orElse (i .songs) 511) (i .ownSays) song in
+    let own = said (i .own) (x .keys) (Option·getD (i .songs) 511) (i .ownSays) song in
     rw (i .chosen) own
   where
-    said : (o : Option ℕ) (ks : List Key) (default : ℕ) → Says bpm (Number 0 400) ks o → default < 512 → orElse o default < 512
+    said : (o : Option ℕ) (ks : List Key) (default : ℕ) → Says bpm (Number 0 400) ks o → default < 512 → Option·getD o default < 512
     said none ks default a d = d
     said (some n) ks default a d = let most = a .2 .atMost in omega arith
 
@@ -78,20 +78,20 @@ within-behind n [] b l v w = w
 within-behind n (m ∷ a) b l v w = let z = v .1 in (v .0, omega arith, within-behind n a b l (v .2) w)
 
 all-within : (s : Song) {xs : List Section} {ps : List Parts} → Each (PlaysSection s) xs ps → Ready ps
-    → Within 32 (gather joined ps) × (length (gather joined ps) ≡ allLength ps)
-unfolding Within Ready gather allLength
+    → Within 32 (flatMap joined ps) × (length (flatMap joined ps) ≡ allLength ps)
+unfolding Within Ready flatMap allLength
 all-within s none-each r = (tt, refl)
 all-within s (and-each {x} {y = p} {ys = ps} h hs) r =
     let g = all-within s hs (r .1) in
     let k = g .1 in
-    let l = length-append (joined p) (gather joined ps) in
-    (within-behind (p .meter) (joined p) (gather joined ps) (meter-most s x p h) (r .0 .0) (g .0), omega arith)
+    let l = length-append (joined p) (flatMap joined ps) in
+    (within-behind (p .meter) (joined p) (flatMap joined ps) (meter-most s x p h) (r .0 .0) (g .0), omega arith)
 
-words-join : (s : Song) (ps : List Parts) → Fits s ps → Ready ps → joinUp (partsWords 0 (s .sections) ps) (rowWords 0 (gather joined ps)) ≡ true
+words-join : (s : Song) (ps : List Parts) → Fits s ps → Ready ps → joinUp (partsWords 0 (s .sections) ps) (rowWords 0 (flatMap joined ps)) ≡ true
 unfolding joinUp measuresJoin
 words-join s ps f r =
     let w = all-within s (f .plays) r in
-    let m = measures-follow 0 (gather joined ps) (w .0) in
+    let m = measures-follow 0 (flatMap joined ps) (w .0) in
     rw (m .2, w .1, sections-cover s 0 (allLength ps) (f .plays) (omega arith) (measures-few f), m .0, m .1)
 
 pub song-joins : (room : Room) (bs : List ℕ) (t : Tables) → answer room bs ≡ accepted t → joinUp (t .sections) (t .measures) ≡ true

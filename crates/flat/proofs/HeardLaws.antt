@@ -1,13 +1,13 @@
 -- The words of what a section plays give its letters: each chord stands in the file at its word's offset.
 use Prim.Native.Nat.{ℕ, _+_, _*_, _^_, _<_, _≤_}
 use mathlib.Core.Path.{_≡_, refl, sym, ap, _∙_}
-use mathlib.Core.List.{List, [], _∷_, map, append-nil, head-eq-of-cons-eq, tail-eq-of-cons-eq}
+use mathlib.Core.List.{List, [], _∷_, map, append-nil, head-eq-of-cons-eq, tail-eq-of-cons-eq, flatMap}
 use mathlib.Core.Bool.{Bool, true, false}
 use mathlib.Core.Option.{Option, none, some}
 use native.Mathlib.Omega.{arith}
 use borrow.Author.Tests.{le-ltb}
 use lib.ListN.{length, length-map}
-use Rattle.songcode.specs.Lists.{if_then_else_, gather}
+use Rattle.songcode.specs.Lists.{if_then_else_}
 use Rattle.songcode.specs.Bytes.{ascii, placed}
 use Rattle.songcode.specs.answer.Chords.{Chord, bases, spellingOf}
 use Rattle.songcode.specs.answer.Tables.{offset, headBit, beatBy, beatWord}
@@ -77,12 +77,12 @@ module _ (s : List ℕ) (n : ℕ) where
       rw (e, l)
 
   lines-heard : (row : List (List Beat)) → map (map (lettersAt s)) (map (map beatWord) row) ≡ map (map lettersOf) row
-      → measureLines s n (map (map beatWord) row) ≡ gather endLine (map (flatMeasure n) row)
-  unfolding measureLines gather
+      → measureLines s n (map (map beatWord) row) ≡ flatMap endLine (map (flatMeasure n) row)
+  unfolding measureLines flatMap
   lines-heard [] e = refl
   lines-heard (m ∷ row) e = rw (measure-heard (map beatWord m) m (head-eq-of-cons-eq e), lines-heard row (tail-eq-of-cons-eq e))
 
-  pub pattern-heard : (row : List (List Beat)) → Heard s row → patternLines s n (rowWords row) ≡ gather endLine (flatPattern n row)
-  unfolding Heard rowWords patternLines flatPattern gather
+  pub pattern-heard : (row : List (List Beat)) → Heard s row → patternLines s n (rowWords row) ≡ flatMap endLine (flatPattern n row)
+  unfolding Heard rowWords patternLines flatPattern flatMap
   pattern-heard [] e = sym (append-nil (endLine (ascii "$1")))
   pattern-heard (m ∷ row) e = lines-heard (m ∷ row) e

@@ -2,12 +2,12 @@
 use Prim.Native.Nat.{ℕ, zero, suc, _+_, _-_, _<_, _≤_}
 use Prim.Native.Char.{code}
 use mathlib.Core.Path.{_≡_, refl, sym, ap, _∙_}
-use mathlib.Core.List.{List, [], _∷_}
+use mathlib.Core.List.{List, [], _∷_, flatMap}
 use mathlib.Core.Bool.{Bool, true, false, not}
 use native.Mathlib.Omega.{arith}
 use lib.ListN.{length, take}
 use borrow.Author.Tests.{eqb-true}
-use Rattle.songcode.specs.Lists.{if_then_else_, isEmpty, gather, taken, left}
+use Rattle.songcode.specs.Lists.{if_then_else_, isEmpty, taken, left}
 use Rattle.songcode.specs.Bytes.{Byte, placed, values, ascii, same, is, isByte}
 use Rattle.songcode.specs.answer.Lines as songcode
 use Rattle.songcode.specs.answer.Sections.{Kind, keyLine, modifierLine, patternLine, kindOf, kindOfLine, notDashes, body, fromDashes}
@@ -35,7 +35,7 @@ use Rattle.flat.proofs.SheetLaws.{puts-append}
 -- A line and those behind it.
 pub line-first : (s : List ℕ) (l : Line) (ls : List songcode.Line) (x : Sheet)
     → puts (lineBytes (lineText s l ∷ ls)) x ≡ puts (lineBytes ls) (puts (endLine (part (l .start) (l .stop) s)) x)
-unfolding lineBytes gather textOf
+unfolding lineBytes flatMap textOf
 line-first s l ls x =
     puts-append (endLine (values (placed (l .start) (part (l .start) (l .stop) s)))) (lineBytes ls) x
     ∙ ap (λ (t : List ℕ). puts (lineBytes ls) (puts (endLine t) x)) (values-placed (l .start) (part (l .start) (l .stop) s))
@@ -43,11 +43,11 @@ line-first s l ls x =
 -- So many lines from a place on.
 module _ (s : List ℕ) (n at left : ℕ) (x : Sheet) where
   pub lines-none : left ≡ 0 → puts (lineBytes (take left (textLines s n at))) x ≡ x
-  unfolding lineBytes gather puts
+  unfolding lineBytes flatMap puts
   lines-none e = rw e
 
   pub none-over : length s ≤ at → puts (lineBytes (take left (textLines s n at))) x ≡ x
-  unfolding lineBytes gather puts
+  unfolding lineBytes flatMap puts
   none-over h = rw (lines-over s n at h) (nil left)
     where
       nil : (k : ℕ) → puts (lineBytes (take k [])) x ≡ x
@@ -148,7 +148,7 @@ no-key = ((λ (z : Modifier ≡ Key). zero-is-not-one cc), (λ (z : Pattern ≡ 
 -- The key lines from a line on.
 module _ (s : List ℕ) (n at : ℕ) (x : Sheet) where
   pub keys-over : length s ≤ at → puts (lineBytes (taken isKeyLine (textLines s n at))) x ≡ x
-  unfolding lineBytes gather puts taken
+  unfolding lineBytes flatMap puts taken
   keys-over h = rw (lines-over s n at h)
 
   module _ {l : Line} (f : Found s n at l) (h : at < length s) where
@@ -170,7 +170,7 @@ module _ (s : List ℕ) (n at : ℕ) (x : Sheet) where
 
     pub keys-end : (k : settings.Kind) → (k ≡ Key → ⊥) → k ≡ kindIs (kindOf (placed 0 (part (l .start) (l .stop) s)))
         → puts (lineBytes (taken isKeyLine (textLines s n at))) x ≡ x
-    unfolding taken if_then_else_ lineBytes gather puts
+    unfolding taken if_then_else_ lineBytes flatMap puts
     keys-end k m e =
         let z : isKeyLine (lineText s l) ≡ false = not-key (lineText s l) k m (kind-here e) in
         rw (lines-found f h) (rw z)

@@ -1,7 +1,7 @@
 -- Laws of a measure's line, step by step, and of the fields of words.
 use Prim.Native.Nat.{ℕ, zero, suc, _+_, _-_, _<_, _≤_, min}
 use mathlib.Core.Path.{_≡_, refl, sym, ap, _∙_}
-use mathlib.Core.List.{List, [], _∷_, _++_, map, append-assoc}
+use mathlib.Core.List.{List, [], _∷_, _++_, map, append-assoc, flatMap}
 use mathlib.Core.Bool.{true}
 use native.Mathlib.Numerals.{add-one}
 use native.Mathlib.Omega.{arith}
@@ -9,7 +9,7 @@ use borrow.Author.Tests.{lt-ltb, le-ltb, ne-eqb, leb-true, leb-false}
 use lib.Dec.{leb}
 use lib.ListN.{length, take, drop, getD, replicate, length-map, length-drop, drop-of-length-le, List·getD-eq-default}
 use lib.Seq.{drop-cons, drop-length, take-all}
-use Rattle.songcode.specs.Lists.{if_then_else_, every, gather}
+use Rattle.songcode.specs.Lists.{if_then_else_, every}
 use Rattle.songcode.specs.Bytes.{ascii}
 use Rattle.songcode.specs.answer.Chords.{bases, spellingOf}
 use Rattle.songcode.specs.answer.Tables.{measureWord}
@@ -205,7 +205,7 @@ pub measure-next : (s : List ℕ) (n : ℕ) (bs ms : List ℕ) (i k : ℕ) (m : 
     → y ≡ puts (endLine (measureLine s n (part first end bs))) x
     → puts (measureLines s n (map (beatsIn bs) (take (k - i) (drop i ms)))) x ≡ goal
     → puts (measureLines s n (map (beatsIn bs) (take (k - (i + 1)) (drop (i + 1) ms)))) y ≡ goal
-unfolding measureLines gather
+unfolding measureLines flatMap
 measure-next s n bs ms i k m first end x y goal h f held p q d g =
     let a : k - i ≡ suc (k - (i + 1)) = omega arith in
     let c : drop i ms ≡ getD ms i 0 ∷ drop (i + 1) ms = rw (add-one i) (drop-cons ms i 0 (omega arith)) in
@@ -214,5 +214,5 @@ measure-next s n bs ms i k m first end x y goal h f held p q d g =
 
 pub measure-over : (s : List ℕ) (n : ℕ) (bs ms : List ℕ) (i k : ℕ) (x goal : Sheet) → k ≤ i
     → puts (measureLines s n (map (beatsIn bs) (take (k - i) (drop i ms)))) x ≡ goal → x ≡ goal
-unfolding measureLines gather puts
+unfolding measureLines flatMap puts
 measure-over s n bs ms i k x goal h g = let a : k - i ≡ 0 = omega arith in rw a at g

@@ -1,11 +1,10 @@
 -- The lines of metadata, block by block.
 use Prim.Native.Nat.{ℕ, zero, suc, _+_, _<_, _≤_}
 use mathlib.Core.Path.{_≡_, sym, ap, _∙_}
-use mathlib.Core.List.{List, [], _∷_, _++_, map, map-append}
+use mathlib.Core.List.{List, [], _∷_, _++_, map, map-append, flatMap}
 use mathlib.Core.Bool.{true}
 use native.Mathlib.Omega.{arith}
 use lib.ListN.{length, take}
-use Rattle.songcode.specs.Lists.{gather}
 use Rattle.songcode.specs.Complaints.{complainIf}
 use Rattle.songcode.specs.answer.Lines.{Line, Block, blocks}
 use Rattle.songcode.specs.answer.SongText.{metadata, section, blockKind, turn, blockOrder, linesIf, metadataLines, textFaults}
@@ -53,7 +52,7 @@ said-start s p n = ap (λ (bs : List Block). lineBytes (metadataLines bs)) (sym 
 
 lines-append : (a b : List Line) → lineBytes (a ++ b) ≡ lineBytes a ++ lineBytes b
 unfolding lineBytes
-lines-append a b = ap (gather endLine) (map-append textOf a b) ∙ gather-append endLine (map textOf a) (map textOf b)
+lines-append a b = ap (flatMap endLine) (map-append textOf a b) ∙ gather-append endLine (map textOf a) (map textOf b)
 
 module _ (s : List ℕ) (p : Place) (c : Begun s p) (inside : p .at < length s) where
   abbrev block : Block
@@ -99,7 +98,7 @@ module _ (s : List ℕ) (p : Place) (c : Begun s p) (inside : p .at < length s) 
         omega arith
 
     split : metadataLines (blocks (textLines s (p .number) (p .at))) ≡ linesOf s r ++ metadataLines (blocks (textLines s (q .number) (q .at)))
-    unfolding metadataLines gather linesIf
+    unfolding metadataLines flatMap linesIf
     split = ap metadataLines opened ∙ rw (kind, here)
 
     pub said-next : (x : Sheet) → puts (saidFrom s p) x ≡ puts (saidFrom s q) (puts (lineBytes (linesOf s r)) x)
@@ -110,7 +109,7 @@ module _ (s : List ℕ) (p : Place) (c : Begun s p) (inside : p .at < length s) 
         ∙ puts-append (lineBytes (linesOf s r)) (lineBytes rest) x
 
   behind-other : (b : Block) (bs : List Block) → (blockKind b ≡ metadata → ⊥) → blockOrder 0 (b ∷ bs) ≡ [] → metadataLines (b ∷ bs) ≡ []
-  unfolding blockOrder turn complainIf metadataLines gather linesIf
+  unfolding blockOrder turn complainIf metadataLines flatMap linesIf
   behind-other b bs n e =
       by-kind (blockKind b)
       (λ k. absurd (n k))
@@ -118,12 +117,12 @@ module _ (s : List ℕ) (p : Place) (c : Begun s p) (inside : p .at < length s) 
       (λ k. let g = rw k at e in rw k (no-metadata 1 bs g))
 
   pub said-end : (blockKind block ≡ metadata → ⊥) → (x : Sheet) → puts (saidFrom s p) x ≡ x
-  unfolding lineBytes gather puts
+  unfolding lineBytes flatMap puts
   said-end n x =
       let o = c .opens inside in
       let none-left = ap metadataLines o ∙ behind-other block (blocks (linesPast s (p .number) (p .at))) n (ap (blockOrder 0) (sym o) ∙ c .order) in
       ap (λ (ls : List Line). puts (lineBytes ls) x) none-left
 
 pub said-over : (s : List ℕ) (p : Place) (x : Sheet) → length s ≤ p .at → puts (saidFrom s p) x ≡ x
-unfolding metadataLines gather lineBytes puts
+unfolding metadataLines flatMap lineBytes puts
 said-over s p x h = ap (λ (bs : List Block). puts (lineBytes (metadataLines bs)) x) (blocks-over s (p .number) (p .at) h)

@@ -1,9 +1,9 @@
 -- The block of a section on a sheet, part by part, and the blocks of all sections, one by one.
 use Prim.Native.Nat.{ℕ, _+_, _≤_}
 use mathlib.Core.Path.{_≡_, refl, sym, ap, _∙_}
-use mathlib.Core.List.{List, _∷_, _++_, map}
+use mathlib.Core.List.{List, _∷_, _++_, map, flatMap}
 use lib.ListN.{length}
-use Rattle.songcode.specs.Lists.{gather, taken, left}
+use Rattle.songcode.specs.Lists.{taken, left}
 use Rattle.songcode.specs.answer.Lines.{Block, blocks}
 use Rattle.songcode.specs.answer.Sections.{body, fromDashes, sectionIn}
 use Rattle.songcode.specs.answer.Playing.{timeOf, played}
@@ -29,16 +29,16 @@ use Rattle.flat.proofs.HeardLaws.{pattern-heard}
 
 -- Header, keys, measures and lyrics, one behind the other.
 rows-put : (h : List ℕ) (keys row lyrics : List (List ℕ)) (at : ℕ) (x : Sheet) → puts (blockBytes at (h ∷ (keys ++ (row ++ lyrics)))) x
-    ≡ puts (gather endLine lyrics) (puts (gather endLine row) (puts (gather endLine keys) (puts (endLine h) (puts (parting at) x))))
-unfolding blockBytes gather
+    ≡ puts (flatMap endLine lyrics) (puts (flatMap endLine row) (puts (flatMap endLine keys) (puts (endLine h) (puts (parting at) x))))
+unfolding blockBytes flatMap
 rows-put h keys row lyrics at x =
-    let further : gather endLine (keys ++ (row ++ lyrics)) ≡ gather endLine keys ++ (gather endLine row ++ gather endLine lyrics) =
-    gather-append endLine keys (row ++ lyrics) ∙ ap (λ (z : List ℕ). gather endLine keys ++ z) (gather-append endLine row lyrics) in
-    puts-append (parting at) (endLine h ++ gather endLine (keys ++ (row ++ lyrics))) x
-    ∙ puts-append (endLine h) (gather endLine (keys ++ (row ++ lyrics))) (puts (parting at) x)
+    let further : flatMap endLine (keys ++ (row ++ lyrics)) ≡ flatMap endLine keys ++ (flatMap endLine row ++ flatMap endLine lyrics) =
+    gather-append endLine keys (row ++ lyrics) ∙ ap (λ (z : List ℕ). flatMap endLine keys ++ z) (gather-append endLine row lyrics) in
+    puts-append (parting at) (endLine h ++ flatMap endLine (keys ++ (row ++ lyrics))) x
+    ∙ puts-append (endLine h) (flatMap endLine (keys ++ (row ++ lyrics))) (puts (parting at) x)
     ∙ ap (λ (z : List ℕ). puts z (puts (endLine h) (puts (parting at) x))) further
-    ∙ puts-append (gather endLine keys) (gather endLine row ++ gather endLine lyrics) (puts (endLine h) (puts (parting at) x))
-    ∙ puts-append (gather endLine row) (gather endLine lyrics) (puts (gather endLine keys) (puts (endLine h) (puts (parting at) x)))
+    ∙ puts-append (flatMap endLine keys) (flatMap endLine row ++ flatMap endLine lyrics) (puts (endLine h) (puts (parting at) x))
+    ∙ puts-append (flatMap endLine row) (flatMap endLine lyrics) (puts (flatMap endLine keys) (puts (endLine h) (puts (parting at) x)))
 
 same-puts : {a b c d e f g h : List ℕ} (x : Sheet) → a ≡ e → b ≡ f → c ≡ g → d ≡ h → puts d (puts c (puts b (puts a x))) ≡ puts h (puts g (puts f (puts e x)))
 same-puts x p q r s = rw (p, q, r, s) refl
@@ -47,7 +47,7 @@ same-puts x p q r s = rw (p, q, r, s) refl
 module _ (s : List ℕ) (p : Place) {h : Line} (f : Found s (p .number) (p .at) h) (n : ℕ) (row : List (List ℕ))
     (meter : n ≡ timeOf (songOf s) (sectionAt s p)) (is : row ≡ rowWords (played (songOf s) (sectionAt s p)))
     (heard : Heard s (played (songOf s) (sectionAt s p))) where
-  pattern-put : gather endLine (flatPattern (timeOf (songOf s) (sectionAt s p)) (played (songOf s) (sectionAt s p))) ≡ patternLines s n row
+  pattern-put : flatMap endLine (flatPattern (timeOf (songOf s) (sectionAt s p)) (played (songOf s) (sectionAt s p))) ≡ patternLines s n row
   pattern-put = rw (meter, is) (sym (pattern-heard s (timeOf (songOf s) (sectionAt s p)) (played (songOf s) (sectionAt s p)) heard))
 
   pub section-put : (at : ℕ) (x : Sheet) → puts (blockBytes at (flatSection (songOf s) (blockAt s (p .number) (p .at)))) x
@@ -60,8 +60,8 @@ module _ (s : List ℕ) (p : Place) {h : Line} (f : Found s (p .number) (p .at) 
       rows-put (textOf (b .first)) (map textOf (taken isKeyLine (body b))) (flatPattern (timeOf (songOf s) (sectionIn b)) (played (songOf s) (sectionIn b)))
       (map textOf (fromDashes b)) at x
       ∙ same-puts (puts (parting at) x) (ap endLine (header-text s (p .number) (p .at) f))
-      (ap (λ ls. gather endLine (map textOf ls)) (keys-taken s (p .number) (p .at) f)) pattern-put
-      (ap (λ ls. gather endLine (map textOf ls)) (ending-taken s (p .number) (p .at) f))
+      (ap (λ ls. flatMap endLine (map textOf ls)) (keys-taken s (p .number) (p .at) f)) pattern-put
+      (ap (λ ls. flatMap endLine (map textOf ls)) (ending-taken s (p .number) (p .at) f))
 
   -- The same, call by call.
   pub section-done : (at : ℕ) (x a b c d e : Sheet) → a ≡ puts (parting at) x → b ≡ puts (endLine (part (h .start) (h .stop) s)) a

@@ -1,8 +1,7 @@
 -- Blocks one behind the other on a sheet.
 use Prim.Native.Nat.{ℕ, zero, suc}
 use mathlib.Core.Path.{_≡_}
-use mathlib.Core.List.{List, [], _∷_, _++_, map}
-use Rattle.songcode.specs.Lists.{gather}
+use mathlib.Core.List.{List, [], _∷_, _++_, map, flatMap}
 use Rattle.songcode.specs.answer.Lines.{blocks}
 use Rattle.songcode.specs.answer.Answer.{songOf}
 use Rattle.songcode.specs.answer.Flat.{endLine, flatSection}
@@ -17,8 +16,8 @@ parting zero = []
 parting (suc at) = 10 ∷ []
 
 unfoldable pub blockBytes : ℕ → List (List ℕ) → List ℕ
-unfolding parting gather endLine
-blockBytes at rows = parting at ++ gather endLine rows
+unfolding parting flatMap endLine
+blockBytes at rows = parting at ++ flatMap endLine rows
 
 unfoldable pub putBlocks : List (List (List ℕ)) → Sheet → Sheet
 unfolding puts blockBytes

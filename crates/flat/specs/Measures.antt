@@ -1,10 +1,10 @@
 -- The lines of measures from the words of the tables: a beat's letters stand in the file that its offset points into.
 use Prim.Native.Nat.{ℕ, zero, suc, _-_, _≤_}
 use mathlib.Core.Path.{_≡_}
-use mathlib.Core.List.{List, [], _∷_, _++_, map}
+use mathlib.Core.List.{List, [], _∷_, _++_, map, flatMap}
 use lib.Dec.{ltb}
 use lib.ListN.{length, take, drop, replicate}
-use Rattle.songcode.specs.Lists.{if_then_else_, gather}
+use Rattle.songcode.specs.Lists.{if_then_else_}
 use Rattle.songcode.specs.Bytes.{ascii}
 use Rattle.songcode.specs.answer.Chords.{spellingOf}
 use Rattle.songcode.specs.description.Layout.{field}
@@ -44,8 +44,8 @@ firstMeasures k ms bs = map (beatsIn bs) (take k ms)
 
 -- "a measure has a line of its own"
 unfoldable pub measureLines : List ℕ → ℕ → List (List ℕ) → List ℕ
-unfolding gather endLine measureLine
-measureLines s n row = gather (λ m. endLine (measureLine s n m)) row
+unfolding flatMap endLine measureLine
+measureLines s n row = flatMap (λ m. endLine (measureLine s n m)) row
 
 -- "An empty pattern stays one, by naming an empty definition `$1`".
 unfoldable pub patternLines : List ℕ → ℕ → List (List ℕ) → List ℕ

@@ -3,12 +3,12 @@ use Prim.Native.Nat.{ℕ, suc, _+_, max}
 use mathlib.Core.Path.{_≡_, refl, sym, ap, _∙_}
 use mathlib.Core.List.{List, [], _∷_}
 use mathlib.Core.Bool.{Bool, true, false, _&&_, not, and-true}
-use mathlib.Core.Option.{Option, none, some}
+use mathlib.Core.Option.{Option, none, some, bind}
 use native.Mathlib.Omega.{arith}
 use borrow.Author.Tests.{le-leb, lt-leb, ne-eqb}
 use lib.Dec.{leb}
 use lib.ListN.{length}
-use Rattle.songcode.specs.Lists.{if_then_else_, isEmpty, isSome, andThen}
+use Rattle.songcode.specs.Lists.{if_then_else_, isEmpty, isSome}
 use Rattle.songcode.specs.answer.Lines.{Line}
 use Rattle.songcode.specs.Song.{Item, Items, items}
 use Rattle.songcode.specs.answer.Tokens.{Token, sound, remover, reference, semicolon, colon, lineEnd, opens, closes, wrong, tokensOf}
@@ -68,8 +68,8 @@ module _ (test : Bool → Bool) where
       (finished (depth (add r i)) p (not (isEmpty (references (add r i)))) h
       ∙ ap (λ (b : Bool). leb (depth (add r i)) loopsDeep && test b) (not-not (isEmpty (references (add r i)))))
 
-  pub fine-state : (s : State) → fine test (checkOf s) ≡ isSome (andThen (done s) (kept (λ q. test (isEmpty (references q)))))
-  unfolding checkOf done andThen isSome checkRows checkItem definitionFine
+  pub fine-state : (s : State) → fine test (checkOf s) ≡ isSome (bind (done s) (kept (λ q. test (isEmpty (references q)))))
+  unfolding checkOf done bind isSome checkRows checkItem definitionFine
   fine-state (wants r os) = unfinished test _ _ (before (λ p. definitionFine (check p (length os) false) ≡ false) r os refl refl refl)
   fine-state (ended r os i) = unfinished test _ _ refl
   fine-state bad = refl
@@ -81,7 +81,7 @@ run-check : (ts : List Token) → checkRun first (kindsOf ts) ≡ checkOf (run (
 unfolding checkOf checkRows placeBefore depthRows depthBegun referencesRows referencesBegun isEmpty
 run-check ts = sym (check-run (wants start []) ts ∙ ap (λ (c : Check). checkRun c (kindsOf ts)) (within-limit 0 first (omega arith)))
 
-pub items-fine : (ts : List Token) → definitionFine (checkRun first (kindsOf ts)) ≡ isSome (andThen (itemsIn ts) (kept (λ r. true)))
+pub items-fine : (ts : List Token) → definitionFine (checkRun first (kindsOf ts)) ≡ isSome (bind (itemsIn ts) (kept (λ r. true)))
 unfolding itemsIn
 items-fine ts = sym (and-true (definitionFine (checkRun first (kindsOf ts))))
     ∙ (ap (fine (λ b. true)) (run-check ts) ∙ fine-state (λ b. true) (run (wants start []) ts))
@@ -98,19 +98,19 @@ no-reference r = of-list (references r) refl
     of-list [] e = rw (e, noReference) refl
     of-list (n ∷ ns) e = rw (e, noReference) refl
 
-kept-unnamed : (o : Option Items) → andThen o (kept (λ q. isEmpty (references q))) ≡ andThen o (kept noReference)
-unfolding andThen kept
+kept-unnamed : (o : Option Items) → bind o (kept (λ q. isEmpty (references q))) ≡ bind o (kept noReference)
+unfolding bind kept
 kept-unnamed none = refl
 kept-unnamed (some r) = rw (no-reference r) refl
 
-pub unnamed-fine : (ts : List Token) → unnamedFine (checkRun first (kindsOf ts)) ≡ isSome (andThen (itemsIn ts) (kept noReference))
+pub unnamed-fine : (ts : List Token) → unnamedFine (checkRun first (kindsOf ts)) ≡ isSome (bind (itemsIn ts) (kept noReference))
 unfolding itemsIn unnamedFine
 unnamed-fine ts = ap (fine (λ b. b)) (run-check ts) ∙ (fine-state (λ b. b) (run (wants start []) ts)
     ∙ ap isSome (kept-unnamed (done (run (wants start []) ts))))
 
 -- A section's text: `$n` alone, or items without one.
-items-there : (o : Option Items) → isSome (andThen o (λ r. some (items r))) ≡ isSome o
-unfolding andThen isSome
+items-there : (o : Option Items) → isSome (bind o (λ r. some (items r))) ≡ isSome o
+unfolding bind isSome
 items-there none = refl
 items-there (some r) = refl
 
@@ -119,7 +119,7 @@ not-whole : (ts : List Token) → wholeReference ts ≡ none → sectionFine (ch
 unfolding sectionFine unnamedFine patternBy isSome
 not-whole ts e =
     let a : isAlone (checkRun first (kindsOf ts) .place) ≡ false = alone-is-whole ts ∙ ap isSome e in
-    rw a (unnamed-fine ts ∙ sym (items-there (andThen (itemsIn ts) (kept noReference))))
+    rw a (unnamed-fine ts ∙ sym (items-there (bind (itemsIn ts) (kept noReference))))
 
 pub pattern-fine : (ts : List Token) → sectionFine (checkRun first (kindsOf ts)) ≡ isSome (patternBy (wholeReference ts) ts)
 unfolding wholeReference patternBy isSome checkRun kindsOf sectionFine

@@ -1,10 +1,9 @@
 -- The walk along the sections of a song that stages 4 and 5 accept: each section that is opened plays what the definitions say, and the tables have room.
 use Prim.Native.Nat.{ℕ, _+_, _*_, _≤_}
 use mathlib.Core.Path.{_≡_, refl, sym, ap, _∙_}
-use mathlib.Core.List.{List, []}
+use mathlib.Core.List.{List, [], flatMap}
 use native.Mathlib.Omega.{arith}
 use lib.ListN.{length}
-use Rattle.songcode.specs.Lists.{gather}
 use Rattle.songcode.specs.Song.{Section}
 use Rattle.songcode.specs.answer.Playing.{timeOf, played}
 use Rattle.songcode.specs.description.Performance.{total}
@@ -31,7 +30,7 @@ pub record Along (s ws : List ℕ) (mark : ℕ) (p : Place) (m b : ℕ) : Type 0
   pub few : sofar ≤ 65535
   pub measures : m ≤ sofar
   pub beats : b ≤ 32 * sofar
-  pub meters : gather (sectionMeter (songOf s)) (sectionsFrom s p) ≡ []
+  pub meters : flatMap (sectionMeter (songOf s)) (sectionsFrom s p) ≡ []
   pub lengths : lengthFaults (songOf s) sofar (sectionsFrom s p) ≡ []
 
 pub along-start : {s ws : List ℕ} {mark : ℕ} {p : Place} → Begins s p → Ready s ws mark → mark ≤ p .at
@@ -46,7 +45,7 @@ along-start {s} {ws} {mark} {p} b r f e l =
       few = omega arith;
       measures = omega arith;
       beats = omega arith;
-      meters = ap (λ (xs : List Section). gather (sectionMeter (songOf s)) xs) (b .sections) ∙ e;
+      meters = ap (λ (xs : List Section). flatMap (sectionMeter (songOf s)) xs) (b .sections) ∙ e;
       lengths = ap (λ (xs : List Section). lengthFaults (songOf s) 0 xs) (b .sections) ∙ l;
     }
 
@@ -77,11 +76,11 @@ module _ {s ws vs : List ℕ} {mark : ℕ} {p : Place} {m b : ℕ} (a : Along s 
       (ap (λ (xs : List Section). lengthFaults (songOf s) (a .sofar) xs) (sym (o .met .first)) ∙ a .lengths)
       (a .few)
 
-  here-meters : (sectionMeter (songOf s) (sectionAt s p) ≡ []) × (gather (sectionMeter (songOf s)) (sectionsFrom s (x .next)) ≡ [])
-  unfolding gather
+  here-meters : (sectionMeter (songOf s) (sectionAt s p) ≡ []) × (flatMap (sectionMeter (songOf s)) (sectionsFrom s (x .next)) ≡ [])
+  unfolding flatMap
   here-meters =
-      append-is-nil (sectionMeter (songOf s) (sectionAt s p)) (gather (sectionMeter (songOf s)) (sectionsFrom s (x .next)))
-      (ap (λ (xs : List Section). gather (sectionMeter (songOf s)) xs) (sym (o .met .first)) ∙ a .meters)
+      append-is-nil (sectionMeter (songOf s) (sectionAt s p)) (flatMap (sectionMeter (songOf s)) (sectionsFrom s (x .next)))
+      (ap (λ (xs : List Section). flatMap (sectionMeter (songOf s)) xs) (sym (o .met .first)) ∙ a .meters)
 
   pub along-within : (base : ℕ) → base ≤ b → PlaysWithin vs n (x .texts) (x .section .modifiers) base
   along-within base h =

@@ -1,12 +1,11 @@
 -- What a verdict of number 0 says of stages 3 to 7, and the song's own keys among its metadata.
 use Prim.Native.Nat.{ℕ, _<_}
 use mathlib.Core.Path.{_≡_, refl, sym, ap, _∙_}
-use mathlib.Core.List.{List, [], _∷_}
+use mathlib.Core.List.{List, [], _∷_, flatMap}
 use mathlib.Core.Bool.{not}
-use mathlib.Core.Option.{Option, none, some}
+use mathlib.Core.Option.{Option, none, some, Option·getD, bind}
 use native.Mathlib.Omega.{arith}
 use lib.Dec.{leb}
-use Rattle.songcode.specs.Lists.{gather, andThen, orElse}
 use Rattle.songcode.specs.Bytes.{Byte}
 use Rattle.songcode.specs.Complaints.{Complaint, complainIf, earlier, earliest, stageOr, verdict}
 use Rattle.songcode.specs.Song.{Items, Definition, Song, KeyName, time, bpm}
@@ -47,18 +46,18 @@ unfolding referenceFault Each Numbered
 numbered-reference none head = (omega arith, tt)
 numbered-reference (some d) head = numbered-items (d .items) head
 
-numbered-all : (earlier : List Definition) (head : ℕ) (ns : List ℕ) → Each Numbered (gather (λ n. referenceFault (definitionOf n earlier) head) ns)
-unfolding gather Each
+numbered-all : (earlier : List Definition) (head : ℕ) (ns : List ℕ) → Each Numbered (flatMap (λ n. referenceFault (definitionOf n earlier) head) ns)
+unfolding flatMap Each
 numbered-all earlier head [] = tt
 numbered-all earlier head (n ∷ ns) =
-    each-append Numbered (referenceFault (definitionOf n earlier) head) (gather (λ n. referenceFault (definitionOf n earlier) head) ns)
+    each-append Numbered (referenceFault (definitionOf n earlier) head) (flatMap (λ n. referenceFault (definitionOf n earlier) head) ns)
     (numbered-reference (definitionOf n earlier) head) (numbered-all earlier head ns)
 
 numbered-definition : (earlier : List Definition) (o : Option Items) (head : ℕ) → Each Numbered (definitionReferences earlier o head)
 unfolding definitionReferences depthFault Each
 numbered-definition earlier none head = tt
 numbered-definition earlier (some r) head =
-    each-append Numbered (gather (λ n. referenceFault (definitionOf n earlier) head) (references r))
+    each-append Numbered (flatMap (λ n. referenceFault (definitionOf n earlier) head) (references r))
     (complainIf (not (leb (depth (putIn (itemsOf earlier) r)) loopsDeep)) 11 head) (numbered-all earlier head (references r))
     (numbered-if (not (leb (depth (putIn (itemsOf earlier) r)) loopsDeep)) 11 head (omega arith))
 
@@ -72,7 +71,7 @@ numbered-definitions earlier (d ∷ ds) =
 numbered-song : (song : Song) → Each Numbered (referenceFaults song)
 unfolding referenceFaults sectionFault
 numbered-song song =
-    each-append Numbered (definitionsReferences [] (song .definitions)) (gather (sectionFault (song .definitions)) (song .sections))
+    each-append Numbered (definitionsReferences [] (song .definitions)) (flatMap (sectionFault (song .definitions)) (song .sections))
     (numbered-definitions [] (song .definitions)) (all-numbered (song .definitions) (song .sections))
 
 -- A verdict of number 0 over numbered stages: none of them has a complaint.
@@ -108,17 +107,17 @@ song-clear song z =
 -- The song's time and bpm, as they are found among the lines before the metadata's end.
 module _ (s : List ℕ) (p : Place) (k : Keys) (ends : MetadataEnds s p) (are : KeysAre (linesOf s (linesBefore p)) k) where
   song-key : (f : List Byte → Option ℕ) (n : KeyName) → keyPlace n < 8
-      → andThen (settingAmong (keyPlace n) (linesOf s (linesBefore p))) (λ x. f (x .text))
-      ≡ andThen (playing.settingNamed n (songOf s .keys)) f
+      → bind (settingAmong (keyPlace n) (linesOf s (linesBefore p))) (λ x. f (x .text))
+      ≡ bind (playing.settingNamed n (songOf s .keys)) f
   unfolding songOf songIn
-  song-key f n h = ap (λ (o : Option Setting). andThen o (λ x. f (x .text))) (ends .keys (keyPlace n) h) ∙ sym (key-among f n (metadataLines (blocksOf s)))
+  song-key f n h = ap (λ (o : Option Setting). bind o (λ x. f (x .text))) (ends .keys (keyPlace n) h) ∙ sym (key-among f n (metadataLines (blocksOf s)))
 
   pub song-keys : SongKeys (songOf s) k
   unfolding timeAmong timeSaid bpmAmong bpmSaid keyPlace
   song-keys =
       record {
-        time = are .time ∙ ap (λ (o : Option ℕ). orElse o 0) (song-key timeIn time (omega arith));
+        time = are .time ∙ ap (λ (o : Option ℕ). Option·getD o 0) (song-key timeIn time (omega arith));
         time-fits = are .time-fits;
-        bpm = are .bpm ∙ ap (λ (o : Option ℕ). orElse o 511) (song-key bpmIn bpm (omega arith));
+        bpm = are .bpm ∙ ap (λ (o : Option ℕ). Option·getD o 511) (song-key bpmIn bpm (omega arith));
         bpm-fits = are .bpm-fits;
       }

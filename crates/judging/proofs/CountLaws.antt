@@ -3,13 +3,13 @@ use Prim.Native.Nat.{ℕ, _+_, _*_, _≤_, min}
 use mathlib.Core.Path.{_≡_, refl, ap, _∙_}
 use mathlib.Core.List.{List}
 use mathlib.Core.Logic.{_⊎_, inl, inr}
-use mathlib.Core.Option.{Option, none, some}
+use mathlib.Core.Option.{Option, none, some, bind}
 use native.Mathlib.Omega.{arith}
 use native.Mathlib.Nat.{mul-le-mul}
 use lib.Dec.{leb}
 use lib.ListN.{length, length-map}
 use borrow.Author.Tests.{leb-true, leb-false}
-use Rattle.songcode.specs.Lists.{andThen, times}
+use Rattle.songcode.specs.Lists.{times}
 use Rattle.songcode.specs.Song.{Items, Section, Song, Side}
 use Rattle.songcode.specs.answer.References.{patternItems}
 use Rattle.songcode.specs.answer.Playing.{repeats, measuresOf}
@@ -36,7 +36,7 @@ pub carried-fits : (ws : List ℕ) (t : Text) (o : Option Items) → Carries ws 
 carried-fits ws t o w = let e = carried-count ws t o w in omega arith
 
 side-count : (o : Option Side) → measuresIn (sideItems o) ≡ sideCount o
-unfolding measuresIn sideItems sideCount andThen
+unfolding measuresIn sideItems sideCount bind
 side-count none = refl
 side-count (some x) = refl
 

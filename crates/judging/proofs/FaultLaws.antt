@@ -3,11 +3,11 @@ use Prim.Native.Nat.{ℕ, _≤_, _%_}
 use mathlib.Core.Path.{_≡_, refl, sym, ap, _∙_}
 use mathlib.Core.List.{List, _++_, append-assoc}
 use mathlib.Core.Bool.{Bool, true, false, not}
-use mathlib.Core.Option.{Option, none, some}
+use mathlib.Core.Option.{Option, none, some, bind}
 use native.Mathlib.Omega.{arith}
 use lib.Dec.{eqb}
 use borrow.Author.Tests.{eq-eqb, le-ltb}
-use Rattle.songcode.specs.Lists.{if_then_else_, andThen, when}
+use Rattle.songcode.specs.Lists.{if_then_else_, when}
 use Rattle.songcode.specs.Bytes.{placed}
 use Rattle.songcode.specs.Complaints.{Complaint, complaint, complainIf, goesFirst, earlier, earliest}
 use Rattle.songcode.specs.Song.{Items, Section, Song, Side}
@@ -58,8 +58,8 @@ carried-fault ws t none n line w a b = ap (λ (x : Outline). textFault x n line)
 carried-fault ws t (some r) n line w a b = told-fault (t .outline) n line r (w .1) a b
 
 -- A lead-in or tail is on the line of its setting.
-pub side-line : (s : List ℕ) (r : Said) {o : Option Side} → andThen (settingAt s r) sideSaid ≡ o → (x : Side) → o ≡ some x → x .line ≡ r .line
-unfolding settingAt sideSaid sideOn andThen if_then_else_
+pub side-line : (s : List ℕ) (r : Said) {o : Option Side} → bind (settingAt s r) sideSaid ≡ o → (x : Side) → o ≡ some x → x .line ≡ r .line
+unfolding settingAt sideSaid sideOn bind if_then_else_
 side-line s r e x h =
     by-cases (eqb (r .line) 0)
     (λ t. let z : none ≡ some x = rw t at (e ∙ h) in none-some refl z)
@@ -70,7 +70,7 @@ side-line s r e x h =
     go (some q) z = let y : record { line = r .line; items = q } ≡ x = cc in sym (ap (λ (k : Side). k .line) y)
 
 side-faults : (n line : ℕ) (o : Option Side) → ((x : Side) → o ≡ some x → x .line ≡ line) → playedFaults n line (sideItems o) ≡ sideFaults n o
-unfolding playedFaults sideItems sideFaults andThen
+unfolding playedFaults sideItems sideFaults bind
 side-faults n line none h = refl
 side-faults n line (some x) h = ap (λ (l : ℕ). rowFaults n l (x .items)) (sym (h x refl))
 
@@ -104,8 +104,8 @@ numbered-section s x =
 
 -- The three texts of a section.
 pub section-fault : (song : Song) (x : Section) (s ws : List ℕ) (m : Modifiers) (t : Texts) → TextsAre (song .definitions) x ws t
-    → andThen (settingAt s (m .before)) sideSaid ≡ x .modifiers .before
-    → andThen (settingAt s (m .after)) sideSaid ≡ x .modifiers .after
+    → bind (settingAt s (m .before)) sideSaid ≡ x .modifiers .before
+    → bind (settingAt s (m .after)) sideSaid ≡ x .modifiers .after
     → 1 ≤ timeOf song x → timeOf song x ≤ 32
     → meterFault (x .header) m t (timeOf song x) ≡ refusalOf (earliest (sectionMeter song x))
 unfolding meterFault sectionMeter

@@ -1,9 +1,9 @@
 -- Stage 4 from section to section: the refusal of the sections so far, and of those from a place on.
+use mathlib.Core.Option.{Option·getD}
 use Prim.Native.Nat.{ℕ, _≤_}
 use mathlib.Core.Path.{_≡_, refl, sym, ap, _∙_}
-use mathlib.Core.List.{List, [], _∷_, _++_, append-assoc, append-nil}
+use mathlib.Core.List.{List, [], _∷_, _++_, append-assoc, append-nil, flatMap}
 use lib.ListN.{length}
-use Rattle.songcode.specs.Lists.{gather, orElse}
 use Rattle.songcode.specs.Complaints.{Complaint, earliest}
 use Rattle.songcode.specs.Song.{Section}
 use Rattle.songcode.specs.answer.Playing.{timeAmong}
@@ -27,16 +27,16 @@ use Rattle.judging.proofs.FaultLaws.{numbered-section, section-fault}
 unfoldable pub Judged : List ℕ → Place → Refusal → Type 0
 Judged s p best =
     (done : List Complaint) × (best ≡ refusalOf (earliest done)) × Each Numbered done
-    × (done ++ gather (sectionMeter (songOf s)) (sectionsFrom s p) ≡ meterFaults (songOf s))
+    × (done ++ flatMap (sectionMeter (songOf s)) (sectionsFrom s p) ≡ meterFaults (songOf s))
 
 pub judged-start : (s : List ℕ) (p : Place) → Begins s p → Judged s p nothingRefused
 unfolding Judged Each refusalOf earliest meterFaults
-judged-start s p b = ([], refl, tt, ap (gather (sectionMeter (songOf s))) (b .sections))
+judged-start s p b = ([], refl, tt, ap (flatMap (sectionMeter (songOf s))) (b .sections))
 
 pub judged-next : (s : List ℕ) (p q : Place) (best f : Refusal) → sectionsFrom s p ≡ sectionAt s p ∷ sectionsFrom s q
     → f ≡ refusalOf (earliest (sectionMeter (songOf s) (sectionAt s p)))
     → Judged s p best → Judged s q (soonerOf best f)
-unfolding Judged gather
+unfolding Judged flatMap
 judged-next s p q best f first e w =
     let song = songOf s in
     let x = sectionMeter song (sectionAt s p) in
@@ -45,20 +45,20 @@ judged-next s p q best f first e w =
       done ++ x,
       rw (w .1, e) (sym (sooner-append done x (w .2) n)),
       each-append Numbered done x (w .2) n,
-      append-assoc done x (gather (sectionMeter song) (sectionsFrom s q))
-          ∙ ap (λ (xs : List Section). done ++ gather (sectionMeter song) xs) (sym first) ∙ w .3,
+      append-assoc done x (flatMap (sectionMeter song) (sectionsFrom s q))
+          ∙ ap (λ (xs : List Section). done ++ flatMap (sectionMeter song) xs) (sym first) ∙ w .3,
     )
 
 pub judged-end : (s : List ℕ) (p : Place) (best : Refusal) → length s ≤ p .at → Judged s p best → best ≡ refusalOf (earliest (meterFaults (songOf s)))
-unfolding Judged gather
+unfolding Judged flatMap
 judged-end s p best h w =
     let done = w .0 in
-    let over = ap (λ (xs : List Section). done ++ gather (sectionMeter (songOf s)) xs) (sections-over s p h) in
+    let over = ap (λ (xs : List Section). done ++ flatMap (sectionMeter (songOf s)) xs) (sections-over s p h) in
     w .1 ∙ ap (λ (xs : List Complaint). refusalOf (earliest xs)) (sym (append-nil done) ∙ sym over ∙ w .3)
 
 -- A section that is opened.
 pub opened-fault : (s ws : List ℕ) (p : Place) (r : Opened) {time n : ℕ} {f : Refusal} → Opens s p ws r
-    → time ≡ orElse (timeAmong (songOf s .keys)) 0
+    → time ≡ Option·getD (timeAmong (songOf s .keys)) 0
     → n ≡ meterOf (r .section .keys .time) time → f ≡ meterFault (r .section .header) (r .section .modifiers) (r .texts) n → f ≡ refusalOf
     (earliest (sectionMeter (songOf s) (sectionAt s p)))
 opened-fault s ws p r w e found h =

@@ -1,4 +1,5 @@
 -- Stage 5 from section to section, beside stage 4: what is found so far is the stage's answer where stage 4 complains of nothing.
+use mathlib.Core.Option.{Option·getD}
 use Prim.Native.Nat.{ℕ, _+_, _≤_, _<_}
 use mathlib.Core.Path.{_≡_, refl, ap, _∙_}
 use mathlib.Core.List.{List, []}
@@ -7,7 +8,7 @@ use native.Mathlib.Omega.{arith}
 use lib.Dec.{ltb}
 use lib.ListN.{length}
 use borrow.Author.Tests.{eq-eqb, ne-eqb, ltb-true, ltb-false}
-use Rattle.songcode.specs.Lists.{if_then_else_, orElse}
+use Rattle.songcode.specs.Lists.{if_then_else_}
 use Rattle.songcode.specs.Complaints.{earliest}
 use Rattle.songcode.specs.answer.Playing.{timeAmong}
 use Rattle.songcode.specs.answer.Meter.{meterFaults, lengthFaults}
@@ -46,7 +47,7 @@ lengths-end s p x h w e = ⊎-elim (λ a. a .0 ∙ measured-end s p (x .measures
 
 -- One more section is opened.
 module _ (s ws : List ℕ) (p : Place) (r : Opened) (w : Opens s p ws r) {time : ℕ}
-    (t : time ≡ orElse (timeAmong (songOf s .keys)) 0) (o : Onward s p) (inside : p .at < length s) (x : Lengths) where
+    (t : time ≡ Option·getD (timeAmong (songOf s .keys)) 0) (o : Onward s p) (inside : p .at < length s) (x : Lengths) where
   abbrev m : Modifiers
   m = r .section .modifiers
 

@@ -2,10 +2,9 @@
 use Prim.Native.Nat.{ℕ, zero, suc, _+_, _-_, _<_, _≤_}
 use mathlib.Core.Path.{_≡_, refl, ap, _∙_}
 use mathlib.Core.List.{List, [], _∷_, map}
-use mathlib.Core.Option.{Option}
+use mathlib.Core.Option.{Option, Option·getD}
 use native.Mathlib.Omega.{arith}
 use lib.ListN.{length, take}
-use Rattle.songcode.specs.Lists.{orElse}
 use Rattle.songcode.specs.Bytes.{placed}
 use Rattle.songcode.specs.Song.{LyricLine}
 use Rattle.songcode.specs.answer.Sections.{lyricLine}
@@ -26,8 +25,8 @@ lyricsAt s n at left = map lyricLine (take left (textLines s n at))
 abbrev pub lyricAt : List ℕ → ℕ → Line → LyricLine
 lyricAt s n l = record { number = n; text = placed (l .start) (part (l .start) (l .stop) s) }
 
-pub count-or : (k : ℕ) → orElse (countFrom k) 0 ≡ k
-unfolding countFrom orElse
+pub count-or : (k : ℕ) → Option·getD (countFrom k) 0 ≡ k
+unfolding countFrom
 count-or zero = refl
 count-or (suc k) = refl
 
@@ -54,8 +53,8 @@ module _ (s : List ℕ) (n at left : ℕ) where
       unfolding countOf
       count-here = ap (λ (x : songcode.Words). x .count) e
 
-      said-here : orElse (countOf (lyricAt s n l)) 0 ≡ w .count
-      said-here = ap (λ (o : Option ℕ). orElse o 0) count-here ∙ count-or (w .count)
+      said-here : Option·getD (countOf (lyricAt s n l)) 0 ≡ w .count
+      said-here = ap (λ (o : Option ℕ). Option·getD o 0) count-here ∙ count-or (w .count)
 
       pub counted-more : counted (lyricsAt s n at left) ≡ w .count + counted (lyricsAt s (n + 1) (l .next) (left - 1))
       unfolding counted
@@ -73,4 +72,4 @@ module _ (s : List ℕ) (n at left : ℕ) where
 pub prompts-length : (m : ℕ) (ls : List LyricLine) → length (map itemWord (promptsFrom m ls)) ≡ length ls
 unfolding promptsFrom
 prompts-length m [] = refl
-prompts-length m (l ∷ ls) = ap suc (prompts-length (m + orElse (countOf l) 0) ls)
+prompts-length m (l ∷ ls) = ap suc (prompts-length (m + Option·getD (countOf l) 0) ls)

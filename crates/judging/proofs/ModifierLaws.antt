@@ -1,14 +1,14 @@
 -- A section has a modifier exactly where one of the values that are read of its modifiers is said.
 use Prim.Native.Nat.{ℕ, _+_, _<_, _≤_}
 use mathlib.Core.Path.{_≡_, refl, sym, ap, _∙_}
-use mathlib.Core.List.{List, []}
+use mathlib.Core.List.{List, [], flatMap}
 use mathlib.Core.Bool.{Bool, true, false, not, _||_, or-true}
-use mathlib.Core.Option.{Option, none, some}
+use mathlib.Core.Option.{Option, none, some, Option·getD, bind}
 use native.Mathlib.Omega.{arith}
 use lib.Dec.{eqb}
 use lib.ListN.{length}
 use borrow.Author.Tests.{eq-eqb, ne-eqb, eqb-true}
-use Rattle.songcode.specs.Lists.{if_then_else_, gather, andThen, orElse, isSome}
+use Rattle.songcode.specs.Lists.{if_then_else_, isSome}
 use Rattle.songcode.specs.answer.Lines.{Block, blocks}
 use Rattle.songcode.specs.answer.Numbers.{repeatIn}
 use Rattle.songcode.specs.Song.{Cut, Modifier, Side}
@@ -38,8 +38,8 @@ use Rattle.scores.proofs.SideLaws.{nothing-there}
 use Rattle.judging.specs.Lengths.{isCut, hasCut, isModified}
 
 -- A place that is no line says nothing; one that says something is on a line.
-line-there : (s : List ℕ) (r : Said) {x : Side} → andThen (settingAt s r) sideSaid ≡ some x → r .line ≡ 0 → ⊥
-unfolding settingAt andThen if_then_else_
+line-there : (s : List ℕ) (r : Said) {x : Side} → bind (settingAt s r) sideSaid ≡ some x → r .line ≡ 0 → ⊥
+unfolding settingAt bind if_then_else_
 line-there s r {x} e z = let h : none ≡ some x = rw (eq-eqb (r .line) 0 z) at e in none-some refl h
 
 no-line : (s : List ℕ) (r : Said) → settingAt s r ≡ none → r .line ≡ 0
@@ -64,30 +64,30 @@ module _ (s : List ℕ) (p : Place) (o : Onward s p) (inside : p .at < length s)
   block = blockAt s (p .number) (p .at)
 
   clean : sectionFaults block ≡ []
-  unfolding gather
+  unfolding flatMap
   clean =
-      append-is-nil (sectionFaults (blockAt s (p .number) (p .at))) (gather sectionFaults (blocks (linesPast s (p .number) (p .at))))
-      (ap (gather sectionFaults) (sym (o .opens inside)) ∙ o .fair) .0
+      append-is-nil (sectionFaults (blockAt s (p .number) (p .at))) (flatMap sectionFaults (blocks (linesPast s (p .number) (p .at))))
+      (ap (flatMap sectionFaults) (sym (o .opens inside)) ∙ o .fair) .0
 
   -- "loop and repeat counts start at 2"
   repeat-least : (k : ℕ) → sectionAt s p .modifiers .repeat ≡ some k → 2 ≤ k
-  unfolding sectionAt sectionIn repeatIn andThen
+  unfolding sectionAt sectionIn repeatIn bind
   repeat-least k e =
       let ls = body block in
       let w = clean-order block clean in
       go (settingAmong (8 + modifierPlace ofRepeat) ls) (sym (modifier-among ofRepeat repeatSaid (λ x. repeatIn (x .text)) repeat-tells ls (w .1)) ∙ e)
     where
-      go : (x : Option Setting) → andThen x (λ x. repeatIn (x .text)) ≡ some k → 2 ≤ k
+      go : (x : Option Setting) → bind x (λ x. repeatIn (x .text)) ≡ some k → 2 ≤ k
       go none h = none-some refl h
       go (some x) h = numberIn-range 2 9999 (x .text) h .0
 
   side-said : (m : ModifierName) (g : Modifier → Option Side) → Tells m g sideSaid → (r : Said)
-      → settingAt s r ≡ settingAmong (8 + modifierPlace m) (lateLines (body block)) → (o : Option Side) → andThen (settingAt s r) sideSaid ≡ o
+      → settingAt s r ≡ settingAmong (8 + modifierPlace m) (lateLines (body block)) → (o : Option Side) → bind (settingAt s r) sideSaid ≡ o
       → not (eqb (r .line) 0) ≡ isSome o
   unfolding isSome
   side-said m g tells r e none h =
       let w = clean-order block clean in
-      let nothing = nothing-there m g sideSaid tells (body block) (w .0) (w .1) (ap (λ (x : Option Setting). andThen x sideSaid) (sym e) ∙ h) in
+      let nothing = nothing-there m g sideSaid tells (body block) (w .0) (w .1) (ap (λ (x : Option Setting). bind x sideSaid) (sym e) ∙ h) in
       rw (eq-eqb (r .line) 0 (no-line s r (e ∙ nothing)))
   side-said m g tells r e (some y) h = rw (ne-eqb (r .line) 0 (line-there s r h))
 
@@ -96,11 +96,11 @@ module _ (s : List ℕ) (p : Place) (o : Onward s p) (inside : p .at < length s)
     m = r .modifiers
 
     repeat-said : (o : Option ℕ) → sectionAt s p .modifiers .repeat ≡ o → not (eqb (m .repeat) 1) ≡ isSome o
-    unfolding isSome repeats orElse
-    repeat-said none e = let k : m .repeat ≡ 1 = says .repeat ∙ ap (λ (o : Option ℕ). orElse o 1) e in rw (eq-eqb (m .repeat) 1 k)
+    unfolding isSome repeats
+    repeat-said none e = let k : m .repeat ≡ 1 = says .repeat ∙ ap (λ (o : Option ℕ). Option·getD o 1) e in rw (eq-eqb (m .repeat) 1 k)
     repeat-said (some k) e =
         let two = repeat-least k e in
-        let same : m .repeat ≡ k = says .repeat ∙ ap (λ (o : Option ℕ). orElse o 1) e in
+        let same : m .repeat ≡ k = says .repeat ∙ ap (λ (o : Option ℕ). Option·getD o 1) e in
         rw (ne-eqb (m .repeat) 1 (λ z. omega arith))
 
     pub modified-is : isModified (r .modifiers) ≡ anySaid (sectionAt s p .modifiers)

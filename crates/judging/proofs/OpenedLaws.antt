@@ -1,14 +1,13 @@
 -- Stage 5 of a section that is opened: its measures, its cuts, and what is left to the sections behind it.
 use Prim.Native.Nat.{ℕ, _+_, _*_, _<_, _≤_}
 use mathlib.Core.Path.{_≡_, sym, ap, _∙_, subst}
-use mathlib.Core.List.{List, [], _∷_}
+use mathlib.Core.List.{List, [], _∷_, flatMap}
 use mathlib.Core.Logic.{⊎-elim}
 use mathlib.Core.Bool.{true, false, not}
-use mathlib.Core.Option.{none, some}
+use mathlib.Core.Option.{none, some, Option·getD}
 use native.Mathlib.Omega.{arith}
 use lib.ListN.{length}
 use borrow.Author.Tests.{not-false}
-use Rattle.songcode.specs.Lists.{gather, orElse}
 use Rattle.songcode.specs.Complaints.{Complaint, complainIf, earliest}
 use Rattle.songcode.specs.Song.{Items, Section, Song}
 use Rattle.songcode.specs.answer.References.{patternItems}
@@ -36,13 +35,13 @@ use Rattle.judging.proofs.LengthLaws.{length-passes, length-cut, length
 unfoldable pub Measured : List ℕ → Place → ℕ → Type 0
 Measured s p k =
     (refusalOf (earliest (lengthFaults (songOf s) k (sectionsFrom s p))) ≡ refusalOf (earliest (lengthFaults (songOf s) 0 (songOf s .sections))))
-    × (gather (sectionMeter (songOf s)) (sectionsFrom s p) ≡ [])
+    × (flatMap (sectionMeter (songOf s)) (sectionsFrom s p) ≡ [])
 
 pub measured-start : (s : List ℕ) (p : Place) → Begins s p → meterFaults (songOf s) ≡ [] → Measured s p 0
 unfolding Measured meterFaults
 measured-start s p b e = (
   ap (λ (xs : List Section). refusalOf (earliest (lengthFaults (songOf s) 0 xs))) (b .sections),
-  ap (gather (sectionMeter (songOf s))) (b .sections) ∙ e,
+  ap (flatMap (sectionMeter (songOf s))) (b .sections) ∙ e,
 )
 
 pub measured-end : (s : List ℕ) (p : Place) (k : ℕ) → length s ≤ p .at → Measured s p k
@@ -86,7 +85,7 @@ module _ (s ws : List ℕ) (p : Place) (r : Opened) (w : Opens s p ws r) where
   too-many : (k : ℕ) → 65535 < k + countOfTexts m (r .texts) → 65535 < k + sectionCount song x
   too-many k h = ⊎-elim (λ e. omega arith) (λ e. let q = e .1 in omega arith) counted
 
-  module _ {time : ℕ} (t : time ≡ orElse (timeAmong (songOf s .keys)) 0) where
+  module _ {time : ℕ} (t : time ≡ Option·getD (timeAmong (songOf s .keys)) 0) where
     abbrev n : ℕ
     n = meterOf (r .section .keys .time) time
 
@@ -113,11 +112,11 @@ module _ (s ws : List ℕ) (p : Place) (r : Opened) (w : Opens s p ws r) where
         }
 
     module _ (o : Onward s p) (inside : p .at < length s) (k : ℕ) (small : k ≤ 65535) (measured : Measured s p k) where
-      metered : (sectionMeter song x ≡ []) × (gather (sectionMeter song) (sectionsFrom s (r .next)) ≡ [])
-      unfolding Measured gather
+      metered : (sectionMeter song x ≡ []) × (flatMap (sectionMeter song) (sectionsFrom s (r .next)) ≡ [])
+      unfolding Measured flatMap
       metered =
-          append-is-nil (sectionMeter song x) (gather (sectionMeter song) (sectionsFrom s (r .next)))
-          (ap (gather (sectionMeter song)) (sym (w .met .first)) ∙ measured .1)
+          append-is-nil (sectionMeter song x) (flatMap (sectionMeter song) (sectionsFrom s (r .next)))
+          (ap (flatMap (sectionMeter song)) (sym (w .met .first)) ∙ measured .1)
 
       cuts : cutFaults (timeOf song x) (x .header) (x .modifiers)
           (patternItems (song .definitions) (x .pattern)) ≡ complainIf (cutAway ws n m (r .texts)) 15 (x .header)

@@ -2,10 +2,10 @@
 use Prim.Native.Nat.{ℕ, _+_, _*_, _≤_}
 use mathlib.Core.Path.{_≡_, refl, _∙_}
 use mathlib.Core.List.{List, [], _∷_, _++_}
-use mathlib.Core.Option.{Option, none, some}
+use mathlib.Core.Option.{Option, none, some, bind}
 use native.Mathlib.Omega.{arith}
 use lib.ListN.{length}
-use Rattle.songcode.specs.Lists.{times, andThen}
+use Rattle.songcode.specs.Lists.{times}
 use Rattle.songcode.specs.Song.{Items, Section, Song, Side}
 use Rattle.songcode.specs.answer.References.{patternItems}
 use Rattle.songcode.specs.Song as song
@@ -43,7 +43,7 @@ module _ (ws : List ℕ) (n : ℕ) where
   carried t (some r) h = h .2 n
 
   carried-side : (t : Text) (o : Option Side) → Carries ws t (sideItems o) → rowOf n ws (t .at) ≡ rowWords (sideMeasures n o)
-  unfolding Carries sideItems andThen sideMeasures rowWords
+  unfolding Carries sideItems bind sideMeasures rowWords
   carried-side t none h = h .1 n
   carried-side t (some x) h = h .2 n
 

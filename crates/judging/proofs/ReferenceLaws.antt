@@ -1,11 +1,11 @@
 -- What stage 3 says of a section, from the number that its pattern names.
 use Prim.Native.Nat.{ℕ, _≤_}
 use mathlib.Core.Path.{_≡_, refl, sym, ap, _∙_}
-use mathlib.Core.List.{List, [], _∷_}
+use mathlib.Core.List.{List, [], _∷_, flatMap}
 use mathlib.Core.Bool.{Bool, true, false, not}
 use mathlib.Core.Option.{Option, none, some}
 use native.Mathlib.Omega.{arith}
-use Rattle.songcode.specs.Lists.{isSome, gather}
+use Rattle.songcode.specs.Lists.{isSome}
 use Rattle.songcode.specs.Complaints.{Complaint, complaint, earlier, earliest}
 use Rattle.songcode.specs.Song.{Pattern, items, named, Definition, Section, Song}
 use Rattle.songcode.specs.answer.Sections.{patternIn}
@@ -81,23 +81,23 @@ module _ (ds : List Definition) where
       of (items r) = tt
       of (named n) = found (definitionOf n ds)
 
-  pub all-numbered : (xs : List Section) → Each Numbered (gather sectionFault xs)
+  pub all-numbered : (xs : List Section) → Each Numbered (flatMap sectionFault xs)
   all-numbered xs = numbered-gather sectionFault numbered xs
 
   -- A section's refusal is that of all from it on; where it has none, the next ones' is.
   pub first-section : (x : Section) (xs : List Section) (r : Refusal) → Later (x .header) xs → r ≡ refusalOf (earliest (sectionFault x))
-      → (r .number ≡ 0 → ⊥) → r ≡ refusalOf (earliest (gather sectionFault (x ∷ xs)))
-  unfolding gather refusalOf earliest
+      → (r .number ≡ 0 → ⊥) → r ≡ refusalOf (earliest (flatMap sectionFault (x ∷ xs)))
+  unfolding flatMap refusalOf earliest
   first-section x xs r w e n =
-      e ∙ ap refusalOf (sym (first-wins (x .header) (sectionFault x) (gather sectionFault xs) (up-to x)
+      e ∙ ap refusalOf (sym (first-wins (x .header) (sectionFault x) (flatMap sectionFault xs) (up-to x)
       (gather-behind (x .header) sectionFault on-header xs w) (λ z. n (ap (λ (q : Refusal). q .number) e ∙ of (sectionFault x) z))))
     where
       of : (cs : List Complaint) → cs ≡ [] → refusalOf (earliest cs) .number ≡ 0
       of cs z = rw z refl
 
   pub next-section : (x : Section) (xs : List Section) (r : Refusal) → r ≡ refusalOf (earliest (sectionFault x)) → r .number ≡ 0
-      → gather sectionFault (x ∷ xs) ≡ gather sectionFault xs
-  unfolding gather
+      → flatMap sectionFault (x ∷ xs) ≡ flatMap sectionFault xs
+  unfolding flatMap
   next-section x xs r e z = rw (refused-none (sectionFault x) (numbered x) (ap (λ (q : Refusal). q .number) (sym e) ∙ z)) refl
 
   -- The fault of the section that is met at a place.
@@ -111,18 +111,18 @@ module _ (ds : List Definition) where
 
 -- Stage 3 of the whole song, where nothing is wrong with the definitions.
 module _ (song : Song) (clear : definitionsReferences [] (song .definitions) ≡ []) where
-  references-are : referenceFaults song ≡ gather (sectionFault (song .definitions)) (song .sections)
+  references-are : referenceFaults song ≡ flatMap (sectionFault (song .definitions)) (song .sections)
   unfolding referenceFaults sectionFault
   references-are = rw clear refl
 
   pub song-references : (xs : List Section) (r : Refusal) → xs ≡ song .sections
-      → r ≡ refusalOf (earliest (gather (sectionFault (song .definitions)) xs)) → r ≡ refusalOf (earliest (referenceFaults song))
+      → r ≡ refusalOf (earliest (flatMap (sectionFault (song .definitions)) xs)) → r ≡ refusalOf (earliest (referenceFaults song))
   song-references xs r e h =
-      h ∙ ap (λ (ys : List Section). refusalOf (earliest (gather (sectionFault (song .definitions)) ys))) e
+      h ∙ ap (λ (ys : List Section). refusalOf (earliest (flatMap (sectionFault (song .definitions)) ys))) e
       ∙ ap (λ (cs : List Complaint). refusalOf (earliest cs)) (sym references-are)
 
   pub references-none : (r : Refusal) → r ≡ refusalOf (earliest (referenceFaults song)) → r .number ≡ 0 → referenceFaults song ≡ []
   references-none r h z =
       references-are
-      ∙ refused-none (gather (sectionFault (song .definitions)) (song .sections)) (all-numbered (song .definitions) (song .sections))
+      ∙ refused-none (flatMap (sectionFault (song .definitions)) (song .sections)) (all-numbered (song .definitions) (song .sections))
       (ap (λ (cs : List Complaint). refusalOf (earliest cs) .number) (sym references-are) ∙ ap (λ (q : Refusal). q .number) (sym h) ∙ z)

@@ -1,14 +1,14 @@
 -- Stages one after another: the first that has a complaint gives it, and one that refuses nothing has none.
 use Prim.Native.Nat.{ℕ, _+_, _≤_}
 use mathlib.Core.Path.{_≡_, refl, sym, ap, _∙_}
-use mathlib.Core.List.{List, [], _∷_, _++_}
+use mathlib.Core.List.{List, [], _∷_, _++_, flatMap}
 use mathlib.Core.Bool.{Bool, true, false, not, _&&_}
 use mathlib.Core.Option.{Option, none, some}
 use native.Mathlib.Omega.{arith}
 use borrow.Author.Tests.{ltb-false}
 use lib.Dec.{eqb, leb, ltb}
 use lib.ListN.{length}
-use Rattle.songcode.specs.Lists.{if_then_else_, gather, isEmpty}
+use Rattle.songcode.specs.Lists.{if_then_else_, isEmpty}
 use Rattle.songcode.specs.Complaints.{Complaint, complaint, complainIf, earliest, stageOr, verdict}
 use Rattle.songcode.specs.Song.{Items, Section, Song, LyricLine, Modifiers}
 use Rattle.songcode.specs.answer.Playing.{timeOf, keptMeasures, played}
@@ -53,10 +53,10 @@ pub stage-none : (xs : List Complaint) (r : Refusal) → Each Numbered xs → r 
 stage-none xs r h e z = refused-none xs h (ap (λ (q : Refusal). q .number) (sym e) ∙ z)
 
 -- The complaints of every stage are numbered.
-pub numbered-gather : {A : Type 0} (f : A → List Complaint) → ((x : A) → Each Numbered (f x)) → (xs : List A) → Each Numbered (gather f xs)
-unfolding gather Each
+pub numbered-gather : {A : Type 0} (f : A → List Complaint) → ((x : A) → Each Numbered (f x)) → (xs : List A) → Each Numbered (flatMap f xs)
+unfolding flatMap Each
 numbered-gather f h [] = tt
-numbered-gather f h (x ∷ xs) = each-append Numbered (f x) (gather f xs) (h x) (numbered-gather f h xs)
+numbered-gather f h (x ∷ xs) = each-append Numbered (f x) (flatMap f xs) (h x) (numbered-gather f h xs)
 
 numbered-when : (b : Bool) (xs : List Complaint) → Each Numbered xs → Each Numbered (if b then xs else [])
 unfolding if_then_else_ Each
@@ -100,7 +100,7 @@ module _ (song : Song) where
   pub numbered-counts : Each Numbered (countFaults song)
   unfolding countFaults
   numbered-counts =
-      numbered-when (hasCounts song) (gather (λ l. complainIf (not (isCounted l)) 16 (l .number)) (linesTaken song))
+      numbered-when (hasCounts song) (flatMap (λ l. complainIf (not (isCounted l)) 16 (l .number)) (linesTaken song))
       (numbered-gather (λ (l : LyricLine). complainIf (not (isCounted l)) 16 (l .number))
       (λ l. numbered-if (not (isCounted l)) 16 (l .number) (omega arith)) (linesTaken song))
 
@@ -112,7 +112,7 @@ module _ (song : Song) where
 
   pub numbered-sums : Each Numbered (sumFaults song)
   unfolding sumFaults
-  numbered-sums = numbered-when (hasCounts song) (gather (sumFault song) (song .sections)) (numbered-gather (sumFault song) numbered-sum (song .sections))
+  numbered-sums = numbered-when (hasCounts song) (flatMap (sumFault song) (song .sections)) (numbered-gather (sumFault song) numbered-sum (song .sections))
 
 -- What is said where nothing is refused is not asked of a refusal.
 pub refused-says : {X : Type 0} (r : Totals) (q : Refusal) → r .refusal ≡ q → (q .number ≡ 0 → ⊥) → r .refusal .number ≡ 0 → X

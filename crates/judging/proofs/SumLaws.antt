@@ -1,7 +1,7 @@
 -- The sums over the sections of a song: what its tables hold, and the first section whose lyric lines do not sum to its measures.
 use Prim.Native.Nat.{ℕ, suc, _+_, _≤_}
 use mathlib.Core.Path.{_≡_, refl, sym, ap, _∙_, subst}
-use mathlib.Core.List.{List, [], _∷_, _++_, map}
+use mathlib.Core.List.{List, [], _∷_, _++_, map, flatMap}
 use mathlib.Core.Bool.{Bool, true, false, not, _&&_, Bool·not-not, and-true, and-assoc}
 use mathlib.Core.Option.{Option, none, some}
 use native.Mathlib.Omega.{arith}
@@ -9,7 +9,7 @@ use native.Mathlib.Nat.{le-refl}
 use lib.Dec.{eqb, ltb}
 use lib.ListN.{length, length-map, length-append, length-take}
 use borrow.Author.Tests.{ne-eqb}
-use Rattle.songcode.specs.Lists.{if_then_else_, isEmpty, isSome, every, gather, when}
+use Rattle.songcode.specs.Lists.{if_then_else_, isEmpty, isSome, every, when}
 use Rattle.songcode.specs.Complaints.{Complaint, complaint, complainIf, earliest, earlier}
 use Rattle.songcode.specs.Song.{Items, LyricLine, Section, Song}
 use Rattle.songcode.specs.answer.References.{patternItems}
@@ -142,8 +142,8 @@ module _ {s vs : List ℕ} {p : Place} (x : Opened) (o : Opens s p vs x) (t : Ta
 
 -- The complaints of stage 7 about the sections that are left.
 unfoldable pub faultsLeft : Song → List Section → List Complaint
-unfolding if_then_else_ gather sumFault
-faultsLeft s xs = if hasCounts s then gather (sumFault s) xs else []
+unfolding if_then_else_ flatMap sumFault
+faultsLeft s xs = if hasCounts s then flatMap (sumFault s) xs else []
 
 pub faults-start : (s : Song) → sumFaults s ≡ faultsLeft s (s .sections)
 unfolding sumFaults faultsLeft
@@ -154,12 +154,12 @@ unfolding sumFault
 fault-line s x = line-if (offSum s x) 17 (x .header)
 
 pub faults-end : (s : Song) → sumFaults s ≡ faultsLeft s [] → refusalOf (earliest (sumFaults s)) ≡ record { number = 0; line = 0 }
-unfolding faultsLeft gather if_then_else_ refusalOf earliest
+unfolding faultsLeft flatMap if_then_else_ refusalOf earliest
 faults-end s h = by-cases (hasCounts s) (λ c. let w : sumFaults s ≡ [] = rw c at h in rw w) (λ c. let w : sumFaults s ≡ [] = rw c at h in rw w)
 
 module _ (s : Song) (x : Section) (xs : List Section) where
   faults-pass : hasCounts s && offSum s x ≡ false → faultsLeft s (x ∷ xs) ≡ faultsLeft s xs
-  unfolding faultsLeft gather sumFault complainIf when if_then_else_
+  unfolding faultsLeft flatMap sumFault complainIf when if_then_else_
   faults-pass e =
       by-cases (hasCounts s)
       (λ c. let f : offSum s x ≡ false = rw c at e in rw (c, f))
@@ -167,20 +167,20 @@ module _ (s : Song) (x : Section) (xs : List Section) where
 
   faults-stop : hasCounts s && offSum s x ≡ true → Later (x .header) xs → sumFaults s ≡ faultsLeft s (x ∷ xs)
       → refusalOf (earliest (sumFaults s)) ≡ record { number = 17; line = x .header }
-  unfolding faultsLeft gather sumFault complainIf when if_then_else_ refusalOf earliest earlier UpTo Each
+  unfolding faultsLeft flatMap sumFault complainIf when if_then_else_ refusalOf earliest earlier UpTo Each
   faults-stop e l h =
       let b = both-pass (hasCounts s) (offSum s x) e in
       let here = complaint 17 (x .header) ∷ [] in
-      let w : sumFaults s ≡ here ++ gather (sumFault s) xs = h ∙ rw (b .0, b .1) in
-      ap refusalOf (ap earliest w ∙ first-wins (x .header) here (gather (sumFault s) xs) (le-refl (x .header), tt)
+      let w : sumFaults s ≡ here ++ flatMap (sumFault s) xs = h ∙ rw (b .0, b .1) in
+      ap refusalOf (ap earliest w ∙ first-wins (x .header) here (flatMap (sumFault s) xs) (le-refl (x .header), tt)
       (gather-behind (x .header) (sumFault s) (fault-line s) xs l) (λ z. nil-is-not-cons (sym z)))
 
 -- The sums so far, and what the sections that are left add to them.
 pub record Summed (s : Song) (rest : List Section) (x : Sums) : Type 0 where
   pub sections : x .sections + length rest ≡ length (s .sections)
-  pub measures : x .measures + length (gather (played s) rest) ≡ length (allMeasures s)
-  pub beats : x .beats + total (gather (played s) rest) ≡ total (allMeasures s)
-  pub lines : x .lines + length (gather lyricsOf rest) ≡ length (gather lyricsOf (s .sections))
+  pub measures : x .measures + length (flatMap (played s) rest) ≡ length (allMeasures s)
+  pub beats : x .beats + total (flatMap (played s) rest) ≡ total (allMeasures s)
+  pub lines : x .lines + length (flatMap lyricsOf rest) ≡ length (flatMap lyricsOf (s .sections))
   pub all : x .all && every (isPrompted s) rest ≡ hasItems s
 
 summed-start : (s : Song) → Summed s (s .sections) (record { sections = 0; measures = 0; beats = 0; lines = 0; all = true })
@@ -188,8 +188,8 @@ unfolding allMeasures hasItems
 summed-start s =
     record {
       sections = omega arith;
-      measures = from-none (length (gather (played s) (s .sections)));
-      beats = from-none (total (gather (played s) (s .sections)));
+      measures = from-none (length (flatMap (played s) (s .sections)));
+      beats = from-none (total (flatMap (played s) (s .sections)));
       lines = omega arith;
       all = refl;
     }
@@ -203,15 +203,15 @@ summed-from s xs e = subst (λ ys. Summed s ys (record { sections = 0; measures 
 summed-next : (s : Song) (y : Section) (rest : List Section) (x : Sums) (c : Counts) (l : ℕ) (b : Bool) → c .measures ≡ length (played s y)
     → c .beats ≡ total (played s y) → l ≡ length (y .lyrics) → b ≡ isPrompted s y
     → Summed s (y ∷ rest) x → Summed s rest (withSection x c l b)
-unfolding withSection gather every lyricsOf
+unfolding withSection flatMap every lyricsOf
 summed-next s y rest x c l b m t e p h =
     let h0 = h .sections in
     let h1 = h .measures in
     let h2 = h .beats in
     let h3 = h .lines in
-    let a1 = length-append (played s y) (gather (played s) rest) in
-    let a2 = total-append (played s y) (gather (played s) rest) in
-    let a3 = length-append (y .lyrics) (gather lyricsOf rest) in
+    let a1 = length-append (played s y) (flatMap (played s) rest) in
+    let a2 = total-append (played s y) (flatMap (played s) rest) in
+    let a3 = length-append (y .lyrics) (flatMap lyricsOf rest) in
     record {
       sections = omega arith;
       measures = omega arith;
@@ -268,8 +268,8 @@ unfolding measureWords
 measure-words-length first [] = refl
 measure-words-length first (m ∷ row) = ap suc (measure-words-length (first + length m) row)
 
-pub beat-words-length : (row : List (List Beat)) → length (gather (map beatWord) row) ≡ total row
-unfolding gather total
+pub beat-words-length : (row : List (List Beat)) → length (flatMap (map beatWord) row) ≡ total row
+unfolding flatMap total
 beat-words-length [] = refl
 beat-words-length (m ∷ row) = let h = beat-words-length row in let a = length-map m beatWord in rw length-append (omega arith)
 
@@ -281,8 +281,8 @@ prompted-parts s x e =
     let b = both-pass (isPlayed s x) (not (isEmpty (x .lyrics))) (a .0) in
     (b .0, b .1, a .1)
 
-pub all-taken : (s : Song) (xs : List Section) → every (isPrompted s) xs ≡ true → takenFrom s xs ≡ gather lyricsOf xs
-unfolding gather every if_then_else_ lyricsOf
+pub all-taken : (s : Song) (xs : List Section) → every (isPrompted s) xs ≡ true → takenFrom s xs ≡ flatMap lyricsOf xs
+unfolding flatMap every if_then_else_ lyricsOf
 all-taken s [] e = refl
 all-taken s (x ∷ xs) e =
     let a = both-pass (isPrompted s x) (every (isPrompted s) xs) e in
@@ -292,7 +292,7 @@ pub all-prompted : (s : Song) → hasItems s ≡ true → every (isPrompted s) (
 unfolding hasItems
 all-prompted s e = e
 
-items-length : (s : Song) → length (map itemWord (prompts s)) ≡ (if hasItems s then length (gather lyricsOf (s .sections)) else 0)
+items-length : (s : Song) → length (map itemWord (prompts s)) ≡ (if hasItems s then length (flatMap lyricsOf (s .sections)) else 0)
 unfolding prompts if_then_else_ linesTaken
 items-length s =
     by-cases (hasItems s)
@@ -300,12 +300,12 @@ items-length s =
     (λ e. rw e)
 
 pub summed-end : (s : Song) (x : Sums) → Summed s [] x → Holds (tables s) (totalsOf x)
-unfolding tables totalsOf gather every total
+unfolding tables totalsOf flatMap every total
 summed-end s x h =
     let h0 = h .sections in
     let h1 = h .measures in
     let h2 = h .beats in
-    let h3 : x .lines ≡ length (gather lyricsOf (s .sections)) = let g = h .lines in omega arith in
+    let h3 : x .lines ≡ length (flatMap lyricsOf (s .sections)) = let g = h .lines in omega arith in
     let h4 : x .all ≡ hasItems s = sym (and-true (x .all)) ∙ h .all in
     let a = section-words-length s 0 (s .sections) in
     let b = measure-words-length 0 (allMeasures s) in

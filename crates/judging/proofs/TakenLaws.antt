@@ -1,13 +1,13 @@
 -- Stage 6: the lyric lines that are taken, section by section, and the first of them without a count.
 use Prim.Native.Nat.{ℕ, zero, suc, _≤_, min}
 use mathlib.Core.Path.{_≡_, refl, sym, ap, _∙_}
-use mathlib.Core.List.{List, [], _∷_, _++_}
+use mathlib.Core.List.{List, [], _∷_, _++_, flatMap}
 use mathlib.Core.Bool.{Bool, true, false, not, _||_, or-assoc}
 use mathlib.Core.Option.{Option, none, some}
 use native.Mathlib.Omega.{arith}
 use lib.Dec.{eqb, ltb}
 use borrow.Author.Tests.{ne-eqb, ltb-true, ltb-false, eqb-true}
-use Rattle.songcode.specs.Lists.{if_then_else_, gather, any, when}
+use Rattle.songcode.specs.Lists.{if_then_else_, any, when}
 use Rattle.songcode.specs.Complaints.{Complaint, complaint, complainIf, goesFirst, earlier, earliest}
 use Rattle.songcode.specs.Song.{LyricLine, Section, Song}
 use Rattle.songcode.specs.answer.Lyrics.{isCounted, isPlayed, linesTaken, hasCounts, countFaults}
@@ -28,15 +28,15 @@ bare-append (l ∷ xs) ys =
 
 -- The lyric lines that are taken of these sections.
 abbrev pub takenFrom : Song → List Section → List LyricLine
-takenFrom s xs = gather (λ x. if isPlayed s x then x .lyrics else []) xs
+takenFrom s xs = flatMap (λ x. if isPlayed s x then x .lyrics else []) xs
 
 module _ (s : Song) (x : Section) (xs : List Section) {played : Bool} (p : played ≡ isPlayed s x) where
   taken-played : played ≡ true → takenFrom s (x ∷ xs) ≡ x .lyrics ++ takenFrom s xs
-  unfolding gather if_then_else_
+  unfolding flatMap if_then_else_
   taken-played e = let q : isPlayed s x ≡ true = sym p ∙ e in rw q
 
   taken-not : played ≡ false → takenFrom s (x ∷ xs) ≡ takenFrom s xs
-  unfolding gather if_then_else_
+  unfolding flatMap if_then_else_
   taken-not e = let q : isPlayed s x ≡ false = sym p ∙ e in rw q
 
   pub taken-numbered : Numbered (x .lyrics) → Numbered (takenFrom s xs) → Numbered (takenFrom s (x ∷ xs))
@@ -89,8 +89,8 @@ earlier-bare (suc n) (suc m) h = ap some (first-is n m) ∙ ap bareOf (sym (firs
 abbrev uncounted : LyricLine → List Complaint
 uncounted l = complainIf (not (isCounted l)) 16 (l .number)
 
-first-bare : (ls : List LyricLine) → Numbered ls → earliest (gather uncounted ls) ≡ bareOf (bareLine ls)
-unfolding earliest gather complainIf when bareLine bareOf Each if_then_else_
+first-bare : (ls : List LyricLine) → Numbered ls → earliest (flatMap uncounted ls) ≡ bareOf (bareLine ls)
+unfolding earliest flatMap complainIf when bareLine bareOf Each if_then_else_
 first-bare [] a = refl
 first-bare (l ∷ ls) a =
     by-cases (isCounted l)

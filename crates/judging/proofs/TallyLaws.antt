@@ -7,7 +7,7 @@ use native.Mathlib.Omega.{arith}
 use lib.Dec.{eqb, ltb}
 use lib.ListN.{length}
 use borrow.Author.Tests.{ne-eqb, eqb-true, ltb-true, ltb-false}
-use Rattle.songcode.specs.Lists.{if_then_else_, isSome, orElse, any}
+use Rattle.songcode.specs.Lists.{if_then_else_, isSome, any}
 use Rattle.songcode.specs.Bytes.{placed}
 use Rattle.songcode.specs.Song.{LyricLine}
 use Rattle.songcode.specs.answer.Lyrics.{wordsOf, countOf, isCounted, counted}
@@ -64,7 +64,7 @@ none-joined u = tally-is (omega arith) (omega arith) refl (zero-first (u .bare))
 
 joined-more : (t : Tally) (l : LyricLine) (ls : List LyricLine) (k : ℕ) → countOf l ≡ countFrom k
     → joined (withLine t (l .number) k) (tallied ls) ≡ joined t (tallied (l ∷ ls))
-unfolding joined withLine tallied any counted bareLine isCounted isSome orElse countFrom if_then_else_
+unfolding joined withLine tallied any counted bareLine isCounted isSome countFrom if_then_else_
 joined-more t l ls zero e =
     tally-is (omega arith) (rw e (omega arith)) (rw e) (rw e (sym (first-assoc (t .bare) (l .number) (bareLine ls))))
 joined-more t l ls (suc k) e =

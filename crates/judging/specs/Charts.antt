@@ -1,9 +1,9 @@
 -- A chart that stages 3 to 7 have judged.
+use mathlib.Core.Option.{Option·getD}
 use Prim.Native.Nat.{ℕ, _≤_}
 use mathlib.Core.Path.{_≡_}
 use mathlib.Core.List.{List, []}
 use lib.ListN.{length}
-use Rattle.songcode.specs.Lists.{orElse}
 use Rattle.songcode.specs.Complaints.{verdict}
 use Rattle.songcode.specs.Song.{Song}
 use Rattle.songcode.specs.answer.Playing.{timeAmong, bpmAmong}
@@ -30,9 +30,9 @@ pub record Clear (song : Song) : Type 0 where
 
 -- The song's time, 0 where it has none, and its bpm, 511 where it has none.
 pub record SongKeys (song : Song) (k : Keys) : Type 0 where
-  pub time : k .time ≡ orElse (timeAmong (song .keys)) 0
+  pub time : k .time ≡ Option·getD (timeAmong (song .keys)) 0
   pub time-fits : k .time ≤ 32
-  pub bpm : k .bpm ≡ orElse (bpmAmong (song .keys)) 511
+  pub bpm : k .bpm ≡ Option·getD (bpmAmong (song .keys)) 511
   pub bpm-fits : k .bpm ≤ 511
 
 -- The song can be written: the buffer holds its definitions, and nothing is wrong with it.

@@ -7,11 +7,11 @@ use super::meters::sooner;
 use scores::open_section;
 use sections::Place;
 use text::Refusal;
+ghost use mathlib.Core.Option.{Option·getD};
 ghost use mathlib.Core.Path.{_≡_};
 ghost use mathlib.Core.List.{[], _∷_};
 ghost use Prim.Native.Nat.{_≤_};
 ghost use lib.ListN.{length};
-ghost use Rattle.songcode.specs.Lists.{orElse};
 ghost use Rattle.songcode.specs.Complaints.{verdict};
 ghost use Rattle.songcode.specs.answer.Playing.{timeAmong};
 ghost use Rattle.songcode.specs.answer.Meter.{meterFaults, lengthFaults};
@@ -27,7 +27,7 @@ pub fn measure_stages(
     time: usize,
     words: &mut [u32],
 ) -> Refusal
-    requires { ⌜ Begins (now s) first × Ready (now s) (now words) mark × (mark ≤ first .at) × (time ≡ orElse (timeAmong (songOf (now s) .keys)) 0) ⌝ }
+    requires { ⌜ Begins (now s) first × Ready (now s) (now words) mark × (mark ≤ first .at) × (time ≡ Option·getD (timeAmong (songOf (now s) .keys)) 0) ⌝ }
     ensures refusal { λ r. ⌜ r ≡ refusalOf (verdict (meterFaults (songOf (now (s .entry)))
         ∷ lengthFaults (songOf (now (s .entry))) 0 (songOf (now (s .entry)) .sections) ∷ [])) ⌝ }
     ensures ready { λ r. ⌜ Ready (now (s .entry)) (now (words .exit)) mark × (length (now (words .exit)) ≡ length (now (words .entry))) ⌝ }

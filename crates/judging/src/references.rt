@@ -5,9 +5,9 @@ use sections::Place;
 use sections::Run;
 use sections::pass;
 use text::Refusal;
+ghost use mathlib.Core.List.{flatMap};
 ghost use mathlib.Core.Path.{_≡_};
 ghost use mathlib.Core.Option.{some};
-ghost use Rattle.songcode.specs.Lists.{gather};
 ghost use Rattle.songcode.specs.Complaints.{earliest};
 ghost use Rattle.songcode.specs.Song.{Pattern, Section};
 ghost use Rattle.songcode.specs.answer.Sections.{patternIn};
@@ -39,7 +39,7 @@ fn name_fault(s: &[u8], words: &[u32], pattern: Run, header: usize) -> Refusal
 
 pub fn stage_three(s: &[u8], words: &[u32], first: Place) -> Refusal
     requires { ⌜ Onward (now s) first × Told (now s) (now words) ⌝ }
-    ensures { λ r. ⌜ r ≡ refusalOf (earliest (gather (λ (x : Section).
+    ensures { λ r. ⌜ r ≡ refusalOf (earliest (flatMap (λ (x : Section).
         sectionReference (songOf (now (s .entry)) .definitions) (x .pattern) (x .header)) (sectionsFrom (now (s .entry)) first))) ⌝ }
 {
     let mut place = first;

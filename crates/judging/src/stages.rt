@@ -9,10 +9,10 @@ use sections::Place;
 use stage2::stage_two;
 use text::Refusal;
 use text::judge_input;
+ghost use mathlib.Core.Option.{Option·getD};
 ghost use mathlib.Core.Path.{_≡_};
 ghost use mathlib.Core.List.{[], _∷_};
 ghost use Prim.Native.Nat.{_≤_};
-ghost use Rattle.songcode.specs.Lists.{orElse};
 ghost use Rattle.songcode.specs.Complaints.{verdict};
 ghost use Rattle.songcode.specs.answer.Playing.{timeAmong};
 ghost use Rattle.songcode.specs.answer.Meter.{meterFaults, lengthFaults};
@@ -50,7 +50,7 @@ fn refused(refusal: Refusal) -> Totals
 // Stages 6 and 7, where those before refuse nothing.
 fn lyric_stages(s: &[u8], mark: usize, first: Place, time: usize, words: &mut [u32]) -> Totals
     requires ready { ⌜ Begins (now s) first × Ready (now s) (now words) mark × (mark ≤ first .at)
-        × (time ≡ orElse (timeAmong (songOf (now s) .keys)) 0) × (time ≤ 32) ⌝ }
+        × (time ≡ Option·getD (timeAmong (songOf (now s) .keys)) 0) × (time ≤ 32) ⌝ }
     requires clear { ⌜ (meterFaults (songOf (now s)) ≡ []) × (lengthFaults (songOf (now s)) 0 (songOf (now s) .sections) ≡ []) ⌝ }
     ensures refusal { λ r. ⌜ r .refusal ≡ refusalOf (verdict (lyricFaults (songOf (now (s .entry))))) ⌝ }
     ensures holds { λ r. ⌜ (r .refusal .number ≡ 0 → Holds (tables (songOf (now (s .entry)))) r) ⌝ }
@@ -67,7 +67,7 @@ fn lyric_stages(s: &[u8], mark: usize, first: Place, time: usize, words: &mut [u
 // Stages 4 to 7.
 fn playing_stages(s: &[u8], mark: usize, first: Place, time: usize, words: &mut [u32]) -> Totals
     requires { ⌜ Begins (now s) first × Ready (now s) (now words) mark × (mark ≤ first .at)
-        × (time ≡ orElse (timeAmong (songOf (now s) .keys)) 0) × (time ≤ 32) ⌝ }
+        × (time ≡ Option·getD (timeAmong (songOf (now s) .keys)) 0) × (time ≤ 32) ⌝ }
     ensures refusal { λ r. ⌜ r .refusal ≡ refusalOf (verdict (playingFaults (songOf (now (s .entry))))) ⌝ }
     ensures holds { λ r. ⌜ (r .refusal .number ≡ 0 → Holds (tables (songOf (now (s .entry)))) r) ⌝ }
     ensures ready { λ r. ⌜ (r .refusal .number ≡ 0 → Ready (now (s .entry)) (now (words .exit)) mark) ⌝ }
@@ -81,7 +81,7 @@ fn playing_stages(s: &[u8], mark: usize, first: Place, time: usize, words: &mut 
 
 // Stages 3 to 7; where none refuses, how many words the tables take.
 pub fn later_stages(s: &[u8], loaded: Loaded, time: usize, words: &mut [u32]) -> Totals
-    requires { ⌜ Loads (now s) (now words) loaded × (time ≡ orElse (timeAmong (songOf (now s) .keys)) 0) × (time ≤ 32) ⌝ }
+    requires { ⌜ Loads (now s) (now words) loaded × (time ≡ Option·getD (timeAmong (songOf (now s) .keys)) 0) × (time ≤ 32) ⌝ }
     ensures refusal { λ r. ⌜ r .refusal ≡ refusalOf (verdict (laterFaults (songOf (now (s .entry))))) ⌝ }
     ensures holds { λ r. ⌜ (r .refusal .number ≡ 0 → Holds (tables (songOf (now (s .entry)))) r) ⌝ }
     ensures ready { λ r. ⌜ (r .refusal .number ≡ 0 → (loaded .refusal .number ≡ 0) × Ready (now (s .entry)) (now (words .exit)) (loaded .mark)) ⌝ }

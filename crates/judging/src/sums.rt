@@ -10,12 +10,12 @@ use scores::open_section;
 use sections::Modifiers;
 use sections::Place;
 use text::Refusal;
+ghost use mathlib.Core.Option.{Option·getD};
 ghost use mathlib.Core.Path.{_≡_};
 ghost use mathlib.Core.List.{[]};
 ghost use Prim.Native.Nat.{_+_, _≤_};
 ghost use lib.ListN.{length};
 ghost use lib.Seq.{sets};
-ghost use Rattle.songcode.specs.Lists.{orElse};
 ghost use Rattle.songcode.specs.Complaints.{earliest};
 ghost use Rattle.songcode.specs.answer.Playing.{timeAmong};
 ghost use Rattle.songcode.specs.description.Performance.{total};
@@ -173,7 +173,7 @@ pub fn stage_seven(
     words: &mut [u32],
 ) -> Totals
     requires { ⌜ Begins (now s) first × Ready (now s) (now words) mark × (mark ≤ first .at)
-        × (time ≡ orElse (timeAmong (songOf (now s) .keys)) 0) × (time ≤ 32) × (meterFaults (songOf (now s)) ≡ [])
+        × (time ≡ Option·getD (timeAmong (songOf (now s) .keys)) 0) × (time ≤ 32) × (meterFaults (songOf (now s)) ≡ [])
         × (lengthFaults (songOf (now s)) 0 (songOf (now s) .sections) ≡ []) × (counted ≡ hasCounts (songOf (now s))) ⌝ }
     ensures refusal { λ r. ⌜ r .refusal ≡ refusalOf (earliest (sumFaults (songOf (now (s .entry))))) ⌝ }
     ensures holds { λ r. ⌜ (r .refusal .number ≡ 0 → Holds (tables (songOf (now (s .entry)))) r) ⌝ }

@@ -1,14 +1,14 @@
 -- The fault of a definition's references is the one that the stage gives.
 use Prim.Native.Nat.{ℕ, _≤_}
 use mathlib.Core.Path.{_≡_, refl, sym, ap, _∙_}
-use mathlib.Core.List.{List, [], _∷_}
+use mathlib.Core.List.{List, [], _∷_, flatMap}
 use mathlib.Core.Bool.{Bool, true, false, _||_, not}
-use mathlib.Core.Option.{Option, none, some}
+use mathlib.Core.Option.{Option, none, some, Option·getD, bind}
 use native.Mathlib.Omega.{arith}
 use borrow.Author.Tests.{leb-true, leb-false, le-leb, lt-leb}
 use lib.Dec.{leb}
 use lib.ListN.{take, drop}
-use Rattle.songcode.specs.Lists.{any, gather, andThen, orElse}
+use Rattle.songcode.specs.Lists.{any}
 use Rattle.songcode.specs.Complaints.{Complaint, earliest}
 use Rattle.songcode.specs.Song.{Items, one, refer, Definition}
 use Rattle.songcode.specs.answer.PatternText.{depth, depthI, loopsDeep, references}
@@ -29,16 +29,16 @@ use Rattle.outlines.proofs.FaultTrees.{faultItems, items-fault, items-m
 use Rattle.outlines.proofs.DeepLaws.{flawed, looped, deepItems, items-deep, items-put-deep}
 
 -- A found definition, put in.
-found-items : (i : Option Items) (o : Outline) (n : ℕ) → KnowsItems i o → (leb 1 (depth (orElse i (one (refer n)))) ≡ o .loops)
-    × (depth (orElse i (one (refer n))) ≤ 1)
-unfolding KnowsItems orElse depth depthI vacant
+found-items : (i : Option Items) (o : Outline) (n : ℕ) → KnowsItems i o → (leb 1 (depth (Option·getD i (one (refer n)))) ≡ o .loops)
+    × (depth (Option·getD i (one (refer n))) ≤ 1)
+unfolding KnowsItems depth depthI vacant
 found-items none o n k = (rw k, omega arith)
 found-items (some r) o n k = (sym (k .0 .loops), k .1)
 
 found : (d : Option Definition) (m : Bool) (o : Outline) (n : ℕ) → Knows d m o
-    → (leb 1 (depth (orElse (andThen d (λ e. e .items)) (one (refer n)))) ≡ o .loops)
-    × (depth (orElse (andThen d (λ e. e .items)) (one (refer n))) ≤ 1)
-unfolding Knows andThen orElse depth depthI vacant
+    → (leb 1 (depth (Option·getD (bind d (λ e. e .items)) (one (refer n)))) ≡ o .loops)
+    × (depth (Option·getD (bind d (λ e. e .items)) (one (refer n))) ≤ 1)
+unfolding Knows bind depth depthI vacant
 found none m o n k = (rw (k .1), omega arith)
 found (some d) m o n k = found-items (d .items) o n (k .1)
 
@@ -60,45 +60,45 @@ module _ (ds : List Definition) (missing : ℕ → Bool) (find : ℕ → Outline
   unfolding Known
   knows n = known n
 
-  all-either : (ns : List ℕ) → Each (TenOrEleven head) (gather faultOf ns)
-  unfolding gather Each faultOf
+  all-either : (ns : List ℕ) → Each (TenOrEleven head) (flatMap faultOf ns)
+  unfolding flatMap Each faultOf
   all-either [] = tt
-  all-either (n ∷ ns) = each-append (TenOrEleven head) (faultOf n) (gather faultOf ns) (fault-either (definitionOf n ds) head) (all-either ns)
+  all-either (n ∷ ns) = each-append (TenOrEleven head) (faultOf n) (flatMap faultOf ns) (fault-either (definitionOf n ds) head) (all-either ns)
 
-  all-ten : (ns : List ℕ) → has 10 (gather faultOf ns) ≡ any missing ns
-  unfolding gather has any faultOf
+  all-ten : (ns : List ℕ) → has 10 (flatMap faultOf ns) ≡ any missing ns
+  unfolding flatMap has any faultOf
   all-ten [] = refl
-  all-ten (n ∷ ns) = has-append 10 (faultOf n) (gather faultOf ns) ∙ rw (fault-ten (definitionOf n ds) (missing n) (find n) head (knows n), all-ten ns)
+  all-ten (n ∷ ns) = has-append 10 (faultOf n) (flatMap faultOf ns) ∙ rw (fault-ten (definitionOf n ds) (missing n) (find n) head (knows n), all-ten ns)
 
-  all-eleven : (ns : List ℕ) → any missing ns ≡ false → has 11 (gather faultOf ns) ≡ any (flawed missing find) ns
-  unfolding gather has any faultOf
+  all-eleven : (ns : List ℕ) → any missing ns ≡ false → has 11 (flatMap faultOf ns) ≡ any (flawed missing find) ns
+  unfolding flatMap has any faultOf
   all-eleven [] e = refl
   all-eleven (n ∷ ns) e =
       let h = none-passes (missing n) (any missing ns) e in
-      has-append 11 (faultOf n) (gather faultOf ns) ∙ rw (fault-eleven (definitionOf n ds) (missing n) (find n) head (knows n) (h .0), all-eleven ns (h .1))
+      has-append 11 (faultOf n) (flatMap faultOf ns) ∙ rw (fault-eleven (definitionOf n ds) (missing n) (find n) head (knows n) (h .0), all-eleven ns (h .1))
 
   -- What a reference puts in is as deep as its outline tells.
   put-right : (n : ℕ) → (leb 1 (depth (putInItem (itemsOf ds) (refer n))) ≡ looped missing find n) × (depth (putInItem (itemsOf ds) (refer n)) ≤ 1)
-  unfolding putInItem itemsOf andThen
+  unfolding putInItem itemsOf bind
   put-right n = found (definitionOf n ds) (missing n) (find n) n (knows n)
 
   -- The complaints of the definition.
   complaints-either : (r : Items) → Each (TenOrEleven head) (definitionReferences ds (some r) head)
   unfolding definitionReferences depthFault faultOf
-  complaints-either r = each-append (TenOrEleven head) (gather faultOf (references r)) (depthFault ds r head) (all-either (references r))
+  complaints-either r = each-append (TenOrEleven head) (flatMap faultOf (references r)) (depthFault ds r head) (all-either (references r))
       (when-either (not (leb (depth (putIn (itemsOf ds) r)) loopsDeep)) head)
 
   complaints-ten : (r : Items) → has 10 (definitionReferences ds (some r) head) ≡ any missing (references r)
   unfolding definitionReferences depthFault faultOf
   complaints-ten r =
-      has-append 10 (gather faultOf (references r)) (depthFault ds r head)
+      has-append 10 (flatMap faultOf (references r)) (depthFault ds r head)
       ∙ rw (all-ten (references r), when-ten (not (leb (depth (putIn (itemsOf ds) r)) loopsDeep)) head) (or-false (any missing (references r)))
 
   complaints-eleven : (r : Items) → depth r ≤ 1 → any missing (references r) ≡ false
       → has 11 (definitionReferences ds (some r) head) ≡ (any (flawed missing find) (references r) || deepItems missing find r)
   unfolding definitionReferences depthFault faultOf loopsDeep
   complaints-eleven r d e =
-      has-append 11 (gather faultOf (references r)) (depthFault ds r head)
+      has-append 11 (flatMap faultOf (references r)) (depthFault ds r head)
       ∙ rw (all-eleven (references r) e, when-eleven (not (leb (depth (putIn (itemsOf ds) r)) 1)) head)
       (ap (λ b. any (flawed missing find) (references r) || b) (beyond-one (depth (putIn (itemsOf ds) r))
       ∙ items-put-deep missing find (itemsOf ds) put-right r d))

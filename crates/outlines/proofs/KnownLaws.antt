@@ -3,10 +3,9 @@ use Prim.Native.Nat.{ℕ, _≤_}
 use mathlib.Core.Path.{_≡_, refl}
 use mathlib.Core.List.{List, [], _∷_}
 use mathlib.Core.Bool.{Bool}
-use mathlib.Core.Option.{Option, none, some}
+use mathlib.Core.Option.{Option, none, some, bind}
 use native.Mathlib.Omega.{arith}
 use lib.ListN.{take, drop}
-use Rattle.songcode.specs.Lists.{andThen, orElse}
 use Rattle.songcode.specs.Song.{Items, Definition}
 use Rattle.songcode.specs.answer.PatternText.{depth, references}
 use Rattle.songcode.specs.answer.References.{definitionOf, itemsOf, putInItem}
@@ -35,7 +34,7 @@ found-told d e q m o k f g p = tells (e .items) g (knows d f k)
     tells i h w = let z : KnowsItems (some q) o = rw h at w in z .2 p
 
 refer-told : (ds : List Definition) (missing : ℕ → Bool) (find : ℕ → Outline) → Known ds missing find → (n : ℕ) → Refers ds n → Told find (itemsOf ds) n
-unfolding Told Known putInItem itemsOf andThen orElse
+unfolding Told Known putInItem itemsOf bind
 refer-told ds missing find known n w =
     rw (w .found, w .filled) (found-told (definitionOf n ds) (w .definition) (w .items) (missing n) (find n) (known n) (w .found) (w .filled) (w .plain))
 

@@ -6,7 +6,6 @@ use mathlib.Core.Bool.{true}
 use mathlib.Core.Option.{Option, none}
 use native.Mathlib.Omega.{arith}
 use lib.ListN.{take, drop}
-use Rattle.songcode.specs.Lists.{orElse}
 use Rattle.songcode.specs.answer.Chords.{Chord}
 use Rattle.songcode.specs.Song.{Item, measure, loop, refer, Items, one, next}
 use Rattle.songcode.specs.answer.Tokens.{Token, opens, closes}
@@ -42,7 +41,7 @@ module _ (ws : List ℕ) (f : ℕ → Option Items) (n : ℕ) where
   item-passed : (k : ℕ) → Inside k → (i : Item) → WalkableItem ws f (Walkable ws f k) i
       → (to at : ℕ) (last : Option Chord) (t : List Token) → Apart t → drop at (take to ws) ≡ tokenWords (writeItem i t)
       → Passed ws n (level k n ws) to at last (measuresOf n last (putInItem f i)) (lastItems last (putInItem f i)) t
-  unfolding Inside WalkableItem writeItem tokenWords putInItem measuresOf lastItems measuresItem lastItem Stands orElse
+  unfolding Inside WalkableItem writeItem tokenWords putInItem measuresOf lastItems measuresItem lastItem Stands
   item-passed k ih (measure m) h to at last t a e = measure-passed ws n (level k n ws) to at last m t h a e
   item-passed k ih (loop r j) h to at last t a e =
       loop-passed ws n (level k n ws) to at last j (measuresOf n last (putIn f r)) (lastItems last (putIn f r))

@@ -1,11 +1,11 @@
 -- What a section's contract says of its tables, in the words of the definitions: the measures that are played, and their words.
 use Prim.Native.Nat.{ℕ, zero, suc, _+_, _-_}
 use mathlib.Core.Path.{_≡_, refl, sym, ap, _∙_}
-use mathlib.Core.List.{List, [], _∷_, _++_, map, append-assoc}
+use mathlib.Core.List.{List, [], _∷_, _++_, map, append-assoc, flatMap}
 use mathlib.Core.Option.{Option, none, some}
 use native.Mathlib.Omega.{arith}
 use lib.ListN.{length, take, drop}
-use Rattle.songcode.specs.Lists.{gather, times}
+use Rattle.songcode.specs.Lists.{times}
 use Rattle.songcode.specs.Song.{Cut, Modifiers}
 use Rattle.songcode.specs.answer.Playing.{Beat, keep, cutFront, cutBack, applied, cutRow, repeats}
 use Rattle.songcode.specs.description.Performance.{total}
@@ -129,7 +129,7 @@ unfolding heads measureWords rowWords
 heads-words first [] = refl
 heads-words first (x ∷ row) = rw (length-words beatWord x, heads-words (first + length x) row)
 
-pub flat-words : (row : List (List Beat)) → flat (rowWords row) ≡ gather (map beatWord) row
-unfolding flat gather rowWords
+pub flat-words : (row : List (List Beat)) → flat (rowWords row) ≡ flatMap (map beatWord) row
+unfolding flat flatMap rowWords
 flat-words [] = refl
 flat-words (x ∷ row) = ap (λ y. map beatWord x ++ y) (flat-words row)

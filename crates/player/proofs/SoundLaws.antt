@@ -1,14 +1,14 @@
 -- A written measure: its words are positions, and they sound what the definitions say.
 use Prim.Native.Nat.{ℕ, zero, suc, _+_, _/_, _<_}
 use mathlib.Core.Path.{_≡_, refl, sym, ap, _∙_}
-use mathlib.Core.List.{List, [], _∷_, _++_, map, map-append, append-assoc, append-nil}
+use mathlib.Core.List.{List, [], _∷_, _++_, map, map-append, append-assoc, append-nil, flatMap}
 use mathlib.Core.Bool.{true, false}
 use mathlib.Core.Option.{Option, none, some}
 use native.Mathlib.Omega.{arith}
 use borrow.Author.Tests.{ne-eqb, lt-ltb}
 use lib.ListN.{length, drop, replicate}
 use lib.Seq.{drop-drop}
-use Rattle.songcode.specs.Lists.{if_then_else_, gather}
+use Rattle.songcode.specs.Lists.{if_then_else_}
 use Rattle.songcode.specs.answer.Chords.{Chord}
 use Rattle.songcode.specs.Song.{Sound, chord, again, silence, Sounds, only, also, Measure}
 use Rattle.songcode.specs.answer.Tokens.{Token, sound, remover}
@@ -85,9 +85,9 @@ sound-part share last s h =
 
 -- The sounds of a measure, in front of more positions.
 sounds-parts : (share : ℕ) (last : Option Chord) (ss : Sounds) (k : List Token) → ChordsFit ss
-    → partsOf share (voiceWord last) (tokenWords (writeSounds ss k)) ≡ map beatWord (gather (lasting share) (voices last ss))
+    → partsOf share (voiceWord last) (tokenWords (writeSounds ss k)) ≡ map beatWord (flatMap (lasting share) (voices last ss))
     ++ partsOf share (voiceWord (lastSounds last ss)) (tokenWords k)
-unfolding ChordsFit writeSounds tokenWords partsOf voices gather lastSounds
+unfolding ChordsFit writeSounds tokenWords partsOf voices flatMap lastSounds
 sounds-parts share last (only s) k h = rw (sound-part share last s h, sound-chord last s h, append-nil)
 sounds-parts share last (also ss s) k h =
     let v = heard (lastSounds last ss) s in
@@ -179,9 +179,9 @@ pub measure-beats : (n : ℕ) (last : Option Chord) (m : Measure) → ChordsFit 
 unfolding writeMeasure beatsOf tokenWords partsOf
 measure-beats n last m h =
     sounds-parts (n / positions m) last (m .sounds) (writeRemovers (m .removers) []) h
-    ∙ ap (λ x. map beatWord (gather (lasting (n / positions m)) (voices last (m .sounds))) ++ x)
+    ∙ ap (λ x. map beatWord (flatMap (lasting (n / positions m)) (voices last (m .sounds))) ++ x)
     (removers-parts (n / positions m) (voiceWord (lastSounds last (m .sounds))) (m .removers) [])
-    ∙ append-nil (map beatWord (gather (lasting (n / positions m)) (voices last (m .sounds))))
+    ∙ append-nil (map beatWord (flatMap (lasting (n / positions m)) (voices last (m .sounds))))
 
 pub measure-chord : (last : Option Chord) (m : Measure) → ChordsFit (m .sounds)
     → chordsOf (voiceWord last) (tokenWords (writeMeasure m [])) ≡ voiceWord (lastSounds last (m .sounds))

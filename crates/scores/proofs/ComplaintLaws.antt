@@ -1,13 +1,13 @@
 -- Which complaint is given of two lists put together, and refusals as numbers.
 use Prim.Native.Nat.{ℕ, _<_, _≤_}
 use mathlib.Core.Path.{_≡_, refl, ap, _∙_, subst}
-use mathlib.Core.List.{List, [], _∷_, _++_}
+use mathlib.Core.List.{List, [], _∷_, _++_, flatMap}
 use mathlib.Core.Logic.{inl, inr, ⊎-elim}
 use mathlib.Core.Bool.{Bool, true, false}
 use mathlib.Core.Option.{Option, none, some}
 use native.Mathlib.Omega.{arith}
 use borrow.Author.Tests.{lt-ltb, le-ltb, le-leb, eq-eqb}
-use Rattle.songcode.specs.Lists.{if_then_else_, gather, when}
+use Rattle.songcode.specs.Lists.{if_then_else_, when}
 use Rattle.songcode.specs.Complaints.{Complaint, complainIf, goesFirst, earlier, earliest}
 use Rattle.songcode.specs.description.Given.{Before}
 use Rattle.songcode.specs.Song.{Section}
@@ -125,9 +125,9 @@ first-wins line xs ys h k n = earliest-append xs ys ∙ of (earliest xs) (earlie
 
 -- The complaints of sections behind a line, each on its section's header.
 pub gather-behind : (line : ℕ) (f : Section → List Complaint) → ((x : Section) → Each (λ c. c .line ≡ x .header) (f x))
-    → (xs : List Section) → Later line xs → Each (Behind line) (gather f xs)
-unfolding Later gather Each Behind
+    → (xs : List Section) → Later line xs → Each (Behind line) (flatMap f xs)
+unfolding Later flatMap Each Behind
 gather-behind line f h [] w = tt
 gather-behind line f h (x ∷ xs) w =
-    each-append (λ c. line < c .line) (f x) (gather f xs) (each-map (λ c e. let l = w .0 in omega arith) (f x) (h x))
+    each-append (λ c. line < c .line) (f x) (flatMap f xs) (each-map (λ c e. let l = w .0 in omega arith) (f x) (h x))
     (gather-behind line f h xs (w .1))

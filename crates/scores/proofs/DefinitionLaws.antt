@@ -1,14 +1,14 @@
 -- The definition at a place: what stage 2 says of it, what its lines say, and what is left behind it.
 use Prim.Native.Nat.{ℕ, suc, _+_, _<_, _≤_}
 use mathlib.Core.Path.{_≡_, refl, sym, ap, _∙_, subst}
-use mathlib.Core.List.{List, [], _∷_, _++_, map}
+use mathlib.Core.List.{List, [], _∷_, _++_, map, flatMap}
 use mathlib.Core.Bool.{true, false, not, _||_}
-use mathlib.Core.Option.{Option, none, some}
+use mathlib.Core.Option.{Option, none, some, Option·getD}
 use native.Mathlib.Omega.{arith}
 use borrow.Author.Tests.{leb-false, not-false}
 use lib.Dec.{eqb, leb}
 use lib.ListN.{length}
-use Rattle.songcode.specs.Lists.{if_then_else_, any, gather, prepend, isSome, orElse}
+use Rattle.songcode.specs.Lists.{if_then_else_, any, prepend, isSome}
 use Rattle.songcode.specs.Bytes.{Byte}
 use Rattle.songcode.specs.answer.Lines.{Line, Block, blocks}
 use Rattle.songcode.specs.Complaints.{complainIf}
@@ -61,7 +61,7 @@ fresh-none k (d ∷ ds) e = let h = none-passes (eqb (d .id) k) (any (λ x. eqb 
 
 -- The first lines of the definitions, and of the sections, of some blocks.
 firsts-definitions : (n : ℕ) (bs : List Block) → Firsts n bs → Firsts n (definitionBlocks bs)
-unfolding Firsts definitionBlocks gather definitionIf
+unfolding Firsts definitionBlocks flatMap definitionIf
 firsts-definitions n [] h = tt
 firsts-definitions n (b ∷ bs) h =
     by-kind (blockKind b)
@@ -70,7 +70,7 @@ firsts-definitions n (b ∷ bs) h =
     (λ k. rw k (firsts-definitions n bs (h .1)))
 
 firsts-sections : (n : ℕ) (bs : List Block) → Firsts n bs → Firsts n (sectionBlocks bs)
-unfolding Firsts sectionBlocks gather sectionIf
+unfolding Firsts sectionBlocks flatMap sectionIf
 firsts-sections n [] h = tt
 firsts-sections n (b ∷ bs) h =
     by-kind (blockKind b)
@@ -104,11 +104,11 @@ module _ (s : List ℕ) (count : ℕ) (seen : List ℕ) (p : Place) (w : Leaves 
   rest = blocks (linesPast s (p .number) (p .at))
 
   first-definition : definitionBlocks (blocksFrom s p) ≡ block ∷ definitionBlocks rest
-  unfolding definitionBlocks gather definitionIf
+  unfolding definitionBlocks flatMap definitionIf
   first-definition = ap definitionBlocks (w .opens inside) ∙ rw kind
 
   no-section-yet : sectionBlocks (blocksFrom s p) ≡ sectionBlocks rest
-  unfolding sectionBlocks gather sectionIf
+  unfolding sectionBlocks flatMap sectionIf
   no-section-yet = ap sectionBlocks (w .opens inside) ∙ rw kind
 
   order-behind : blockOrder 1 rest ≡ []
@@ -131,10 +131,9 @@ module _ (s : List ℕ) (count : ℕ) (seen : List ℕ) (p : Place) (w : Leaves 
   few-before = leb-false 26 count (head-good .1)
 
   head-is : headIn (block .first) ≡ some (e .id)
-  unfolding orElse
   head-is =
       let n = isSome-some (headIn (block .first)) (not-false (isSome (headIn (block .first))) (head-good .0)) in
-      let i : e .id ≡ n .0 = r .id ∙ ap (λ (o : Option ℕ). orElse o 0) (n .1) in
+      let i : e .id ≡ n .0 = r .id ∙ ap (λ (o : Option ℕ). Option·getD o 0) (n .1) in
       n .1 ∙ ap some (sym i)
 
   pub id-small : e .id ≤ 9999
@@ -161,11 +160,11 @@ module _ (s : List ℕ) (count : ℕ) (seen : List ℕ) (p : Place) (w : Leaves 
   pub not-seen : any (λ x. eqb x (e .id)) seen ≡ false
   not-seen = fresh-parts .0
 
-  texts-parts : (definitionFaults (block .others) ≡ []) × (gather (λ b. definitionFaults (b .others)) (definitionBlocks rest) ≡ [])
-  unfolding gather
+  texts-parts : (definitionFaults (block .others) ≡ []) × (flatMap (λ b. definitionFaults (b .others)) (definitionBlocks rest) ≡ [])
+  unfolding flatMap
   texts-parts =
-      append-is-nil (definitionFaults (block .others)) (gather (λ b. definitionFaults (b .others)) (definitionBlocks rest))
-      (ap (gather (λ b. definitionFaults (b .others))) (sym first-definition) ∙ w .texts)
+      append-is-nil (definitionFaults (block .others)) (flatMap (λ b. definitionFaults (b .others)) (definitionBlocks rest))
+      (ap (flatMap (λ b. definitionFaults (b .others))) (sym first-definition) ∙ w .texts)
 
   abbrev pub readDefinition : Definition
   readDefinition = record { head = e .head; id = e .id; items = definitionItems (linesOf s (e .pattern)) }

@@ -1,12 +1,12 @@
 -- The lines of the complaints of stage 3: each stands on the head of its definition or on the header of its section.
 use Prim.Native.Nat.{ℕ, _<_}
 use mathlib.Core.Path.{_≡_, refl}
-use mathlib.Core.List.{List, [], _∷_}
+use mathlib.Core.List.{List, [], _∷_, flatMap}
 use mathlib.Core.Bool.{Bool, true, false, not}
 use mathlib.Core.Option.{Option, none, some}
 use native.Mathlib.Omega.{arith}
 use lib.Dec.{leb}
-use Rattle.songcode.specs.Lists.{gather, when}
+use Rattle.songcode.specs.Lists.{when}
 use Rattle.songcode.specs.Complaints.{complainIf}
 use Rattle.songcode.specs.Song.{Items, Pattern, items, named, Definition, Section}
 use Rattle.songcode.specs.answer.PatternText.{noReference, depth, loopsDeep, references}
@@ -32,18 +32,18 @@ unfolding referenceFault Each
 reference-line none head = (refl, tt)
 reference-line (some x) head = items-line (x .items) head
 
-gathered-line : (ds : List Definition) (head : ℕ) (ns : List ℕ) → Each (λ c. c .line ≡ head) (gather (λ n. referenceFault (definitionOf n ds) head) ns)
-unfolding gather Each
+gathered-line : (ds : List Definition) (head : ℕ) (ns : List ℕ) → Each (λ c. c .line ≡ head) (flatMap (λ n. referenceFault (definitionOf n ds) head) ns)
+unfolding flatMap Each
 gathered-line ds head [] = tt
 gathered-line ds head (n ∷ ns) =
-    each-append (λ c. c .line ≡ head) (referenceFault (definitionOf n ds) head) (gather (λ n. referenceFault (definitionOf n ds) head) ns)
+    each-append (λ c. c .line ≡ head) (referenceFault (definitionOf n ds) head) (flatMap (λ n. referenceFault (definitionOf n ds) head) ns)
     (reference-line (definitionOf n ds) head) (gathered-line ds head ns)
 
 pub definition-line : (ds : List Definition) (i : Option Items) (head : ℕ) → Each (λ c. c .line ≡ head) (definitionReferences ds i head)
 unfolding definitionReferences depthFault Each
 definition-line ds none head = tt
 definition-line ds (some r) head =
-    each-append (λ c. c .line ≡ head) (gather (λ n. referenceFault (definitionOf n ds) head) (references r)) (depthFault ds r head)
+    each-append (λ c. c .line ≡ head) (flatMap (λ n. referenceFault (definitionOf n ds) head) (references r)) (depthFault ds r head)
     (gathered-line ds head (references r))
     (line-if (not (leb (depth (putIn (itemsOf ds) r)) loopsDeep)) 11 head)
 

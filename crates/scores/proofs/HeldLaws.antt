@@ -1,14 +1,14 @@
 -- What the tables and the buffer hold of a definition: how it is known, how it stays, how one comes, and what it plays.
 use Prim.Native.Nat.{ℕ, _+_, _≤_}
 use mathlib.Core.Path.{_≡_, refl, sym, ap, _∙_}
-use mathlib.Core.List.{List, [], _∷_, _++_}
+use mathlib.Core.List.{List, [], _∷_, _++_, flatMap}
 use mathlib.Core.Bool.{Bool, not}
-use mathlib.Core.Option.{Option, none, some}
+use mathlib.Core.Option.{Option, none, some, bind}
 use native.Mathlib.Omega.{arith}
 use lib.ListN.{length, take, drop, length-take}
 use lib.Seq.{take-take, take-at, drop-at, take-append-add}
 use Rattle.songcode.specs.Complaints.{earliest}
-use Rattle.songcode.specs.Lists.{if_then_else_, isSome, andThen, orElse, gather}
+use Rattle.songcode.specs.Lists.{if_then_else_, isSome}
 use Rattle.songcode.specs.answer.Lines.{Line}
 use Rattle.songcode.specs.Song.{Items, named, Definition}
 use Rattle.songcode.specs.answer.PatternText.{references}
@@ -114,7 +114,7 @@ unfolding definitionReferences
 references-right ds r head e =
     each-map (λ n f. refers-sound ds n head (definitionOf n ds) refl f) (references r)
     (gather-nil (λ n. referenceFault (definitionOf n ds) head) (references r)
-    (append-is-nil (gather (λ n. referenceFault (definitionOf n ds) head) (references r)) (depthFault ds r head) e .0))
+    (append-is-nil (flatMap (λ n. referenceFault (definitionOf n ds) head) (references r)) (depthFault ds r head) e .0))
 
 -- A new definition, where the earlier ones among all are held.
 module _ (ds earlier : List Definition) (ws : List ℕ) (fill : ℕ)
@@ -140,7 +140,7 @@ module _ (ds earlier : List Definition) (ws : List ℕ) (fill : ℕ)
       )
 
   refer-told : (n : ℕ) → Refers earlier n → Told (lookUp ws) (itemsOf ds) n
-  unfolding Told putInItem itemsOf andThen orElse
+  unfolding Told putInItem itemsOf bind
   refer-told n w =
       let t = found-held ds ws fill (definitionOf n earlier) (isMissing ws n) (stretchOf ws n) (lookUp ws n) (w .definition) (w .items)
       (held n) (w .found) (w .filled) .tells in
@@ -205,21 +205,21 @@ module _ (ds : List Definition) (ws : List ℕ) (mark : ℕ)
       of (some x) h = h .0
 
   pub filled-told : (n : ℕ) → namedText ws n .outline .empty ≡ not (isSome (patternItems ds (named n)))
-  unfolding Held HeldItems isSome patternItems itemsOf andThen vacant namedText
+  unfolding Held HeldItems isSome patternItems itemsOf bind vacant namedText
   filled-told n = of (definitionOf n ds) (held n)
     where
       items : (i : Option Items) → HeldItems ds ws mark (stretchOf ws n) (lookUp ws n) i
-          → lookUp ws n .empty ≡ not (isSome (andThen i (λ r. some (putIn (itemsOf ds) r))))
+          → lookUp ws n .empty ≡ not (isSome (bind i (λ r. some (putIn (itemsOf ds) r))))
       items none h = rw (h .1)
       items (some r) h = h .sketched .filled
 
       of : (c : Option Definition) → Held ds ws mark c (isMissing ws n) (stretchOf ws n) (lookUp ws n)
-          → lookUp ws n .empty ≡ not (isSome (andThen (andThen c (λ x. x .items)) (λ r. some (putIn (itemsOf ds) r))))
+          → lookUp ws n .empty ≡ not (isSome (bind (bind c (λ x. x .items)) (λ r. some (putIn (itemsOf ds) r))))
       of none h = rw (h .2)
       of (some x) h = items (x .items) (h .1)
 
   refers : (n : ℕ) → Refers ds n → walkables.Refers ws (itemsOf ds) n
-  unfolding itemsOf andThen
+  unfolding itemsOf bind
   refers n w =
       let t = found-held ds ws mark (definitionOf n ds) (isMissing ws n) (stretchOf ws n) (lookUp ws n) (w .definition)
       (w .items) (held n) (w .found) (w .filled) in
@@ -242,11 +242,11 @@ module _ (ds : List Definition) (ws : List ℕ) (mark : ℕ)
   refers-each (n ∷ ns) h = (refers n (h .0), refers-each ns (h .1))
 
   pub carries-all : (n : ℕ) → Carries ws (namedText ws n) (patternItems ds (named n))
-  unfolding Held HeldItems patternItems itemsOf andThen Carries namedText
+  unfolding Held HeldItems patternItems itemsOf bind Carries namedText
   carries-all n = of (definitionOf n ds) (held n)
     where
       items : (i : Option Items) → HeldItems ds ws mark (stretchOf ws n) (lookUp ws n) i
-          → Carries ws (namedText ws n) (andThen i (λ r. some (putIn (itemsOf ds) r)))
+          → Carries ws (namedText ws n) (bind i (λ r. some (putIn (itemsOf ds) r)))
       items none h = (h .1, λ k. empty-row k ws (stretchOf ws n) (h .0))
       items (some r) h =
           let z = h .shallow in (
@@ -259,6 +259,6 @@ module _ (ds : List Definition) (ws : List ℕ) (mark : ℕ)
           )
 
       of : (c : Option Definition) → Held ds ws mark c (isMissing ws n) (stretchOf ws n) (lookUp ws n)
-          → Carries ws (namedText ws n) (andThen (andThen c (λ x. x .items)) (λ r. some (putIn (itemsOf ds) r)))
+          → Carries ws (namedText ws n) (bind (bind c (λ x. x .items)) (λ r. some (putIn (itemsOf ds) r)))
       of none h = (h .2, λ k. empty-row k ws (stretchOf ws n) (h .1))
       of (some x) h = items (x .items) (h .1)

@@ -1,15 +1,15 @@
 -- The definitions of a song, loaded one after another: none at first, then one more, and at last all.
 use Prim.Native.Nat.{ℕ, zero, suc, _+_, _-_, _<_, _≤_}
 use mathlib.Core.Path.{_≡_, refl, sym, ap, _∙_, subst}
-use mathlib.Core.List.{List, [], _∷_, _++_, map, append-assoc}
+use mathlib.Core.List.{List, [], _∷_, _++_, map, append-assoc, flatMap}
 use mathlib.Core.Bool.{true}
-use mathlib.Core.Option.{Option, none, some}
+use mathlib.Core.Option.{Option, none, some, orElse}
 use native.Mathlib.Omega.{arith}
 use borrow.Author.Tests.{eqb-true, eqb-false}
 use lib.Dec.{eqb}
 use lib.ListN.{length, take, drop, getD, set, length-set}
 use lib.Seq.{getD-set-same, take-take}
-use Rattle.songcode.specs.Lists.{if_then_else_, gather, firstThere}
+use Rattle.songcode.specs.Lists.{if_then_else_}
 use Rattle.songcode.specs.Complaints.{Complaint, complaint, complainIf, earliest}
 use Rattle.songcode.specs.answer.Lines.{Block, blocks}
 use Rattle.songcode.specs.Song.{items, named, Definition}
@@ -74,7 +74,7 @@ module _ (s ws : List ℕ) (p : Place) (faultless : textFaults (blocksOf s) ≡ 
   unfolding definitionsFaults blocksFrom
   leaves-first =
       let bs = definitionBlocks (blocksFrom s p) in
-      let a = append-is-nil (headsFaults 0 bs ++ twice 6 headIn [] (map firstLine bs)) (gather (λ b. definitionFaults (b .others)) bs) definitions-fair in
+      let a = append-is-nil (headsFaults 0 bs ++ twice 6 headIn [] (map firstLine bs)) (flatMap (λ b. definitionFaults (b .others)) bs) definitions-fair in
       let b = append-is-nil (headsFaults 0 bs) (twice 6 headIn [] (map firstLine bs)) (a .0) in
       record {
         number = m .number;
@@ -89,7 +89,7 @@ module _ (s ws : List ℕ) (p : Place) (faultless : textFaults (blocksOf s) ≡ 
       }
 
   pub loading-first : length s ≤ 65536 → length s < length ws → Loading s (set ws 0 0) 0 p
-  unfolding idOf definitionOf firstThere Held Chain
+  unfolding idOf definitionOf orElse Held Chain
   loading-first small room =
       let marked : lengthAt (set ws 0 0) 0 ≡ 0 = rw (getD-set-same ws 0 0 0 (omega arith)) refl in
       record {
@@ -137,7 +137,7 @@ module _ (s ws : List ℕ) (mark : ℕ) (p : Place) (w : Loading s ws mark p) (i
   ds = songOf s .definitions
 
   agree : (n : ℕ) (x : Definition) → definitionOf n (w .earlier) ≡ some x → definitionOf n ds ≡ some x
-  unfolding firstThere
+  unfolding orElse
   agree n x h = w .found n ∙ rw h
 
   module _ (mid : List ℕ) (end : ℕ) (laid-is : mid ≡ laid (mark + 2) new ws) (end-is : end ≡ mark + 2 + length new) where
@@ -207,7 +207,7 @@ module _ (s ws : List ℕ) (mark : ℕ) (p : Place) (w : Loading s ws mark p) (i
       split = w .clear ∙ ap (definitionsReferences (w .earlier)) left-is
 
       abbrev sections-said : List Complaint
-      sections-said = gather (λ y. sectionReference ds (y .pattern) (y .header)) (songOf s .sections)
+      sections-said = flatMap (λ y. sectionReference ds (y .pattern) (y .header)) (songOf s .sections)
 
       abbrev later-said : List Complaint
       later-said = definitionsReferences (new-definition ∷ w .earlier) (definitionsFrom s q)
@@ -344,10 +344,10 @@ module _ (s ws : List ℕ) (mark : ℕ) (p : Place) (w : Loading s ws mark p) (i
             none-before none m h = refl
             none-before (some d) m h = true-is-not-false m (h .0)
 
-        found-next : (n : ℕ) → definitionOf n ds ≡ firstThere (definitionOf n (new-definition ∷ w .earlier)) (definitionOf n (definitionsFrom s q))
-        unfolding definitionOf if_then_else_ firstThere
+        found-next : (n : ℕ) → definitionOf n ds ≡ orElse (definitionOf n (new-definition ∷ w .earlier)) (definitionOf n (definitionsFrom s q))
+        unfolding definitionOf if_then_else_ orElse
         found-next n =
-            let h = w .found n ∙ ap (λ ys. firstThere (definitionOf n (w .earlier)) (definitionOf n ys)) left-is in
+            let h = w .found n ∙ ap (λ ys. orElse (definitionOf n (w .earlier)) (definitionOf n ys)) left-is in
             h ∙ by-cases (eqb (e .id) n)
             (λ t. let z = ap (λ (k : ℕ). definitionOf k (w .earlier)) (sym (eqb-true (e .id) n t)) ∙ not-before in rw (t, z) refl)
             (λ t. rw t refl)
@@ -391,7 +391,7 @@ loads-refused s ws p r w n =
 
 -- All definitions are loaded where the first section begins.
 only-sections : (bs : List Block) → blockOrder 2 bs ≡ [] → (definitionBlocks bs ≡ []) × (sectionBlocks bs ≡ bs)
-unfolding blockOrder turn complainIf definitionBlocks sectionBlocks gather definitionIf sectionIf
+unfolding blockOrder turn complainIf definitionBlocks sectionBlocks flatMap definitionIf sectionIf
 only-sections [] e = (refl, refl)
 only-sections (b ∷ bs) e =
     by-kind (blockKind b)
@@ -401,7 +401,7 @@ only-sections (b ∷ bs) e =
 
 sections-first : (b : Block) (bs : List Block) → blockOrder 1 (b ∷ bs) ≡ [] → (blockKind b ≡ definition → ⊥)
     → (definitionBlocks (b ∷ bs) ≡ []) × (sectionBlocks (b ∷ bs) ≡ b ∷ bs)
-unfolding blockOrder turn complainIf definitionBlocks sectionBlocks gather definitionIf sectionIf
+unfolding blockOrder turn complainIf definitionBlocks sectionBlocks flatMap definitionIf sectionIf
 sections-first b bs e n =
     by-kind (blockKind b)
     (λ k. nil-is-not-cons (sym (rw k at e)))
@@ -420,10 +420,10 @@ module _ (s ws : List ℕ) (mark : ℕ) (p : Place) (w : Loading s ws mark p) (f
   none-left = ap (map definitionIn) (only .0)
 
   all-earlier : (n : ℕ) → definitionOf n (songOf s .definitions) ≡ definitionOf n (w .earlier)
-  unfolding definitionOf firstThere
+  unfolding definitionOf orElse
   all-earlier n = w .found n ∙ rw none-left (of (definitionOf n (w .earlier)))
     where
-      of : (o : Option Definition) → firstThere o none ≡ o
+      of : (o : Option Definition) → orElse o none ≡ o
       of none = refl
       of (some x) = refl
 
@@ -456,7 +456,7 @@ module _ (s ws : List ℕ) (mark : ℕ) (p : Place) (w : Loading s ws mark p) (f
           counted = l .counted;
           inside = l .inside;
           opens = l .opens;
-          fair = ap (gather sectionFaults) (sym (only .1) ∙ l .sections) ∙ clean (blocksOf s) faultless .sections;
+          fair = ap (flatMap sectionFaults) (sym (only .1) ∙ l .sections) ∙ clean (blocksOf s) faultless .sections;
         };
         all = sym (only .1) ∙ l .sections;
         sections = ap (map sectionIn) (sym (only .1) ∙ l .sections);

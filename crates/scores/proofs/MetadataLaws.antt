@@ -1,15 +1,15 @@
 -- The metadata of a chart, block by block: which lines stand before a place, and which keys they say.
 use Prim.Native.Nat.{ℕ, zero, suc, _+_, _<_, _≤_}
 use mathlib.Core.Path.{_≡_, refl, sym, ap, _∙_}
-use mathlib.Core.List.{List, [], _∷_, _++_, append-nil, append-assoc}
+use mathlib.Core.List.{List, [], _∷_, _++_, append-nil, append-assoc, flatMap}
 use mathlib.Core.Logic.{_⊎_, inl, inr}
 use mathlib.Core.Bool.{true, false, not}
-use mathlib.Core.Option.{Option, none, some}
+use mathlib.Core.Option.{Option, none, some, orElse}
 use native.Mathlib.Omega.{arith}
 use borrow.Author.Tests.{ne-eqb}
 use lib.Dec.{eqb}
 use lib.ListN.{length, take}
-use Rattle.songcode.specs.Lists.{if_then_else_, isEmpty, taken, left, gather, firstThere}
+use Rattle.songcode.specs.Lists.{if_then_else_, isEmpty, taken, left}
 use Rattle.songcode.specs.Bytes.{Byte}
 use Rattle.songcode.specs.answer.Lines.{Line, Block, blocks}
 use Rattle.songcode.specs.Complaints.{complainIf}
@@ -65,13 +65,13 @@ pub skips : (s : List ℕ) (n at : ℕ) (r : Run) → Longest s Empty n at r →
 skips s n at r w one fits = record { next = next-is s n at r w one fits; lines = run-passed s Empty n at r w }
 
 -- The first setting of lines behind others; blank lines say none.
-among-append : (k : ℕ) (xs ys : List Line) → settingAmong k (xs ++ ys) ≡ firstThere (settingAmong k xs) (settingAmong k ys)
-unfolding settingAmong firstThere if_then_else_
+among-append : (k : ℕ) (xs ys : List Line) → settingAmong k (xs ++ ys) ≡ orElse (settingAmong k xs) (settingAmong k ys)
+unfolding settingAmong orElse if_then_else_
 among-append k [] ys = refl
 among-append k (x ∷ xs) ys = by-cases (eqb (slotOf x) k) (λ e. rw e) (λ e. rw e (among-append k xs ys))
 
-there-none : (o : Option Setting) → firstThere o none ≡ o
-unfolding firstThere
+there-none : (o : Option Setting) → orElse o none ≡ o
+unfolding orElse
 there-none none = refl
 there-none (some x) = refl
 
@@ -182,15 +182,15 @@ module _ (s : List ℕ) (p : Place) (c : Come s p) (inside : p .at < length s) w
     ordered = let e : blockOrder 0 (block ∷ blocks (textLines s (q .number) (q .at))) ≡ [] = ap (blockOrder 0) (sym opened) ∙ c .order in rw kind at e
 
     fewer : definitionBlocks (blocks (textLines s (p .number) (p .at))) ≡ definitionBlocks (blocks (textLines s (q .number) (q .at)))
-    unfolding definitionBlocks gather definitionIf
+    unfolding definitionBlocks flatMap definitionIf
     fewer = ap definitionBlocks opened ∙ rw kind
 
     left-over : sectionBlocks (blocks (textLines s (p .number) (p .at))) ≡ sectionBlocks (blocks (textLines s (q .number) (q .at)))
-    unfolding sectionBlocks gather sectionIf
+    unfolding sectionBlocks flatMap sectionIf
     left-over = ap sectionBlocks opened ∙ rw kind
 
     more-said : metadataLines (blocksOf s) ≡ (c .said ++ (block .first ∷ block .others)) ++ metadataLines (blocks (textLines s (q .number) (q .at)))
-    unfolding metadataLines gather linesIf
+    unfolding metadataLines flatMap linesIf
     more-said =
         c .metadata-said ∙ ap (λ bs. c .said ++ metadataLines bs) opened ∙ rw kind
         (sym (append-assoc (c .said) (block .first ∷ block .others) (metadataLines (blocks (textLines s (q .number) (q .at))))))
@@ -269,5 +269,5 @@ module _ (s : List ℕ) (p : Place) (c : Come s p) (inside : p .at < length s) w
 -- A section is always left.
 pub come-over : (s : List ℕ) (p : Place) → textFaults (blocksOf s) ≡ []
     → sectionBlocks (blocks (textLines s (p .number) (p .at))) ≡ sectionBlocks (blocksOf s) → length s ≤ p .at → ⊥
-unfolding sectionBlocks gather
+unfolding sectionBlocks flatMap
 come-over s p h e over = clean (blocksOf s) h .some-section (sym e ∙ ap sectionBlocks (blocks-over s (p .number) (p .at) over))

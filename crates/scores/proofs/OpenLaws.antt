@@ -1,11 +1,10 @@
 -- The texts of a section laid behind the definitions: they have room, and the buffer carries them.
 use Prim.Native.Nat.{ℕ, _+_, _<_, _≤_}
 use mathlib.Core.Path.{_≡_, refl, sym, ap, _∙_}
-use mathlib.Core.List.{List, [], _++_, append-assoc, append-nil}
-use mathlib.Core.Option.{Option, none, some}
+use mathlib.Core.List.{List, [], _++_, append-assoc, append-nil, flatMap}
+use mathlib.Core.Option.{Option, none, some, bind}
 use native.Mathlib.Omega.{arith}
 use lib.ListN.{length, take, drop, length-append}
-use Rattle.songcode.specs.Lists.{gather, andThen}
 use Rattle.songcode.specs.answer.Lines.{Line, blocks}
 use Rattle.songcode.specs.Song.{Pattern}
 use Rattle.songcode.specs.answer.Modifiers.{ofBefore, ofAfter, modifierPlace, beforeSaid, afterSaid}
@@ -71,26 +70,26 @@ module _ {s : List ℕ} {p : Place} {mark : ℕ} {held : List ℕ} {met : Met} (
 
   -- The section is not faulted, so its lead-in and its tail have items.
   clean : sectionFaults (blockAt s (p .number) (p .at)) ≡ []
-  unfolding gather
+  unfolding flatMap
   clean =
-      append-is-nil (sectionFaults (blockAt s (p .number) (p .at))) (gather sectionFaults (blocks (linesPast s (p .number) (p .at))))
-      (ap (gather sectionFaults) (sym (o .opens within)) ∙ o .fair) .0
+      append-is-nil (sectionFaults (blockAt s (p .number) (p .at))) (flatMap sectionFaults (blocks (linesPast s (p .number) (p .at))))
+      (ap (flatMap sectionFaults) (sym (o .opens within)) ∙ o .fair) .0
 
-  lead-clean : andThen lead sideSaid ≡ none → lead ≡ none
+  lead-clean : bind lead sideSaid ≡ none → lead ≡ none
   unfolding modifierPlace
   lead-clean e =
       let ls = body (blockAt s (p .number) (p .at)) in
       let k = clean-order (blockAt s (p .number) (p .at)) clean in
       let b = m .read .modifiers .before in
-      b ∙ nothing-there ofBefore beforeSaid sideSaid before-tells ls (k .0) (k .1) (ap (λ (x : Option Setting). andThen x sideSaid) (sym b) ∙ e)
+      b ∙ nothing-there ofBefore beforeSaid sideSaid before-tells ls (k .0) (k .1) (ap (λ (x : Option Setting). bind x sideSaid) (sym b) ∙ e)
 
-  tail-clean : andThen tail sideSaid ≡ none → tail ≡ none
+  tail-clean : bind tail sideSaid ≡ none → tail ≡ none
   unfolding modifierPlace
   tail-clean e =
       let ls = body (blockAt s (p .number) (p .at)) in
       let k = clean-order (blockAt s (p .number) (p .at)) clean in
       let b = m .read .modifiers .after in
-      b ∙ nothing-there ofAfter afterSaid sideSaid after-tells ls (k .0) (k .1) (ap (λ (x : Option Setting). andThen x sideSaid) (sym b) ∙ e)
+      b ∙ nothing-there ofAfter afterSaid sideSaid after-tells ls (k .0) (k .1) (ap (λ (x : Option Setting). bind x sideSaid) (sym b) ∙ e)
 
   module _ {first : List ℕ} {a : ℕ} (first-laid : first ≡ laid (mark + 1) leadWords held) (first-fill : a ≡ mark + 1 + length leadWords) where
     first-length : length first ≡ length held

@@ -2,10 +2,9 @@
 use Prim.Native.Nat.{ℕ, _+_, _≤_}
 use mathlib.Core.Path.{_≡_, refl, sym, ap, _∙_, subst}
 use mathlib.Core.List.{List, []}
-use mathlib.Core.Option.{Option, none, some}
+use mathlib.Core.Option.{Option, none, some, bind}
 use native.Mathlib.Omega.{arith}
 use lib.ListN.{length, take, drop}
-use Rattle.songcode.specs.Lists.{andThen}
 use Rattle.songcode.specs.Song.{Items, Pattern, items, Definition, Side}
 use Rattle.songcode.specs.answer.Tokens.{Token, tokens}
 use Rattle.songcode.specs.answer.PatternText.{depth, loopsDeep, references, sideText}
@@ -61,10 +60,10 @@ module _ (ws : List ℕ) (find : ℕ → Outline) (t : Stretch) where
   empty-carries h e = (empty-known find ws t e, λ n. empty-row n ws t h)
 
   -- A lead-in or tail.
-  pub side-carries : (o : Option Setting) (y : Option Side) → andThen o sideSaid ≡ y → (andThen o sideSaid ≡ none → o ≡ none) → Each Good (saidTokens o)
+  pub side-carries : (o : Option Setting) (y : Option Side) → bind o sideSaid ≡ y → (bind o sideSaid ≡ none → o ≡ none) → Each Good (saidTokens o)
       → t .to ≡ t .from + length (tokenWords (saidTokens o)) → drop (t .from) (take (t .to) ws) ≡ tokenWords (saidTokens o) → Carries ws
       (readText find ws t) (sideItems y)
-  unfolding saidTokens tokenWords andThen sideSaid sideOn sideItems loopsDeep
+  unfolding saidTokens tokenWords bind sideSaid sideOn sideItems loopsDeep
   side-carries none y e clean good size stands = rw (← e) (empty-carries (omega arith) stands)
   side-carries (some x) y e clean good size stands = go (sideText (x .text)) refl
     where

@@ -1,11 +1,10 @@
 -- The definitions before a place are loaded: what the buffer holds of them, and what is left.
 use Prim.Native.Nat.{ℕ, zero, suc, _+_, _-_, _<_, _≤_}
 use mathlib.Core.Path.{_≡_}
-use mathlib.Core.List.{List, [], _∷_, map}
+use mathlib.Core.List.{List, [], _∷_, map, flatMap}
 use mathlib.Core.Bool.{Bool, true, false}
-use mathlib.Core.Option.{Option, none, some}
+use mathlib.Core.Option.{Option, none, some, orElse}
 use lib.ListN.{length, set}
-use Rattle.songcode.specs.Lists.{gather, firstThere}
 use Rattle.songcode.specs.Complaints.{earliest}
 use Rattle.songcode.specs.answer.Lines.{Block, blocks}
 use Rattle.songcode.specs.Song.{Items, Definition}
@@ -76,7 +75,7 @@ pub record Leaves (s : List ℕ) (count : ℕ) (seen : List ℕ) (p : Place) : T
   pub sections : sectionBlocks (blocksFrom s p) ≡ sectionBlocks (blocksOf s)
   pub heads : headsFaults count (definitionBlocks (blocksFrom s p)) ≡ []
   pub fresh : twice 6 headIn seen (map firstLine (definitionBlocks (blocksFrom s p))) ≡ []
-  pub texts : gather (λ b. definitionFaults (b .others)) (definitionBlocks (blocksFrom s p)) ≡ []
+  pub texts : flatMap (λ b. definitionFaults (b .others)) (definitionBlocks (blocksFrom s p)) ≡ []
 
 -- The definitions before the place, the last one first; stage 3 complains of none of them.
 pub record Loading (s ws : List ℕ) (mark : ℕ) (p : Place) : Type 0 where
@@ -89,7 +88,7 @@ pub record Loading (s ws : List ℕ) (mark : ℕ) (p : Place) : Type 0 where
   pub marked : lengthAt ws mark ≡ 0
   pub earlier : List Definition
   pub leaves : Leaves s count (map idOf earlier) p
-  pub found : (n : ℕ) → definitionOf n (songOf s .definitions) ≡ firstThere (definitionOf n earlier) (definitionOf n (definitionsFrom s p))
+  pub found : (n : ℕ) → definitionOf n (songOf s .definitions) ≡ orElse (definitionOf n earlier) (definitionOf n (definitionsFrom s p))
   pub clear : definitionsReferences [] (songOf s .definitions) ≡ definitionsReferences earlier (definitionsFrom s p)
   pub held : (n : ℕ) → Held (songOf s .definitions) ws mark (definitionOf n earlier) (isMissing ws n) (stretchOf ws n) (lookUp ws n)
 

@@ -3,9 +3,9 @@ use Prim.Native.Nat.{ℕ, _+_, _<_, _≤_}
 use mathlib.Core.Path.{_≡_}
 use mathlib.Core.List.{List, []}
 use mathlib.Core.Bool.{false, not}
-use mathlib.Core.Option.{Option, none, some}
+use mathlib.Core.Option.{Option, none, some, bind}
 use lib.ListN.{length, take}
-use Rattle.songcode.specs.Lists.{isSome, andThen}
+use Rattle.songcode.specs.Lists.{isSome}
 use Rattle.songcode.specs.Complaints.{earliest}
 use Rattle.songcode.specs.answer.Lines.{blocks}
 use Rattle.songcode.specs.Song.{Items, named, Definition, Section, Side}
@@ -66,8 +66,8 @@ pub record Loads (s : List ℕ) (ws : List ℕ) (r : Loaded) : Type 0 where
   pub filled : r .refusal .number ≡ 0 → r .mark ≤ r .sections .at
 
 unfoldable pub sideItems : Option Side → Option Items
-unfolding andThen
-sideItems o = andThen o (λ x. some (x .items))
+unfolding bind
+sideItems o = bind o (λ x. some (x .items))
 
 -- The texts of a section in the buffer.
 pub record TextsAre (ds : List Definition) (x : Section) (ws : List ℕ) (t : Texts) : Type 0 where

@@ -2,10 +2,10 @@
 use Prim.Native.Nat.{ℕ, suc, _+_, _-_, _<_, _≤_}
 use mathlib.Core.Path.{_≡_, refl, sym, ap, _∙_}
 use mathlib.Core.List.{List, [], _∷_}
-use mathlib.Core.Option.{Option}
+use mathlib.Core.Option.{Option, Option·getD}
 use native.Mathlib.Omega.{arith}
 use lib.ListN.{length, take}
-use Rattle.songcode.specs.Lists.{taken, left, orElse}
+use Rattle.songcode.specs.Lists.{taken, left}
 use Rattle.songcode.specs.answer.Lines as songcode
 use Rattle.songcode.specs.answer.Sections.{behindFirst, patternRun, body, fromDashes, notDashes}
 use Rattle.text.specs.declared.lines.Line.{Line}
@@ -84,11 +84,11 @@ module _ (s : List ℕ) (n at : ℕ) (one : 1 ≤ n) (fits : n ≤ at + 1) (with
   past-are = rw (← (f .is)) refl
 
   pub definition-id : {m : Number} {r : ℕ} → m ≡ numberOf (countIn (behindFirst (bytes.placed 0 (part (h .start) (h .stop) s)))) → r ≡ numberOr m 0
-      → r ≡ orElse (headIn (blockAt s n at .first)) 0
+      → r ≡ Option·getD (headIn (blockAt s n at .first)) 0
   unfolding blockAt
   definition-id {m} e i =
       i ∙ ap (λ (x : Number). numberOr x 0) e ∙ number-or (countIn (behindFirst (bytes.placed 0 (part (h .start) (h .stop) s)))) 0
-      ∙ rw (← (f .is)) (ap (λ (o : Option ℕ). orElse o 0) (sym (head-of-line (h .number) s (h .start) (h .stop))))
+      ∙ rw (← (f .is)) (ap (λ (o : Option ℕ). Option·getD o 0) (sym (head-of-line (h .number) s (h .start) (h .stop))))
 
   body-are : body (blockAt s n at) ≡ taken (passing Body) rest
   unfolding body

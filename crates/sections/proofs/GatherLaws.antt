@@ -2,11 +2,11 @@
 use Prim.Native.Nat.{ℕ, _<_}
 use mathlib.Core.Path.{_≡_, refl, sym, _∙_}
 use mathlib.Core.List.{List, [], _∷_}
-use mathlib.Core.Option.{Option, none, some}
+use mathlib.Core.Option.{Option, none, some, orElse}
 use native.Mathlib.Omega.{arith}
 use lib.Dec.{eqb}
 use borrow.Author.Tests.{eq-eqb, ne-eqb, eqb-true, eqb-false}
-use Rattle.songcode.specs.Lists.{if_then_else_, firstThere}
+use Rattle.songcode.specs.Lists.{if_then_else_}
 use Rattle.songcode.specs.answer.Lines.{Line}
 use Rattle.songcode.proofs.ListLaws.{by-cases}
 use Rattle.sections.specs.declared.slots.Said.{Said}
@@ -47,7 +47,7 @@ module _ {P Q : ℕ → Said → Type 0} (f : ℕ → Said → Said) (more : (k 
 -- Before the first line nothing is found.
 module _ (s : List ℕ) (ls : List Line) {r : Said} (line : r .line ≡ 0) (start : r .start ≡ 0) (stop : r .stop ≡ 0) where
   sought-start : (k : ℕ) → Sought s ls ls k r
-  unfolding firstThere
+  unfolding orElse
   sought-start k = record { first = rw (setting-none s r line); inside = record { start = omega arith; stop = omega arith } }
 
   pub each-start : Each (Sought s ls ls) (record { time = r; bpm = r; repeat = r; front = r; back = r; before = r; after = r })
@@ -67,14 +67,14 @@ module _ {s : List ℕ} {l : Line} {ls rest all : List Line} {slot : ℕ} {new :
     (says : SaysLine s slot l new) where
   module _ (k : ℕ) (old : Said) (below : k < 13) (h : Sought s ls all k old) where
     stays : (old .line ≡ 0 → ⊥) → Sought s rest all k old
-    unfolding firstThere
+    unfolding orElse
     stays line =
         let z = setting-some s old line in
         let was = rw z at (h .first) in
         record { first = rw z was; inside = h .inside }
 
     arrives : old .line ≡ 0 → slot ≡ k → Sought s rest all k new
-    unfolding firstThere
+    unfolding orElse
     arrives line i =
         let was = rw (setting-none s old line) at (h .first) in
         record {
@@ -100,8 +100,8 @@ module _ {s : List ℕ} {l : Line} {ls rest all : List Line} {slot : ℕ} {new :
   each-next i p = rw i (each-anew (firstNoted slot new) sought-next p)
 
 -- Behind the last line what is found is the first.
-there-alone : (o : Option Setting) → o ≡ firstThere o none
-unfolding firstThere
+there-alone : (o : Option Setting) → o ≡ orElse o none
+unfolding orElse
 there-alone none = refl
 there-alone (some x) = refl
 

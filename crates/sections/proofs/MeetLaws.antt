@@ -1,12 +1,12 @@
 -- From section to section: the blocks behind a section's are those from the next place on, and their lines stand behind it.
 use Prim.Native.Nat.{ℕ, zero, suc, _+_, _-_, _<_, _≤_}
 use mathlib.Core.Path.{_≡_, refl, sym, ap, _∙_, subst}
-use mathlib.Core.List.{List, [], _∷_, map}
+use mathlib.Core.List.{List, [], _∷_, map, flatMap}
 use mathlib.Core.Bool.{false, not}
-use mathlib.Core.Option.{Option, none, some}
+use mathlib.Core.Option.{Option, none, some, Option·getD}
 use native.Mathlib.Omega.{arith}
 use lib.ListN.{length, drop}
-use Rattle.songcode.specs.Lists.{isEmpty, gather, isSome, orElse}
+use Rattle.songcode.specs.Lists.{isEmpty, isSome}
 use Rattle.songcode.specs.answer.Lines.{Line, Block, shut, join, runs, blocks}
 use Rattle.songcode.specs.Song.{Pattern, named}
 use Rattle.songcode.specs.answer.PatternText.{sectionText}
@@ -81,12 +81,12 @@ unfolding sectionsFrom
 sections-over s p h = ap (map sectionIn) (blocks-over s (p .number) (p .at) h)
 
 -- A section without fault has a pattern.
-pattern-there : (header : ℕ) (ls : List Line) → patternFaults header ls ≡ [] → patternIn ls ≡ some (orElse (patternIn ls) (named 0))
-unfolding patternFaults patternIn isSome orElse
+pattern-there : (header : ℕ) (ls : List Line) → patternFaults header ls ≡ [] → patternIn ls ≡ some (Option·getD (patternIn ls) (named 0))
+unfolding patternFaults patternIn isSome
 pattern-there header [] h = nil-is-not-cons (sym h)
 pattern-there header (l ∷ ls) h = some-there (sectionText l ls) (complainIf-nil (not (isSome (sectionText l ls))) 7 (l .number) h)
   where
-    some-there : (o : Option Pattern) → not (isSome o) ≡ false → o ≡ some (orElse o (named 0))
+    some-there : (o : Option Pattern) → not (isSome o) ≡ false → o ≡ some (Option·getD o (named 0))
     some-there none e = true-is-not-false refl e
     some-there (some q) e = refl
 
@@ -103,10 +103,10 @@ module _ (s : List ℕ) (p : Place) (x : Parts) (q : Place) (o : Onward s p) (in
   unfolding block
   opened = o .opens inside ∙ ap (λ bs. blockAt s (p .number) (p .at) ∷ bs) behind
 
-  no-faults : (sectionFaults block ≡ []) × (gather sectionFaults (blocks (textLines s (q .number) (q .at))) ≡ [])
-  unfolding gather
-  no-faults = append-is-nil (sectionFaults block) (gather sectionFaults (blocks (textLines s (q .number) (q .at))))
-      (ap (gather sectionFaults) (sym opened) ∙ o .fair)
+  no-faults : (sectionFaults block ≡ []) × (flatMap sectionFaults (blocks (textLines s (q .number) (q .at))) ≡ [])
+  unfolding flatMap
+  no-faults = append-is-nil (sectionFaults block) (flatMap sectionFaults (blocks (textLines s (q .number) (q .at))))
+      (ap (flatMap sectionFaults) (sym opened) ∙ o .fair)
 
   next-onward : Onward s q
   next-onward = record { number = e .number; counted = e .counted; inside = e .inside; opens = λ h. sym (e .same) ∙ e .there h; fair = no-faults .1 }
@@ -149,11 +149,11 @@ module _ (s : List ℕ) (p : Place) (x : Parts) (q : Place) (o : Onward s p) (in
 -- A section that is passed and read.
 pub section-meets : (s : List ℕ) (p : Place) (x : Passed) (r : SectionRead) → Onward s p → p .at < length s → Passes s p x
     → PartsRead s (x .section) r → Meets s p (record { section = r; next = x .next })
-unfolding gather sectionAt
+unfolding flatMap sectionAt
 section-meets s p x r o inside w e =
     let b = blockAt s (p .number) (p .at) in
-    let clean = append-is-nil (sectionFaults b) (gather sectionFaults (blocks (linesPast s (p .number) (p .at))))
-    (ap (gather sectionFaults) (sym (o .opens inside)) ∙ o .fair) .0 in
+    let clean = append-is-nil (sectionFaults b) (flatMap sectionFaults (blocks (linesPast s (p .number) (p .at))))
+    (ap (flatMap sectionFaults) (sym (o .opens inside)) ∙ o .fair) .0 in
     let at = parts-read s (p .number) (p .at) (x .section) r (w .read) e in
     record {
       read = at;

@@ -1,13 +1,13 @@
 -- The keys and modifiers that songcode collects from lines say what the first settings of their numbers among the lines say.
 use Prim.Native.Nat.{ℕ, _+_, _<_, _≤_}
 use mathlib.Core.Path.{_≡_, refl, sym, ap, _∙_, subst}
-use mathlib.Core.List.{List, [], _∷_}
+use mathlib.Core.List.{List, [], _∷_, flatMap, filterMap}
 use mathlib.Core.Bool.{Bool, true, false, not}
-use mathlib.Core.Option.{Option, none, some}
+use mathlib.Core.Option.{Option, none, some, orElse, bind}
 use native.Mathlib.Omega.{arith}
 use lib.Dec.{eqb}
 use borrow.Author.Tests.{eq-eqb, ne-eqb, eqb-true, eqb-false, not-false}
-use Rattle.songcode.specs.Lists.{if_then_else_, prepend, collect, gather, andThen, firstThere, isSome}
+use Rattle.songcode.specs.Lists.{if_then_else_, prepend, isSome}
 use Rattle.songcode.specs.Bytes.{Byte}
 use Rattle.songcode.specs.answer.Lines.{Line}
 use Rattle.songcode.specs.Song as song
@@ -57,7 +57,7 @@ module _ (l : Line) where
 
   -- A line says a key, or it says none.
   by-key : {X : Type 0} → (keyIn l ≡ none → 8 ≤ slotOf l → X) → ((j : song.KeyName) → keyIn l ≡ some (keySaid j) → slotOf l ≡ keyPlace j → X) → X
-  unfolding keyIn keyOf andThen slotBy
+  unfolding keyIn keyOf bind slotBy
   by-key {X} f g =
       by-kind
       (kindOfLine l)
@@ -80,7 +80,7 @@ module _ (l : Line) where
   by-modifier : {X : Type 0} → (modifierOn l ≡ none → ((m : ModifierName) → slotOf l ≡ 8 + modifierPlace m → ⊥) → X)
       → ((m : ModifierName) → modifierOn l ≡ modifierIn m (l .number) (settingOf l) → slotOf l ≡ 8 + modifierPlace m
       → (faults l ≡ [] → isSome (modifierIn m (l .number) (settingOf l)) ≡ true) → X) → X
-  unfolding modifierOn modifierOf andThen slotBy
+  unfolding modifierOn modifierOf bind slotBy
   by-modifier {X} f g =
       by-kind
       (kindOfLine l)
@@ -117,8 +117,8 @@ module _ (l : Line) where
 
 -- The first setting of a key.
 pub key-among : {B : Type 0} (f : List Byte → Option B) (k : song.KeyName) (ls : List Line)
-    → andThen (playing.settingNamed k (collect keyIn ls)) f ≡ andThen (settingAmong (keyPlace k) ls) (λ x. f (x .text))
-unfolding andThen playing.settingNamed collect prepend settingAmong if_then_else_
+    → bind (playing.settingNamed k (filterMap keyIn ls)) f ≡ bind (settingAmong (keyPlace k) ls) (λ x. f (x .text))
+unfolding bind playing.settingNamed filterMap prepend settingAmong if_then_else_
 key-among f k [] = refl
 key-among f k (l ∷ ls) =
     by-key
@@ -139,20 +139,20 @@ Tells m g said = (j : ModifierName) (n : ℕ) (bs : List Byte) (y : Modifier) �
 module _ {B : Type 0} (m : ModifierName) (g : Modifier → Option B) (said : Setting → Option B) (tells : Tells m g said) where
   module _ (l : Line) (ls : List Line) {y : Modifier} {k : ℕ} (e : modifierOn l ≡ some y) (h : slotOf l ≡ k) where
     said-here : {z : B} → k ≡ 8 + modifierPlace m → g y ≡ some z → said (record { line = l .number; text = settingOf l }) ≡ some z
-        → saidBy g (collect modifierOn (l ∷ ls)) ≡ andThen (settingAmong (8 + modifierPlace m) (l ∷ ls)) said
-    unfolding andThen saidBy collect prepend firstThere settingAmong if_then_else_
+        → saidBy g (filterMap modifierOn (l ∷ ls)) ≡ bind (settingAmong (8 + modifierPlace m) (l ∷ ls)) said
+    unfolding bind saidBy filterMap prepend orElse settingAmong if_then_else_
     said-here i p q = rw (e, h, eq-eqb k (8 + modifierPlace m) i, p) (sym q)
 
-    not-here : (k ≡ 8 + modifierPlace m → ⊥) → g y ≡ none → saidBy g (collect modifierOn ls) ≡ andThen (settingAmong (8 + modifierPlace m) ls) said
-        → saidBy g (collect modifierOn (l ∷ ls)) ≡ andThen (settingAmong (8 + modifierPlace m) (l ∷ ls)) said
-    unfolding andThen saidBy collect prepend firstThere settingAmong if_then_else_
+    not-here : (k ≡ 8 + modifierPlace m → ⊥) → g y ≡ none → saidBy g (filterMap modifierOn ls) ≡ bind (settingAmong (8 + modifierPlace m) ls) said
+        → saidBy g (filterMap modifierOn (l ∷ ls)) ≡ bind (settingAmong (8 + modifierPlace m) (l ∷ ls)) said
+    unfolding bind saidBy filterMap prepend orElse settingAmong if_then_else_
     not-here i p rest = rw (e, h, ne-eqb k (8 + modifierPlace m) i, p) rest
 
-  pub modifier-among : (ls : List Line) → gather faults ls ≡ [] → saidBy g (collect modifierOn ls) ≡ andThen (settingAmong (8 + modifierPlace m) ls) said
-  unfolding gather andThen saidBy collect prepend settingAmong if_then_else_ Told
+  pub modifier-among : (ls : List Line) → flatMap faults ls ≡ [] → saidBy g (filterMap modifierOn ls) ≡ bind (settingAmong (8 + modifierPlace m) ls) said
+  unfolding flatMap bind saidBy filterMap prepend settingAmong if_then_else_ Told
   modifier-among [] clean = refl
   modifier-among (l ∷ ls) clean =
-      let split = append-is-nil (faults l) (gather faults ls) clean in
+      let split = append-is-nil (faults l) (flatMap faults ls) clean in
       let rest = modifier-among ls (split .1) in
       by-modifier
       l

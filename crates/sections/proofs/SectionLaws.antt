@@ -1,9 +1,8 @@
 -- A section without fault is read as songcode reads it; so is every definition.
 use Prim.Native.Nat.{ℕ, _+_}
 use mathlib.Core.Path.{_≡_, refl, sym, ap, _∙_, subst}
-use mathlib.Core.List.{List, [], _∷_, map}
-use mathlib.Core.Option.{Option}
-use Rattle.songcode.specs.Lists.{gather, collect, andThen, orElse}
+use mathlib.Core.List.{List, [], _∷_, map, flatMap, filterMap}
+use mathlib.Core.Option.{Option, Option·getD, bind}
 use Rattle.songcode.specs.Bytes.{Byte}
 use Rattle.songcode.specs.answer.Lines.{Line, Block}
 use Rattle.songcode.specs.Song as song
@@ -34,25 +33,25 @@ use Rattle.sections.proofs.TellLaws.{repeat-tells, cut-start-tells, cut
 use Rattle.sections.proofs.OrderLaws.{keys-early, modifiers-late}
 
 -- A block without fault: its lines stand in order, and none of them is faulted.
-pub clean-order : (b : Block) → sectionFaults b ≡ [] → (order amongKeys (body b) ≡ []) × (gather faults (body b) ≡ [])
+pub clean-order : (b : Block) → sectionFaults b ≡ [] → (order amongKeys (body b) ≡ []) × (flatMap faults (body b) ≡ [])
     × (patternFaults (b .first .number) (patternRun (body b)) ≡ [])
 unfolding sectionFaults
 clean-order b h =
     let v = append-is-nil _ (lyricFaults (fromDashes b)) h .0 in
     let p = append-is-nil _ (patternFaults (b .first .number) (patternRun (body b))) v in
-    let g = append-is-nil _ (gather faults (body b)) (p .0) in
+    let g = append-is-nil _ (flatMap faults (body b)) (p .0) in
     let m = append-is-nil _ (twice 8 modifierSaid [] (body b)) (g .0) .0 in
     let k = append-is-nil _ (twice 4 keySaid [] (body b)) m .0 in
     (append-is-nil (headerFaults (b .first)) (order amongKeys (body b)) k .1, g .1, p .1)
 
-module _ (ls : List Line) (ordered : order amongKeys ls ≡ []) (clean : gather faults ls ≡ []) where
-  key-said : (f : List Byte → Option ℕ) (k : song.KeyName) → andThen (settingAmong (keyPlace k) (earlyLines ls)) (λ x. f (x .text)) ≡ andThen
-      (playing.settingNamed k (collect keyIn ls)) f
-  key-said f k = ap (λ (o : Option Setting). andThen o (λ x. f (x .text))) (keys-early k ls ordered) ∙ sym (key-among f k ls)
+module _ (ls : List Line) (ordered : order amongKeys ls ≡ []) (clean : flatMap faults ls ≡ []) where
+  key-said : (f : List Byte → Option ℕ) (k : song.KeyName) → bind (settingAmong (keyPlace k) (earlyLines ls)) (λ x. f (x .text)) ≡ bind
+      (playing.settingNamed k (filterMap keyIn ls)) f
+  key-said f k = ap (λ (o : Option Setting). bind o (λ x. f (x .text))) (keys-early k ls ordered) ∙ sym (key-among f k ls)
 
   modifier-said : {B : Type 0} (m : ModifierName) (g : song.Modifier → Option B) (said : Setting → Option B) → Tells m g said
-      → andThen (settingAmong (8 + modifierPlace m) (lateLines ls)) said ≡ saidBy g (collect modifierOn ls)
-  modifier-said m g said tells = ap (λ (o : Option Setting). andThen o said) (modifiers-late m ls ordered) ∙ sym (modifier-among m g said tells ls clean)
+      → bind (settingAmong (8 + modifierPlace m) (lateLines ls)) said ≡ saidBy g (filterMap modifierOn ls)
+  modifier-said m g said tells = ap (λ (o : Option Setting). bind o said) (modifiers-late m ls ordered) ∙ sym (modifier-among m g said tells ls clean)
 
 first-number : (s : List ℕ) (n at : ℕ) → blockAt s n at .first .number ≡ n
 unfolding blockAt lineOf
@@ -97,16 +96,16 @@ section-says s n at r w h =
     let o = clean-order (blockAt s n at) h in
     record {
       header = w .header ∙ sym (first-number s n at);
-      time = w .keys .time ∙ ap (λ (x : Option ℕ). orElse x 0) (key-said ls (o .0) (o .1) timeIn song.time);
-      bpm = w .keys .bpm ∙ ap (λ (x : Option ℕ). orElse x 511) (key-said ls (o .0) (o .1) bpmIn song.bpm);
-      repeat = w .modifiers .repeat ∙ ap (λ (x : Option ℕ). orElse x 1)
+      time = w .keys .time ∙ ap (λ (x : Option ℕ). Option·getD x 0) (key-said ls (o .0) (o .1) timeIn song.time);
+      bpm = w .keys .bpm ∙ ap (λ (x : Option ℕ). Option·getD x 511) (key-said ls (o .0) (o .1) bpmIn song.bpm);
+      repeat = w .modifiers .repeat ∙ ap (λ (x : Option ℕ). Option·getD x 1)
           (modifier-said ls (o .0) (o .1) ofRepeat repeatSaid (λ x. repeatIn (x .text)) repeat-tells);
       front = w .modifiers .front ∙ ap cutIs (modifier-said ls (o .0) (o .1) ofCutStart cutStartSaid (λ x. cutIn (x .text)) cut-start-tells);
       back = w .modifiers .back ∙ ap cutIs (modifier-said ls (o .0) (o .1) ofCutEnd cutEndSaid (λ x. cutIn (x .text)) cut-end-tells);
-      before = ap (λ (x : Option Setting). andThen x sideSaid) (w .modifiers .before)
+      before = ap (λ (x : Option Setting). bind x sideSaid) (w .modifiers .before)
           ∙ modifier-said ls (o .0) (o .1) ofBefore beforeSaid sideSaid before-tells;
-      after = ap (λ (x : Option Setting). andThen x sideSaid) (w .modifiers .after) ∙ modifier-said ls (o .0) (o .1) ofAfter afterSaid sideSaid after-tells;
-      pattern = ap (λ (x : List Line). orElse (patternIn x) (song.named 0)) (w .pattern);
+      after = ap (λ (x : Option Setting). bind x sideSaid) (w .modifiers .after) ∙ modifier-said ls (o .0) (o .1) ofAfter afterSaid sideSaid after-tells;
+      pattern = ap (λ (x : List Line). Option·getD (patternIn x) (song.named 0)) (w .pattern);
       lyrics = ap (map lyricLine) (w .lyrics) ∙ lyrics-said (fromDashes (blockAt s n at));
     }
 

@@ -1,9 +1,8 @@
 -- What each of the five modifiers says, by its setting.
 use Prim.Native.Nat.{ℕ}
 use mathlib.Core.Path.{_≡_, refl, ap}
-use mathlib.Core.Option.{Option, none, some}
+use mathlib.Core.Option.{Option, none, some, bind}
 use native.Mathlib.Omega.{arith}
-use Rattle.songcode.specs.Lists.{andThen}
 use Rattle.songcode.specs.answer.Numbers.{repeatIn}
 use Rattle.songcode.specs.Song.{repeated, cutStart, cutEnd, before, after}
 use Rattle.songcode.specs.answer.Modifiers.{ofRepeat, ofCutStart, ofCutEnd, ofBefore, ofAfter, modifierPlace, modifierIn, cutIn}
@@ -13,8 +12,8 @@ use Rattle.sections.specs.SectionSays.{sideOn, sideSaid}
 use Rattle.sections.proofs.SaidLaws.{Told, Tells}
 
 -- What a reading gives that is read further into one value.
-then-some : {A C : Type 0} (o : Option A) (h : A → C) {y : C} → andThen o (λ k. some (h k)) ≡ some y → (k : A) × (o ≡ some k) × (y ≡ h k)
-unfolding andThen
+then-some : {A C : Type 0} (o : Option A) (h : A → C) {y : C} → bind o (λ k. some (h k)) ≡ some y → (k : A) × (o ≡ some k) × (y ≡ h k)
+unfolding bind
 then-some none h e = let z : _≡_ {A = ℕ} 0 1 = cc in absurd (omega arith)
 then-some (some k) h e = (k, refl, cc)
 
@@ -43,7 +42,7 @@ cut-end-tells ofBefore n bs y e = let r = then-some (sideText bs) (λ k. before 
 cut-end-tells ofAfter n bs y e = let r = then-some (sideText bs) (λ k. after n k) e in rw (r .2) refl
 
 pub before-tells : Tells ofBefore beforeSaid sideSaid
-unfolding modifierIn modifierPlace Told beforeSaid sideSaid sideOn andThen
+unfolding modifierIn modifierPlace Told beforeSaid sideSaid sideOn bind
 before-tells ofRepeat n bs y e = let r = then-some (repeatIn bs) repeated e in rw (r .2) refl
 before-tells ofCutStart n bs y e = let r = then-some (cutIn bs) cutStart e in rw (r .2) refl
 before-tells ofCutEnd n bs y e = let r = then-some (cutIn bs) cutEnd e in rw (r .2) refl
@@ -52,7 +51,7 @@ before-tells ofBefore n bs y e = let r = then-some (sideText bs) (λ k. before n
 before-tells ofAfter n bs y e = let r = then-some (sideText bs) (λ k. after n k) e in rw (r .2) refl
 
 pub after-tells : Tells ofAfter afterSaid sideSaid
-unfolding modifierIn modifierPlace Told afterSaid sideSaid sideOn andThen
+unfolding modifierIn modifierPlace Told afterSaid sideSaid sideOn bind
 after-tells ofRepeat n bs y e = let r = then-some (repeatIn bs) repeated e in rw (r .2) refl
 after-tells ofCutStart n bs y e = let r = then-some (cutIn bs) cutStart e in rw (r .2) refl
 after-tells ofCutEnd n bs y e = let r = then-some (cutIn bs) cutEnd e in rw (r .2) refl

@@ -3,10 +3,10 @@ use Prim.Native.Nat.{ℕ, _≤_}
 use mathlib.Core.Path.{_≡_, refl, sym, ap, _∙_, subst}
 use mathlib.Core.List.{List}
 use mathlib.Core.Bool.{not}
-use mathlib.Core.Option.{Option, none, some}
+use mathlib.Core.Option.{Option, none, some, Option·getD, bind}
 use native.Mathlib.Omega.{arith}
 use Prim.Native.Char.{code}
-use Rattle.songcode.specs.Lists.{if_then_else_, taken, left, andThen, orElse}
+use Rattle.songcode.specs.Lists.{if_then_else_, taken, left}
 use Rattle.songcode.specs.Bytes.{Byte, placed, is, isByte}
 use Rattle.songcode.specs.answer.Keys.{timeIn, bpmIn}
 use Rattle.songcode.specs.answer.Numbers.{repeatIn}
@@ -26,41 +26,40 @@ use Rattle.sections.specs.Slots.{settingAt}
 use Rattle.sections.specs.Values.{numberOr, cutSaid}
 use Rattle.sections.proofs.SlotLaws.{setting-none, setting-some}
 
-pub number-or : (o : Option ℕ) (d : ℕ) → numberOr (numberOf o) d ≡ orElse o d
-unfolding numberOr numberOf orElse
+pub number-or : (o : Option ℕ) (d : ℕ) → numberOr (numberOf o) d ≡ Option·getD o d
+unfolding numberOr numberOf
 number-or none d = refl
 number-or (some n) d = refl
 
 -- A number that is read, or the other one.
-or-holds : (P : ℕ → Type 0) (o : Option ℕ) (d : ℕ) → P d → ((n : ℕ) → o ≡ some n → P n) → P (orElse o d)
-unfolding orElse
+or-holds : (P : ℕ → Type 0) (o : Option ℕ) (d : ℕ) → P d → ((n : ℕ) → o ≡ some n → P n) → P (Option·getD o d)
 or-holds P none d p f = p
 or-holds P (some n) d p f = f n refl
 
 module _ (s : List ℕ) (said : Said) where
   module _ (f : List Byte → Option ℕ) (d : ℕ) where
-    pub said-otherwise : said .line ≡ 0 → d ≡ orElse (andThen (settingAt s said) (λ x. f (x .text))) d
-    unfolding andThen orElse
+    pub said-otherwise : said .line ≡ 0 → d ≡ Option·getD (bind (settingAt s said) (λ x. f (x .text))) d
+    unfolding bind
     said-otherwise h = rw (setting-none s said h)
 
     pub said-number : (P : ℕ → Type 0) → Placeless f → P d → ((bs : List Byte) (n : ℕ) → f bs ≡ some n → P n) → (said .line ≡ 0 → ⊥) → {m : Number} {r : ℕ}
         → m ≡ numberOf (f (placed 0 (part (said .start) (said .stop) s))) → r ≡ numberOr m d
-        → (r ≡ orElse (andThen (settingAt s said) (λ x. f (x .text))) d) × P r
-    unfolding andThen
+        → (r ≡ Option·getD (bind (settingAt s said) (λ x. f (x .text))) d) × P r
+    unfolding bind
     said-number P h p g line {m} {r} e i =
         let o = f (placed 0 (part (said .start) (said .stop) s)) in
-        let k : r ≡ orElse o d = i ∙ ap (λ (x : Number). numberOr x d) e ∙ number-or o d in (
+        let k : r ≡ Option·getD o d = i ∙ ap (λ (x : Number). numberOr x d) e ∙ number-or o d in (
           k ∙ rw (setting-some s said line, h (said .start) (part (said .start) (said .stop) s)),
           subst P (sym k)
               (or-holds P o d p (g (placed 0 (part (said .start) (said .stop) s)))),
         )
 
   pub no-cut : said .line ≡ 0 → (read.Not ≡ cutSaid (settingAt s said)) × CutFits read.Not
-  unfolding cutSaid cutIs andThen CutFits
+  unfolding cutSaid cutIs bind CutFits
   no-cut h = (rw (setting-none s said h), tt)
 
   pub a-cut : (said .line ≡ 0 → ⊥) → {r : CutRead} → r ≡ cutIs (cutIn (placed 0 (part (said .start) (said .stop) s))) → r ≡ cutSaid (settingAt s said)
-  unfolding cutSaid andThen
+  unfolding cutSaid bind
   a-cut line e = e ∙ rw (setting-some s said line, cutIn-placeless (said .start) (part (said .start) (said .stop) s))
 
 -- The ranges of what is read.

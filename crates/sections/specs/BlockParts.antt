@@ -1,9 +1,10 @@
 -- Blocks as places in the text: the parts of a section's block and of a definition's, and where the next block begins.
+use mathlib.Core.Option.{Option·getD}
 use Prim.Native.Nat.{ℕ, _+_, _<_, _≤_}
 use mathlib.Core.Path.{_≡_}
 use mathlib.Core.List.{List, [], _∷_}
 use lib.ListN.{length}
-use Rattle.songcode.specs.Lists.{taken, left, orElse}
+use Rattle.songcode.specs.Lists.{taken, left}
 use Rattle.songcode.specs.answer.Lines.{Line, Block, blocks}
 use Rattle.songcode.specs.answer.Sections.{isPatternLine, notPatternLine, patternRun, body, fromDashes}
 use Rattle.songcode.specs.answer.SongText.{headIn}
@@ -95,7 +96,7 @@ pub record SectionAt (s : List ℕ) (n at : ℕ) (r : SectionRead) : Type 0 wher
 -- What the definition's block at a place says.
 pub record DefinitionAt (s : List ℕ) (n at : ℕ) (r : DefinitionRead) : Type 0 where
   pub head : r .head ≡ n
-  pub id : r .id ≡ orElse (headIn (blockAt s n at .first)) 0
+  pub id : r .id ≡ Option·getD (headIn (blockAt s n at .first)) 0
   pub pattern-placed : Placed s (r .pattern)
   pub pattern : linesOf s (r .pattern) ≡ blockAt s n at .others
   pub past : linesBehind s (r .pattern) ≡ linesPast s n at

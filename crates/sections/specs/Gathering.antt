@@ -1,9 +1,10 @@
 -- The first settings of seven numbers among lines, gathered line by line.
+use mathlib.Core.Option.{orElse}
 use Prim.Native.Nat.{ℕ}
 use mathlib.Core.Path.{_≡_}
 use mathlib.Core.List.{List}
 use lib.Dec.{eqb}
-use Rattle.songcode.specs.Lists.{if_then_else_, firstThere}
+use Rattle.songcode.specs.Lists.{if_then_else_}
 use Rattle.songcode.specs.answer.Lines.{Line}
 use Rattle.sections.specs.declared.slots.Said.{Said}
 use Rattle.sections.specs.declared.gathering.Gathered.{Gathered}
@@ -40,7 +41,7 @@ firstNoted slot new wanted old = if eqb (old .line) 0 then (if eqb slot wanted t
 
 -- Of a part of the lines, the rest is still to come: the setting that was found, or else the first one of its number in the rest, is the first among all.
 pub record Sought (s : List ℕ) (rest all : List Line) (slot : ℕ) (r : Said) : Type 0 where
-  pub first : firstThere (settingAt s r) (settingAmong slot rest) ≡ settingAmong slot all
+  pub first : orElse (settingAt s r) (settingAmong slot rest) ≡ settingAmong slot all
   pub inside : Inside s r
 
 -- The first setting of a number among the lines.

@@ -1,10 +1,9 @@
 -- The sections of a text from a place on, where only sections are left: how one is met, and then the next.
 use Prim.Native.Nat.{ℕ, _+_, _<_, _≤_}
 use mathlib.Core.Path.{_≡_}
-use mathlib.Core.List.{List, [], _∷_, map}
+use mathlib.Core.List.{List, [], _∷_, map, flatMap}
 use mathlib.Core.Option.{some}
 use lib.ListN.{length}
-use Rattle.songcode.specs.Lists.{gather}
 use Rattle.songcode.specs.answer.Lines.{blocks}
 use Rattle.songcode.specs.Song.{Section}
 use Rattle.songcode.specs.answer.Sections.{sectionFaults, sectionIn, patternIn}
@@ -24,7 +23,7 @@ pub record Onward (s : List ℕ) (p : Place) : Type 0 where
   pub counted : p .number ≤ p .at + 1
   pub inside : p .at ≤ length s
   pub opens : p .at < length s → blocks (textLines s (p .number) (p .at)) ≡ blockAt s (p .number) (p .at) ∷ blocks (linesPast s (p .number) (p .at))
-  pub fair : gather sectionFaults (blocks (textLines s (p .number) (p .at))) ≡ []
+  pub fair : flatMap sectionFaults (blocks (textLines s (p .number) (p .at))) ≡ []
 
 -- The section of the block that begins at the place.
 unfoldable pub sectionAt : List ℕ → Place → Section

@@ -2,9 +2,8 @@
 use Prim.Native.Nat.{ℕ, _≤_}
 use mathlib.Core.Path.{_≡_}
 use mathlib.Core.List.{List}
-use mathlib.Core.Option.{Option}
+use mathlib.Core.Option.{Option, Option·getD, bind}
 use lib.ListN.{length}
-use Rattle.songcode.specs.Lists.{andThen, orElse}
 use Rattle.songcode.specs.answer.Keys.{timeIn, bpmIn}
 use Rattle.songcode.specs.answer.Numbers.{repeatIn}
 use Rattle.songcode.specs.answer.Modifiers.{cutIn}
@@ -24,20 +23,20 @@ numberOr Not d = d
 
 -- 0 is no time, 511 no bpm; a section without a repeat is played once.
 unfoldable pub timeSaid : Option Setting → ℕ
-unfolding orElse andThen timeIn
-timeSaid o = orElse (andThen o (λ x. timeIn (x .text))) 0
+unfolding bind timeIn
+timeSaid o = Option·getD (bind o (λ x. timeIn (x .text))) 0
 
 unfoldable pub bpmSaid : Option Setting → ℕ
-unfolding orElse andThen bpmIn
-bpmSaid o = orElse (andThen o (λ x. bpmIn (x .text))) 511
+unfolding bind bpmIn
+bpmSaid o = Option·getD (bind o (λ x. bpmIn (x .text))) 511
 
 unfoldable pub repeatSaid : Option Setting → ℕ
-unfolding orElse andThen repeatIn
-repeatSaid o = orElse (andThen o (λ x. repeatIn (x .text))) 1
+unfolding bind repeatIn
+repeatSaid o = Option·getD (bind o (λ x. repeatIn (x .text))) 1
 
 unfoldable pub cutSaid : Option Setting → CutRead
-unfolding cutIs andThen cutIn
-cutSaid o = cutIs (andThen o (λ x. cutIn (x .text)))
+unfolding cutIs bind cutIn
+cutSaid o = cutIs (bind o (λ x. cutIn (x .text)))
 
 -- A setting that is said lies in the text.
 pub record Inside (s : List ℕ) (r : Said) : Type 0 where

@@ -3,13 +3,13 @@ use Prim.Native.Nat.{ℕ, suc, _+_, _<_, _≤_}
 use mathlib.Core.Path.{_≡_, refl, sym, _∙_}
 use mathlib.Core.List.{List, [], _∷_}
 use mathlib.Core.Bool.{not}
-use mathlib.Core.Option.{Option, none, some}
+use mathlib.Core.Option.{Option, none, some, bind}
 use native.Mathlib.Omega.{arith}
 use native.Mathlib.Numerals.{add-one}
 use lib.Dec.{eqb}
 use lib.ListN.{length, getD, take, drop, drop-of-length-le}
 use lib.Seq.{take-all, drop-cons, length-take-le}
-use Rattle.songcode.specs.Lists.{taken, left, andThen}
+use Rattle.songcode.specs.Lists.{taken, left}
 use Rattle.songcode.specs.Bytes.{Byte, placed, isByte}
 use Rattle.songcode.specs.answer.Numbers.{countIn}
 use Rattle.songcode.specs.answer.Modifiers.{isDash, cut, cutBy, cutIn}
@@ -31,19 +31,19 @@ cut-parts a w q e = rw (taken-placed _ _ not-dash-values a w, left-placed _ _ no
 -- With something before the dash.
 cut-front : (a b : ℕ) (m : List ℕ) (d : ℕ) (w : List ℕ) → 0 < length m
     → cutBy (placed a m) (placed b (d ∷ w)) ≡ cutPair (countIn (placed 0 m)) (countIn (placed 0 w))
-unfolding cutBy cutPair placed andThen
+unfolding cutBy cutPair placed bind
 cut-front a b [] d w h = let z : ⊥ = omega arith in absurd z
 cut-front a b (x ∷ m) d w h = rw (countIn-placeless (suc b) w, countIn-placeless a (x ∷ m))
 
 module _ (a : ℕ) (w : List ℕ) where
   pub cut-whole : length w ≡ lengthBefore 45 w → cutIn (placed a w) ≡ cutPair (countIn (placed 0 w)) (some 0)
-  unfolding cutBy cutPair placed andThen
+  unfolding cutBy cutPair placed bind
   cut-whole e =
       cut-parts a w (length w) e
       ∙ rw (drop-of-length-le w {i = length w} (omega arith), take-all (length w) w (omega arith), countIn-placeless a w)
 
   pub cut-beats : 0 ≡ lengthBefore 45 w → 0 < length w → cutIn (placed a w) ≡ cutPair (some 0) (countIn (placed 0 (drop 1 w)))
-  unfolding cutBy cutPair placed andThen
+  unfolding cutBy cutPair placed bind
   cut-beats e h = cut-parts a w 0 e ∙ rw (drop-cons w 0 0 h, countIn-placeless (suc (a + 0)) (drop 1 w))
 
   pub cut-both : (q : ℕ) → q ≡ lengthBefore 45 w → 0 < q → q < length w
@@ -76,13 +76,13 @@ small-zero : Small (some 0)
 small-zero n e = let k : 0 ≡ n = cc in omega arith
 
 pair-fits : (o p : Option ℕ) → Small o → Small p → CutFits (cutIs (cutPair o p))
-unfolding cutIs CutFits cutPair andThen cut
+unfolding cutIs CutFits cutPair bind cut
 pair-fits none p f g = tt
 pair-fits (some m) none f g = tt
 pair-fits (some m) (some b) f g = (f m refl, g b refl)
 
 by-fits : (m l : List Byte) → CutFits (cutIs (cutBy m l))
-unfolding cutBy cutPair andThen
+unfolding cutBy cutPair bind
 by-fits m [] = pair-fits (countIn m) (some 0) (small-count m) small-zero
 by-fits [] (d ∷ b) = pair-fits (some 0) (countIn b) small-zero (small-count b)
 by-fits (x ∷ m) (d ∷ b) = pair-fits (countIn (x ∷ m)) (countIn b) (small-count (x ∷ m)) (small-count b)

@@ -3,11 +3,11 @@ use Prim.Native.Nat.{ℕ, zero, suc, _+_, _≤_}
 use mathlib.Core.Path.{_≡_, refl, sym, _∙_}
 use mathlib.Core.List.{List, [], _∷_}
 use mathlib.Core.Bool.{Bool, true, false}
-use mathlib.Core.Option.{Option, none, some}
+use mathlib.Core.Option.{Option, none, some, bind}
 use native.Mathlib.Omega.{arith}
 use borrow.Author.Tests.{eq-eqb, ne-eqb}
 use lib.ListN.{getD, take, drop}
-use Rattle.songcode.specs.Lists.{if_then_else_, isSome, andThen}
+use Rattle.songcode.specs.Lists.{if_then_else_, isSome}
 use Rattle.songcode.specs.Bytes.{Byte, placed, ascii, same, isByte}
 use Rattle.songcode.specs.answer.Keys.{timeIn}
 use Rattle.songcode.specs.answer.Modifiers.{cut, cutIn}
@@ -55,7 +55,7 @@ module _ (w : List ℕ) (q : ℕ) (e : q ≡ lengthBefore 47 w) where
 
 -- A cut from two numbers that were read.
 pair-read : (o p : Option ℕ) → cutRead (numberOf o) (numberOf p) ≡ cutIs (cutPair o p)
-unfolding cutRead numberOf cutIs cutPair andThen cut
+unfolding cutRead numberOf cutIs cutPair bind cut
 pair-read none p = refl
 pair-read (some m) none = refl
 pair-read (some m) (some b) = refl

@@ -1,7 +1,6 @@
 -- Cuts as the code answers them.
 use Prim.Native.Nat.{ℕ, _≤_}
-use mathlib.Core.Option.{Option, none, some}
-use Rattle.songcode.specs.Lists.{andThen}
+use mathlib.Core.Option.{Option, none, some, bind}
 use Rattle.songcode.specs.Song as song
 use Rattle.songcode.specs.answer.Modifiers.{cut}
 use Rattle.tokens.specs.declared.numbers.Number.{Number}
@@ -25,8 +24,8 @@ CutFits (read.Cut c) = (c .measures .0 ≤ 9999) × (c .beats .0 ≤ 9999)
 
 -- The cut whose measures and beats are both there.
 unfoldable pub cutPair : Option ℕ → Option ℕ → Option song.Cut
-unfolding andThen cut
-cutPair o p = andThen o (λ m. andThen p (λ b. some (cut m b)))
+unfolding bind cut
+cutPair o p = bind o (λ m. bind p (λ b. some (cut m b)))
 
 -- The same of the numbers that the code reads.
 unfoldable pub cutRead : Number → Number → CutRead

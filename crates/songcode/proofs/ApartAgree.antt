@@ -3,11 +3,10 @@ use Prim.Native.Nat.{ℕ, _≤_}
 use mathlib.Core.Path.{_≡_, refl, ap, sym, subst, _∙_}
 use mathlib.Core.Logic.{_↔_, inl, inr, ⊎-elim}
 use mathlib.Core.List.{List, [], List·Memᴰ}
-use mathlib.Core.Option.{Option, none, some}
+use mathlib.Core.Option.{Option, none, some, Option·getD}
 use native.Mathlib.Omega.{arith}
 use lib.Dec.{leb}
 use borrow.Author.Tests.{leb-true, leb-false}
-use Rattle.songcode.specs.Lists.{orElse}
 use Rattle.songcode.specs.answer.Lines.{Block}
 use Rattle.songcode.specs.Song.{Item, measure, loop, refer, Items, one, next, Definition, Song, Modifiers}
 use Rattle.songcode.specs.answer.PatternText.{depthI, depth, loopsDeep, references}
@@ -45,14 +44,14 @@ items-simple (next r s i) =
 
 -- Repeats.
 repeats-exact : (ms : Modifiers) (n : ℕ) → (repeats ms ≡ n) ↔ Repeats ms n
-unfolding repeats Repeats orElse
+unfolding repeats Repeats
 repeats-exact ms n = (to (ms .repeat) refl, from)
   where
-    to : (o : Option ℕ) → ms .repeat ≡ o → orElse (ms .repeat) 1 ≡ n → Repeats ms n
+    to : (o : Option ℕ) → ms .repeat ≡ o → Option·getD (ms .repeat) 1 ≡ n → Repeats ms n
     to none e h = inr (e, sym h ∙ rw e)
     to (some k) e h = inl (e ∙ ap (λ z. some z) (sym (rw e) ∙ h))
 
-    from : Repeats ms n → orElse (ms .repeat) 1 ≡ n
+    from : Repeats ms n → Option·getD (ms .repeat) 1 ≡ n
     from h = ⊎-elim (λ e. rw e) (λ p. rw (p .0) (sym (p .1))) h
 
 -- References of a written song's definitions.

@@ -1,13 +1,13 @@
 -- The beats of a section are those that its text counts, less those that the cuts name.
 use Prim.Native.Nat.{ℕ, zero, suc, _+_, _-_, _*_, _/_, _≤_}
 use mathlib.Core.Path.{_≡_, refl, sym, ap, _∙_}
-use mathlib.Core.List.{List, [], _∷_, _++_, append-assoc, tail-eq-of-cons-eq}
+use mathlib.Core.List.{List, [], _∷_, _++_, append-assoc, tail-eq-of-cons-eq, flatMap}
 use mathlib.Core.Option.{Option, none, some}
 use native.Mathlib.Omega.{arith}
 use native.Mathlib.Nat.{mul-assoc, mul-div-cancel}
 use lib.ListN.{length, take, drop, length-append}
 use lib.Seq.{drop-at, take-append-seam}
-use Rattle.songcode.specs.Lists.{gather, times, sum}
+use Rattle.songcode.specs.Lists.{times, sum}
 use Rattle.songcode.specs.answer.Chords.{Chord}
 use Rattle.songcode.specs.Song.{Sounds, only, also, Measure, Item, measure, loop, refer, Items, one, next, Cut, Section, Song, Side, Modifiers}
 use Rattle.songcode.specs.Song.{unmodified}
@@ -61,8 +61,8 @@ heard-length last (only s) heard later (h, p, e) = rw e
 heard-length last (also ss s) heard later (before, mid, h, p, q, e) =
     let k = heard-length last ss before mid p in rw (e, length-append) (omega arith)
 
-pub lasting-all : (k : ℕ) (heard : List (Option Chord)) → length (gather (lasting k) heard) ≡ length heard * k
-unfolding gather
+pub lasting-all : (k : ℕ) (heard : List (Option Chord)) → length (flatMap (lasting k) heard) ≡ length heard * k
+unfolding flatMap
 lasting-all k [] = omega arith
 lasting-all k (c ∷ cs) = let h = lasting-all k cs in rw (length-append, lasting-length k c) (omega arith)
 

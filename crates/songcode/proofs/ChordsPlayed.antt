@@ -1,11 +1,11 @@
 -- What holds of every chord of a text holds of every chord that is heard: through references, loops, `%`, repeats and cuts.
 use Prim.Native.Nat.{ℕ, zero, suc, _/_}
 use mathlib.Core.Path.{_≡_, refl, subst}
-use mathlib.Core.List.{List, [], _∷_, _++_}
+use mathlib.Core.List.{List, [], _∷_, _++_, flatMap}
 use mathlib.Core.Bool.{false}
-use mathlib.Core.Option.{Option, none, some}
+use mathlib.Core.Option.{Option, none, some, Option·getD}
 use lib.ListN.{replicate}
-use Rattle.songcode.specs.Lists.{gather, times, orElse}
+use Rattle.songcode.specs.Lists.{times}
 use Rattle.songcode.specs.answer.Chords.{Chord}
 use Rattle.songcode.specs.Song.{Sound, chord, again, silence, Sounds, only, also, nothing, aLineEnd, Separator}
 use Rattle.songcode.specs.Song.{bySemicolon, byLineEnd, byColon, Item, measure, loop, refer, Items, one, next, Cut}
@@ -117,14 +117,14 @@ module _ (Q : Chord → Type 0) where
   glue-of r s (next q t i) p h = (glue-of r s q p (h .0), h .1)
 
   mutual
-    unfolding putInItem putIn OfItem OfItems orElse
+    unfolding putInItem putIn OfItem OfItems
 
     putInItem-of : (f : ℕ → Option Items) → ((n : ℕ) (q : Items) → f n ≡ some q → OfItems q) → (i : Item) → OfItem i → OfItems (putInItem f i)
     putInItem-of f h (measure m) p = p
     putInItem-of f h (loop r n) p = putIn-of f h r p
     putInItem-of f h (refer n) p = found (f n) refl
       where
-        found : (o : Option Items) → f n ≡ o → OfItems (orElse o (one (refer n)))
+        found : (o : Option Items) → f n ≡ o → OfItems (Option·getD o (one (refer n)))
         found none e = tt
         found (some q) e = h n q e
 
@@ -201,10 +201,10 @@ module _ (Q : Chord → Type 0) where
   OfHeard [] = Unit {0}
   OfHeard (h ∷ hs) = OfIf h × OfHeard hs
 
-  gather-of : (k : ℕ) (hs : List (Option Chord)) → OfHeard hs → OfAll (gather (lasting k) hs)
-  unfolding gather OfHeard OfAll
+  gather-of : (k : ℕ) (hs : List (Option Chord)) → OfHeard hs → OfAll (flatMap (lasting k) hs)
+  unfolding flatMap OfHeard OfAll
   gather-of k [] p = tt
-  gather-of k (h ∷ hs) p = all-append (lasting k h) (gather (lasting k) hs) (lasting-of k h (p .0)) (gather-of k hs (p .1))
+  gather-of k (h ∷ hs) p = all-append (lasting k h) (flatMap (lasting k) hs) (lasting-of k h (p .0)) (gather-of k hs (p .1))
 
   heard-append : (a b : List (Option Chord)) → OfHeard a → OfHeard b → OfHeard (a ++ b)
   unfolding OfHeard

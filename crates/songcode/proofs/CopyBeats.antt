@@ -1,12 +1,11 @@
 -- The measures and beats of a copy are the original's: their words differ in heads and in where the letters stand.
 use Prim.Native.Nat.{ℕ, suc, _+_, _*_, _^_, _<_, _≤_}
 use mathlib.Core.Path.{_≡_, refl, ap, sym, _∙_}
-use mathlib.Core.List.{List, [], _∷_, _++_, map, map-append}
+use mathlib.Core.List.{List, [], _∷_, _++_, map, map-append, flatMap}
 use mathlib.Core.Bool.{Bool, true, false}
 use mathlib.Core.Option.{Option, none, some}
 use native.Mathlib.Omega.{arith}
 use lib.ListN.{length, replicate}
-use Rattle.songcode.specs.Lists.{gather}
 use Rattle.songcode.specs.Bytes.{Byte, placed, values}
 use Rattle.songcode.specs.answer.Chords.{Chord}
 use Rattle.songcode.specs.answer.Playing.{Beat}
@@ -146,8 +145,8 @@ module _ (bs copy : List ℕ) (small : length bs ≤ 65536) (brief : length copy
 
   -- A row and its copy, word by word.
   words-by : {X : Type 0} (f g : ℕ → X) → ((c b : Beat) → Pair c b → f (beatWord c) ≡ g (beatWord b))
-      → {rows row : List (List Beat)} → Each (Each Pair) rows row → map f (gather (map beatWord) rows) ≡ map g (gather (map beatWord) row)
-  unfolding gather
+      → {rows row : List (List Beat)} → Each (Each Pair) rows row → map f (flatMap (map beatWord) rows) ≡ map g (flatMap (map beatWord) row)
+  unfolding flatMap
   words-by f g h none-each = refl
   words-by f g h (and-each {x = cs} {y = m} e more) =
       map-append f (map beatWord cs) _ ∙ joined-same (measure e) (words-by f g h more) ∙ sym (map-append g (map beatWord m) _)
@@ -157,21 +156,21 @@ module _ (bs copy : List ℕ) (small : length bs ≤ 65536) (brief : length copy
       measure (and-each {x = c} {y = b} p ps) = rw (h c b p, measure ps)
 
   module _ {rows row : List (List Beat)} (pairs : Each (Each Pair) rows row) where
-    pub beats-kept : map (λ w. without 4 1 (without 10 16 w)) (gather (map beatWord) rows)
-        ≡ map (λ w. without 4 1 (without 10 16 w)) (gather (map beatWord) row)
+    pub beats-kept : map (λ w. without 4 1 (without 10 16 w)) (flatMap (map beatWord) rows)
+        ≡ map (λ w. without 4 1 (without 10 16 w)) (flatMap (map beatWord) row)
     unfolding beatWord
     beats-kept = words-by _ _ (λ c b p. keeps-sound (c .sounds) (b .sounds) (c .head) (b .head) (p .alike .sounds) (p .there) (p .here)) pairs
 
-    pub heads-set : map (field 4 1) (gather (map beatWord) rows) ≡ replicate (length (gather (map beatWord) row)) 1
+    pub heads-set : map (field 4 1) (flatMap (map beatWord) rows) ≡ replicate (length (flatMap (map beatWord) row)) 1
     unfolding beatWord
     heads-set =
         words-by {X = ℕ} (field 4 1) (λ w. 1) (λ c b p. ap (λ h. field 4 1 (beatBy (c .sounds) h)) (p .alike .head) ∙ head-set (c .sounds) (p .there)) pairs
-        ∙ all-one (gather (map beatWord) row)
+        ∙ all-one (flatMap (map beatWord) row)
       where
         all-one : (ws : List ℕ) → map {B = ℕ} (λ w. 1) ws ≡ replicate (length ws) 1
         all-one [] = refl
         all-one (w ∷ ws) = ap (λ r. 1 ∷ r) (all-one ws)
 
-    pub extensions-kept : map (stretchAt 10 16 5 5 copy) (gather (map beatWord) rows) ≡ map (stretchAt 10 16 5 5 bs) (gather (map beatWord) row)
+    pub extensions-kept : map (stretchAt 10 16 5 5 copy) (flatMap (map beatWord) rows) ≡ map (stretchAt 10 16 5 5 bs) (flatMap (map beatWord) row)
     unfolding beatWord
     extensions-kept = words-by _ _ (λ c b p. same-letters (c .sounds) (b .sounds) (c .head) (b .head) (p .alike .sounds) (p .there) (p .here)) pairs

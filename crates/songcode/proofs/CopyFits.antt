@@ -3,12 +3,12 @@ use Prim.Native.Nat.{ℕ, suc, _≤_}
 use mathlib.Core.Path.{_≡_, refl, ap, sym, subst, _∙_}
 use mathlib.Core.List.{List, [], _∷_, _++_, append-nil, reverse}
 use mathlib.Core.Bool.{Bool, true, false, _||_}
-use mathlib.Core.Option.{Option, none, some}
+use mathlib.Core.Option.{Option, none, some, bind}
 use mathlib.Core.Logic.{inl, inr}
 use native.Mathlib.Omega.{arith}
 use lib.Dec.{eqb}
 use lib.ListN.{length, length-append}
-use Rattle.songcode.specs.Lists.{if_then_else_, isEmpty, any, when, times, andThen, orElse}
+use Rattle.songcode.specs.Lists.{if_then_else_, isEmpty, any, when, times}
 use Rattle.songcode.specs.Bytes.{Byte, values}
 use Rattle.songcode.specs.Song.{KeyName, bpm, time, Key, Items, items, named, Cut, LyricLine, Definition, Section, Song, Modifiers, unmodified}
 use Rattle.songcode.specs.answer.Keys.{keyPlace}
@@ -81,7 +81,7 @@ module _ (k : KeyName) (meaning : List Byte → ℕ → Type 0) (moves : (a b : 
       }
 
 pub empty-named : (head : ℕ) → patternItems (emptyDefinition true head) (named 1) ≡ none
-unfolding patternItems emptyDefinition when itemsOf definitionOf andThen if_then_else_
+unfolding patternItems emptyDefinition when itemsOf definitionOf bind if_then_else_
 empty-named head = refl
 
 some-beat : (k at : ℕ) (b : Beat) (m : List Beat) (ms : List (List Beat)) → 1 ≤ total (rowHeads k at ((b ∷ m) ∷ ms))
@@ -90,7 +90,7 @@ some-beat k at b m ms = omega arith
 
 alone-plays : (k : ℕ) (r : Items) (ds : List Definition) (pass : List (List Beat)) → PlaysAlone k r pass → 1 ≤ total pass
     → PlaysPattern k unmodified (patternItems ds (items r)) pass pass
-unfolding PlaysPattern patternItems repeats unmodified times orElse CutIf
+unfolding PlaysPattern patternItems repeats unmodified times CutIf
 alone-plays k r ds pass p t = (pass, p, sym (append-nil pass), refl, t)
 
 pattern-again : (k at : ℕ) (row : List (List Beat)) (needed : Bool) (head : ℕ) → Within k row → (isEmpty row ≡ true → needed ≡ true)
@@ -187,7 +187,7 @@ middle-shorter n ms (some r) pass middle (shorter, alone, front, back, some-left
     let b = back-shorter (ms .cutEnd) shorter middle back in omega arith
 
 one-pass : (ms : Modifiers) (row : List (List Beat)) → ms ≡ unmodified → length (times (repeats ms) row ++ []) ≡ length row
-unfolding repeats unmodified orElse times
+unfolding repeats unmodified times
 one-pass ms row e = rw (e, append-nil (row ++ []), append-nil row) refl
 
 pub uncut-longer : (k : ℕ) (p : Parts) → length (p .middle) ≤ length (times k (p .pass)) → length (joined p) ≤ length (uncut k p)

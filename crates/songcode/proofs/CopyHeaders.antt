@@ -2,10 +2,9 @@
 use Prim.Native.Nat.{ℕ, suc, _+_, _<_, _≤_}
 use mathlib.Core.Path.{_≡_, refl, subst}
 use mathlib.Core.List.{List, [], _∷_, map}
-use mathlib.Core.Option.{Option, none, some}
+use mathlib.Core.Option.{Option, none, some, Option·getD}
 use native.Mathlib.Omega.{arith}
 use lib.ListN.{length, length-append}
-use Rattle.songcode.specs.Lists.{orElse}
 use Rattle.songcode.specs.Bytes.{Byte}
 use Rattle.songcode.specs.answer.Lines.{Line, Block}
 use Rattle.songcode.specs.Song.{KeyName, bpm, time, Section, Song}
@@ -70,14 +69,14 @@ chart-headers {bs} w =
 -- What a section has from its keys is in its range.
 inherits-most : (k : KeyName) (meaning : List Byte → ℕ → Type 0) (most default : ℕ) → ((text : List Byte) (n : ℕ) → meaning text n → n ≤ most) → default ≤ most
     → (s : Song) (x : Section) (n : ℕ) → Inherits k meaning default s x n → n ≤ most
-unfolding orElse Says
+unfolding Says
 inherits-most k meaning most default f d s x n i = rw (i .chosen) (either (i .own) (i .ownSays) (either-song (i .songs) (i .songSays)))
   where
-    either-song : (o : Option ℕ) → Says k meaning (s .keys) o → orElse o default ≤ most
+    either-song : (o : Option ℕ) → Says k meaning (s .keys) o → Option·getD o default ≤ most
     either-song none h = d
     either-song (some m) h = f (h .0) m (h .2)
 
-    either : (o : Option ℕ) → Says k meaning (x .keys) o → orElse (i .songs) default ≤ most → orElse o (orElse (i .songs) default) ≤ most
+    either : (o : Option ℕ) → Says k meaning (x .keys) o → Option·getD (i .songs) default ≤ most → Option·getD o (Option·getD (i .songs) default) ≤ most
     either none h e = e
     either (some m) h e = f (h .0) m (h .2)
 

@@ -1,10 +1,10 @@
 -- Request 1: the length of a section's measures in the copy, from counts alone.
 use Prim.Native.Nat.{ℕ, zero, suc, _+_, _-_, _*_, _≤_}
 use mathlib.Core.Path.{_≡_, refl, _∙_}
-use mathlib.Core.List.{List, [], _∷_, _++_, map}
+use mathlib.Core.List.{List, [], _∷_, _++_, map, flatMap}
 use native.Mathlib.Omega.{arith}
 use lib.ListN.{length, replicate, length-append}
-use Rattle.songcode.specs.Lists.{gather, times}
+use Rattle.songcode.specs.Lists.{times}
 use Rattle.songcode.specs.Bytes.{ascii}
 use Rattle.songcode.specs.answer.Playing.{Beat}
 use Rattle.songcode.specs.description.Performance.{total}
@@ -52,12 +52,12 @@ measuresLength : ℕ → List (List Beat) → ℕ
 measuresLength n [] = 0
 measuresLength n (m ∷ row) = lettersLength m + (n - length m) + n + measuresLength n row
 
-each-length : (n : ℕ) (row : List (List Beat)) → Within n row → length (gather endLine (map (flatMeasure n) row)) ≡ measuresLength n row
-unfolding gather measuresLength Within
+each-length : (n : ℕ) (row : List (List Beat)) → Within n row → length (flatMap endLine (map (flatMeasure n) row)) ≡ measuresLength n row
+unfolding flatMap measuresLength Within
 each-length n [] w = refl
 each-length n ([] ∷ row) w = absurd (let h = w .0 in omega arith)
 each-length n ((b ∷ m) ∷ row) w =
-    rw (length-append (endLine (flatMeasure n (b ∷ m))) (gather endLine (map (flatMeasure n) row)), measure-length n b m (w .1), each-length n row (w .2))
+    rw (length-append (endLine (flatMeasure n (b ∷ m))) (flatMap endLine (map (flatMeasure n) row)), measure-length n b m (w .1), each-length n row (w .2))
 
 total-most : (n : ℕ) (row : List (List Beat)) → Within n row → total row ≤ n * length row
 unfolding total Within
@@ -69,8 +69,8 @@ unfolding measuresLength rowLength total Within
 by-counts n [] w = omega arith
 by-counts n (m ∷ row) w = let h = by-counts n row (w .2) in let k = total-most n row (w .2) in let l = w .1 in omega arith
 
-pub pattern-length : (n : ℕ) (row : List (List Beat)) → Within n row → length (gather endLine (flatPattern n row)) ≡ patternLength n row
-unfolding flatPattern patternLength gather endLine ascii
+pub pattern-length : (n : ℕ) (row : List (List Beat)) → Within n row → length (flatMap endLine (flatPattern n row)) ≡ patternLength n row
+unfolding flatPattern patternLength flatMap endLine ascii
 pattern-length n [] w = refl
 pattern-length n (m ∷ row) w = each-length n (m ∷ row) w ∙ by-counts n (m ∷ row) w
 

@@ -1,11 +1,11 @@
 -- Request 1: the lines and blocks of a copy are the rows that it was made of.
 use Prim.Native.Nat.{ℕ, suc, _+_}
 use mathlib.Core.Path.{_≡_, refl, ap, sym, subst, _∙_}
-use mathlib.Core.List.{List, [], _∷_, _++_, append-assoc, append-nil}
+use mathlib.Core.List.{List, [], _∷_, _++_, append-assoc, append-nil, flatMap}
 use mathlib.Core.Bool.{false}
 use native.Mathlib.Omega.{arith}
 use lib.ListN.{length}
-use Rattle.songcode.specs.Lists.{if_then_else_, gather, isEmpty}
+use Rattle.songcode.specs.Lists.{if_then_else_, isEmpty}
 use Rattle.songcode.specs.Bytes.{Byte, placed}
 use Rattle.songcode.specs.answer.Lines.{Line, Block, ending, lines, blocks}
 use Rattle.songcode.specs.answer.Answer.{blocksOf}
@@ -78,13 +78,13 @@ raws : ℕ → List (List ℕ) → List (List Byte)
 raws at [] = [] ∷ []
 raws at (r ∷ rs) = placed at r ∷ raws (behind at r) rs
 
-cuts-rows : (at : ℕ) (rs : List (List ℕ)) → AllClean rs → Cuts (placed at (gather endLine rs)) (raws at rs)
-unfolding gather endLine raws placed AllClean Inside behind ending if_then_else_
+cuts-rows : (at : ℕ) (rs : List (List ℕ)) → AllClean rs → Cuts (placed at (flatMap endLine rs)) (raws at rs)
+unfolding flatMap endLine raws placed AllClean Inside behind ending if_then_else_
 cuts-rows at [] c = last-line tt
 cuts-rows at (r ∷ rs) c =
-    let e : placed at ((r ++ (10 ∷ [])) ++ gather endLine rs)
-    ≡ placed at r ++ (record { place = at + length r; value = 10 } ∷ placed (suc (at + length r)) (gather endLine rs)) =
-    rw append-assoc (placed-append at r (10 ∷ gather endLine rs)) in
+    let e : placed at ((r ++ (10 ∷ [])) ++ flatMap endLine rs)
+    ≡ placed at r ++ (record { place = at + length r; value = 10 } ∷ placed (suc (at + length r)) (flatMap endLine rs)) =
+    rw append-assoc (placed-append at r (10 ∷ flatMap endLine rs)) in
     ends-lf (record { place = at + length r; value = 10 }) (c .0 .inside at) refl (cuts-rows (suc (at + length r)) rs (c .1)) e
 
 trims-row : (text : List Byte) → Solid text → Trims text text
@@ -96,11 +96,11 @@ unfolding raws fileLines AllClean Solid
 counts-rows n at [] c = a-line (trims-row [] tt) no-line
 counts-rows n at (r ∷ rs) c = a-line (trims-row (placed at r) (c .0 .solid at)) (counts-rows (suc n) (behind at r) rs (c .1))
 
-pub rows-written : (rs : List (List ℕ)) → AllClean rs → WrittenLines (placed 0 (gather endLine rs)) (fileLines 1 0 rs)
+pub rows-written : (rs : List (List ℕ)) → AllClean rs → WrittenLines (placed 0 (flatMap endLine rs)) (fileLines 1 0 rs)
 rows-written rs c = record { raws = raws 0 rs; cuts = cuts-rows 0 rs c; counts = counts-rows 1 0 rs c }
 
-pub rows-lines : (rs : List (List ℕ)) → AllClean rs → lines (placed 0 (gather endLine rs)) ≡ fileLines 1 0 rs
-rows-lines rs c = lines-complete (placed 0 (gather endLine rs)) (fileLines 1 0 rs) (rows-written rs c)
+pub rows-lines : (rs : List (List ℕ)) → AllClean rs → lines (placed 0 (flatMap endLine rs)) ≡ fileLines 1 0 rs
+rows-lines rs c = lines-complete (placed 0 (flatMap endLine rs)) (fileLines 1 0 rs) (rows-written rs c)
 
 lines-append : (n at : ℕ) (a b : List (List ℕ)) → fileLines n at (a ++ b) ≡ rowLines n at a ++ fileLines (n + length a) (behindAll at a) b
 unfolding fileLines rowLines behindAll

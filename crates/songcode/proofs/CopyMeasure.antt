@@ -1,12 +1,12 @@
 -- Request 1: a measure's line in the copy is read as one position a beat, and plays the measure again with every head set.
 use Prim.Native.Nat.{ℕ, zero, suc, _+_, _-_, _≤_}
 use mathlib.Core.Path.{_≡_, refl, ap, sym, subst, _∙_}
-use mathlib.Core.List.{List, [], _∷_, _++_, map, append-assoc, append-nil}
+use mathlib.Core.List.{List, [], _∷_, _++_, map, append-assoc, append-nil, flatMap}
 use mathlib.Core.Bool.{true}
 use mathlib.Core.Option.{Option, none, some}
 use native.Mathlib.Omega.{arith}
 use lib.ListN.{length, getD, getElem?, replicate}
-use Rattle.songcode.specs.Lists.{if_then_else_, gather}
+use Rattle.songcode.specs.Lists.{if_then_else_}
 use Rattle.songcode.specs.Bytes.{Byte, placed, values, ascii, isBlank, isByte}
 use Rattle.songcode.specs.answer.Chords.{Chord, bases}
 use Rattle.songcode.specs.Song.{Sound, chord, silence, Sounds, only, also, Measure}
@@ -243,8 +243,8 @@ measureHeads at b m = beat (heardAt at (b .sounds)) true ∷ headsAt (at + lengt
 unfoldable soundOf : Beat → Option Chord
 soundOf b = b .sounds
 
-one-beat : (at : ℕ) (m : List Beat) → headsAt at m ≡ gather (lasting 1) (map soundOf (headsAt at m))
-unfolding gather lasting soundOf headsAt
+one-beat : (at : ℕ) (m : List Beat) → headsAt at m ≡ flatMap (lasting 1) (map soundOf (headsAt at m))
+unfolding flatMap lasting soundOf headsAt
 one-beat at [] = refl
 one-beat at (b ∷ m) = ap (λ r. beat (heardAt (suc at) (b .sounds)) true ∷ r) (one-beat (suc at + length (lettersOf b)) m)
 
@@ -278,7 +278,7 @@ length-soundsAt at (b ∷ m) = ap suc (length-soundsAt (suc at + length (letters
 -- "each as N positions, one a beat": it plays in N what it was made of.
 pub measure-plays : (n at : ℕ) (last : Option Chord) (b : Beat) (m : List Beat) → length (b ∷ m) ≤ n
     → (later : Option Chord) × PlaysMeasure n last (measureAt n at b m) (measureHeads at b m) later
-unfolding measureAt measureHeads soundCount positions HearsAll gather lasting
+unfolding measureAt measureHeads soundCount positions HearsAll flatMap lasting
 measure-plays n at last b m h =
     let next = at + length (lettersOf b) in
     let o = hears-one at last (b .sounds) in

@@ -4,13 +4,13 @@ use Prim.Native.Char.{code}
 use mathlib.Core.Path.{_≡_, refl, ap, sym, subst, _∙_}
 use mathlib.Core.List.{List, [], _∷_, _++_}
 use mathlib.Core.Bool.{true}
-use mathlib.Core.Option.{Option, none, some}
+use mathlib.Core.Option.{Option, none, some, bind}
 use native.Mathlib.Omega.{arith}
 use native.Mathlib.Nat.{div-add-mod', mul-le-mul}
 use lib.Dec.{eqb}
 use lib.ListN.{length, length-append}
 use borrow.Author.Tests.{eqb-true}
-use Rattle.songcode.specs.Lists.{if_then_else_, times, andThen}
+use Rattle.songcode.specs.Lists.{if_then_else_, times}
 use Rattle.songcode.specs.Bytes.{Byte, placed, values, isBlank}
 use Rattle.songcode.specs.answer.Chords.{Chord}
 use Rattle.songcode.specs.answer.Lines.{Line, Block}
@@ -185,18 +185,18 @@ module _ (file : List Byte) where
   definitions-spelt (and-each {x = b} {y = d} w ws) f = (definition-spelt b d (f .0) w, definitions-spelt ws (f .1))
 
   found-spelt : (n : ℕ) (ds : List Definition) → Each SpeltDefinition ds → (q : Items) → itemsOf ds n ≡ some q → OfItems (Known file) q
-  unfolding itemsOf definitionOf andThen Each if_then_else_ SpeltDefinition
+  unfolding itemsOf definitionOf bind Each if_then_else_ SpeltDefinition
   found-spelt n [] f q e = none-some refl e
   found-spelt n (d ∷ ds) f q e = by-cases (eqb (d .id) n) (λ h. f .0 q (rw h at e)) (λ h. found-spelt n ds (f .1) q (rw h at e))
 
   pattern-spelt : (ds : List Definition) (l : Line) (ls : List Line) (p : Pattern) → Each SpeltDefinition ds → Fine file (l .text)
       → Each (FineLine file) ls → WrittenPattern l ls p → (r : Items) → patternItems ds p ≡ some r → OfItems (Known file) r
-  unfolding WrittenPattern patternItems andThen
+  unfolding WrittenPattern patternItems bind
   pattern-spelt ds l ls (items q) d f fs w r e =
       let z : q ≡ r = cc in subst (λ y. OfItems (Known file) y) z (items-written (Known file) q [] (lines-known file (w .0) f fs) .0)
   pattern-spelt ds l ls (named n) d f fs w r e = go (itemsOf ds n) refl e
     where
-      go : (o : Option Items) → itemsOf ds n ≡ o → andThen o (λ q. some (putIn (itemsOf ds) q)) ≡ some r → OfItems (Known file) r
+      go : (o : Option Items) → itemsOf ds n ≡ o → bind o (λ q. some (putIn (itemsOf ds) q)) ≡ some r → OfItems (Known file) r
       go none h k = none-some refl k
       go (some q) h k =
           let z : putIn (itemsOf ds) q ≡ r = cc in

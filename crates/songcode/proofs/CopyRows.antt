@@ -1,12 +1,12 @@
 -- Request 1: every row of a copy is a line as it stands, of whole characters; so the copy is.
 use Prim.Native.Nat.{ℕ, zero, suc, _-_, _≤_}
 use mathlib.Core.Path.{_≡_, refl, sym, subst}
-use mathlib.Core.List.{List, [], _∷_, _++_, map, append-nil, List·Memᴰ·head}
+use mathlib.Core.List.{List, [], _∷_, _++_, map, append-nil, List·Memᴰ·head, flatMap}
 use mathlib.Core.Bool.{Bool, true, false}
 use mathlib.Core.Option.{Option, none, some}
 use native.Mathlib.Omega.{arith}
 use lib.ListN.{length, replicate}
-use Rattle.songcode.specs.Lists.{if_then_else_, isEmpty, gather, when, any}
+use Rattle.songcode.specs.Lists.{if_then_else_, isEmpty, when, any}
 use Rattle.songcode.specs.Bytes.{Byte, placed, values, ascii, isBlank}
 use Rattle.songcode.specs.answer.Chords.{Chord}
 use Rattle.songcode.specs.answer.Characters.{forms, form, within}
@@ -308,23 +308,23 @@ pub printed : (bs : List ℕ) (s : Song) (ps : List Parts) (w : WrittenChart bs 
 printed bs s ps w f = blocks-printed (blocksCopied (w .song) ps) (copied-rows bs s ps w f)
 
 -- Whole characters.
-rows-whole : (rs : List (List ℕ)) (more : List (List ℕ)) → Each RowFine rs → Characters (gather endLine more) → Characters (gather endLine (rs ++ more))
-unfolding Each gather endLine within
+rows-whole : (rs : List (List ℕ)) (more : List (List ℕ)) → Each RowFine rs → Characters (flatMap endLine more) → Characters (flatMap endLine (rs ++ more))
+unfolding Each flatMap endLine within
 rows-whole [] more f c = c
 rows-whole (r ∷ rs) more f c = characters-append (characters-append (f .0 .whole) (lone 10 refl)) (rows-whole rs more (f .1) c)
 
-block-whole : (b : List (List ℕ)) (more : List (List ℕ)) → BlockRows b → Characters (gather endLine more) → Characters (gather endLine (b ++ more))
+block-whole : (b : List (List ℕ)) (more : List (List ℕ)) → BlockRows b → Characters (flatMap endLine more) → Characters (flatMap endLine (b ++ more))
 unfolding BlockRows Each
 block-whole [] more f c = absurd f
 block-whole (r ∷ rs) more f c = rows-whole (r ∷ rs) more f c
 
-further-whole : (bs : List (List (List ℕ))) → Each BlockRows bs → Characters (gather endLine (furtherRows bs))
-unfolding Each furtherRows gather endLine within
+further-whole : (bs : List (List (List ℕ))) → Each BlockRows bs → Characters (flatMap endLine (furtherRows bs))
+unfolding Each furtherRows flatMap endLine within
 further-whole [] f = no-character
 further-whole (b ∷ bs) f = characters-append (lone 10 refl) (block-whole b (furtherRows bs) (f .0) (further-whole bs (f .1)))
 
 bytes-whole : (bs : List (List (List ℕ))) → Each BlockRows bs → Characters (copyBytes bs)
-unfolding Each copyBytes copyRows gather
+unfolding Each copyBytes copyRows flatMap
 bytes-whole [] f = no-character
 bytes-whole (b ∷ bs) f = block-whole b (furtherRows bs) (f .0) (further-whole bs (f .1))
 

@@ -2,12 +2,12 @@
 use Prim.Native.Nat.{ℕ, _+_, _≤_}
 use mathlib.Core.Path.{_≡_, refl, ap, sym, subst, _∙_}
 use mathlib.Core.Logic.{_⊎_, inl, inr}
-use mathlib.Core.List.{List, [], _∷_, _++_, map}
+use mathlib.Core.List.{List, [], _∷_, _++_, map, flatMap}
 use mathlib.Core.Bool.{Bool, true}
 use mathlib.Core.Option.{Option, none, some}
 use native.Mathlib.Omega.{arith}
 use lib.ListN.{length}
-use Rattle.songcode.specs.Lists.{isEmpty, gather}
+use Rattle.songcode.specs.Lists.{isEmpty}
 use Rattle.songcode.specs.Bytes.{Byte, placed}
 use Rattle.songcode.specs.answer.Lines.{Line, Block}
 use Rattle.songcode.specs.Song.{Items, named, LyricLine, Section, Song}
@@ -49,8 +49,8 @@ lyrics-stand file no-lyrics f = tt
 lyrics-stand file (with-lyrics {l} {ls} d) f = lines-stand file (l ∷ ls) (f .1)
 
 sections-stand : (file : List Byte) {bs : List Block} {xs : List Section} → Written.Each SectionBlock bs xs → Each (BlockFine file) bs
-    → Each (LyricStands file) (gather lyricsOf xs)
-unfolding Each BlockFine gather lyricsOf
+    → Each (LyricStands file) (flatMap lyricsOf xs)
+unfolding Each BlockFine flatMap lyricsOf
 sections-stand file none-each f = tt
 sections-stand file (and-each {x = b} {y = x} {ys = xs} w ws) f =
     let v = w .section in
@@ -58,15 +58,15 @@ sections-stand file (and-each {x = b} {y = x} {ys = xs} w ws) f =
     let p = append-each (BlockLine file) (v .keyLines) _ all .1 in
     let q = append-each (BlockLine file) (v .firstPattern ∷ v .morePattern) (v .modifierLines ++ v .lastLines) p .1 in
     let m = append-each (BlockLine file) (v .modifierLines) (v .lastLines) q .1 in
-    each-append (LyricStands file) (x .lyrics) (gather lyricsOf xs) (lyrics-stand file (v .lyrics) m) (sections-stand file ws (f .1))
+    each-append (LyricStands file) (x .lyrics) (flatMap lyricsOf xs) (lyrics-stand file (v .lyrics) m) (sections-stand file ws (f .1))
 
-pub chart-lyrics : {bs : List ℕ} {s : Song} → WrittenChart bs s → Each (LyricStands (placed 0 bs)) (gather lyricsOf (s .sections))
+pub chart-lyrics : {bs : List ℕ} {s : Song} → WrittenChart bs s → Each (LyricStands (placed 0 bs)) (flatMap lyricsOf (s .sections))
 chart-lyrics {bs} w = sections-stand (placed 0 bs) (w .song .sections) (chart-fine w .sections)
 
 -- Lyric lines of a song and of its copy.
 pub lyrics-alike : {xs : List Section} {ps : List Parts} {ys : List Section} → FlatSections xs ps ys
-    → Written.Each AlikeLyric (gather lyricsOf ys) (gather lyricsOf xs)
-unfolding gather lyricsOf
+    → Written.Each AlikeLyric (flatMap lyricsOf ys) (flatMap lyricsOf xs)
+unfolding flatMap lyricsOf
 lyrics-alike no-flat = none-each
 lyrics-alike (a-flat at f fs) = each-behind (f .lyrics) (lyrics-alike fs)
 
@@ -92,15 +92,15 @@ not-uncounted (some q) [] n r e l c u = absurd (omega arith)
 not-uncounted (some q) (x ∷ ls) n r e l (and-counted {words} {n = m} c k f) u = u .0 words m c
 
 sums-counted : (s : Song) {xs : List Section} {ps : List Parts} → Written.Each (PlaysSection s) xs ps → AllSung s xs
-    → AllSum s xs ps ⊎ NoneCounted s xs → Counted (gather lyricsOf xs) (allLength ps)
-unfolding AllSung AllSum NoneCounted gather lyricsOf allLength
+    → AllSum s xs ps ⊎ NoneCounted s xs → Counted (flatMap lyricsOf xs) (allLength ps)
+unfolding AllSung AllSum NoneCounted flatMap lyricsOf allLength
 sums-counted s none-each g c = none-counted
 sums-counted s (and-each {x} {y = p} h hs) g (inl a) =
     counted-append (counted-here _ (x .lyrics) (length (joined p)) (g .0 .pattern) (g .0 .played) (g .0 .lyrics) (a .0)) (sums-counted s hs (g .1) (inl (a .1)))
 sums-counted s (and-each {x} {y = p} h hs) g (inr a) =
     absurd (not-uncounted _ (x .lyrics) (g .0 .sum) (g .0 .pattern) (g .0 .played) (g .0 .lyrics) (g .0 .counted) (a .0))
 
-pub sung-counted : (s : Song) (ps : List Parts) → Fits s ps → AllSung s (s .sections) → Counted (gather lyricsOf (s .sections)) (allLength ps)
+pub sung-counted : (s : Song) (ps : List Parts) → Fits s ps → AllSung s (s .sections) → Counted (flatMap lyricsOf (s .sections)) (allLength ps)
 sung-counted s ps f g = sums-counted s (f .plays) g (f .counts)
 
 -- A pattern that isn't empty plays something, and the copy of what is played is one.

@@ -1,10 +1,10 @@
 -- The tables of a copy: the original's, but for heads, header lines and offsets.
 use Prim.Native.Nat.{ℕ, _≤_}
 use mathlib.Core.Path.{_≡_, refl}
-use mathlib.Core.List.{List, [], map}
+use mathlib.Core.List.{List, [], map, flatMap}
 use native.Mathlib.Omega.{arith}
 use lib.ListN.{length}
-use Rattle.songcode.specs.Lists.{any, gather}
+use Rattle.songcode.specs.Lists.{any}
 use Rattle.songcode.specs.Bytes.{placed}
 use Rattle.songcode.specs.Song.{Section, Song}
 use Rattle.songcode.specs.answer.Tables.{Tables, keyOrder, keyWords}
@@ -31,8 +31,8 @@ use Rattle.songcode.proofs.CopySung.{LyricStands, chart-lyrics, lyrics-
 pairs : (bs copy : List ℕ) (small : length bs ≤ 65536) (brief : length copy ≤ 65536)
     {xs : List Section} {ps : List Parts} {ys : List Section} (g : FlatSections xs ps ys)
     → KnownParts (placed 0 bs) ps → KnownParts (placed 0 copy) (flatParts g)
-    → Each (Each (Pair bs copy small brief)) (gather joined (flatParts g)) (gather joined ps)
-unfolding KnownParts Good flatParts gather
+    → Each (Each (Pair bs copy small brief)) (flatMap joined (flatParts g)) (flatMap joined ps)
+unfolding KnownParts Good flatParts flatMap
 pairs bs copy small brief no-flat k c = none-each
 pairs bs copy small brief (a-flat {p} at f fs) k c =
     let a : Each (Each AlikeBeat) (joined (partsAt p at)) (joined p) = rw (joined-at p at) (row-alike (p .meter) at (joined p) (k .0 .0)) in
@@ -80,21 +80,21 @@ module _ (bs copy : List ℕ) (s t : Song) (ps : List Parts) (g : FlatSong s ps 
         record {
           keys = keysLaid (t .keys);
           sections = partsWords 0 (t .sections) qs;
-          measures = rowWords 0 (gather joined qs);
-          beats = gather (map beatLaid) (gather joined qs);
+          measures = rowWords 0 (flatMap joined qs);
+          beats = flatMap (map beatLaid) (flatMap joined qs);
           items = items .copied;
         },
         record { keys = refl; sections = refl; measures = refl; beats = refl; items = items .written },
         record {
           keys = rw (a .keys, ← (keys-laid s), ← (keys-laid t)) (keys-kept bs copy (w .short) (v .short) (g .keys) keysThere keys keyOrder);
           sections = rw (a .sections) (sections-kept s (g .sections) (ready bs s ps w f) (f .plays) (measures-few f) (chart-headers w) (chart-headers v));
-          measures = rw (a .measures, ← (rows-laid 0 (gather joined ps)), ← (rows-laid 0 (gather joined qs))) (measures-alike 0 beats);
-          beats = rw (a .beats, ← (beats-laid (gather joined ps)), ← (beats-laid (gather joined qs))) (beats-kept bs copy (w .short) (v .short) beats);
-          heads = rw (a .beats, ← (beats-laid (gather joined ps)), ← (beats-laid (gather joined qs))) (heads-set bs copy (w .short) (v .short) beats);
+          measures = rw (a .measures, ← (rows-laid 0 (flatMap joined ps)), ← (rows-laid 0 (flatMap joined qs))) (measures-alike 0 beats);
+          beats = rw (a .beats, ← (beats-laid (flatMap joined ps)), ← (beats-laid (flatMap joined qs))) (beats-kept bs copy (w .short) (v .short) beats);
+          heads = rw (a .beats, ← (beats-laid (flatMap joined ps)), ← (beats-laid (flatMap joined qs))) (heads-set bs copy (w .short) (v .short) beats);
           items = items .kept;
           settings = rw (a .keys, ← (keys-laid s), ← (keys-laid t)) (settings-kept bs copy (w .short) (v .short) (g .keys) keysThere keys keyOrder);
           extensions =
-              rw (a .beats, ← (beats-laid (gather joined ps)), ← (beats-laid (gather joined qs))) (extensions-kept bs copy (w .short) (v .short) beats);
+              rw (a .beats, ← (beats-laid (flatMap joined ps)), ← (beats-laid (flatMap joined qs))) (extensions-kept bs copy (w .short) (v .short) beats);
           words = items .texts;
         },
       )

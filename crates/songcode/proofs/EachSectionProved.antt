@@ -1,11 +1,10 @@
 -- Each section's stretch of the tables holds the words of what it plays.
 use Prim.Native.Nat.{ℕ, _+_}
 use mathlib.Core.Path.{_≡_, refl, ap, subst, _∙_}
-use mathlib.Core.List.{List, [], _∷_, _++_, map}
+use mathlib.Core.List.{List, [], _∷_, _++_, map, flatMap}
 use native.Mathlib.Nat.{zero-add, add-zero, add-assoc}
 use native.Mathlib.Omega.{arith}
 use lib.ListN.{length, length-append}
-use Rattle.songcode.specs.Lists.{gather}
 use Rattle.songcode.specs.Song.{Section, Song}
 use Rattle.songcode.specs.answer.Playing.{Beat}
 use Rattle.songcode.specs.answer.Tables.{Tables}
@@ -58,14 +57,14 @@ sections-parted : {R : Section → Parts → Type 0} (first : ℕ) (front : List
     (ps : List Parts) (p : Parts) (qs : List Parts) → Each R front ps
     → (partsWords first (front ++ (x ∷ behind)) (ps ++ (p ∷ qs))
     ≡ partsWords first front ps
-    ++ (section-word x (first + length (gather joined ps)) p ∷ partsWords (first + length (gather joined ps) + length (joined p)) behind qs))
+    ++ (section-word x (first + length (flatMap joined ps)) p ∷ partsWords (first + length (flatMap joined ps) + length (joined p)) behind qs))
     × (length (partsWords first front ps) ≡ length front)
-unfolding partsWords gather
+unfolding partsWords flatMap
 sections-parted first [] x behind [] p qs none-each = (rw (add-zero first), refl)
 sections-parted {R = R} first (f ∷ front) x behind (g ∷ ps) p qs (and-each h hs) =
     let r = sections-parted {R = R} (first + length (joined g)) front x behind ps p qs hs in
-    let e : first + length (joined g ++ gather joined ps) ≡ first + length (joined g) + length (gather joined ps) =
-    rw (length-append (joined g) (gather joined ps)) (omega arith) in
+    let e : first + length (joined g ++ flatMap joined ps) ≡ first + length (joined g) + length (flatMap joined ps) =
+    rw (length-append (joined g) (flatMap joined ps)) (omega arith) in
     (rw e (ap (λ z. section-word f first g ∷ z) (r .0)), let s = r .1 in omega arith)
 
 measures-joined : (first : ℕ) (a b : List (List Beat))
@@ -77,8 +76,8 @@ measures-joined first (m ∷ a) b =
     let l = h .1 in
     (rw (← add-assoc first (length m) (total a)) (ap (λ z. laid measuresRow (first ∷ length m ∷ []) ∷ z) (h .0)), omega arith)
 
-gathered-length : {A B : Type 0} (f : A → B) (rows : List (List A)) → length (gather (map f) rows) ≡ total rows
-unfolding gather total
+gathered-length : {A B : Type 0} (f : A → B) (rows : List (List A)) → length (flatMap (map f) rows) ≡ total rows
+unfolding flatMap total
 gathered-length f [] = refl
 gathered-length f ([] ∷ rows) = let h = gathered-length f rows in omega arith
 gathered-length f ((x ∷ xs) ∷ rows) = let h = gathered-length f (xs ∷ rows) in omega arith
@@ -86,27 +85,27 @@ gathered-length f ((x ∷ xs) ∷ rows) = let h = gathered-length f (xs ∷ rows
 module _ (s : Song) (ps : List Parts) (t : Tables) (w : WrittenTables s ps t) (each : Each (PlaysSection s) (s .sections) ps) where
   stretch-of : (front behind : List Section) (x : Section) → s .sections ≡ front ++ (x ∷ behind)
       → (p : Parts) × PlaysSection s x p × Stretch t (length front) x p
-  unfolding gather
+  unfolding flatMap
   stretch-of front behind x e =
       let r = parted front x behind (s .sections) ps e each in
-      let rows = gather joined (r .before) in
+      let rows = flatMap joined (r .before) in
       let p = r .thing in
-      let rest = gather joined (r .after) in
-      let all : gather joined ps ≡ rows ++ (joined p ++ rest) = ap (λ z. gather joined z) (r .written) ∙ gather-append joined (r .before) (p ∷ r .after) in
+      let rest = flatMap joined (r .after) in
+      let all : flatMap joined ps ≡ rows ++ (joined p ++ rest) = ap (λ z. flatMap joined z) (r .written) ∙ gather-append joined (r .before) (p ∷ r .after) in
       let words = sections-parted {R = PlaysSection s} 0 front x behind (r .before) p (r .after) (r .ofFront) in
       let measures : t .measures ≡ rowWords 0 rows ++ (rowWords (total rows) (joined p) ++ rowWords (total rows + total (joined p)) rest) =
       w .measures ∙ ap (λ z. rowWords 0 z) all ∙ measures-joined 0 rows (joined p ++ rest) .0
       ∙ rw (zero-add (total rows)) (ap (λ z. rowWords 0 rows ++ z) (measures-joined (total rows) (joined p) rest .0)) in
-      let beats : t .beats ≡ gather (map beatLaid) rows ++ (gather (map beatLaid) (joined p) ++ gather (map beatLaid) rest) =
-      w .beats ∙ ap (λ z. gather (map beatLaid) z) all ∙ gather-append (map beatLaid) rows (joined p ++ rest)
-      ∙ ap (λ z. gather (map beatLaid) rows ++ z) (gather-append (map beatLaid) (joined p) rest) in
+      let beats : t .beats ≡ flatMap (map beatLaid) rows ++ (flatMap (map beatLaid) (joined p) ++ flatMap (map beatLaid) rest) =
+      w .beats ∙ ap (λ z. flatMap (map beatLaid) z) all ∙ gather-append (map beatLaid) rows (joined p ++ rest)
+      ∙ ap (λ z. flatMap (map beatLaid) rows ++ z) (gather-append (map beatLaid) (joined p) rest) in
       let sections : t .sections ≡ partsWords 0 front (r .before)
       ++
       (section-word x (0 + length rows) p ∷ partsWords (0 + length rows + length (joined p)) behind
       (r .after)) =
       w .sections ∙ ap (λ z. partsWords 0 z ps) e ∙ ap (λ z. partsWords 0 (front ++ (x ∷ behind)) z) (r .written) ∙ words .0 in
       let long : length (rowWords 0 rows) ≡ length rows = measures-joined 0 rows [] .1 in
-      let beaten : length (gather (map beatLaid) rows) ≡ total rows = gathered-length beatLaid rows in (
+      let beaten : length (flatMap (map beatLaid) rows) ≡ total rows = gathered-length beatLaid rows in (
         p,
         r .holds,
         record {
@@ -114,8 +113,8 @@ module _ (s : Song) (ps : List Parts) (t : Tables) (w : WrittenTables s ps t) (e
           sectionsBehind = partsWords (0 + length rows + length (joined p)) behind (r .after);
           measuresBefore = rowWords 0 rows;
           measuresBehind = rowWords (total rows + total (joined p)) rest;
-          beatsBefore = gather (map beatLaid) rows;
-          beatsBehind = gather (map beatLaid) rest;
+          beatsBefore = flatMap (map beatLaid) rows;
+          beatsBehind = flatMap (map beatLaid) rest;
           inPlace = words .1;
           sections = sections ∙ rw (zero-add (length rows), long);
           measures = rw beaten measures;

@@ -1,12 +1,11 @@
 -- Every field of an accepted song's words fits its bits, table by table: places lie in a text of at most 65,536 bytes, and counts have their ranges.
 use Prim.Native.Nat.{ℕ, zero, suc, _+_, _*_, _<_, _≤_}
 use mathlib.Core.Path.{_≡_, refl}
-use mathlib.Core.List.{List, [], _∷_, _++_, map}
+use mathlib.Core.List.{List, [], _∷_, _++_, map, flatMap}
 use mathlib.Core.Bool.{Bool}
 use mathlib.Core.Option.{Option, none, some}
 use native.Mathlib.Omega.{arith}
 use lib.ListN.{length, getElem?, length-append}
-use Rattle.songcode.specs.Lists.{gather}
 use Rattle.songcode.specs.Bytes.{Byte, placed}
 use Rattle.songcode.specs.answer.Chords.{Chord, bases}
 use Rattle.songcode.specs.Song.{KeyName, Key, Section, Song}
@@ -75,10 +74,10 @@ module _ (bs : List ℕ) (small : length bs ≤ 65536) where
         made = refl;
       }
 
-  beat-words : (row : List (List Beat)) → OfRow (Known (placed 0 bs)) row → Each (WordOf beatsRow) (gather (map beatLaid) row)
-  unfolding Each OfRow gather beatLaid
+  beat-words : (row : List (List Beat)) → OfRow (Known (placed 0 bs)) row → Each (WordOf beatsRow) (flatMap (map beatLaid) row)
+  unfolding Each OfRow flatMap beatLaid
   beat-words [] k = tt
-  beat-words (m ∷ row) k = each-append (WordOf beatsRow) (map beatLaid m) (gather (map beatLaid) row) (measure m (k .0)) (beat-words row (k .1))
+  beat-words (m ∷ row) k = each-append (WordOf beatsRow) (map beatLaid m) (flatMap (map beatLaid) row) (measure m (k .0)) (beat-words row (k .1))
     where
       measure : (m : List Beat) → OfAll (Known (placed 0 bs)) m → Each (WordOf beatsRow) (map beatLaid m)
       measure [] k = tt
@@ -140,25 +139,25 @@ within-short n (m ∷ row) h w = let l = w .1 in (omega arith, within-short n ro
 
 -- What is played, in every section.
 module _ (file : List Byte) (s : Song) where
-  all-short : {xs : List Section} {ps : List Parts} → Written.Each (PlaysSection s) xs ps → KnownParts file ps → Each Short (gather joined ps)
-  unfolding Each KnownParts Good gather
+  all-short : {xs : List Section} {ps : List Parts} → Written.Each (PlaysSection s) xs ps → KnownParts file ps → Each Short (flatMap joined ps)
+  unfolding Each KnownParts Good flatMap
   all-short none-each k = tt
   all-short (and-each {x} {y = p} e more) k =
       each-append Short (joined p) _ (within-short (p .meter) (joined p) (meter-most s x p e) (k .0 .0)) (all-short more (k .1))
 
-  all-known : (ps : List Parts) → KnownParts file ps → OfRow (Known file) (gather joined ps)
-  unfolding KnownParts Good gather OfRow
+  all-known : (ps : List Parts) → KnownParts file ps → OfRow (Known file) (flatMap joined ps)
+  unfolding KnownParts Good flatMap OfRow
   all-known [] k = tt
   all-known (p ∷ ps) k = go (joined p) (k .0 .1) (all-known ps (k .1))
     where
-      go : (row : List (List Beat)) → OfRow (Known file) row → OfRow (Known file) (gather joined ps) → OfRow (Known file) (row ++ gather joined ps)
+      go : (row : List (List Beat)) → OfRow (Known file) row → OfRow (Known file) (flatMap joined ps) → OfRow (Known file) (row ++ flatMap joined ps)
       go [] r rest = rest
       go (m ∷ row) r rest = (r .0, go row (r .1) rest)
 
-all-length : (ps : List Parts) → length (gather joined ps) ≡ allLength ps
-unfolding gather allLength
+all-length : (ps : List Parts) → length (flatMap joined ps) ≡ allLength ps
+unfolding flatMap allLength
 all-length [] = refl
-all-length (p ∷ ps) = let h = all-length ps in let l = length-append (joined p) (gather joined ps) in omega arith
+all-length (p ∷ ps) = let h = all-length ps in let l = length-append (joined p) (flatMap joined ps) in omega arith
 
 -- All five tables.
 module _ (bs : List ℕ) (s : Song) (ps : List Parts) (w : WrittenChart bs s) (f : Fits s ps) where
@@ -178,8 +177,8 @@ module _ (bs : List ℕ) (s : Song) (ps : List Parts) (w : WrittenChart bs s) (f
       let keys : Each (WordOf keysRow) (t .keys) = rw (a .keys) (key-words bs (w .short) (s .keys) (chart-keys w) keyOrder) in
       let sections : Each (WordOf sectionsRow) (t .sections) = rw (a .sections) (section-words s 0 (f .plays) (omega arith) (chart-headers w)) in
       let measures : Each (WordOf measuresRow) (t .measures) =
-      rw (a .measures) (measure-words 0 (gather joined ps) (all-short (placed 0 bs) s (f .plays) parts) (omega arith)) in
-      let beats : Each (WordOf beatsRow) (t .beats) = rw (a .beats) (beat-words bs (w .short) (gather joined ps) (all-known (placed 0 bs) s ps parts)) in
+      rw (a .measures) (measure-words 0 (flatMap joined ps) (all-short (placed 0 bs) s (f .plays) parts) (omega arith)) in
+      let beats : Each (WordOf beatsRow) (t .beats) = rw (a .beats) (beat-words bs (w .short) (flatMap joined ps) (all-known (placed 0 bs) s ps parts)) in
       record {
         keys = λ word m. each-at (WordOf keysRow) keys m;
         sections = λ word m. each-at (WordOf sectionsRow) sections m;

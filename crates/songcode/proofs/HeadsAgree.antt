@@ -2,13 +2,13 @@
 use Prim.Native.Nat.{ℕ, zero, suc, _+_, _*_, _<_, _≤_}
 use mathlib.Core.Path.{_≡_, refl, ap, sym, subst, _∙_}
 use mathlib.Core.Logic.{_↔_, inl, inr}
-use mathlib.Core.List.{List, [], _∷_, _++_, append-assoc, head-eq-of-cons-eq, tail-eq-of-cons-eq, List·Memᴰ}
+use mathlib.Core.List.{List, [], _∷_, _++_, append-assoc, head-eq-of-cons-eq, tail-eq-of-cons-eq, List·Memᴰ, flatMap}
 use mathlib.Core.Bool.{true, false}
 use mathlib.Core.Option.{Option, none, some}
 use native.Mathlib.Nat.{suc-mul}
 use native.Mathlib.Omega.{arith}
 use lib.ListN.{length, replicate, length-append}
-use Rattle.songcode.specs.Lists.{gather, times}
+use Rattle.songcode.specs.Lists.{times}
 use Rattle.songcode.specs.answer.Chords.{Chord}
 use Rattle.songcode.specs.Song.{Measure, Item, measure, loop, refer, Items, one, next, Cut, Modifiers, Side, Section, Song}
 use Rattle.songcode.specs.answer.References.{patternItems}
@@ -48,12 +48,12 @@ one-fewer share zero k h e = absurd (omega arith)
 one-fewer share (suc i) k h e = let m = suc-mul i share in (i, omega arith)
 
 begins : (share : ℕ) (heard : List (Option Chord)) (b : Beat) (front behind : List Beat) → 1 ≤ share
-    → gather (lasting share) heard ≡ front ++ (b ∷ behind) → (b .head ≡ true) ↔ ((i : ℕ) × (length front ≡ i * share))
-unfolding gather
+    → flatMap (lasting share) heard ≡ front ++ (b ∷ behind) → (b .head ≡ true) ↔ ((i : ℕ) × (length front ≡ i * share))
+unfolding flatMap
 begins share [] b [] behind h e = nil-is-not-cons e
 begins share [] b (x ∷ front) behind h e = nil-is-not-cons e
 begins share (c ∷ heard) b front behind h e =
-    append-cases (lasting share c) (gather (lasting share) heard) front (b ∷ behind) e
+    append-cases (lasting share c) (flatMap (lasting share) heard) front (b ∷ behind) e
     (λ more p q.
     let more-begin = begins share heard b more behind h q in
     let long : length front ≡ share + length more = ap length p ∙ length-append (lasting share c) more ∙ ap (λ k. k + length more) (lasting-length share c) in (
@@ -68,12 +68,12 @@ begins share (c ∷ heard) b front behind h e =
       (λ i. alone .1 (no-more share (i .0) (length front) (omega arith) (i .1))),
     ))
 
-nothing-lasts : (heard : List (Option Chord)) → gather (lasting 0) heard ≡ []
-unfolding gather lasting
+nothing-lasts : (heard : List (Option Chord)) → flatMap (lasting 0) heard ≡ []
+unfolding flatMap lasting
 nothing-lasts [] = refl
 nothing-lasts (c ∷ heard) = nothing-lasts heard
 
-begins-all : (share : ℕ) (heard : List (Option Chord)) (b : Beat) (front behind : List Beat) → gather (lasting share) heard ≡ front ++ (b ∷ behind)
+begins-all : (share : ℕ) (heard : List (Option Chord)) (b : Beat) (front behind : List Beat) → flatMap (lasting share) heard ≡ front ++ (b ∷ behind)
     → (b .head ≡ true) ↔ ((i : ℕ) × (0 + length front ≡ i * share))
 begins-all zero heard b [] behind e = nil-is-not-cons (sym (nothing-lasts heard) ∙ e)
 begins-all zero heard b (x ∷ front) behind e = nil-is-not-cons (sym (nothing-lasts heard) ∙ e)

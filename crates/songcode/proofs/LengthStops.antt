@@ -2,14 +2,14 @@
 use Prim.Native.Nat.{ℕ, _+_, _<_, _≤_}
 use mathlib.Core.Path.{_≡_, refl, ap, sym, subst, _∙_}
 use mathlib.Core.Logic.{_↔_, _⊎_, inl, inr, ⊎-elim}
-use mathlib.Core.List.{List, [], _∷_, _++_, map, List·Memᴰ, List·Memᴰ·head, List·Memᴰ·tail, List·Memᴰ·not-nil, Memᴰ·append-left, Memᴰ·append-right}
+use mathlib.Core.List.{List, [], _∷_, _++_, map, List·Memᴰ, List·Memᴰ·head, List·Memᴰ·tail, List·Memᴰ·not-nil, Memᴰ·append-left, Memᴰ·append-right, flatMap}
 use mathlib.Core.Bool.{_&&_}
 use mathlib.Core.Option.{Option, none, some}
 use native.Mathlib.Omega.{arith}
 use lib.Dec.{leb, ltb}
 use lib.ListN.{length}
 use borrow.Author.Tests.{leb-true, le-leb, ltb-true, lt-ltb}
-use Rattle.songcode.specs.Lists.{sum, isEmpty, gather}
+use Rattle.songcode.specs.Lists.{sum, isEmpty}
 use Rattle.songcode.specs.Complaints.{Complaint, complaint, complainIf}
 use Rattle.songcode.specs.Song.{Items, Section, Song}
 use Rattle.songcode.specs.answer.PatternText.{references}
@@ -27,10 +27,10 @@ use Rattle.songcode.proofs.SectionPlays.{meter-some, pass-of, row-plays
 use Rattle.songcode.proofs.MeterAgree.{PlainSection, PlainSections, length-side, length-pass}
 use Rattle.songcode.proofs.MeterStops.{plain-member}
 
-pub gather-silent : {A B : Type 0} (f : A → List B) {xs : List A} {x : A} → gather f xs ≡ [] → List·Memᴰ x xs → f x ≡ []
-unfolding gather
-gather-silent f {xs = y ∷ xs} e (List·Memᴰ·head p) = ap f p ∙ append-is-nil (f y) (gather f xs) e .0
-gather-silent f {xs = y ∷ xs} e (List·Memᴰ·tail m) = gather-silent f (append-is-nil (f y) (gather f xs) e .1) m
+pub gather-silent : {A B : Type 0} (f : A → List B) {xs : List A} {x : A} → flatMap f xs ≡ [] → List·Memᴰ x xs → f x ≡ []
+unfolding flatMap
+gather-silent f {xs = y ∷ xs} e (List·Memᴰ·head p) = ap f p ∙ append-is-nil (f y) (flatMap f xs) e .0
+gather-silent f {xs = y ∷ xs} e (List·Memᴰ·tail m) = gather-silent f (append-is-nil (f y) (flatMap f xs) e .1) m
 
 -- What stage 4 leaves of a section.
 record Fine (s : Song) (x : Section) : Type 0 where

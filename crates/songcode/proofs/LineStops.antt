@@ -5,9 +5,9 @@ use mathlib.Core.Path.{_≡_, refl, sym, subst, _∙_}
 use mathlib.Core.Logic.{_↔_}
 use mathlib.Core.List.{List, [], _∷_, _++_, List·Memᴰ, List·Memᴰ·head, Memᴰ·append-left, Memᴰ·append-right}
 use mathlib.Core.Bool.{Bool, true, false, _&&_, not}
-use mathlib.Core.Option.{Option, none, some}
+use mathlib.Core.Option.{Option, none, some, bind}
 use borrow.Author.Tests.{eqb-true, not-true}
-use Rattle.songcode.specs.Lists.{if_then_else_, taken, left, isSome, andThen}
+use Rattle.songcode.specs.Lists.{if_then_else_, taken, left, isSome}
 use Rattle.songcode.specs.Bytes.{Byte, isByte, isBlank, notBlank, isLetter}
 use Rattle.songcode.specs.answer.Lines.{Line}
 use Rattle.songcode.specs.answer.Numbers.{repeatIn}
@@ -174,13 +174,13 @@ module _ (test : KeyName → Bool) (allowed : KeyName → Type 0) (agree : (k : 
   key-stops-exact s = (key-stated s (keyNameOf l) refl, stated-key)
 
 -- Modifiers.
-then-some : {A B : Type 0} (f : A → B) (o : Option A) → isSome (andThen o (λ x. some (f x))) ≡ isSome o
-unfolding andThen isSome
+then-some : {A B : Type 0} (f : A → B) (o : Option A) → isSome (bind o (λ x. some (f x))) ≡ isSome o
+unfolding bind isSome
 then-some f none = refl
 then-some f (some x) = refl
 
 unread-exact : {A B : Type 0} {P : A → Type 0} (f : A → B) (o : Option A) → ((x : A) → (o ≡ some x) ↔ P x)
-    → (not (isSome (andThen o (λ x. some (f x)))) ≡ true) ↔ ((x : A) → P x → ⊥)
+    → (not (isSome (bind o (λ x. some (f x)))) ≡ true) ↔ ((x : A) → P x → ⊥)
 unread-exact f o p =
     rw (then-some f o)
     ((λ e x h. fails-exact (isSome o) (isSome-exact o p) .0 e (x, h)), (λ n. fails-exact (isSome o) (isSome-exact o p) .1 (λ h. n (h .0) (h .1))))

@@ -1,12 +1,12 @@
 -- What stops a song in stages 6 and 7 is stated exactly where the answer complains of it.
 use mathlib.Core.Path.{_≡_, refl, ap, sym, subst, _∙_}
 use mathlib.Core.Logic.{_↔_}
-use mathlib.Core.List.{List, [], _∷_, List·Memᴰ, List·Memᴰ·head, List·Memᴰ·tail, List·Memᴰ·not-nil}
+use mathlib.Core.List.{List, [], _∷_, List·Memᴰ, List·Memᴰ·head, List·Memᴰ·tail, List·Memᴰ·not-nil, flatMap}
 use mathlib.Core.Bool.{Bool, true, _&&_, not}
 use lib.Dec.{eqb}
 use lib.ListN.{length}
 use borrow.Author.Tests.{eqb-true, eq-eqb, not-true, not-false}
-use Rattle.songcode.specs.Lists.{if_then_else_, isEmpty, any, gather, isSome}
+use Rattle.songcode.specs.Lists.{if_then_else_, isEmpty, any, isSome}
 use Rattle.songcode.specs.Complaints.{Complaint, complainIf}
 use Rattle.songcode.specs.Song.{LyricLine, Section, Song}
 use Rattle.songcode.specs.answer.References.{patternItems}
@@ -92,8 +92,8 @@ module _ (s : Song) where
   count-stops-exact = (count-stated, stated-count)
 
 -- Stage 7, where stage 6 states nothing and every section is played.
-gather-none : {A B : Type 0} (f : A → List B) (xs : List A) → ((x : A) → List·Memᴰ x xs → f x ≡ []) → gather f xs ≡ []
-unfolding gather
+gather-none : {A B : Type 0} (f : A → List B) (xs : List A) → ((x : A) → List·Memᴰ x xs → f x ≡ []) → flatMap f xs ≡ []
+unfolding flatMap
 gather-none f [] h = refl
 gather-none f (x ∷ xs) h = rw (h x (List·Memᴰ·head refl), gather-none f xs (λ y m. h y (List·Memᴰ·tail m)))
 

@@ -2,11 +2,12 @@
 use Prim.Native.Nat.{ℕ}
 use mathlib.Core.Path.{_≡_, refl, ap, sym, subst}
 use mathlib.Core.Logic.{_⊎_, inl, inr, ⊎-elim}
-use mathlib.Core.List.{List, [], _∷_, _++_, List·Memᴰ, List·Memᴰ·head, List·Memᴰ·tail, List·Memᴰ·not-nil, List·Memᴰ·cases-cons, List·Memᴰ·append-cases}
+use mathlib.Core.List.{List, [], _∷_, _++_, flatMap, filterMap}
+use mathlib.Core.List.{List·Memᴰ, List·Memᴰ·head, List·Memᴰ·tail, List·Memᴰ·not-nil, List·Memᴰ·cases-cons, List·Memᴰ·append-cases}
 use mathlib.Core.List.{map, Memᴰ·append-left, Memᴰ·append-right}
 use mathlib.Core.Bool.{Bool, true, false, _||_}
 use mathlib.Core.Option.{Option}
-use Rattle.songcode.specs.Lists.{gather, collect, when}
+use Rattle.songcode.specs.Lists.{when}
 use Rattle.songcode.specs.Complaints.{Complaint, complaint, complainIf}
 
 module _ {A : Type 0} where
@@ -32,8 +33,8 @@ module _ {A : Type 0} where
   only-one m = ⊎-elim (λ e. e) (λ i. absurd (List·Memᴰ·not-nil i)) (List·Memᴰ·cases-cons m)
 
 module _ {A B : Type 0} where
-  pub in-gather : (f : A → List B) (xs : List A) {c : B} → List·Memᴰ c (gather f xs) → (x : A) × List·Memᴰ x xs × List·Memᴰ c (f x)
-  unfolding gather
+  pub in-gather : (f : A → List B) (xs : List A) {c : B} → List·Memᴰ c (flatMap f xs) → (x : A) × List·Memᴰ x xs × List·Memᴰ c (f x)
+  unfolding flatMap
   in-gather f [] m = absurd (List·Memᴰ·not-nil m)
   in-gather f (x ∷ xs) m =
       either (f x)
@@ -41,20 +42,20 @@ module _ {A B : Type 0} where
       (λ i. let g = in-gather f xs i in (g .0, List·Memᴰ·tail (g .1), g .2))
       m
 
-  pub gather-in : (f : A → List B) {xs : List A} {x : A} {c : B} → List·Memᴰ x xs → List·Memᴰ c (f x) → List·Memᴰ c (gather f xs)
-  unfolding gather
-  gather-in f {xs = y ∷ ys} {c = c} (List·Memᴰ·head e) m = Memᴰ·append-left (gather f ys) (subst (λ z. List·Memᴰ c (f z)) e m)
+  pub gather-in : (f : A → List B) {xs : List A} {x : A} {c : B} → List·Memᴰ x xs → List·Memᴰ c (f x) → List·Memᴰ c (flatMap f xs)
+  unfolding flatMap
+  gather-in f {xs = y ∷ ys} {c = c} (List·Memᴰ·head e) m = Memᴰ·append-left (flatMap f ys) (subst (λ z. List·Memᴰ c (f z)) e m)
   gather-in f {xs = y ∷ ys} (List·Memᴰ·tail i) m = Memᴰ·append-right (f y) (gather-in f i m)
 
 -- What gives the same of every element gives the same of the list.
 module _ {A B : Type 0} where
-  pub gather-alike : {f g : A → List B} (xs : List A) → ((x : A) → List·Memᴰ x xs → f x ≡ g x) → gather f xs ≡ gather g xs
-  unfolding gather
+  pub gather-alike : {f g : A → List B} (xs : List A) → ((x : A) → List·Memᴰ x xs → f x ≡ g x) → flatMap f xs ≡ flatMap g xs
+  unfolding flatMap
   gather-alike [] h = refl
   gather-alike (x ∷ xs) h = rw (h x (List·Memᴰ·head refl), gather-alike xs (λ y i. h y (List·Memᴰ·tail i)))
 
-  pub collect-alike : {f g : A → Option B} (xs : List A) → ((x : A) → List·Memᴰ x xs → f x ≡ g x) → collect f xs ≡ collect g xs
-  unfolding collect
+  pub collect-alike : {f g : A → Option B} (xs : List A) → ((x : A) → List·Memᴰ x xs → f x ≡ g x) → filterMap f xs ≡ filterMap g xs
+  unfolding filterMap
   collect-alike [] h = refl
   collect-alike (x ∷ xs) h = rw (h x (List·Memᴰ·head refl), collect-alike xs (λ y i. h y (List·Memᴰ·tail i)))
 

@@ -4,9 +4,8 @@ use mathlib.Core.Path.{_≡_, refl, ap, sym, subst, _∙_}
 use mathlib.Core.Logic.{_↔_}
 use mathlib.Core.List.{List, [], _∷_, _++_, append-nil, append-assoc, List·Memᴰ, List·Memᴰ·head}
 use mathlib.Core.List.{Memᴰ·append-left, Memᴰ·append-right}
-use mathlib.Core.Option.{Option, none, some}
+use mathlib.Core.Option.{Option, none, some, bind}
 use lib.ListN.{replicate}
-use Rattle.songcode.specs.Lists.{orElse, andThen}
 use Rattle.songcode.specs.Song.{Sounds, only, also, Measure, nothing, aLineEnd, Separator, bySemicolon, byLineEnd, byColon, Item, measure, loop, refer}
 use Rattle.songcode.specs.Song.{Items, one, next, Pattern, items, named, Definition}
 use Rattle.songcode.specs.answer.Tokens.{Token, sound, remover, reference, semicolon, colon, lineEnd, opens, closes}
@@ -81,7 +80,7 @@ module _ (ds : List Definition) where
       subst (λ k. PutIn ds (reference k ∷ []) (itemsTokens q)) (b .1) put
 
   mutual
-    unfolding references referencesI itemsTokens itemTokens putIn putInItem orElse Known
+    unfolding references referencesI itemsTokens itemTokens putIn putInItem Known
 
     item-put : (i : Item) → Known (referencesI i) → PutIn ds (itemTokens i) (itemsTokens (putInItem (itemsOf ds) i))
     item-put (measure m) h = measure-put m
@@ -125,7 +124,7 @@ module _ (ds : List Definition) where
         (subst (λ z. PutIn ds (itemsTokens q) z) (sym (appended (putIn (itemsOf ds) q))) (items-put q k))
 
     says : (p : Pattern) (x : Option Items) → PatternRefers ds p → patternItems ds p ≡ x → PatternSays ds p x
-    unfolding patternItems PatternRefers itemsOf andThen
+    unfolding patternItems PatternRefers itemsOf bind
     says (items r) x h e = subst (λ z. PatternSays ds (items r) z) e own-items
     says (named n) x h e = go (h .0 .items) refl
       where
@@ -146,7 +145,7 @@ module _ (ds : List Definition) where
             (names-items (h .0) q (found .0) g (put q (known (h .0) q (found .0) g))))
 
     said : {p : Pattern} {x : Option Items} → PatternSays ds p x → patternItems ds p ≡ x
-    unfolding patternItems itemsOf andThen
+    unfolding patternItems itemsOf bind
     said own-items = refl
     said (names-items {r = r} d q m h w) =
         rw (there ds o d m, h) (ap (λ z. some z) (written-once (putIn (itemsOf ds) q) r (put-once o (put q (known d q m h)) w)))

@@ -2,14 +2,14 @@
 use Prim.Native.Nat.{ℕ, _≤_, max}
 use mathlib.Core.Path.{_≡_, refl, ap, sym, subst, _∙_}
 use mathlib.Core.Logic.{_↔_, _⊎_, inl, inr, ⊎-elim}
-use mathlib.Core.List.{List, [], _∷_, _++_, map, List·Memᴰ, List·Memᴰ·head, List·Memᴰ·tail, List·Memᴰ·not-nil, List·Memᴰ·cases-cons, Memᴰ·append-left}
+use mathlib.Core.List.{List, [], _∷_, _++_, map, List·Memᴰ, List·Memᴰ·head, List·Memᴰ·tail, List·Memᴰ·not-nil, List·Memᴰ·cases-cons, Memᴰ·append-left, flatMap}
 use mathlib.Core.List.{Memᴰ·append-right, Memᴰ·map}
 use mathlib.Core.Bool.{true, false, not}
-use mathlib.Core.Option.{Option, none, some}
+use mathlib.Core.Option.{Option, none, some, Option·getD, bind}
 use native.Mathlib.Omega.{arith}
 use lib.Dec.{eqb, leb}
 use borrow.Author.Tests.{eqb-true, eq-eqb, not-true, leb-true, leb-false, lt-leb}
-use Rattle.songcode.specs.Lists.{if_then_else_, gather, orElse, andThen}
+use Rattle.songcode.specs.Lists.{if_then_else_}
 use Rattle.songcode.specs.Complaints.{Complaint, complaint}
 use Rattle.songcode.specs.Song.{Separator, Item, measure, loop, refer, Items, one, next, Pattern, items, named, Definition, Section, Song}
 use Rattle.songcode.specs.answer.PatternText.{depthI, depth, loopsDeep, referencesI, references, noReference}
@@ -122,11 +122,11 @@ module _ (f : ℕ → Option Items) where
   Looped : ℕ → Type 0
   Looped n = (q : Items) × (f n ≡ some q) × (1 ≤ depth q)
 
-  put-refer : (n : ℕ) → (1 ≤ depth (orElse (f n) (one (refer n)))) ↔ Looped n
-  unfolding Looped orElse depth depthI
+  put-refer : (n : ℕ) → (1 ≤ depth (Option·getD (f n) (one (refer n)))) ↔ Looped n
+  unfolding Looped depth depthI
   put-refer n = (go (f n) refl, λ h. rw (h .1) (h .2))
     where
-      go : (o : Option Items) → f n ≡ o → 1 ≤ depth (orElse o (one (refer n))) → Looped n
+      go : (o : Option Items) → f n ≡ o → 1 ≤ depth (Option·getD o (one (refer n))) → Looped n
       go none e h = let z : ⊥ = omega arith in absurd z
       go (some q) e h = (q, e, h)
 
@@ -161,7 +161,7 @@ module _ (f : ℕ → Option Items) where
         either (references r) (λ x. let a = items-flat r n x h in omega arith) (λ x. let a = item-flat i n x h in omega arith) m
 
   deep-item : (i : Item) → ((n : ℕ) (q : Items) → f n ≡ some q → depth q ≤ 1) → depthI i ≤ 1 → 2 ≤ depth (putInItem f i) → (n : ℕ) × InLoopItem n i × Looped n
-  unfolding depth depthI putInItem InLoopItem orElse Looped
+  unfolding depth depthI putInItem InLoopItem Looped
   deep-item (measure m) a z h = let y : ⊥ = omega arith in absurd y
   deep-item (loop r k) a z h = flat-items r (omega arith) (omega arith)
   deep-item (refer n) a z h =
@@ -300,7 +300,7 @@ module _ (s : Song) (only-ones : One (s .definitions)) (shallow : Shallow (s .de
       (a .0, is-before (a .0) (b .0), b .1, a .2)
 
   meant : (e : Definition) (q : Items) → List·Memᴰ e xs → e .items ≡ some q → itemsOf earlier (e .id) ≡ some q
-  unfolding itemsOf andThen
+  unfolding itemsOf bind
   meant e q m h = rw (found-before e m) h
 
   depth-in : (r : Items) → d .items ≡ some r → depth r ≤ 1 → {c : Complaint} → List·Memᴰ c (depthFault earlier r (d .head)) → Stops3 s c
@@ -317,7 +317,7 @@ module _ (s : Song) (only-ones : One (s .definitions)) (shallow : Shallow (s .de
   unfolding definitionReferences
   definition-in none t m = absurd (List·Memᴰ·not-nil m)
   definition-in (some r) t m =
-      either (gather (λ n. referenceFault (definitionOf n earlier) (d .head)) (references r))
+      either (flatMap (λ n. referenceFault (definitionOf n earlier) (d .head)) (references r))
       (λ i. let g = in-gather (λ n. referenceFault (definitionOf n earlier) (d .head)) (references r) i in reference-in r t (g .0) (g .1)
       (definitionOf (g .0) earlier) refl (g .2))
       (λ i. depth-in r t (shallow d r (subst (λ z. List·Memᴰ d z) (sym w) (Memᴰ·append-right xs (List·Memᴰ·head refl))) t) i)
@@ -336,7 +336,7 @@ module _ (s : Song) (only-ones : One (s .definitions)) (shallow : Shallow (s .de
   unfolding definitionReferences
   of-depth r t {c} m =
       subst (λ o. List·Memᴰ c (definitionReferences earlier o (d .head))) (sym t)
-      (Memᴰ·append-right (gather (λ k. referenceFault (definitionOf k earlier) (d .head)) (references r)) m)
+      (Memᴰ·append-right (flatMap (λ k. referenceFault (definitionOf k earlier) (d .head)) (references r)) m)
 
   is-undefined : (r : Items) (n : ℕ) → d .items ≡ some r → List·Memᴰ n (references r) → ((e : Definition) → List·Memᴰ e xs → e .id ≡ n → ⊥)
       → List·Memᴰ (complaint 10 (d .head)) (definitionReferences earlier (d .items) (d .head))
@@ -407,7 +407,7 @@ module _ (s : Song) {bs : List Block} (w : WrittenSong bs s) where
       → List·Memᴰ c (definitionReferences (onto [] xs) (d .items) (d .head)) → List·Memᴰ c (referenceFaults s)
   unfolding referenceFaults
   of-definition {d} {r} {xs} {c} v m =
-      Memᴰ·append-left (gather (λ x. sectionReference (s .definitions) (x .pattern) (x .header)) (s .sections))
+      Memᴰ·append-left (flatMap (λ x. sectionReference (s .definitions) (x .pattern) (x .header)) (s .sections))
       (subst (λ z. List·Memᴰ c (definitionsReferences [] z)) (sym (v .written)) (in-definitions [] xs d (v .behind) m))
 
   stated-reference : {c : Complaint} → Stops3 s c → List·Memᴰ c (referenceFaults s)

@@ -3,8 +3,7 @@ use Prim.Native.Nat.{ℕ}
 use mathlib.Core.Path.{_≡_, refl, ap, sym, subst, _∙_}
 use mathlib.Core.Logic.{_↔_, ⊎-elim}
 use mathlib.Core.List.{List, [], _∷_, map, List·Memᴰ, List·Memᴰ·head, List·Memᴰ·tail, List·Memᴰ·not-nil, List·Memᴰ·cases-cons, Memᴰ·map}
-use mathlib.Core.Option.{Option, none, some}
-use Rattle.songcode.specs.Lists.{firstThere}
+use mathlib.Core.Option.{Option, none, some, orElse}
 use Rattle.songcode.specs.Song.{Cut, Modifier, repeated, cutStart, cutEnd, before, after, Side, Modifiers}
 use Rattle.songcode.specs.answer.Modifiers.{repeatSaid, cutStartSaid, cutEndSaid, beforeSaid, afterSaid, saidBy, modifiersSaid}
 use Rattle.songcode.specs.description.WrittenSection.{Distinct, modifierNumber, Together}
@@ -22,12 +21,12 @@ module _ {B : Type 0} (f : Modifier → Option B) (make : B → Modifier) (k : �
   member-of [] y e = none-some refl e
   member-of (m ∷ ms) y e = go (f m) refl e (member-of ms y)
     where
-      go : (o : Option B) → f m ≡ o → firstThere o (saidBy f ms) ≡ some y → (saidBy f ms ≡ some y → List·Memᴰ (make y) ms) → List·Memᴰ (make y) (m ∷ ms)
+      go : (o : Option B) → f m ≡ o → orElse o (saidBy f ms) ≡ some y → (saidBy f ms ≡ some y → List·Memᴰ (make y) ms) → List·Memᴰ (make y) (m ∷ ms)
       go none p h r = List·Memᴰ·tail (r h)
       go (some z) p h r = let q : z ≡ y = cc in List·Memᴰ·head (sym (only m y (p ∙ ap (λ w. some w) q)))
 
   said-of : (ms : List Modifier) (y : B) → Distinct (map modifierNumber ms) → List·Memᴰ (make y) ms → saidBy f ms ≡ some y
-  unfolding saidBy firstThere Distinct
+  unfolding saidBy orElse Distinct
   said-of [] y d m = absurd (List·Memᴰ·not-nil m)
   said-of (x ∷ ms) y d m =
       ⊎-elim
@@ -37,7 +36,7 @@ module _ {B : Type 0} (f : Modifier → Option B) (make : B → Modifier) (k : �
       (subst (λ n. List·Memᴰ n (map modifierNumber ms)) (numbered y) (Memᴰ·map modifierNumber i)) e) (said-of ms y (d .1) i))
       (List·Memᴰ·cases-cons m)
     where
-      go : (o : Option B) → f x ≡ o → (modifierNumber x ≡ k → ⊥) → saidBy f ms ≡ some y → firstThere (f x) (saidBy f ms) ≡ some y
+      go : (o : Option B) → f x ≡ o → (modifierNumber x ≡ k → ⊥) → saidBy f ms ≡ some y → orElse (f x) (saidBy f ms) ≡ some y
       go none p h r = rw p r
       go (some z) p h r = absurd (h (ap (λ w. modifierNumber w) (only x z p) ∙ numbered z))
 

@@ -3,12 +3,12 @@ use Prim.Native.Nat.{ℕ}
 use Prim.Native.Char.{code}
 use mathlib.Core.Path.{_≡_, refl, ap, sym, subst, _∙_}
 use mathlib.Core.Logic.{_↔_, _⊎_, inl, inr, ⊎-elim}
-use mathlib.Core.List.{List, [], _∷_, _++_, List·Memᴰ, List·Memᴰ·head, List·Memᴰ·not-nil, Memᴰ·append-left, Memᴰ·append-right}
+use mathlib.Core.List.{List, [], _∷_, _++_, List·Memᴰ, List·Memᴰ·head, List·Memᴰ·not-nil, Memᴰ·append-left, Memᴰ·append-right, flatMap}
 use mathlib.Core.Bool.{Bool, true, false, _&&_, not}
-use mathlib.Core.Option.{some}
+use mathlib.Core.Option.{some, bind}
 use lib.Dec.{leb}
 use lib.ListN.{getElem?}
-use Rattle.songcode.specs.Lists.{if_then_else_, taken, left, isEmpty, gather, isSome, andThen}
+use Rattle.songcode.specs.Lists.{if_then_else_, taken, left, isEmpty, isSome}
 use Rattle.songcode.specs.Bytes.{Byte, isByte}
 use Rattle.songcode.specs.answer.Characters.{characters}
 use Rattle.songcode.specs.answer.Lines.{Line, Block}
@@ -160,7 +160,7 @@ unfolding keySaid
 key-says l n e =
     by-kind (kindOfLine l)
     (λ k.
-    let g : andThen (keyNameOf l) (λ j. some (keyPlace j)) ≡ some n = rw (k, keySaid) at e in
+    let g : bind (keyNameOf l) (λ j. some (keyPlace j)) ≡ some n = rw (k, keySaid) at e in
     let a = andThen-some (keyNameOf l) (λ j. some (keyPlace j)) g in
     let q : keyPlace (a .0) ≡ n = cc in
     (a .0, calls-key l (a .0) (key-exact l .1 k) (a .1), q))
@@ -168,7 +168,7 @@ key-says l n e =
     (λ k. none-some refl (rw (k, keySaid) at e))
 
 said-key : {l : Line} {k : KeyName} {setting : List Byte} → CallsKey l k setting → keySaid l ≡ some (keyPlace k)
-unfolding keySaid andThen
+unfolding keySaid bind
 said-key {l} {k} w = rw (key-exact l .0 (w .sign), keySaid, key-called w .0)
 
 pub key-again : {before : List Line} {l : Line} {c : Complaint} → Again 4 keySaid [] before l c ↔ KeyDoubled before l c
@@ -195,14 +195,14 @@ modifier-says l n e =
     by-kind (kindOfLine l)
     (λ k. none-some refl (rw (k, modifierSaid) at e))
     (λ k.
-    let g : andThen (modifierNameOf l) (λ j. some (modifierPlace j)) ≡ some n = rw (k, modifierSaid) at e in
+    let g : bind (modifierNameOf l) (λ j. some (modifierPlace j)) ≡ some n = rw (k, modifierSaid) at e in
     let a = andThen-some (modifierNameOf l) (λ j. some (modifierPlace j)) g in
     let q : modifierPlace (a .0) ≡ n = cc in
     (a .0, calls-modifier l (a .0) (modifier-exact l .1 k) (a .1), q))
     (λ k. none-some refl (rw (k, modifierSaid) at e))
 
 said-modifier : {l : Line} {k : ModifierName} {setting : List Byte} → CallsModifier l k setting → modifierSaid l ≡ some (modifierPlace k)
-unfolding modifierSaid andThen
+unfolding modifierSaid bind
 said-modifier {l} {k} w = rw (modifier-exact l .0 (w .sign), modifierSaid, modifier-called w .0)
 
 modifier-ordered : (k : ModifierName) → getElem? (ofRepeat ∷ ofCutStart ∷ ofCutEnd ∷ ofBefore ∷ ofAfter ∷ []) (modifierPlace k) ≡ some k
@@ -336,13 +336,13 @@ module _ (b : Block) where
   abbrev first-four : List Complaint
   first-four = first-two ++ twice 4 keySaid [] (body b) ++ twice 8 modifierSaid [] (body b)
 
-  of-six : {c : Complaint} → List·Memᴰ c (first-four ++ gather faults (body b) ++ patternFaults (b .first .number) (patternRun (body b)))
+  of-six : {c : Complaint} → List·Memᴰ c (first-four ++ flatMap faults (body b) ++ patternFaults (b .first .number) (patternRun (body b)))
       → List·Memᴰ c (sectionFaults b)
   unfolding sectionFaults
   of-six m = Memᴰ·append-left (lyricFaults (fromDashes b)) m
 
   of-four : {c : Complaint} → List·Memᴰ c first-four → List·Memᴰ c (sectionFaults b)
-  of-four m = of-six (Memᴰ·append-left (patternFaults (b .first .number) (patternRun (body b))) (Memᴰ·append-left (gather faults (body b)) m))
+  of-four m = of-six (Memᴰ·append-left (patternFaults (b .first .number) (patternRun (body b))) (Memᴰ·append-left (flatMap faults (body b)) m))
 
   of-two : {c : Complaint} → List·Memᴰ c first-two → List·Memᴰ c (sectionFaults b)
   of-two m = of-four (Memᴰ·append-left (twice 8 modifierSaid [] (body b)) (Memᴰ·append-left (twice 4 keySaid [] (body b)) m))
@@ -351,7 +351,7 @@ module _ (b : Block) where
   of-line m h = of-six (Memᴰ·append-left (patternFaults (b .first .number) (patternRun (body b))) (Memᴰ·append-right first-four (gather-in faults m h)))
 
   of-run : {c : Complaint} → List·Memᴰ c (patternFaults (b .first .number) (patternRun (body b))) → List·Memᴰ c (sectionFaults b)
-  of-run m = of-six (Memᴰ·append-right (first-four ++ gather faults (body b)) m)
+  of-run m = of-six (Memᴰ·append-right (first-four ++ flatMap faults (body b)) m)
 
   stated-section : {c : Complaint} → SectionStops b c → List·Memᴰ c (sectionFaults b)
   unfolding sectionFaults patternFaults lyricFaults isEmpty
@@ -378,7 +378,7 @@ module _ (b : Block) where
       let e : patternRun (body b) ≡ [] = ap (λ z. patternRun z) (split-once w .0) ∙ none-left x n in
       of-run (subst (λ z. List·Memᴰ (complaint 8 (b .first .number)) (patternFaults (b .first .number) z)) (sym e) (List·Memᴰ·head refl))
   stated-section (no-lyrics x d w) =
-      Memᴰ·append-right (first-four ++ gather faults (body b) ++ patternFaults (b .first .number) (patternRun (body b)))
+      Memᴰ·append-right (first-four ++ flatMap faults (body b) ++ patternFaults (b .first .number) (patternRun (body b)))
       (subst (λ z. List·Memᴰ (complaint 8 (d .number)) (lyricFaults z)) (sym (split-once w .1)) (complaint-in 8 (d .number) refl))
 
   pub section-stops-exact : {c : Complaint} → List·Memᴰ c (sectionFaults b) ↔ SectionStops b c

@@ -2,11 +2,11 @@
 use Prim.Native.Nat.{_≤_}
 use mathlib.Core.Path.{_≡_, refl, sym, _∙_}
 use mathlib.Core.Logic.{_↔_}
-use mathlib.Core.List.{List, [], _∷_, _++_}
+use mathlib.Core.List.{List, [], _∷_, _++_, flatMap}
 use mathlib.Core.Bool.{true}
 use lib.ListN.{length}
 use native.Mathlib.Omega.{arith}
-use Rattle.songcode.specs.Lists.{isEmpty, gather}
+use Rattle.songcode.specs.Lists.{isEmpty}
 use Rattle.songcode.specs.answer.Lines.{Block}
 use Rattle.songcode.specs.Complaints.{Complaint, complainIf}
 use Rattle.songcode.specs.Song.{Key, Definition, Section, Song}
@@ -52,7 +52,7 @@ record Quiet (bs : List Block) : Type 0 where
   places : blockOrder 0 bs ≡ []
   keys : metadataFaults bs ≡ []
   definitions : definitionsFaults (definitionBlocks bs) ≡ []
-  sections : gather sectionFaults (sectionBlocks bs) ≡ []
+  sections : flatMap sectionFaults (sectionBlocks bs) ≡ []
   atLeast : 1 ≤ length (sectionBlocks bs)
 
 quiet-of : (bs : List Block) → textFaults bs ≡ [] → Quiet bs
@@ -60,7 +60,7 @@ unfolding textFaults
 quiet-of bs e =
     let to2 = blockOrder 0 bs ++ metadataFaults bs in
     let to3 = to2 ++ definitionsFaults (definitionBlocks bs) in
-    let n = no-section (to3 ++ gather sectionFaults (sectionBlocks bs)) (sectionBlocks bs) e in
+    let n = no-section (to3 ++ flatMap sectionFaults (sectionBlocks bs)) (sectionBlocks bs) e in
     let h3 = append-is-nil to3 _ (n .0) in
     let h2 = append-is-nil to2 _ (h3 .0) in
     let h1 = append-is-nil (blockOrder 0 bs) _ (h2 .0) in

@@ -3,7 +3,7 @@ use Prim.Native.Nat.{ℕ, suc, _+_, _<_, _≤_, max}
 use Prim.Native.Char.{code}
 use mathlib.Core.Path.{_≡_, refl, ap, sym, subst, _∙_}
 use mathlib.Core.Logic.{_↔_, _⊎_, inl, inr, ⊎-elim}
-use mathlib.Core.List.{List, [], _∷_, _++_, map, List·Memᴰ, List·Memᴰ·head, List·Memᴰ·tail, List·Memᴰ·not-nil, List·Memᴰ·cases-cons, Memᴰ·append-left}
+use mathlib.Core.List.{List, [], _∷_, _++_, map, List·Memᴰ, List·Memᴰ·head, List·Memᴰ·tail, List·Memᴰ·not-nil, List·Memᴰ·cases-cons, Memᴰ·append-left, flatMap}
 use mathlib.Core.List.{Memᴰ·append-right, Memᴰ·map, Memᴰ·of-map, head-eq-of-cons-eq, tail-eq-of-cons-eq}
 use mathlib.Core.Bool.{true, _||_, not}
 use mathlib.Core.Option.{some}
@@ -11,7 +11,7 @@ use native.Mathlib.Omega.{arith}
 use lib.Dec.{leb, ltb}
 use lib.ListN.{length}
 use borrow.Author.Tests.{eqb-true, ltb-true, ltb-false, lt-ltb, leb-true, le-leb}
-use Rattle.songcode.specs.Lists.{isEmpty, gather, isSome}
+use Rattle.songcode.specs.Lists.{isEmpty, isSome}
 use Rattle.songcode.specs.Bytes.{Byte, isByte}
 use Rattle.songcode.specs.answer.Lines.{Line, Block}
 use Rattle.songcode.specs.Complaints.{Complaint, complaint, complainIf}
@@ -87,7 +87,7 @@ metadata-are (b ∷ bs) =
     (λ k. rw (k, metadataBlocks) (another {b = b} (λ m. let f = metadata-kind b .0 m in zero-is-not-one (cc)) (metadata-are bs)))
 
 metadata-lines : (bs : List Block) → metadataLines bs ≡ linesOf (metadataBlocks bs)
-unfolding metadataLines metadataBlocks gather linesOf linesIf
+unfolding metadataLines metadataBlocks flatMap linesOf linesIf
 metadata-lines [] = refl
 metadata-lines (b ∷ bs) =
     by-kind (blockKind b)
@@ -96,7 +96,7 @@ metadata-lines (b ∷ bs) =
     (λ k. rw (k, metadataBlocks) (metadata-lines bs))
 
 definitions-are : (bs : List Block) → OfKind IsDefinition bs (definitionBlocks bs)
-unfolding definitionBlocks gather definitionIf
+unfolding definitionBlocks flatMap definitionIf
 definitions-are [] = no-more
 definitions-are (b ∷ bs) =
     by-kind (blockKind b)
@@ -105,7 +105,7 @@ definitions-are (b ∷ bs) =
     (λ k. rw k (another {b = b} (λ m. let f = definition-kind b .0 m in zero-is-not-one (cc)) (definitions-are bs)))
 
 sections-are : (bs : List Block) → OfKind IsSection bs (sectionBlocks bs)
-unfolding sectionBlocks gather sectionIf
+unfolding sectionBlocks flatMap sectionIf
 sections-are [] = no-more
 sections-are (b ∷ bs) =
     by-kind (blockKind b)
@@ -244,7 +244,7 @@ stated-metadata : (bs : List Block) (before behind : List Line) (l : Line) → m
     → MetadataStops before l c → List·Memᴰ c (metadataFaults bs)
 unfolding metadataFaults
 stated-metadata bs before behind l e {c} (of-keys h) =
-    Memᴰ·append-left (gather metadataFault (metadataLines bs))
+    Memᴰ·append-left (flatMap metadataFault (metadataLines bs))
     (subst (λ z. List·Memᴰ c (twice 4 keySaid [] z)) (sym e) (in-twice 4 keySaid [] before l behind (key-again .1 h)))
 stated-metadata bs before behind l e {c} (of-key h) =
     Memᴰ·append-right (twice 4 keySaid [] (metadataLines bs))
@@ -391,7 +391,7 @@ module _ (before : List Block) (b : Block) (behind : List Block) (k : (d : Block
   of-heads : {c : Complaint} → List·Memᴰ c (headsFaults 0 (before ++ (b ∷ behind)) ++ twice 6 headIn [] (map firstLine (before ++ (b ∷ behind))))
       → List·Memᴰ c (definitionsFaults (before ++ (b ∷ behind)))
   unfolding definitionsFaults
-  of-heads m = Memᴰ·append-left (gather (λ d. definitionFaults (d .others)) (before ++ (b ∷ behind))) m
+  of-heads m = Memᴰ·append-left (flatMap (λ d. definitionFaults (d .others)) (before ++ (b ∷ behind))) m
 
   here : List·Memᴰ b (before ++ (b ∷ behind))
   here = Memᴰ·append-right before (List·Memᴰ·head refl)
@@ -417,7 +417,7 @@ module _ (before : List Block) (b : Block) (behind : List Block) (k : (d : Block
 -- Rows 3 to 8 over the whole file.
 module _ (bs : List Block) where
   abbrev all-faults : List Complaint
-  all-faults = blockOrder 0 bs ++ metadataFaults bs ++ definitionsFaults (definitionBlocks bs) ++ gather sectionFaults (sectionBlocks bs)
+  all-faults = blockOrder 0 bs ++ metadataFaults bs ++ definitionsFaults (definitionBlocks bs) ++ flatMap sectionFaults (sectionBlocks bs)
 
   text-stated-by : {c : Complaint} → List·Memᴰ c all-faults → TextStops bs c
   text-stated-by {c} m =

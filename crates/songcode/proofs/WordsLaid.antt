@@ -1,9 +1,8 @@
 -- The words that the answer packs, table by table, are the described ones.
 use Prim.Native.Nat.{ℕ, _+_}
 use mathlib.Core.Path.{_≡_, refl}
-use mathlib.Core.List.{List, [], _∷_, map}
+use mathlib.Core.List.{List, [], _∷_, map, flatMap}
 use lib.ListN.{length}
-use Rattle.songcode.specs.Lists.{gather}
 use Rattle.songcode.specs.Song.{Song}
 use Rattle.songcode.specs.answer.Playing.{Beat, settingNamed}
 use Rattle.songcode.specs.answer.Lyrics.{Prompt}
@@ -29,8 +28,8 @@ pub beat-laid : (b : Beat) → beatWord b ≡ beatLaid b
 unfolding beatWord beatLaid
 beat-laid b = words-laid .beat (b .sounds) (b .head)
 
-pub beats-laid : (row : List (List Beat)) → gather (map beatWord) row ≡ gather (map beatLaid) row
-unfolding gather
+pub beats-laid : (row : List (List Beat)) → flatMap (map beatWord) row ≡ flatMap (map beatLaid) row
+unfolding flatMap
 beats-laid [] = refl
 beats-laid (m ∷ row) = rw (map-same beatWord beatLaid beat-laid m, beats-laid row)
 

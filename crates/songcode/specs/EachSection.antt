@@ -2,9 +2,8 @@
 -- less the two cuts, then its tail, all counted in that section's own meter." "each section's measures and beats go into their own stretch".
 use Prim.Native.Nat.{ℕ}
 use mathlib.Core.Path.{_≡_}
-use mathlib.Core.List.{List, [], _∷_, _++_, map}
+use mathlib.Core.List.{List, [], _∷_, _++_, map, flatMap}
 use lib.ListN.{length}
-use Rattle.songcode.specs.Lists.{gather}
 use Rattle.songcode.specs.Song.{Section, Song}
 use Rattle.songcode.specs.answer.Tables.{Tables}
 use Rattle.songcode.specs.description.Performance.{Parts, PlaysSection, joined}
@@ -25,7 +24,7 @@ pub record Stretch (t : Tables) (place : ℕ) (x : Section) (p : Parts) : Type 0
       t .sections
       ≡ sectionsBefore ++ (laid sectionsRow (x .header ∷ length measuresBefore ∷ length (joined p) ∷ p .meter ∷ p .tempo ∷ []) ∷ sectionsBehind)
   pub measures : t .measures ≡ measuresBefore ++ (rowWords (length beatsBefore) (joined p) ++ measuresBehind)
-  pub beats : t .beats ≡ beatsBefore ++ (gather (map beatLaid) (joined p) ++ beatsBehind)
+  pub beats : t .beats ≡ beatsBefore ++ (flatMap (map beatLaid) (joined p) ++ beatsBehind)
 
 -- Each section of the song that the bytes are, with what it plays.
 pub record EachSection (bs : List ℕ) (t : Tables) : Type 0 where

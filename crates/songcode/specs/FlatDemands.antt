@@ -2,10 +2,10 @@
 use Prim.Native.Nat.{ℕ, _*_, _≤_}
 use mathlib.Core.Path.{_≡_}
 use mathlib.Core.Logic.{_↔_}
-use mathlib.Core.List.{List, [], _∷_, map}
+use mathlib.Core.List.{List, [], _∷_, map, flatMap}
 use mathlib.Core.Option.{some}
 use lib.ListN.{length}
-use Rattle.songcode.specs.Lists.{gather, times}
+use Rattle.songcode.specs.Lists.{times}
 use Rattle.songcode.specs.Bytes.{ascii}
 use Rattle.songcode.specs.Complaints.{complaint}
 use Rattle.songcode.specs.answer.Playing.{Beat}
@@ -43,6 +43,6 @@ pub record FlatDemands : Type 0 where
   -- Songs with their copies.
   pub charts : map (λ c. copyOf (ascii (c .song))) flatCharts ≡ map (λ c. some (ascii (c .copy))) flatCharts
   -- The length without the bytes: loops and repeats multiply the letters, beats and measures that it is made of.
-  pub pattern-length : (n : ℕ) (row : List (List Beat)) → Within n row → length (gather endLine (flatPattern n row)) ≡ patternLength n row
+  pub pattern-length : (n : ℕ) (row : List (List Beat)) → Within n row → length (flatMap endLine (flatPattern n row)) ≡ patternLength n row
   pub length-repeated : (k : ℕ) (row : List (List Beat))
       → (rowLength (times k row) ≡ k * rowLength row) × (total (times k row) ≡ k * total row) × (length (times k row) ≡ k * length row)

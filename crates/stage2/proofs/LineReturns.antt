@@ -4,7 +4,7 @@ use mathlib.Core.Path.{_≡_, refl, sym, ap, _∙_}
 use mathlib.Core.List.{List}
 use mathlib.Core.Bool.{true, false}
 use mathlib.Core.Option.{none}
-use Rattle.songcode.specs.Lists.{when, orElse}
+use Rattle.songcode.specs.Lists.{when}
 use Rattle.songcode.specs.Bytes.{placed}
 use Rattle.songcode.specs.answer.Lines.{Line}
 use Rattle.songcode.specs.Complaints.{complainIf}
@@ -60,19 +60,19 @@ module _ (l : Line) where
   modifier-of e = rw (e, modifierSaid) (sym (modifier-number (modifierNameOf l)))
 
   pub modifier-no-key : kindOfLine l ≡ modifierLine → keyOf l ≡ 8
-  unfolding keySaid orElse
+  unfolding keySaid
   modifier-no-key e = rw (e, keySaid)
 
   pub pattern-no-key : kindOfLine l ≡ patternLine → keyOf l ≡ 8
-  unfolding keySaid orElse
+  unfolding keySaid
   pattern-no-key e = rw (e, keySaid)
 
   pub key-no-modifier : kindOfLine l ≡ keyLine → modifierOf l ≡ 8
-  unfolding modifierSaid orElse
+  unfolding modifierSaid
   key-no-modifier e = rw (e, modifierSaid)
 
   pub pattern-no-modifier : kindOfLine l ≡ patternLine → modifierOf l ≡ 8
-  unfolding modifierSaid orElse
+  unfolding modifierSaid
   pattern-no-modifier e = rw (e, modifierSaid)
 
   -- Its own faults.

@@ -3,14 +3,14 @@ use Prim.Native.Nat.{ℕ, _<_}
 use mathlib.Core.Path.{_≡_, refl, sym, _∙_}
 use mathlib.Core.List.{List, [], _∷_}
 use mathlib.Core.Bool.{Bool, true, false}
-use mathlib.Core.Option.{Option}
+use mathlib.Core.Option.{Option, Option·getD, bind}
 use mathlib.Core.Option as option
 use native.Mathlib.Omega.{arith}
 use borrow.Author.Tests.{lt-ltb, eqb-true, eqb-false}
 use lib.Dec.{eqb}
 use lib.ListN.{length, getD, set, length-set, getD-replicate}
 use lib.Seq.{getD-set-same, getD-set-other}
-use Rattle.songcode.specs.Lists.{if_then_else_, any, prepend, andThen, orElse}
+use Rattle.songcode.specs.Lists.{if_then_else_, any, prepend}
 use Rattle.songcode.specs.answer.Lines.{Line}
 use Rattle.songcode.specs.Song.{KeyName, name, artist, original, capo, bpm, time, warning, end}
 use Rattle.songcode.specs.answer.Keys.{keyPlace}
@@ -26,8 +26,8 @@ unfoldable pub Below : Option ℕ → Type 0
 Below option.none = Unit {0}
 Below (option.some k) = k < 8
 
-key-below : (o : Option KeyName) → Below (andThen o (λ k. option.some (keyPlace k)))
-unfolding andThen Below keyPlace
+key-below : (o : Option KeyName) → Below (bind o (λ k. option.some (keyPlace k)))
+unfolding bind Below keyPlace
 key-below option.none = tt
 key-below (option.some name) = omega arith
 key-below (option.some artist) = omega arith
@@ -38,8 +38,8 @@ key-below (option.some time) = omega arith
 key-below (option.some warning) = omega arith
 key-below (option.some end) = omega arith
 
-modifier-below : (o : Option ModifierName) → Below (andThen o (λ m. option.some (modifierPlace m)))
-unfolding andThen Below modifierPlace
+modifier-below : (o : Option ModifierName) → Below (bind o (λ m. option.some (modifierPlace m)))
+unfolding bind Below modifierPlace
 modifier-below option.none = tt
 modifier-below (option.some ofRepeat) = omega arith
 modifier-below (option.some ofCutStart) = omega arith
@@ -69,8 +69,8 @@ unfolding any
 none-agrees = (refl, λ k h. getD-replicate 8 k false false h)
 
 pub again-agrees : (number : ℕ) (o : Option ℕ) (marks : List Bool) (seen : List ℕ) (l : Line) → Below o → Agrees marks seen
-    → again number (orElse o 8) marks (l .number) ≡ least (twiceBy number o seen l)
-unfolding again twiceBy Below least orElse if_then_else_
+    → again number (Option·getD o 8) marks (l .number) ≡ least (twiceBy number o seen l)
+unfolding again twiceBy Below least if_then_else_
 again-agrees number option.none marks seen l b h = refl
 again-agrees number (option.some k) marks seen l b h = rw (lt-ltb k 8 b, h .1 k b) refl
 
@@ -82,7 +82,7 @@ put-agrees marks seen j b h k c =
     (λ e. let s = eqb-true j k e in rw (e, ← s, getD-set-same marks j true false (omega arith)) refl)
     (λ e. let n = eqb-false j k e in rw (e, getD-set-other marks j k true false (λ z. n (sym z))) (h .1 k c))
 
-pub marked-agrees : (o : Option ℕ) (marks : List Bool) (seen : List ℕ) → Below o → Agrees marks seen → Agrees (marked (orElse o 8) marks) (prepend o seen)
-unfolding marked prepend Below orElse if_then_else_
+pub marked-agrees : (o : Option ℕ) (marks : List Bool) (seen : List ℕ) → Below o → Agrees marks seen → Agrees (marked (Option·getD o 8) marks) (prepend o seen)
+unfolding marked prepend Below if_then_else_
 marked-agrees option.none marks seen b h = h
 marked-agrees (option.some j) marks seen b h = rw (lt-ltb j 8 b) (length-set marks j true ∙ h .0, put-agrees marks seen j b h)

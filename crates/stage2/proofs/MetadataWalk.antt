@@ -1,9 +1,9 @@
 -- The walk over a metadata block.
 use Prim.Native.Nat.{ℕ, min, max}
 use mathlib.Core.Path.{_≡_, refl, sym, ap, _∙_}
-use mathlib.Core.List.{List, [], _∷_}
+use mathlib.Core.List.{List, [], _∷_, flatMap}
 use native.Mathlib.Omega.{arith}
-use Rattle.songcode.specs.Lists.{gather, prepend}
+use Rattle.songcode.specs.Lists.{prepend}
 use Rattle.songcode.specs.answer.Lines.{Line, Block}
 use Rattle.songcode.specs.answer.Sections.{twice, twiceBy, keySaid}
 use Rattle.songcode.specs.answer.SongText.{metadata, blockKind, metadataFault}
@@ -17,19 +17,19 @@ use Rattle.stage2.proofs.SeenLaws.{seenAfter}
 
 -- What metadata lines are complained of, where these keys were seen.
 abbrev pub metadataLeast : List ℕ → List Line → ℕ
-metadataLeast seen ls = min (least (twice 4 keySaid seen ls)) (least (gather metadataFault ls))
+metadataLeast seen ls = min (least (twice 4 keySaid seen ls)) (least (flatMap metadataFault ls))
 
 pub metadata-next : (seen : List ℕ) (l : Line) (ls : List Line) → metadataLeast seen (l ∷ ls) ≡ min (metadataNote seen l)
     (metadataLeast (prepend (keySaid l) seen) ls)
-unfolding twice gather metadataNote
+unfolding twice flatMap metadataNote
 metadata-next seen l ls =
-    least-both (twiceBy 4 (keySaid l) seen l) (twice 4 keySaid (prepend (keySaid l) seen) ls) (metadataFault l) (gather metadataFault ls)
+    least-both (twiceBy 4 (keySaid l) seen l) (twice 4 keySaid (prepend (keySaid l) seen) ls) (metadataFault l) (flatMap metadataFault ls)
 
 abbrev metadataWalk : Known → Walk
 metadataWalk k = blockAt inMetadata k nothingPending
 
 metadata-lines : (k : Known) (ls : List Line) → inBlock (metadataWalk k) ls ≡ metadataLeast (k .keys) ls
-unfolding inBlock closed fineAt stepAt twice gather least
+unfolding inBlock closed fineAt stepAt twice flatMap least
 metadata-lines k [] = let h = unless-none (sectionFine first) in omega arith
 metadata-lines k (l ∷ ls) =
     ap (min (metadataNote (k .keys) l)) (metadata-lines (known (k .turn) (prepend (keySaid l) (k .keys)) (k .sofar) (k .heads)) ls)

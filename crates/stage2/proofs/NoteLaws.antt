@@ -3,9 +3,9 @@ use Prim.Native.Nat.{ℕ, min}
 use mathlib.Core.Path.{_≡_, refl, sym}
 use mathlib.Core.List.{List, [], _∷_}
 use mathlib.Core.Bool.{Bool, true, false, not}
-use mathlib.Core.Option.{Option, none, some}
+use mathlib.Core.Option.{Option, none, some, Option·getD, bind}
 use native.Mathlib.Omega.{arith}
-use Rattle.songcode.specs.Lists.{isSome, andThen, orElse, when}
+use Rattle.songcode.specs.Lists.{isSome, when}
 use Rattle.songcode.specs.Bytes.{Byte}
 use Rattle.songcode.specs.answer.Lines.{Line}
 use Rattle.songcode.specs.answer.Numbers.{repeatIn}
@@ -69,8 +69,8 @@ key-note section (some k) l =
     rw (allowed-same section k, setting-same k (settingOf l))
     (least-append (complainIf (not (allowedBy section k)) 4 (l .number)) (complainIf (not (isSetting k (settingOf l))) 5 (l .number)))
 
-pub key-number : (o : Option KeyName) → keyNumber (keyIs o) ≡ orElse (andThen o (λ k. some (keyPlace k))) 8
-unfolding keyNumber keyIs orElse andThen keyPlace
+pub key-number : (o : Option KeyName) → keyNumber (keyIs o) ≡ Option·getD (bind o (λ k. some (keyPlace k))) 8
+unfolding keyNumber keyIs bind keyPlace
 key-number none = refl
 key-number (some name) = refl
 key-number (some artist) = refl
@@ -81,8 +81,8 @@ key-number (some time) = refl
 key-number (some warning) = refl
 key-number (some end) = refl
 
-pub modifier-number : (o : Option ModifierName) → modifierNumber (modifierIs o) ≡ orElse (andThen o (λ m. some (modifierPlace m))) 8
-unfolding modifierNumber modifierIs orElse andThen modifierPlace
+pub modifier-number : (o : Option ModifierName) → modifierNumber (modifierIs o) ≡ Option·getD (bind o (λ m. some (modifierPlace m))) 8
+unfolding modifierNumber modifierIs bind modifierPlace
 modifier-number none = refl
 modifier-number (some ofRepeat) = refl
 modifier-number (some ofCutStart) = refl
@@ -90,8 +90,8 @@ modifier-number (some ofCutEnd) = refl
 modifier-number (some ofBefore) = refl
 modifier-number (some ofAfter) = refl
 
-read-on : {A B : Type 0} (o : Option A) (f : A → B) → isSome (andThen o (λ x. some (f x))) ≡ isSome o
-unfolding isSome andThen
+read-on : {A B : Type 0} (o : Option A) (f : A → B) → isSome (bind o (λ x. some (f x))) ≡ isSome o
+unfolding isSome bind
 read-on none f = refl
 read-on (some x) f = refl
 

@@ -1,10 +1,10 @@
 -- The walk over a section.
 use Prim.Native.Nat.{ℕ, _≤_, min, max}
 use mathlib.Core.Path.{_≡_, refl, sym, ap, _∙_}
-use mathlib.Core.List.{List, [], _∷_, _++_, map}
+use mathlib.Core.List.{List, [], _∷_, _++_, map, flatMap}
 use mathlib.Core.Bool.{true, false}
 use native.Mathlib.Omega.{arith}
-use Rattle.songcode.specs.Lists.{if_then_else_, taken, left, isEmpty, gather, prepend}
+use Rattle.songcode.specs.Lists.{if_then_else_, taken, left, isEmpty, prepend}
 use Rattle.songcode.specs.answer.Lines.{Line, Block}
 use Rattle.songcode.specs.Complaints.{Complaint, complaint, complainIf}
 use Rattle.songcode.specs.answer.Sections.{Kind, keyLine, modifierLine, patternLine, kindOfLine, Place, amongKeys, early, inPattern, behind, misplaced}
@@ -28,11 +28,11 @@ unfoldable pub bodyLeft : Place → List ℕ → List ℕ → List Line → ℕ
 bodyLeft p ks ms ls =
     min
     (min (min (least (order p ls)) (least (twice 4 keySaid ks ls))) (least (twice 8 modifierSaid ms ls)))
-    (least (gather faults ls))
+    (least (flatMap faults ls))
 
 body-next : (p : Place) (ks ms : List ℕ) (l : Line) (ls : List Line)
     → bodyLeft p ks ms (l ∷ ls) ≡ min (bodyNote p ks ms l) (bodyLeft (placeAfter p (kindOfLine l)) (prepend (keySaid l) ks) (prepend (modifierSaid l) ms) ls)
-unfolding bodyLeft bodyNote orderNote order twice gather
+unfolding bodyLeft bodyNote orderNote order twice flatMap
 body-next p ks ms l ls =
     let o = map (λ n. complaint n (l .number)) (misplaced p (kindOfLine l)) in
     let o' = order (placeAfter p (kindOfLine l)) ls in
@@ -42,8 +42,8 @@ body-next p ks ms l ls =
     let m' = twice 8 modifierSaid (prepend (modifierSaid l) ms) ls in
     let two = least-both o o' k k' in
     let three = min-both (min (least o) (least k)) (min (least o') (least k')) (least m) (least m') two (least-append m m') in
-    min-both (min (min (least o) (least k)) (least m)) (min (min (least o') (least k')) (least m')) (least (faults l)) (least (gather faults ls))
-    three (least-append (faults l) (gather faults ls))
+    min-both (min (min (least o) (least k)) (least m)) (min (min (least o') (least k')) (least m')) (least (faults l)) (least (flatMap faults ls))
+    three (least-append (faults l) (flatMap faults ls))
 
 module _ (k : Known) (ks ms : List ℕ) where
   -- Lyric lines say nothing; the first takes the complaint of the `--` away.
@@ -74,7 +74,7 @@ sectionLeft p ks ms q ls =
     min (bodyLeft p ks ms (taken notDashes ls)) (min (patternLeft p q (taken notDashes ls)) (least (lyricFaults (left notDashes ls))))
 
 no-body : (p : Place) (ks ms : List ℕ) → bodyLeft p ks ms [] ≡ none
-unfolding bodyLeft order twice gather least
+unfolding bodyLeft order twice flatMap least
 no-body p ks ms = refl
 
 at-dashes : (x y z w : ℕ) → min none x ≡ min z y → y ≡ min none w → min none x ≡ min none (min w z)
@@ -149,7 +149,7 @@ module _ (k : Known) (b : Block) (e : blockKind b ≡ section) where
       let ls = body b in
       let want = ranked 8 (b .first .number) in
       let q = pending want none none first in
-      let said = section-least (headerFaults (b .first)) (order amongKeys ls) (twice 4 keySaid [] ls) (twice 8 modifierSaid [] ls) (gather faults ls)
+      let said = section-least (headerFaults (b .first)) (order amongKeys ls) (twice 4 keySaid [] ls) (twice 8 modifierSaid [] ls) (flatMap faults ls)
       (patternFaults (b .first .number) (patternRun ls)) (lyricFaults (fromDashes b)) in
       rw (e, section-lines opened amongKeys [] [] q (b .others) refl refl, said, run-faults (b .first .number) (patternRun ls))
       (capped (late 2 (k .turn) (b .first)) (least (headerFaults (b .first))) (bodyLeft amongKeys [] [] ls) (wanted want (patternRun ls))

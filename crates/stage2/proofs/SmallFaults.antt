@@ -1,10 +1,10 @@
 -- Every complaint of stage 2 has a small number, and the line of one of the lines.
 use Prim.Native.Nat.{ℕ, suc, max}
-use mathlib.Core.List.{List, [], _∷_, _++_, map}
+use mathlib.Core.List.{List, [], _∷_, _++_, map, flatMap}
 use mathlib.Core.Bool.{not, _||_}
 use native.Mathlib.Omega.{arith}
 use lib.Dec.{leb, ltb}
-use Rattle.songcode.specs.Lists.{left, isSome, gather}
+use Rattle.songcode.specs.Lists.{left, isSome}
 use Rattle.songcode.specs.answer.Lines.{Line, Block}
 use Rattle.songcode.specs.Complaints.{Complaint, complainIf}
 use Rattle.songcode.specs.answer.Sections.{isPatternLine, notPatternLine, twice, keySaid, modifierSaid, faults, amongKeys, order, patternRun, patternFaults}
@@ -42,7 +42,7 @@ fine-section b h =
     (order amongKeys (body b))
     (twice 4 keySaid [] (body b))
     (twice 8 modifierSaid [] (body b))
-    (gather faults (body b))
+    (flatMap faults (body b))
     (patternFaults (b .first .number) (patternRun (body b)))
     (lyricFaults (fromDashes b))
     (fine-header (b .first) (h .0))
@@ -102,14 +102,14 @@ faults-small bs h =
     let definitions = each-gather LowBlock (λ b. definitionIf (blockKind b) b) (λ b p. low-definition b p (blockKind b)) bs h in
     let sections = each-gather LowBlock (λ b. sectionIf (blockKind b) b) (λ b p. low-section b p (blockKind b)) bs h in
     let m1 = twice 4 keySaid [] ls in
-    let m2 = gather metadataFault ls in
+    let m2 = flatMap metadataFault ls in
     let d1 = headsFaults 0 ds in
     let d2 = twice 6 headIn [] (map firstLine ds) in
-    let d3 = gather (λ b. definitionFaults (b .others)) ds in
+    let d3 = flatMap (λ b. definitionFaults (b .others)) ds in
     let m = each-append Small m1 m2 (fine-twice 4 (omega arith, omega arith) keySaid [] ls lines) (fine-gather metadataFault fine-metadata ls lines) in
     let d = each-append Small d1 d2 (fine-heads 0 ds definitions) (fine-twice 6 (omega arith, omega arith) headIn [] (map firstLine ds)
     (low-firsts ds definitions)) in
     let e = each-append Small (d1 ++ d2) d3 d (fine-gather (λ b. definitionFaults (b .others)) (λ b p. fine-definition (b .others) (p .1)) ds definitions) in
     let o = each-append Small (blockOrder 0 bs) (m1 ++ m2) (fine-blocks-order 0 bs h) m in
-    each-append Small (blockOrder 0 bs ++ (m1 ++ m2) ++ (d1 ++ d2 ++ d3)) (gather sectionFaults (sectionBlocks bs))
+    each-append Small (blockOrder 0 bs ++ (m1 ++ m2) ++ (d1 ++ d2 ++ d3)) (flatMap sectionFaults (sectionBlocks bs))
     (each-append Small (blockOrder 0 bs ++ (m1 ++ m2)) (d1 ++ d2 ++ d3) o e) (fine-gather sectionFaults fine-section (sectionBlocks bs) sections)

@@ -1,11 +1,11 @@
 -- A line's complaints have small numbers, and its own line.
 use Prim.Native.Nat.{ℕ, _<_, _≤_}
-use mathlib.Core.List.{List, [], _∷_, map}
+use mathlib.Core.List.{List, [], _∷_, map, flatMap}
 use mathlib.Core.Bool.{Bool, true, false, not}
 use mathlib.Core.Option.{Option, none, some}
 use native.Mathlib.Omega.{arith}
 use lib.Dec.{eqb}
-use Rattle.songcode.specs.Lists.{if_then_else_, taken, left, isEmpty, isSome, any, gather, prepend, when}
+use Rattle.songcode.specs.Lists.{if_then_else_, taken, left, isEmpty, isSome, any, prepend, when}
 use Rattle.songcode.specs.answer.Lines.{Line, Block}
 use Rattle.songcode.specs.Song.{KeyName}
 use Rattle.songcode.specs.answer.Keys.{isSetting, ofSection, ofMetadata}
@@ -40,16 +40,16 @@ unfolding complainIf when Each
 fine-if true number l n h = ((n .1, h, n .0), tt)
 fine-if false number l n h = tt
 
-pub fine-gather : {A : Type 0} {P : A → Type 0} (f : A → List Complaint) → ((x : A) → P x → Fine (f x)) → (xs : List A) → Each P xs → Fine (gather f xs)
-unfolding gather Each
+pub fine-gather : {A : Type 0} {P : A → Type 0} (f : A → List Complaint) → ((x : A) → P x → Fine (f x)) → (xs : List A) → Each P xs → Fine (flatMap f xs)
+unfolding flatMap Each
 fine-gather f h [] p = tt
-fine-gather f h (x ∷ xs) p = each-append Small (f x) (gather f xs) (h x (p .0)) (fine-gather f h xs (p .1))
+fine-gather f h (x ∷ xs) p = each-append Small (f x) (flatMap f xs) (h x (p .0)) (fine-gather f h xs (p .1))
 
 pub each-gather : {A B : Type 0} {P : A → Type 0} (Q : B → Type 0) (f : A → List B) → ((x : A) → P x → Each Q (f x)) → (xs : List A) → Each P xs
-    → Each Q (gather f xs)
-unfolding gather Each
+    → Each Q (flatMap f xs)
+unfolding flatMap Each
 each-gather Q f h [] p = tt
-each-gather Q f h (x ∷ xs) p = each-append Q (f x) (gather f xs) (h x (p .0)) (each-gather Q f h xs (p .1))
+each-gather Q f h (x ∷ xs) p = each-append Q (f x) (flatMap f xs) (h x (p .0)) (each-gather Q f h xs (p .1))
 
 -- A part of a list.
 module _ {A : Type 0} (P : A → Type 0) (t : A → Bool) where

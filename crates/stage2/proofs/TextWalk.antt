@@ -1,12 +1,12 @@
 -- The walk over all blocks gives the least of all complaints of stage 2.
 use Prim.Native.Nat.{ℕ, suc, min, max, _≤_}
 use mathlib.Core.Path.{_≡_, refl, ap, _∙_}
-use mathlib.Core.List.{List, [], _∷_, _++_, map}
+use mathlib.Core.List.{List, [], _∷_, _++_, map, flatMap}
 use mathlib.Core.Bool.{Bool, true, false, _||_, not}
 use native.Mathlib.Omega.{arith}
 use borrow.Author.Tests.{lt-ltb, le-ltb, ltb-true, ltb-false}
 use lib.Dec.{leb, ltb}
-use Rattle.songcode.specs.Lists.{if_then_else_, isEmpty, isSome, gather, prepend}
+use Rattle.songcode.specs.Lists.{if_then_else_, isEmpty, isSome, prepend}
 use Rattle.songcode.specs.answer.Lines.{Line, Block, blocks}
 use Rattle.songcode.specs.Complaints.{Complaint, complainIf}
 use Rattle.songcode.specs.answer.Sections.{twice, twiceBy, keySaid, sectionFaults}
@@ -27,13 +27,13 @@ use Rattle.stage2.proofs.SectionWalk.{section-block, section-block-afte
 -- The complaints of blocks, where this is known of the blocks before.
 abbrev definitionsLeast : ℕ → List ℕ → List Block → ℕ
 definitionsLeast n hs bs =
-    min (min (least (headsFaults n bs)) (least (twice 6 headIn hs (map firstLine bs)))) (least (gather (λ b. definitionFaults (b .others)) bs))
+    min (min (least (headsFaults n bs)) (least (twice 6 headIn hs (map firstLine bs)))) (least (flatMap (λ b. definitionFaults (b .others)) bs))
 
 abbrev all : Known → List Block → ℕ
 all k bs =
     min
     (min (min (least (blockOrder (k .turn) bs)) (metadataLeast (k .keys) (metadataLines bs))) (definitionsLeast (k .sofar) (k .heads) (definitionBlocks bs)))
-    (least (gather sectionFaults (sectionBlocks bs)))
+    (least (flatMap sectionFaults (sectionBlocks bs)))
 
 -- A section is there, or comes.
 abbrev lacking : ℕ → List Block → ℕ
@@ -49,19 +49,19 @@ metadata-more : (seen : List ℕ) (xs ys : List Line) → metadataLeast seen (xs
     (metadataLeast (seenAfter 4 keySaid seen xs) ys)
 metadata-more seen xs ys =
     rw (twice-append 4 keySaid seen xs ys, gather-append metadataFault xs ys)
-    (least-both (twice 4 keySaid seen xs) (twice 4 keySaid (seenAfter 4 keySaid seen xs) ys) (gather metadataFault xs) (gather metadataFault ys))
+    (least-both (twice 4 keySaid seen xs) (twice 4 keySaid (seenAfter 4 keySaid seen xs) ys) (flatMap metadataFault xs) (flatMap metadataFault ys))
 
 definitions-more : (k : Known) (b : Block) (bs : List Block)
     → definitionsLeast (k .sofar) (k .heads) (b ∷ bs) ≡ min (min (headNote k (b .first)) (least (definitionFaults (b .others))))
     (definitionsLeast (suc (k .sofar)) (prepend (headIn (b .first)) (k .heads)) bs)
-unfolding headsFaults twice firstLine gather headNote
+unfolding headsFaults twice firstLine flatMap headNote
 definitions-more k b bs =
     let h = complainIf (not (isSome (headIn (b .first))) || leb 26 (k .sofar)) 6 (b .first .number) in
     let h' = headsFaults (suc (k .sofar)) bs in
     let t = twiceBy 6 (headIn (b .first)) (k .heads) (b .first) in
     let t' = twice 6 headIn (prepend (headIn (b .first)) (k .heads)) (map firstLine bs) in
     let d = definitionFaults (b .others) in
-    let d' = gather (λ c. definitionFaults (c .others)) bs in
+    let d' = flatMap (λ c. definitionFaults (c .others)) bs in
     min-both (min (least h) (least t)) (min (least h') (least t')) (least d) (least d') (least-both h h' t t') (least-append d d')
 
 -- Where one group splits off its first part, so does the whole.
@@ -82,15 +82,15 @@ first-fourth o o' m d s s' =
 
 module _ (b : Block) (bs : List Block) (k : BlockKind) (e : blockKind b ≡ k) where
   lines-found : metadataLines (b ∷ bs) ≡ linesIf k b ++ metadataLines bs
-  unfolding metadataLines gather
+  unfolding metadataLines flatMap
   lines-found = rw e
 
   definitions-found : definitionBlocks (b ∷ bs) ≡ definitionIf k b ++ definitionBlocks bs
-  unfolding definitionBlocks gather
+  unfolding definitionBlocks flatMap
   definitions-found = rw e
 
   sections-found : sectionBlocks (b ∷ bs) ≡ sectionIf k b ++ sectionBlocks bs
-  unfolding sectionBlocks gather
+  unfolding sectionBlocks flatMap
   sections-found = rw e
 
   order-found : (t : ℕ) → least (blockOrder t (b ∷ bs)) ≡ min (late (turn k) t (b .first)) (least (blockOrder (max t (turn k)) bs))
@@ -104,7 +104,7 @@ module _ (k : Known) (b : Block) (bs : List Block) where
   order t = least (blockOrder (max (k .turn) t) bs)
 
   abbrev sections : ℕ
-  sections = least (gather sectionFaults (sectionBlocks bs))
+  sections = least (flatMap sectionFaults (sectionBlocks bs))
 
   of-metadata : blockKind b ≡ metadata → Splits
   unfolding linesIf definitionIf sectionIf turn
@@ -140,14 +140,14 @@ module _ (k : Known) (b : Block) (bs : List Block) where
       (definitionsLeast (suc (k .sofar)) (prepend (headIn (b .first)) (k .heads)) (definitionBlocks bs)) sections)
 
   of-section : blockKind b ≡ section → Splits
-  unfolding linesIf definitionIf sectionIf turn gather
+  unfolding linesIf definitionIf sectionIf turn flatMap
   of-section e =
       rw (
         lines-found b bs section e,
         definitions-found b bs section e,
         sections-found b bs section e,
         order-found b bs section e (k .turn),
-        least-append (sectionFaults b) (gather sectionFaults (sectionBlocks bs)),
+        least-append (sectionFaults b) (flatMap sectionFaults (sectionBlocks bs)),
         section-block k b e,
         section-block-after k b e,
       )
@@ -189,7 +189,7 @@ module _ (k : Known) (b : Block) (bs : List Block) where
 
 -- The complaints of no block.
 all-none : (k : Known) → all k [] ≡ none
-unfolding blockOrder metadataLines definitionBlocks sectionBlocks gather twice headsFaults least
+unfolding blockOrder metadataLines definitionBlocks sectionBlocks flatMap twice headsFaults least
 all-none k = refl
 
 lacking-le : (a b : Bool) → onlyIf a (onlyIf b noSection) ≤ none
@@ -199,7 +199,7 @@ lacking-le true false = omega arith
 lacking-le false b = omega arith
 
 no-blocks : (k : Known) → onlyIf (ltb (k .turn) 2) noSection ≡ min (all k []) (lacking (k .turn) [])
-unfolding sectionBlocks gather isEmpty onlyIf if_then_else_
+unfolding sectionBlocks flatMap isEmpty onlyIf if_then_else_
 no-blocks k = let l = lacking-le (ltb (k .turn) 2) true in rw (all-none k) (omega arith)
 
 by-blocks-all : (k : Known) (bs : List Block) → byBlocks k bs ≡ min (all k bs) (lacking (k .turn) bs)
@@ -211,7 +211,7 @@ by-blocks-all k (b ∷ bs) =
 
 -- All complaints of stage 2 but 9.
 abbrev pub blockFaults : List Block → List Complaint
-blockFaults bs = blockOrder 0 bs ++ metadataFaults bs ++ definitionsFaults (definitionBlocks bs) ++ gather sectionFaults (sectionBlocks bs)
+blockFaults bs = blockOrder 0 bs ++ metadataFaults bs ++ definitionsFaults (definitionBlocks bs) ++ flatMap sectionFaults (sectionBlocks bs)
 
 faults-all : (bs : List Block) → least (blockFaults bs) ≡ all (known 0 [] 0 []) bs
 unfolding metadataFaults definitionsFaults
@@ -220,11 +220,11 @@ faults-all bs =
     let ls = metadataLines bs in
     let ds = definitionBlocks bs in
     let m1 = twice 4 keySaid [] ls in
-    let m2 = gather metadataFault ls in
+    let m2 = flatMap metadataFault ls in
     let d1 = headsFaults 0 ds in
     let d2 = twice 6 headIn [] (map firstLine ds) in
-    let d3 = gather (λ b. definitionFaults (b .others)) ds in
-    let s = gather sectionFaults (sectionBlocks bs) in
+    let d3 = flatMap (λ b. definitionFaults (b .others)) ds in
+    let s = flatMap sectionFaults (sectionBlocks bs) in
     rw (
       least-append (o ++ (m1 ++ m2) ++ (d1 ++ d2 ++ d3)) s,
       least-append (o ++ (m1 ++ m2)) (d1 ++ d2 ++ d3),

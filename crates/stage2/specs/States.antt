@@ -1,11 +1,12 @@
 -- The walk by value: what the code keeps in place of lists, and how it judges a line.
+use mathlib.Core.Option.{Option·getD}
 use Prim.Native.Nat.{ℕ, _+_, _≤_, min, max}
 use mathlib.Core.Path.{_≡_}
 use mathlib.Core.List.{List, [], _∷_}
 use mathlib.Core.Bool.{Bool, true, false, _||_, not}
 use lib.Dec.{eqb, leb, ltb}
 use lib.ListN.{length, getD, set, take, replicate}
-use Rattle.songcode.specs.Lists.{if_then_else_, isEmpty, any, orElse}
+use Rattle.songcode.specs.Lists.{if_then_else_, isEmpty, any}
 use Rattle.songcode.specs.answer.Lines.{Line}
 use Rattle.songcode.specs.Complaints.{complainIf}
 use Rattle.songcode.specs.answer.Sections as sections
@@ -58,10 +59,10 @@ marked k marks = if ltb k 8 then set marks k true else marks
 
 -- What a line says, 8 for nothing.
 abbrev pub keyOf : Line → ℕ
-keyOf l = orElse (keySaid l) 8
+keyOf l = Option·getD (keySaid l) 8
 
 abbrev pub modifierOf : Line → ℕ
-modifierOf l = orElse (modifierSaid l) 8
+modifierOf l = Option·getD (modifierSaid l) 8
 
 -- The numbers of the definitions so far, which has room for 26.
 abbrev pub Fit : Heads → Type 0

@@ -1,13 +1,13 @@
 -- The words of the keys table, from the settings that the code finds.
 use Prim.Native.Nat.{ℕ, zero, suc, _+_, _-_, _*_, _^_, _<_, _≤_}
 use mathlib.Core.Path.{_≡_, refl, ap, subst}
-use mathlib.Core.List.{List, [], _∷_, map}
+use mathlib.Core.List.{List, [], _∷_, map, filterMap}
 use mathlib.Core.Logic.{_⊎_, ⊎-elim}
-use mathlib.Core.Option.{Option, none, some}
+use mathlib.Core.Option.{Option, none, some, bind}
 use native.Mathlib.Omega.{arith}
 use lib.ListN.{length, drop}
 use borrow.Author.Tests.{eq-eqb, ne-eqb}
-use Rattle.songcode.specs.Lists.{if_then_else_, andThen, collect}
+use Rattle.songcode.specs.Lists.{if_then_else_}
 use Rattle.songcode.specs.Bytes.{Byte, placed}
 use Rattle.songcode.specs.answer.Characters.{characters}
 use Rattle.songcode.specs.answer.Lines.{Line}
@@ -58,15 +58,15 @@ module _ (s : List ℕ) (r : Said) where
     key-word-is h inside = rw (is-there, offset-part s (r .start) (r .stop) h inside, length-part s (r .start) (r .stop) inside)
 
 -- A key's setting among the keys of lines is the first setting of its number among the lines.
-same-word : (o : Option (List Byte)) (p : Option Setting) → andThen o some ≡ andThen p (λ x. some (x .text)) → keyWord o ≡ wordOfSetting p
-unfolding andThen wordOfSetting
+same-word : (o : Option (List Byte)) (p : Option Setting) → bind o some ≡ bind p (λ x. some (x .text)) → keyWord o ≡ wordOfSetting p
+unfolding bind wordOfSetting
 same-word none none e = refl
 same-word none (some x) e = let z : _≡_ {A = ℕ} 0 1 = cc in absurd (let y : ⊥ = omega arith in y)
 same-word (some bs) none e = let z : _≡_ {A = ℕ} 0 1 = cc in absurd (let y : ⊥ = omega arith in y)
 same-word (some bs) (some x) e = ap keyWord e
 
-word-of : (k : KeyName) (ls : List Line) → keyWord (settingNamed k (collect keyIn ls)) ≡ wordOfSetting (settingAmong (keyPlace k) ls)
-word-of k ls = same-word (settingNamed k (collect keyIn ls)) (settingAmong (keyPlace k) ls) (key-among some k ls)
+word-of : (k : KeyName) (ls : List Line) → keyWord (settingNamed k (filterMap keyIn ls)) ≡ wordOfSetting (settingAmong (keyPlace k) ls)
+word-of k ls = same-word (settingNamed k (filterMap keyIn ls)) (settingAmong (keyPlace k) ls) (key-among some k ls)
 
 eight : (P : ℕ → Type 0) → P 0 → P 1 → P 2 → P 3 → P 4 → P 5 → P 6 → P 7 → (k : ℕ) → k < 8 → P k
 eight P a b c d e f g h zero l = a
@@ -81,7 +81,7 @@ eight P a b c d e f g h (suc (suc (suc (suc (suc (suc (suc (suc k)))))))) l = ab
 
 -- The words of the keys from a place of the table on.
 abbrev pub wordsFrom : List Line → ℕ → List ℕ
-wordsFrom ls k = map (λ j. keyWord (settingNamed j (collect keyIn ls))) (drop k keyOrder)
+wordsFrom ls k = map (λ j. keyWord (settingNamed j (filterMap keyIn ls))) (drop k keyOrder)
 
 pub words-more : (ls : List Line) (k : ℕ) → k < 8 → wordsFrom ls k ≡ wordOfSetting (settingAmong k ls) ∷ wordsFrom ls (k + 1)
 unfolding keyOrder keyPlace
@@ -91,7 +91,8 @@ words-more ls k h =
     k
     h
   where
-    first : (j : KeyName) (n : ℕ) → keyWord (settingNamed j (collect keyIn ls)) ∷ wordsFrom ls n ≡ wordOfSetting (settingAmong (keyPlace j) ls) ∷ wordsFrom ls n
+    first : (j : KeyName) (n : ℕ) → keyWord (settingNamed j (filterMap keyIn ls)) ∷ wordsFrom ls n
+        ≡ wordOfSetting (settingAmong (keyPlace j) ls) ∷ wordsFrom ls n
     first j n = ap (λ (w : ℕ). w ∷ wordsFrom ls n) (word-of j ls)
 
 pub words-over : (ls : List Line) (k : ℕ) → k ≡ 8 → wordsFrom ls k ≡ []

@@ -1,13 +1,14 @@
 -- The prompter items section by section, where the song has items and the counts of every section sum to its measures.
+use mathlib.Core.Option.{Option·getD}
 use Prim.Native.Nat.{ℕ, _+_, _≤_}
 use mathlib.Core.Path.{_≡_, refl, ap, _∙_, subst}
-use mathlib.Core.List.{List, [], _∷_, _++_, map}
+use mathlib.Core.List.{List, [], _∷_, _++_, map, flatMap}
 use mathlib.Core.Bool.{true, false, not, _&&_}
 use native.Mathlib.Omega.{arith}
 use lib.Dec.{eqb}
 use lib.ListN.{length}
 use borrow.Author.Tests.{eqb-true, not-false}
-use Rattle.songcode.specs.Lists.{if_then_else_, gather, any, every, isEmpty, orElse}
+use Rattle.songcode.specs.Lists.{if_then_else_, any, every, isEmpty}
 use Rattle.songcode.specs.Song.{LyricLine, Section, Song}
 use Rattle.songcode.specs.answer.Sections.{lyricLine}
 use Rattle.songcode.specs.answer.Playing.{played}
@@ -27,24 +28,24 @@ use Rattle.judging.proofs.SumLaws.{isPrompted, prompted-parts, all-taken, all-p
 
 -- The words of the items of these sections from a measure on.
 abbrev pub itemsFrom : ℕ → List Section → List ℕ
-itemsFrom m xs = map itemWord (promptsFrom m (gather lyricsOf xs))
+itemsFrom m xs = map itemWord (promptsFrom m (flatMap lyricsOf xs))
 
 prompts-append : (m : ℕ) (a b : List LyricLine) → map itemWord (promptsFrom m (a ++ b))
     ≡ map itemWord (promptsFrom m a) ++ map itemWord (promptsFrom (m + counted a) b)
 unfolding promptsFrom counted
 prompts-append m [] b = let e : m + 0 ≡ m = omega arith in rw e
 prompts-append m (l ∷ a) b =
-    let k = orElse (countOf l) 0 in
+    let k = Option·getD (countOf l) 0 in
     let e : m + k + counted a ≡ m + (k + counted a) = omega arith in
     let rest = prompts-append (m + k) a b ∙ ap (λ (n : ℕ). map itemWord (promptsFrom (m + k) a) ++ map itemWord (promptsFrom n b)) e in
     ap (λ (ws : List ℕ). itemWord (record { words = styled (wordsOf (l .text) .text); first = m; measures = k }) ∷ ws) rest
 
-all-counted : (s : Song) (xs : List Section) → every (isPrompted s) xs ≡ true → every isCounted (gather lyricsOf xs) ≡ true
-unfolding gather every lyricsOf
+all-counted : (s : Song) (xs : List Section) → every (isPrompted s) xs ≡ true → every isCounted (flatMap lyricsOf xs) ≡ true
+unfolding flatMap every lyricsOf
 all-counted s [] e = refl
 all-counted s (x ∷ xs) e =
     let h = both-pass (isPrompted s x) (every (isPrompted s) xs) e in
-    every-append isCounted (x .lyrics) (gather lyricsOf xs) ∙ pass-both (prompted-parts s x (h .0) .2) (all-counted s xs (h .1))
+    every-append isCounted (x .lyrics) (flatMap lyricsOf xs) ∙ pass-both (prompted-parts s x (h .0) .2) (all-counted s xs (h .1))
 
 some-counted : (ls : List LyricLine) → every isCounted ls ≡ true → (length ls ≡ 0 → ⊥) → any isCounted ls ≡ true
 unfolding every any
@@ -104,13 +105,13 @@ module _ (s : Song) (some : length (tables s .items) ≡ 0 → ⊥) where
   unfolding hasCounts linesTaken
   counts-there =
       ap (any isCounted) (all-taken s (s .sections) (all-prompted s has-items))
-      ∙ some-counted (gather lyricsOf (s .sections)) (all-counted s (s .sections) (all-prompted s has-items))
-      (λ z. some (ap (λ (ws : List ℕ). length ws) items-all ∙ prompts-length 0 (gather lyricsOf (s .sections)) ∙ z))
+      ∙ some-counted (flatMap lyricsOf (s .sections)) (all-counted s (s .sections) (all-prompted s has-items))
+      (λ z. some (ap (λ (ws : List ℕ). length ws) items-all ∙ prompts-length 0 (flatMap lyricsOf (s .sections)) ∙ z))
 
   pub room-start : lengthFaults s 0 (s .sections) ≡ [] → sumFaults s ≡ [] → RoomLeft s 0 (s .sections)
   unfolding sumFaults if_then_else_
   room-start h e =
-      let none : gather (sumFault s) (s .sections) ≡ [] = rw counts-there at e in
+      let none : flatMap (sumFault s) (s .sections) ≡ [] = rw counts-there at e in
       record {
         sofar = 0;
         passed = omega arith;
@@ -125,10 +126,10 @@ module _ {s : List ℕ} {p : Place} {r : Passed} (w : Passes s p r) (m : ℕ) wh
   lyricsHere = map lyricLine (linesOf s (r .section .lyrics))
 
   pub items-split : itemsFrom m (sectionsFrom s p) ≡ map itemWord (promptsFrom m lyricsHere) ++ itemsFrom (m + counted lyricsHere) (sectionsFrom s (r .next))
-  unfolding gather lyricsOf
+  unfolding flatMap lyricsOf
   items-split =
       ap (itemsFrom m) (w .first)
-      ∙ prompts-append m (sectionAt s p .lyrics) (gather lyricsOf (sectionsFrom s (r .next)))
+      ∙ prompts-append m (sectionAt s p .lyrics) (flatMap lyricsOf (sectionsFrom s (r .next)))
       ∙ rw (w .says .lyrics)
 
   pub room-here : {song : Song} → RoomLeft song m (sectionsFrom s p)

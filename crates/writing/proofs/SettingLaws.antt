@@ -2,7 +2,7 @@
 use Prim.Native.Nat.{ℕ, _+_, _<_, _≤_}
 use Prim.Native.Char.{code}
 use mathlib.Core.Path.{_≡_, refl, sym, ap, _∙_}
-use mathlib.Core.List.{List, [], _∷_, _++_}
+use mathlib.Core.List.{List, [], _∷_, _++_, flatMap}
 use mathlib.Core.Logic.{_⊎_, inl, inr}
 use mathlib.Core.Bool.{Bool, true, false, not, _&&_}
 use mathlib.Core.Option.{Option, none, some}
@@ -10,7 +10,7 @@ use native.Mathlib.Omega.{arith}
 use lib.Dec.{eqb, leb}
 use lib.ListN.{length, length-append}
 use borrow.Author.Tests.{leb-true, eqb-true, eqb-false, not-false}
-use Rattle.songcode.specs.Lists.{if_then_else_, any, every, gather, taken, left, isSome}
+use Rattle.songcode.specs.Lists.{if_then_else_, any, every, taken, left, isSome}
 use Rattle.songcode.specs.Bytes.{Byte, values, ascii, same, is, isByte}
 use Rattle.songcode.specs.answer.Characters.{characters}
 use Rattle.songcode.specs.answer.Numbers.{isDecimal, valueFrom, numberIn}
@@ -74,7 +74,7 @@ time-short bs e =
     (λ t. let z : false ≡ true = rw t at e in true-is-not-false z refl)
 
 bases-short : every (λ s. leb 1 (length s) && leb (length s) 3) bases ≡ true
-unfolding every bases gather spellings rows ascii
+unfolding every bases flatMap spellings rows ascii
 bases-short = refl
 
 among-short : (ss : List (List ℕ)) (w : List ℕ) → every (λ s. leb 1 (length s) && leb (length s) 3) ss ≡ true
@@ -138,11 +138,11 @@ line-short l e =
     (λ k. let z : metadataFault l ≡ complaint 8 (l .number) ∷ [] = rw (k, metadataFault) in nil-is-not-cons (sym e ∙ z))
     (λ k. let z : metadataFault l ≡ complaint 8 (l .number) ∷ [] = rw (k, metadataFault) in nil-is-not-cons (sym e ∙ z))
 
-settings-short : (k : ℕ) (ls : List Line) → gather metadataFault ls ≡ [] → ShortSetting (settingAmong k ls)
-unfolding gather settingAmong ShortSetting if_then_else_
+settings-short : (k : ℕ) (ls : List Line) → flatMap metadataFault ls ≡ [] → ShortSetting (settingAmong k ls)
+unfolding flatMap settingAmong ShortSetting if_then_else_
 settings-short k [] e = tt
 settings-short k (l ∷ ls) e =
-    let h = append-is-nil (metadataFault l) (gather metadataFault ls) e in
+    let h = append-is-nil (metadataFault l) (flatMap metadataFault ls) e in
     by-cases (eqb (slotOf l) k) (λ t. rw t (line-short l (h .0))) (λ t. rw t (settings-short k ls (h .1)))
 
 no-complaint : (cs : List Complaint) (bs : List Block) → orNoSection cs bs ≡ [] → cs ≡ []
@@ -155,8 +155,8 @@ unfolding textFaults metadataFaults
 metadata-short k bs e =
     let a = blockOrder 0 bs ++ metadataFaults bs in
     let b = a ++ definitionsFaults (definitionBlocks bs) in
-    let n = no-complaint (b ++ gather sectionFaults (sectionBlocks bs)) (sectionBlocks bs) e in
-    let h = append-is-nil b (gather sectionFaults (sectionBlocks bs)) n in
+    let n = no-complaint (b ++ flatMap sectionFaults (sectionBlocks bs)) (sectionBlocks bs) e in
+    let h = append-is-nil b (flatMap sectionFaults (sectionBlocks bs)) n in
     let i = append-is-nil a (definitionsFaults (definitionBlocks bs)) (h .0) in
     let j = append-is-nil (blockOrder 0 bs) (metadataFaults bs) (i .0) in
-    settings-short k (metadataLines bs) (append-is-nil (twice 4 keySaid [] (metadataLines bs)) (gather metadataFault (metadataLines bs)) (j .1) .1)
+    settings-short k (metadataLines bs) (append-is-nil (twice 4 keySaid [] (metadataLines bs)) (flatMap metadataFault (metadataLines bs)) (j .1) .1)

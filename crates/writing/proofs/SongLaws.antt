@@ -1,15 +1,15 @@
 -- The words of a section that is opened and played, written into the tables of sections, measures and beats.
 use Prim.Native.Nat.{ℕ, suc, _+_, _-_, _<_, _≤_}
 use mathlib.Core.Path.{_≡_, refl, sym, ap, _∙_, subst}
-use mathlib.Core.List.{List, [], _∷_, _++_, map}
-use mathlib.Core.Option.{Option, none, some}
+use mathlib.Core.List.{List, [], _∷_, _++_, map, flatMap}
+use mathlib.Core.Option.{Option, none, some, Option·getD, bind}
 use native.Mathlib.Omega.{arith}
 use lib.Dec.{eqb}
 use lib.ListN.{length, take, drop, set, length-append, length-take, length-drop}
 use lib.Seq.{sets, sets-eq}
 use borrow.Author.Tests.{ne-eqb}
 use borrow.Rule.Slice.PartMut.{putMid}
-use Rattle.songcode.specs.Lists.{if_then_else_, orElse, andThen, gather}
+use Rattle.songcode.specs.Lists.{if_then_else_}
 use Rattle.songcode.specs.Bytes.{Byte}
 use Rattle.songcode.specs.Song.{bpm, Key, Section, Song}
 use Rattle.songcode.specs.answer.Keys.{bpmIn}
@@ -35,20 +35,20 @@ use Rattle.judging.proofs.SumLaws.{section-words-length, measure-words-length, 
 
 -- A bpm that keys say is at most 400.
 bpm-few : (ks : List Key) (n : ℕ) → bpmAmong ks ≡ some n → n ≤ 400
-unfolding bpmAmong andThen bpmIn
+unfolding bpmAmong bind bpmIn
 bpm-few ks n e = go (settingNamed bpm ks) e
   where
-    go : (o : Option (List Byte)) → andThen o bpmIn ≡ some n → n ≤ 400
+    go : (o : Option (List Byte)) → bind o bpmIn ≡ some n → n ≤ 400
     go none h = none-some refl h
     go (some bs) h = numberIn-range 0 400 bs h .1
 
 -- "bpm (section's, else song's, else 511)"
-pub tempo-is : (s : Song) (x : Section) {own song : ℕ} → own ≡ orElse (bpmAmong (x .keys)) 511 → song ≡ orElse (bpmAmong (s .keys)) 511
+pub tempo-is : (s : Song) (x : Section) {own song : ℕ} → own ≡ Option·getD (bpmAmong (x .keys)) 511 → song ≡ Option·getD (bpmAmong (s .keys)) 511
     → tempoOf own song ≡ bpmOf s x
-unfolding tempoOf bpmOf orElse if_then_else_
-tempo-is s x e f = rw (e, f) (go (bpmAmong (x .keys)) (orElse (bpmAmong (s .keys)) 511) (bpm-few (x .keys)))
+unfolding tempoOf bpmOf if_then_else_
+tempo-is s x e f = rw (e, f) (go (bpmAmong (x .keys)) (Option·getD (bpmAmong (s .keys)) 511) (bpm-few (x .keys)))
   where
-    go : (o : Option ℕ) (k : ℕ) → ((n : ℕ) → o ≡ some n → n ≤ 400) → (if eqb (orElse o 511) 511 then k else orElse o 511) ≡ orElse o k
+    go : (o : Option ℕ) (k : ℕ) → ((n : ℕ) → o ≡ some n → n ≤ 400) → (if eqb (Option·getD o 511) 511 then k else Option·getD o 511) ≡ Option·getD o k
     go none k h = refl
     go (some n) k h = let g = h n refl in rw (ne-eqb n 511 (λ z. let y : ⊥ = omega arith in absurd y))
 
@@ -89,17 +89,17 @@ module _ (s : List ℕ) (p : Place) where
         subst (λ xs. Wrote old 0 old (sectionWords (songOf s) 0 xs) (sectionWords (songOf s) 0 (songOf s .sections))) (sym e)
         (wrote-start old (sectionWords (songOf s) 0 (songOf s .sections)))
 
-    pub measures-start : Wrote old 0 old (measureWords 0 (gather (played (songOf s)) (sectionsFrom s p))) (tables (songOf s) .measures)
+    pub measures-start : Wrote old 0 old (measureWords 0 (flatMap (played (songOf s)) (sectionsFrom s p))) (tables (songOf s) .measures)
     unfolding tables allMeasures
     measures-start =
-        let all = measureWords 0 (gather (played (songOf s)) (songOf s .sections)) in
-        subst (λ xs. Wrote old 0 old (measureWords 0 (gather (played (songOf s)) xs)) all) (sym e) (wrote-start old all)
+        let all = measureWords 0 (flatMap (played (songOf s)) (songOf s .sections)) in
+        subst (λ xs. Wrote old 0 old (measureWords 0 (flatMap (played (songOf s)) xs)) all) (sym e) (wrote-start old all)
 
-    pub beats-start : Wrote old 0 old (gather (map beatWord) (gather (played (songOf s)) (sectionsFrom s p))) (tables (songOf s) .beats)
+    pub beats-start : Wrote old 0 old (flatMap (map beatWord) (flatMap (played (songOf s)) (sectionsFrom s p))) (tables (songOf s) .beats)
     unfolding tables allMeasures
     beats-start =
-        let all = gather (map beatWord) (gather (played (songOf s)) (songOf s .sections)) in
-        subst (λ xs. Wrote old 0 old (gather (map beatWord) (gather (played (songOf s)) xs)) all) (sym e) (wrote-start old all)
+        let all = flatMap (map beatWord) (flatMap (played (songOf s)) (songOf s .sections)) in
+        subst (λ xs. Wrote old 0 old (flatMap (map beatWord) (flatMap (played (songOf s)) xs)) all) (sym e) (wrote-start old all)
 
   pub sections-left : (q : Place) (m : ℕ) (old : List ℕ) (k : ℕ) (new : List ℕ) → sectionsFrom s p ≡ sectionAt s p ∷ sectionsFrom s q
       → length (tables (songOf s) .sections) ≤ length old
@@ -119,20 +119,20 @@ module _ (s : List ℕ) (p : Place) where
       (λ xs. Wrote old k new (sectionWords (songOf s) m xs) (tables (songOf s) .sections)) e w)
 
   pub measures-end : (b : ℕ) (old : List ℕ) (m : ℕ) (new : List ℕ) → sectionsFrom s p ≡ []
-      → Wrote old m new (measureWords b (gather (played (songOf s)) (sectionsFrom s p))) (tables (songOf s) .measures)
+      → Wrote old m new (measureWords b (flatMap (played (songOf s)) (sectionsFrom s p))) (tables (songOf s) .measures)
       → new ≡ written (tables (songOf s) .measures) old
-  unfolding gather measureWords
+  unfolding flatMap measureWords
   measures-end b old m new e w =
       wrote-end old m new (tables (songOf s) .measures) (subst
-      (λ xs. Wrote old m new (measureWords b (gather (played (songOf s)) xs)) (tables (songOf s) .measures)) e w)
+      (λ xs. Wrote old m new (measureWords b (flatMap (played (songOf s)) xs)) (tables (songOf s) .measures)) e w)
 
   pub beats-end : (old : List ℕ) (b : ℕ) (new : List ℕ) → sectionsFrom s p ≡ []
-      → Wrote old b new (gather (map beatWord) (gather (played (songOf s)) (sectionsFrom s p))) (tables (songOf s) .beats)
+      → Wrote old b new (flatMap (map beatWord) (flatMap (played (songOf s)) (sectionsFrom s p))) (tables (songOf s) .beats)
       → new ≡ written (tables (songOf s) .beats) old
-  unfolding gather
+  unfolding flatMap
   beats-end old b new e w =
       wrote-end old b new (tables (songOf s) .beats) (subst
-      (λ xs. Wrote old b new (gather (map beatWord) (gather (played (songOf s)) xs)) (tables (songOf s) .beats)) e w)
+      (λ xs. Wrote old b new (flatMap (map beatWord) (flatMap (played (songOf s)) xs)) (tables (songOf s) .beats)) e w)
 
 -- The section that is opened behind m measures and b beats.
 module _ {s ws vs : List ℕ} {mark : ℕ} {p : Place} {m b : ℕ} (a : Along s ws mark p m b) (x : Opened) (o : Opens s p vs x)
@@ -152,16 +152,16 @@ module _ {s ws vs : List ℕ} {mark : ℕ} {p : Place} {m b : ℕ} (a : Along s 
 
   pub measures-next : (old new all ys : List ℕ) → m ≤ length new → length new ≡ length old → length all ≤ length old
       → ys ≡ sets (take (length new - m) (drop m new)) 0 (heads b (rowOfTexts vs n (x .texts) (x .section .modifiers)))
-      → Wrote old m new (measureWords b (gather (played (songOf s)) (sectionsFrom s p))) all
-      → Wrote old (m + c) (putMid m (length new - m) new ys) (measureWords (b + d) (gather (played (songOf s)) (sectionsFrom s (x .next)))) all
-  unfolding gather
+      → Wrote old m new (measureWords b (flatMap (played (songOf s)) (sectionsFrom s p))) all
+      → Wrote old (m + c) (putMid m (length new - m) new ys) (measureWords (b + d) (flatMap (played (songOf s)) (sectionsFrom s (x .next)))) all
+  unfolding flatMap
   measures-next old new all ys h l room y t =
       let row = played (songOf s) (sectionAt s p) in
-      let rest = gather (played (songOf s)) (sectionsFrom s (x .next)) in
+      let rest = flatMap (played (songOf s)) (sectionsFrom s (x .next)) in
       let f : heads b (rowOfTexts vs n (x .texts) (x .section .modifiers)) ≡ measureWords b row = ap
       (λ (r : List (List ℕ)). heads b r) (along-row a x o ready n e) ∙ heads-words b row in
-      let r : measureWords b (gather (played (songOf s)) (sectionsFrom s p)) ≡ measureWords b row ++ measureWords (b + d) rest =
-      ap (λ (xs : List Section). measureWords b (gather (played (songOf s)) xs)) (o .met .first) ∙ measure-words-append b row rest
+      let r : measureWords b (flatMap (played (songOf s)) (sectionsFrom s p)) ≡ measureWords b row ++ measureWords (b + d) rest =
+      ap (λ (xs : List Section). measureWords b (flatMap (played (songOf s)) xs)) (o .met .first) ∙ measure-words-append b row rest
       ∙ ap (λ (k : ℕ). measureWords b row ++ measureWords (b + k) rest) (sym beats) in
       stored-lent old new (measureWords b row) (measureWords (b + d) rest) all ys m c (measure-words-length b row ∙ sym measures) h l room
       (y ∙ ap (λ (xs : List ℕ). sets (take (length new - m) (drop m new)) 0 xs) f)
@@ -169,16 +169,16 @@ module _ {s ws vs : List ℕ} {mark : ℕ} {p : Place} {m b : ℕ} (a : Along s 
 
   pub beats-next : (old new all ys : List ℕ) → b ≤ length new → length new ≡ length old → length all ≤ length old
       → ys ≡ sets (take (length new - b) (drop b new)) 0 (flat (rowOfTexts vs n (x .texts) (x .section .modifiers)))
-      → Wrote old b new (gather (map beatWord) (gather (played (songOf s)) (sectionsFrom s p))) all
-      → Wrote old (b + d) (putMid b (length new - b) new ys) (gather (map beatWord) (gather (played (songOf s)) (sectionsFrom s (x .next)))) all
-  unfolding gather
+      → Wrote old b new (flatMap (map beatWord) (flatMap (played (songOf s)) (sectionsFrom s p))) all
+      → Wrote old (b + d) (putMid b (length new - b) new ys) (flatMap (map beatWord) (flatMap (played (songOf s)) (sectionsFrom s (x .next)))) all
+  unfolding flatMap
   beats-next old new all ys h l room y t =
       let row = played (songOf s) (sectionAt s p) in
-      let rest = gather (played (songOf s)) (sectionsFrom s (x .next)) in
-      let f : flat (rowOfTexts vs n (x .texts) (x .section .modifiers)) ≡ gather (map beatWord) row = ap flat
+      let rest = flatMap (played (songOf s)) (sectionsFrom s (x .next)) in
+      let f : flat (rowOfTexts vs n (x .texts) (x .section .modifiers)) ≡ flatMap (map beatWord) row = ap flat
       (along-row a x o ready n e) ∙ flat-words row in
-      let r : gather (map beatWord) (gather (played (songOf s)) (sectionsFrom s p)) ≡ gather (map beatWord) row ++ gather (map beatWord) rest =
-      ap (λ (xs : List Section). gather (map beatWord) (gather (played (songOf s)) xs)) (o .met .first) ∙ gather-append (map beatWord) row rest in
-      stored-lent old new (gather (map beatWord) row) (gather (map beatWord) rest) all ys b d (beat-words-length row ∙ sym beats) h l room
+      let r : flatMap (map beatWord) (flatMap (played (songOf s)) (sectionsFrom s p)) ≡ flatMap (map beatWord) row ++ flatMap (map beatWord) rest =
+      ap (λ (xs : List Section). flatMap (map beatWord) (flatMap (played (songOf s)) xs)) (o .met .first) ∙ gather-append (map beatWord) row rest in
+      stored-lent old new (flatMap (map beatWord) row) (flatMap (map beatWord) rest) all ys b d (beat-words-length row ∙ sym beats) h l room
       (y ∙ ap (λ (xs : List ℕ). sets (take (length new - b) (drop b new)) 0 xs) f)
       (subst (λ xs. Wrote old b new xs all) r t)

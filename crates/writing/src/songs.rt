@@ -5,11 +5,11 @@ use packing::section_word;
 use scores::open_section;
 use sections::Keys;
 use sections::Place;
+ghost use mathlib.Core.Option.{Option·getD};
 ghost use mathlib.Core.Path.{_≡_};
 ghost use mathlib.Core.List.{[]};
 ghost use Prim.Native.Nat.{_≤_};
 ghost use lib.ListN.{length};
-ghost use Rattle.songcode.specs.Lists.{orElse};
 ghost use Rattle.songcode.specs.answer.Playing.{timeAmong, bpmAmong};
 ghost use Rattle.songcode.specs.answer.Meter.{meterFaults, lengthFaults};
 ghost use Rattle.songcode.specs.answer.Tables.{tables};
@@ -36,8 +36,8 @@ pub fn write_song(
     beats: &mut [u32],
 )
     requires ready { ⌜ Begins (now s) first × Ready (now s) (now words) mark × (mark ≤ first .at) ⌝ }
-    requires keys { ⌜ (song .time ≡ orElse (timeAmong (songOf (now s) .keys)) 0) × (song .time ≤ 32)
-        × (song .bpm ≡ orElse (bpmAmong (songOf (now s) .keys)) 511) × (song .bpm ≤ 511) ⌝ }
+    requires keys { ⌜ (song .time ≡ Option·getD (timeAmong (songOf (now s) .keys)) 0) × (song .time ≤ 32)
+        × (song .bpm ≡ Option·getD (bpmAmong (songOf (now s) .keys)) 511) × (song .bpm ≤ 511) ⌝ }
     requires clear { ⌜ (meterFaults (songOf (now s)) ≡ []) × (lengthFaults (songOf (now s)) 0 (songOf (now s) .sections) ≡ []) ⌝ }
     requires room { ⌜ (length (tables (songOf (now s)) .sections) ≤ length (now sections))
         × (length (tables (songOf (now s)) .measures) ≤ length (now measures)) × (length (tables (songOf (now s)) .beats) ≤ length (now beats)) ⌝ }

@@ -1,11 +1,11 @@
 -- Request 1, "A flat copy for paper": the copy by the answer's order, as rows of bytes, and the answer of the call.
 use Prim.Native.Nat.{ℕ, _-_}
-use mathlib.Core.List.{List, [], _∷_, _++_, map}
+use mathlib.Core.List.{List, [], _∷_, _++_, map, flatMap}
 use mathlib.Core.Bool.{Bool, true, false, _||_}
 use mathlib.Core.Option.{Option, none, some}
 use lib.Dec.{ltb}
 use lib.ListN.{length, getD, replicate}
-use Rattle.songcode.specs.Lists.{taken, isEmpty, any, gather, when}
+use Rattle.songcode.specs.Lists.{taken, isEmpty, any, when}
 use Rattle.songcode.specs.Bytes.{values, ascii}
 use Rattle.songcode.specs.answer.Chords.{Chord, bases}
 use Rattle.songcode.specs.answer.Lines.{Line, Block}
@@ -81,8 +81,8 @@ copyRows [] = []
 copyRows (b ∷ bs) = b ++ furtherRows bs
 
 unfoldable pub copyBytes : List (List (List ℕ)) → List ℕ
-unfolding gather endLine copyRows
-copyBytes bs = gather endLine (copyRows bs)
+unfolding flatMap endLine copyRows
+copyBytes bs = flatMap endLine (copyRows bs)
 
 -- The same for a file that has been read.
 unfoldable pub isKeyLine : Line → Bool

@@ -1,12 +1,12 @@
 -- Lyric lines: their counts and styles; stages 6 and 7; the prompter items.
 use Prim.Native.Nat.{ℕ, _+_, _-_}
 use Prim.Native.Char.{code}
-use mathlib.Core.List.{List, [], _∷_, reverse}
+use mathlib.Core.List.{List, [], _∷_, reverse, flatMap}
 use mathlib.Core.Bool.{Bool, _&&_, not}
-use mathlib.Core.Option.{Option, none, some}
+use mathlib.Core.Option.{Option, none, some, Option·getD}
 use lib.Dec.{eqb, leb}
 use lib.ListN.{length, take, drop}
-use Rattle.songcode.specs.Lists.{if_then_else_, taken, left, isEmpty, any, every, gather, isSome, orElse}
+use Rattle.songcode.specs.Lists.{if_then_else_, taken, left, isEmpty, any, every, isSome}
 use Rattle.songcode.specs.Bytes.{Byte, values, ascii, begins, isByte, isBlank, notBlank}
 use Rattle.songcode.specs.answer.Numbers.{countIn}
 use Rattle.songcode.specs.Complaints.{Complaint, complainIf}
@@ -70,8 +70,8 @@ unfolding isSome patternItems
 isPlayed s x = isSome (patternItems (s .definitions) (x .pattern))
 
 unfoldable pub linesTaken : Song → List LyricLine
-unfolding if_then_else_ gather isPlayed
-linesTaken s = gather (λ x. if isPlayed s x then x .lyrics else []) (s .sections)
+unfolding if_then_else_ flatMap isPlayed
+linesTaken s = flatMap (λ x. if isPlayed s x then x .lyrics else []) (s .sections)
 
 -- "if one has a count, all have": 16 on each that has none.
 unfoldable pub hasCounts : Song → Bool
@@ -79,14 +79,14 @@ unfolding any isCounted linesTaken
 hasCounts s = any isCounted (linesTaken s)
 
 unfoldable pub countFaults : Song → List Complaint
-unfolding if_then_else_ gather complainIf isCounted linesTaken hasCounts
-countFaults s = if hasCounts s then gather (λ l. complainIf (not (isCounted l)) 16 (l .number)) (linesTaken s) else []
+unfolding if_then_else_ flatMap complainIf isCounted linesTaken hasCounts
+countFaults s = if hasCounts s then flatMap (λ l. complainIf (not (isCounted l)) 16 (l .number)) (linesTaken s) else []
 
 -- "and each such section with lyrics sums to its measures": 17 on the header.
 unfoldable pub counted : List LyricLine → ℕ
-unfolding orElse countOf
+unfolding countOf
 counted [] = 0
-counted (l ∷ ls) = orElse (countOf l) 0 + counted ls
+counted (l ∷ ls) = Option·getD (countOf l) 0 + counted ls
 
 unfoldable pub sumFault : Song → Section → List Complaint
 unfolding complainIf isPlayed isEmpty counted played
@@ -94,8 +94,8 @@ sumFault s x =
     complainIf (isPlayed s x && not (isEmpty (x .lyrics)) && not (eqb (counted (x .lyrics)) (length (played s x)))) 17 (x .header)
 
 unfoldable pub sumFaults : Song → List Complaint
-unfolding if_then_else_ gather sumFault hasCounts
-sumFaults s = if hasCounts s then gather (sumFault s) (s .sections) else []
+unfolding if_then_else_ flatMap sumFault hasCounts
+sumFaults s = if hasCounts s then flatMap (sumFault s) (s .sections) else []
 
 -- "Items are written only if every section has lyrics and a pattern that isn't empty, and all have counts".
 unfoldable pub hasItems : Song → Bool
@@ -109,11 +109,11 @@ pub record Prompt : Type 0 where
   pub measures : ℕ
 
 unfoldable pub promptsFrom : ℕ → List LyricLine → List Prompt
-unfolding styled wordsOf orElse countOf
+unfolding styled wordsOf countOf
 promptsFrom first [] = []
 promptsFrom first (l ∷ ls) =
-    record { words = styled (wordsOf (l .text) .text); first = first; measures = orElse (countOf l) 0 }
-    ∷ promptsFrom (first + orElse (countOf l) 0) ls
+    record { words = styled (wordsOf (l .text) .text); first = first; measures = Option·getD (countOf l) 0 }
+    ∷ promptsFrom (first + Option·getD (countOf l) 0) ls
 
 unfoldable pub prompts : Song → List Prompt
 unfolding if_then_else_ hasItems promptsFrom linesTaken

@@ -1,10 +1,10 @@
 -- Stages 4 and 5: measures that fit N, `%` with a chord before it, the song's length, and cuts that leave a beat.
 use Prim.Native.Nat.{ℕ, _+_, _*_, _%_}
-use mathlib.Core.List.{List, [], _∷_, _++_}
+use mathlib.Core.List.{List, [], _∷_, _++_, flatMap}
 use mathlib.Core.Bool.{Bool, true, false, _||_, _&&_, not}
 use mathlib.Core.Option.{Option, none, some}
 use lib.Dec.{eqb, leb, ltb}
-use Rattle.songcode.specs.Lists.{gather, isEmpty, isSome}
+use Rattle.songcode.specs.Lists.{isEmpty, isSome}
 use Rattle.songcode.specs.Complaints.{Complaint, complainIf}
 use Rattle.songcode.specs.answer.Chords.{Chord}
 use Rattle.songcode.specs.Song.{Sound, chord, again, silence, Sounds, only, also, Measure, Item, measure, loop, refer, Items, one, next}
@@ -77,8 +77,8 @@ sectionMeter s x =
     ++ sideFaults (timeOf s x) (x .modifiers .after)
 
 unfoldable pub meterFaults : Song → List Complaint
-unfolding gather sectionMeter
-meterFaults s = gather (sectionMeter s) (s .sections)
+unfolding flatMap sectionMeter
+meterFaults s = flatMap (sectionMeter s) (s .sections)
 
 -- How many measures a row has, its loops written out. "A shortened measure counts as one measure."
 unfoldable mutual

@@ -3,8 +3,8 @@ use Prim.Native.Nat.{ℕ}
 use Prim.Native.Char.{code}
 use mathlib.Core.List.{List, [], _∷_}
 use mathlib.Core.Bool.{Bool, not}
-use mathlib.Core.Option.{Option, none, some}
-use Rattle.songcode.specs.Lists.{if_then_else_, taken, left, andThen, firstThere}
+use mathlib.Core.Option.{Option, none, some, orElse, bind}
+use Rattle.songcode.specs.Lists.{if_then_else_, taken, left}
 use Rattle.songcode.specs.Bytes.{Byte, is, isByte}
 use Rattle.songcode.specs.answer.Numbers.{countIn, repeatIn}
 use Rattle.songcode.specs.answer.Chords.{Reading, chordIn}
@@ -33,10 +33,10 @@ unfolding isByte
 isDash b = isByte (code "-") b
 
 unfoldable pub cutBy : List Byte → List Byte → Option Cut
-unfolding cut andThen countIn
-cutBy m [] = andThen (countIn m) (λ x. some (cut x 0))
-cutBy [] (dash ∷ b) = andThen (countIn b) (λ y. some (cut 0 y))
-cutBy (d ∷ m) (dash ∷ b) = andThen (countIn (d ∷ m)) (λ x. andThen (countIn b) (λ y. some (cut x y)))
+unfolding cut bind countIn
+cutBy m [] = bind (countIn m) (λ x. some (cut x 0))
+cutBy [] (dash ∷ b) = bind (countIn b) (λ y. some (cut 0 y))
+cutBy (d ∷ m) (dash ∷ b) = bind (countIn (d ∷ m)) (λ x. bind (countIn b) (λ y. some (cut x y)))
 
 unfoldable pub cutIn : List Byte → Option Cut
 unfolding cutBy taken left isDash
@@ -44,12 +44,12 @@ cutIn bs = cutBy (taken (λ b. not (isDash b)) bs) (left (λ b. not (isDash b)) 
 
 -- The modifier that a name and its setting say, on the line of that number.
 unfoldable pub modifierInAs : Reading → ModifierName → ℕ → List Byte → Option Modifier
-unfolding repeatIn cutIn sideTextAs andThen
-modifierInAs read ofRepeat n bs = andThen (repeatIn bs) (λ k. some (repeated k))
-modifierInAs read ofCutStart n bs = andThen (cutIn bs) (λ c. some (cutStart c))
-modifierInAs read ofCutEnd n bs = andThen (cutIn bs) (λ c. some (cutEnd c))
-modifierInAs read ofBefore n bs = andThen (sideTextAs read bs) (λ r. some (before n r))
-modifierInAs read ofAfter n bs = andThen (sideTextAs read bs) (λ r. some (after n r))
+unfolding repeatIn cutIn sideTextAs bind
+modifierInAs read ofRepeat n bs = bind (repeatIn bs) (λ k. some (repeated k))
+modifierInAs read ofCutStart n bs = bind (cutIn bs) (λ c. some (cutStart c))
+modifierInAs read ofCutEnd n bs = bind (cutIn bs) (λ c. some (cutEnd c))
+modifierInAs read ofBefore n bs = bind (sideTextAs read bs) (λ r. some (before n r))
+modifierInAs read ofAfter n bs = bind (sideTextAs read bs) (λ r. some (after n r))
 
 -- 5: "setting of a key, repeat or cut malformed or out of range"; 7: "pattern text against the rules".
 unfoldable pub settingRefusal : ModifierName → ℕ
@@ -104,9 +104,9 @@ afterSaid (after l r) = some (record { line = l; items = r })
 
 -- The first that is said.
 unfoldable pub saidBy : {A B : Type 0} → (A → Option B) → List A → Option B
-unfolding firstThere
+unfolding orElse
 saidBy f [] = none
-saidBy f (x ∷ xs) = firstThere (f x) (saidBy f xs)
+saidBy f (x ∷ xs) = orElse (f x) (saidBy f xs)
 
 -- What a section's modifiers say, each kind looked up among them.
 unfoldable pub modifiersSaid : List Modifier → Modifiers

@@ -3,9 +3,9 @@ use Prim.Native.Nat.{ℕ, zero, suc, max}
 use Prim.Native.Char.{code}
 use mathlib.Core.List.{List, [], _∷_, _++_}
 use mathlib.Core.Bool.{Bool, true, false, _||_, _&&_}
-use mathlib.Core.Option.{Option, none, some}
+use mathlib.Core.Option.{Option, none, some, bind}
 use lib.Dec.{leb}
-use Rattle.songcode.specs.Lists.{if_then_else_, any, andThen}
+use Rattle.songcode.specs.Lists.{if_then_else_, any}
 use Rattle.songcode.specs.Bytes.{Byte, isByte}
 use Rattle.songcode.specs.answer.Chords.{Reading, chordIn}
 use Rattle.songcode.specs.answer.Lines.{Line}
@@ -147,8 +147,8 @@ kept test r = if leb (depth r) loopsDeep && test r then some r else none
 
 -- A definition's text, of one line or more.
 unfoldable pub definitionTextAs : Reading → Line → List Line → Option Items
-unfolding itemsIn tokensOfAs kept andThen
-definitionTextAs read l ls = andThen (itemsIn (tokensOfAs read l ls)) (kept (λ r. true))
+unfolding itemsIn tokensOfAs kept bind
+definitionTextAs read l ls = bind (itemsIn (tokensOfAs read l ls)) (kept (λ r. true))
 
 -- "A section's pattern may instead be `$n` as its whole text"; in any other a `$n` does not stand.
 unfoldable pub wholeReference : List Token → Option ℕ
@@ -165,8 +165,8 @@ wholeReference (closes n ∷ ts) = none
 wholeReference (wrong ∷ ts) = none
 
 unfoldable pub patternBy : Option ℕ → List Token → Option Pattern
-unfolding itemsIn kept andThen noReference
-patternBy none ts = andThen (andThen (itemsIn ts) (kept noReference)) (λ r. some (items r))
+unfolding itemsIn kept bind noReference
+patternBy none ts = bind (bind (itemsIn ts) (kept noReference)) (λ r. some (items r))
 patternBy (some n) ts = some (named n)
 
 unfoldable pub sectionTextAs : Reading → Line → List Line → Option Pattern
@@ -179,8 +179,8 @@ unfolding isByte
 barred b = isByte (code ":") b || isByte (code "$") b
 
 unfoldable pub sideTextAs : Reading → List Byte → Option Items
-unfolding if_then_else_ any barred itemsIn tokensAs kept andThen noReference
-sideTextAs read bs = if any barred bs then none else andThen (itemsIn (tokensAs read bs)) (kept noReference)
+unfolding if_then_else_ any barred itemsIn tokensAs kept bind noReference
+sideTextAs read bs = if any barred bs then none else bind (itemsIn (tokensAs read bs)) (kept noReference)
 
 -- The same with chords as they are read today.
 unfoldable abbrev pub definitionText : Line → List Line → Option Items

@@ -1,11 +1,11 @@
 -- "How a section is played": measures and beats in the section's own N, loops, repeats, the two cuts, lead-in and tail.
 use Prim.Native.Nat.{ℕ, zero, suc, _+_, _-_, _/_}
-use mathlib.Core.List.{List, [], _∷_, _++_, map, reverse}
+use mathlib.Core.List.{List, [], _∷_, _++_, map, reverse, flatMap}
 use mathlib.Core.Bool.{Bool, true, false}
-use mathlib.Core.Option.{Option, none, some}
+use mathlib.Core.Option.{Option, none, some, Option·getD, bind}
 use lib.Dec.{eqb}
 use lib.ListN.{length, drop, replicate}
-use Rattle.songcode.specs.Lists.{if_then_else_, gather, times, orElse, andThen}
+use Rattle.songcode.specs.Lists.{if_then_else_, times}
 use Rattle.songcode.specs.Bytes.{Byte}
 use Rattle.songcode.specs.answer.Chords.{Chord}
 use Rattle.songcode.specs.Song.{Sound, chord, again, silence, Sounds, only, also, Measure, Item, measure, loop, refer, Items, one, next}
@@ -22,21 +22,21 @@ settingNamed k (x ∷ xs) = if eqb (keyPlace (x .key)) (keyPlace k) then some (x
 
 -- "N is the section's time, else the song's"; "the default is 4/4".
 unfoldable pub timeAmong : List Key → Option ℕ
-unfolding andThen settingNamed timeIn
-timeAmong ks = andThen (settingNamed time ks) timeIn
+unfolding bind settingNamed timeIn
+timeAmong ks = bind (settingNamed time ks) timeIn
 
 unfoldable pub timeOf : Song → Section → ℕ
-unfolding orElse timeAmong
-timeOf s x = orElse (timeAmong (x .keys)) (orElse (timeAmong (s .keys)) 4)
+unfolding timeAmong
+timeOf s x = Option·getD (timeAmong (x .keys)) (Option·getD (timeAmong (s .keys)) 4)
 
 -- "bpm (section's, else song's, else 511)"
 unfoldable pub bpmAmong : List Key → Option ℕ
-unfolding andThen settingNamed bpmIn
-bpmAmong ks = andThen (settingNamed bpm ks) bpmIn
+unfolding bind settingNamed bpmIn
+bpmAmong ks = bind (settingNamed bpm ks) bpmIn
 
 unfoldable pub bpmOf : Song → Section → ℕ
-unfolding orElse bpmAmong
-bpmOf s x = orElse (bpmAmong (x .keys)) (orElse (bpmAmong (s .keys)) 511)
+unfolding bpmAmong
+bpmOf s x = Option·getD (bpmAmong (x .keys)) (Option·getD (bpmAmong (s .keys)) 511)
 
 -- "`%` is the last chord before it in the written order of its own text, references put in; silence isn't a chord."
 unfoldable pub chordAfter : Option Chord → Sound → Option Chord
@@ -94,8 +94,8 @@ unfolding soundCount
 positions m = soundCount (m .sounds) + m .removers
 
 unfoldable pub beatsOf : ℕ → Option Chord → Measure → List Beat
-unfolding gather lasting voices positions
-beatsOf n last m = gather (lasting (n / positions m)) (voices last (m .sounds))
+unfolding flatMap lasting voices positions
+beatsOf n last m = flatMap (lasting (n / positions m)) (voices last (m .sounds))
 
 -- "Loops are written out": the measures of a row in N, each a list of beats.
 unfoldable mutual
@@ -147,8 +147,7 @@ unfolding applied cutFront cutBack
 cutRow ms row = applied cutBack (ms .cutEnd) (applied cutFront (ms .cutStart) row)
 
 unfoldable pub repeats : Modifiers → ℕ
-unfolding orElse
-repeats ms = orElse (ms .repeat) 1
+repeats ms = Option·getD (ms .repeat) 1
 
 -- A lead-in or tail, if there is one.
 unfoldable pub sideMeasures : ℕ → Option Side → List (List Beat)

@@ -1,10 +1,10 @@
 -- "`$n` means an earlier definition's items, put in its place." Stage 3.
 use Prim.Native.Nat.{ℕ}
-use mathlib.Core.List.{List, [], _∷_, _++_}
+use mathlib.Core.List.{List, [], _∷_, _++_, flatMap}
 use mathlib.Core.Bool.{not}
-use mathlib.Core.Option.{Option, none, some}
+use mathlib.Core.Option.{Option, none, some, Option·getD, bind}
 use lib.Dec.{eqb, leb}
-use Rattle.songcode.specs.Lists.{if_then_else_, gather, orElse, andThen}
+use Rattle.songcode.specs.Lists.{if_then_else_}
 use Rattle.songcode.specs.Complaints.{Complaint, complaint, complainIf}
 use Rattle.songcode.specs.Song.{Separator, Item, measure, loop, refer, Items, one, next, Pattern, items, named, Definition, Song}
 use Rattle.songcode.specs.answer.PatternText.{depth, loopsDeep, references, noReference}
@@ -17,8 +17,8 @@ definitionOf n (d ∷ ds) = if eqb (d .id) n then some d else definitionOf n ds
 
 -- The items of the definition of that number: none where it is empty or missing.
 unfoldable pub itemsOf : List Definition → ℕ → Option Items
-unfolding definitionOf andThen
-itemsOf ds n = andThen (definitionOf n ds) (λ d. d .items)
+unfolding definitionOf bind
+itemsOf ds n = bind (definitionOf n ds) (λ d. d .items)
 
 -- A row behind a row.
 unfoldable pub glue : Items → Separator → Items → Items
@@ -27,12 +27,12 @@ glue r s (next q t i) = next (glue r s q) t i
 
 -- The items with every reference's own put in its place.
 unfoldable mutual
-  unfolding glue orElse
+  unfolding glue
 
   pub putInItem : (ℕ → Option Items) → Item → Items
   putInItem f (measure m) = one (measure m)
   putInItem f (loop r n) = one (loop (putIn f r) n)
-  putInItem f (refer n) = orElse (f n) (one (refer n))
+  putInItem f (refer n) = Option·getD (f n) (one (refer n))
 
   pub putIn : (ℕ → Option Items) → Items → Items
   putIn f (one i) = putInItem f i
@@ -56,10 +56,10 @@ unfolding complainIf depth loopsDeep putIn itemsOf
 depthFault earlier r head = complainIf (not (leb (depth (putIn (itemsOf earlier) r)) loopsDeep)) 11 head
 
 unfoldable pub definitionReferences : List Definition → Option Items → ℕ → List Complaint
-unfolding gather referenceFault definitionOf references depthFault
+unfolding flatMap referenceFault definitionOf references depthFault
 definitionReferences earlier none head = []
 definitionReferences earlier (some r) head =
-    gather (λ n. referenceFault (definitionOf n earlier) head) (references r) ++ depthFault earlier r head
+    flatMap (λ n. referenceFault (definitionOf n earlier) head) (references r) ++ depthFault earlier r head
 
 unfoldable pub definitionsReferences : List Definition → List Definition → List Complaint
 unfolding definitionReferences
@@ -77,13 +77,13 @@ sectionReference ds (items r) header = []
 sectionReference ds (named n) header = namedFault (definitionOf n ds) header
 
 unfoldable pub referenceFaults : Song → List Complaint
-unfolding definitionsReferences gather sectionReference
+unfolding definitionsReferences flatMap sectionReference
 referenceFaults s =
     definitionsReferences [] (s .definitions)
-    ++ gather (λ x. sectionReference (s .definitions) (x .pattern) (x .header)) (s .sections)
+    ++ flatMap (λ x. sectionReference (s .definitions) (x .pattern) (x .header)) (s .sections)
 
 -- What a section's pattern says, references put in: none where it is empty.
 unfoldable pub patternItems : List Definition → Pattern → Option Items
-unfolding andThen itemsOf putIn
+unfolding bind itemsOf putIn
 patternItems ds (items r) = some r
-patternItems ds (named n) = andThen (itemsOf ds n) (λ r. some (putIn (itemsOf ds) r))
+patternItems ds (named n) = bind (itemsOf ds n) (λ r. some (putIn (itemsOf ds) r))

@@ -1,11 +1,11 @@
 -- A section's lines: which is what, what is complained of, and the section that they say.
 use Prim.Native.Nat.{ℕ}
 use Prim.Native.Char.{code}
-use mathlib.Core.List.{List, [], _∷_, _++_, map}
+use mathlib.Core.List.{List, [], _∷_, _++_, map, flatMap, filterMap}
 use mathlib.Core.Bool.{Bool, true, false, _&&_, not}
-use mathlib.Core.Option.{Option, none, some}
+use mathlib.Core.Option.{Option, none, some, Option·getD, bind}
 use lib.Dec.{eqb, leb}
-use Rattle.songcode.specs.Lists.{if_then_else_, taken, left, isEmpty, any, gather, collect, andThen, orElse, isSome, prepend}
+use Rattle.songcode.specs.Lists.{if_then_else_, taken, left, isEmpty, any, isSome, prepend}
 use Rattle.songcode.specs.Bytes.{Byte, is, isByte, isLetter}
 use Rattle.songcode.specs.answer.Characters.{characters}
 use Rattle.songcode.specs.answer.Chords.{Reading, chordIn}
@@ -70,16 +70,16 @@ keyFaults allowed l = keyFaultsBy allowed (keyNameOf l) l
 
 -- The key that a key line says.
 unfoldable pub keyOf : Line → Option Key
-unfolding keyNameOf settingOf andThen
-keyOf l = andThen (keyNameOf l) (λ k. some (record { key = k; setting = settingOf l }))
+unfolding keyNameOf settingOf bind
+keyOf l = bind (keyNameOf l) (λ k. some (record { key = k; setting = settingOf l }))
 
 unfoldable pub modifierNameOf : Line → Option ModifierName
 unfolding modifierNamed nameOf
 modifierNameOf l = modifierNamed (nameOf l)
 
 unfoldable pub modifierOfAs : Reading → Line → Option Modifier
-unfolding modifierNameOf modifierInAs settingOf andThen
-modifierOfAs read l = andThen (modifierNameOf l) (λ m. modifierInAs read m (l .number) (settingOf l))
+unfolding modifierNameOf modifierInAs settingOf bind
+modifierOfAs read l = bind (modifierNameOf l) (λ m. modifierInAs read m (l .number) (settingOf l))
 
 -- A modifier's own faults: 8 where it is unknown; its setting's.
 unfoldable pub modifierFaultsByAs : Reading → Option ModifierName → Line → List Complaint
@@ -103,12 +103,12 @@ twice number said seen [] = []
 twice number said seen (l ∷ ls) = twiceBy number (said l) seen l ++ twice number said (prepend (said l) seen) ls
 
 unfoldable pub keySaid : Line → Option ℕ
-unfolding kindOfLine keyNameOf andThen keyPlace
-keySaid l = elim (kindOfLine l) [ keyLine ↦ andThen (keyNameOf l) (λ k. some (keyPlace k)) | modifierLine ↦ none | patternLine ↦ none ]
+unfolding kindOfLine keyNameOf bind keyPlace
+keySaid l = elim (kindOfLine l) [ keyLine ↦ bind (keyNameOf l) (λ k. some (keyPlace k)) | modifierLine ↦ none | patternLine ↦ none ]
 
 unfoldable pub modifierSaid : Line → Option ℕ
-unfolding kindOfLine modifierNameOf andThen modifierPlace
-modifierSaid l = elim (kindOfLine l) [ keyLine ↦ none | modifierLine ↦ andThen (modifierNameOf l) (λ m. some (modifierPlace m)) | patternLine ↦ none ]
+unfolding kindOfLine modifierNameOf bind modifierPlace
+modifierSaid l = elim (kindOfLine l) [ keyLine ↦ none | modifierLine ↦ bind (modifierNameOf l) (λ m. some (modifierPlace m)) | patternLine ↦ none ]
 
 -- A line's own faults.
 unfoldable pub faultsByAs : Reading → Kind → Line → List Complaint
@@ -210,13 +210,13 @@ unfolding left notDashes
 fromDashes b = left notDashes (b .others)
 
 unfoldable pub sectionFaultsAs : Reading → Block → List Complaint
-unfolding headerFaults gather faultsAs order twice keySaid modifierSaid patternFaultsAs patternRun lyricFaults body fromDashes
+unfolding headerFaults flatMap faultsAs order twice keySaid modifierSaid patternFaultsAs patternRun lyricFaults body fromDashes
 sectionFaultsAs read b =
     headerFaults (b .first)
     ++ order amongKeys (body b)
     ++ twice 4 keySaid [] (body b)
     ++ twice 8 modifierSaid [] (body b)
-    ++ gather (faultsAs read) (body b)
+    ++ flatMap (faultsAs read) (body b)
     ++ patternFaultsAs read (b .first .number) (patternRun (body b))
     ++ lyricFaults (fromDashes b)
 
@@ -236,13 +236,13 @@ unfolding modifierByAs kindOfLine
 modifierOnAs read l = modifierByAs read (kindOfLine l) l
 
 unfoldable pub sectionInAs : Reading → Block → Section
-unfolding collect keyIn modifierOnAs modifiersSaid orElse patternInAs patternRun lyricsIn body fromDashes
+unfolding filterMap keyIn modifierOnAs modifiersSaid patternInAs patternRun lyricsIn body fromDashes
 sectionInAs read b =
     record {
       header = b .first .number;
-      keys = collect keyIn (body b);
-      pattern = orElse (patternInAs read (patternRun (body b))) (named 0);
-      modifiers = modifiersSaid (collect (modifierOnAs read) (body b));
+      keys = filterMap keyIn (body b);
+      pattern = Option·getD (patternInAs read (patternRun (body b))) (named 0);
+      modifiers = modifiersSaid (filterMap (modifierOnAs read) (body b));
       lyrics = lyricsIn (fromDashes b);
     }
 

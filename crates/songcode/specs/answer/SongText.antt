@@ -1,11 +1,11 @@
 -- Stage 2: metadata, definitions and sections over the whole file, what is complained of, and the song that they say.
 use Prim.Native.Nat.{ℕ, suc, max}
 use Prim.Native.Char.{code}
-use mathlib.Core.List.{List, [], _∷_, _++_, map}
+use mathlib.Core.List.{List, [], _∷_, _++_, map, flatMap, filterMap}
 use mathlib.Core.Bool.{_||_, not}
-use mathlib.Core.Option.{Option, none}
+use mathlib.Core.Option.{Option, none, Option·getD}
 use lib.Dec.{leb, ltb}
-use Rattle.songcode.specs.Lists.{if_then_else_, isEmpty, gather, collect, orElse, isSome}
+use Rattle.songcode.specs.Lists.{if_then_else_, isEmpty, isSome}
 use Rattle.songcode.specs.Bytes.{Byte, isByte}
 use Rattle.songcode.specs.answer.Chords.{Reading, chordIn}
 use Rattle.songcode.specs.answer.Lines.{Line, Block}
@@ -50,8 +50,8 @@ linesIf section b = []
 
 -- The lines of all metadata blocks: "every line is `@key`"; any other is an "other line out of place".
 unfoldable pub metadataLines : List Block → List Line
-unfolding gather linesIf blockKind
-metadataLines bs = gather (λ b. linesIf (blockKind b) b) bs
+unfolding flatMap linesIf blockKind
+metadataLines bs = flatMap (λ b. linesIf (blockKind b) b) bs
 
 unfoldable pub metadataFault : Line → List Complaint
 unfolding kindOfLine keyFaults ofMetadata
@@ -59,8 +59,8 @@ metadataFault l =
     elim (kindOfLine l) [ keyLine ↦ keyFaults ofMetadata l | modifierLine ↦ complaint 8 (l .number) ∷ [] | patternLine ↦ complaint 8 (l .number) ∷ [] ]
 
 unfoldable pub metadataFaults : List Block → List Complaint
-unfolding metadataLines metadataFault gather twice keySaid
-metadataFaults bs = twice 4 keySaid [] (metadataLines bs) ++ gather metadataFault (metadataLines bs)
+unfolding metadataLines metadataFault flatMap twice keySaid
+metadataFaults bs = twice 4 keySaid [] (metadataLines bs) ++ flatMap metadataFault (metadataLines bs)
 
 -- "`$n` alone on the first line"
 unfoldable pub headIn : Line → Option ℕ
@@ -78,12 +78,12 @@ sectionIf definition b = []
 sectionIf section b = b ∷ []
 
 unfoldable pub definitionBlocks : List Block → List Block
-unfolding gather definitionIf blockKind
-definitionBlocks bs = gather (λ b. definitionIf (blockKind b) b) bs
+unfolding flatMap definitionIf blockKind
+definitionBlocks bs = flatMap (λ b. definitionIf (blockKind b) b) bs
 
 unfoldable pub sectionBlocks : List Block → List Block
-unfolding gather sectionIf blockKind
-sectionBlocks bs = gather (λ b. sectionIf (blockKind b) b) bs
+unfolding flatMap sectionIf blockKind
+sectionBlocks bs = flatMap (λ b. sectionIf (blockKind b) b) bs
 
 -- "At most 26, no `$n` twice": 6 where the head is "malformed, twice, or the 27th".
 unfoldable pub headsFaults : ℕ → List Block → List Complaint
@@ -107,8 +107,8 @@ definitionFaultsAs read [] = []
 definitionFaultsAs read (l ∷ ls) = complainIf (not (isSome (definitionTextAs read l ls))) 7 (l .number)
 
 unfoldable pub definitionsFaultsAs : Reading → List Block → List Complaint
-unfolding headsFaults twice headIn firstLine gather definitionFaultsAs
-definitionsFaultsAs read bs = headsFaults 0 bs ++ twice 6 headIn [] (map firstLine bs) ++ gather (λ b. definitionFaultsAs read (b .others)) bs
+unfolding headsFaults twice headIn firstLine flatMap definitionFaultsAs
+definitionsFaultsAs read bs = headsFaults 0 bs ++ twice 6 headIn [] (map firstLine bs) ++ flatMap (λ b. definitionFaultsAs read (b .others)) bs
 
 -- 9: "no section, nothing else in stage 2".
 unfoldable pub orNoSection : List Complaint → List Block → List Complaint
@@ -117,22 +117,22 @@ orNoSection [] sections = complainIf (isEmpty sections) 9 0
 orNoSection (c ∷ cs) sections = c ∷ cs
 
 unfoldable pub textFaultsAs : Reading → List Block → List Complaint
-unfolding orNoSection blockOrder metadataFaults definitionsFaultsAs definitionBlocks gather sectionFaultsAs sectionBlocks
+unfolding orNoSection blockOrder metadataFaults definitionsFaultsAs definitionBlocks flatMap sectionFaultsAs sectionBlocks
 textFaultsAs read bs =
     orNoSection
-    (blockOrder 0 bs ++ metadataFaults bs ++ definitionsFaultsAs read (definitionBlocks bs) ++ gather (sectionFaultsAs read) (sectionBlocks bs))
+    (blockOrder 0 bs ++ metadataFaults bs ++ definitionsFaultsAs read (definitionBlocks bs) ++ flatMap (sectionFaultsAs read) (sectionBlocks bs))
     (sectionBlocks bs)
 
 -- The song that the blocks say, if nothing is complained of.
 unfoldable pub definitionInAs : Reading → Block → Definition
-unfolding orElse headIn definitionItemsAs
-definitionInAs read b = record { head = b .first .number; id = orElse (headIn (b .first)) 0; items = definitionItemsAs read (b .others) }
+unfolding headIn definitionItemsAs
+definitionInAs read b = record { head = b .first .number; id = Option·getD (headIn (b .first)) 0; items = definitionItemsAs read (b .others) }
 
 unfoldable pub songInAs : Reading → List Block → Song
-unfolding collect keyIn metadataLines definitionInAs definitionBlocks sectionInAs sectionBlocks
+unfolding filterMap keyIn metadataLines definitionInAs definitionBlocks sectionInAs sectionBlocks
 songInAs read bs =
     record {
-      keys = collect keyIn (metadataLines bs);
+      keys = filterMap keyIn (metadataLines bs);
       definitions = map (definitionInAs read) (definitionBlocks bs);
       sections = map (sectionInAs read) (sectionBlocks bs);
     }

@@ -1,10 +1,9 @@
 -- "Bit-packed fields, most significant first, bits not named are 0": the words of the five tables.
 use Prim.Native.Nat.{ℕ, _+_, _*_, _^_}
-use mathlib.Core.List.{List, [], _∷_, map}
+use mathlib.Core.List.{List, [], _∷_, map, flatMap}
 use mathlib.Core.Bool.{Bool, true, false}
 use mathlib.Core.Option.{Option, none, some}
 use lib.ListN.{length}
-use Rattle.songcode.specs.Lists.{gather}
 use Rattle.songcode.specs.Bytes.{Byte}
 use Rattle.songcode.specs.answer.Chords.{Chord}
 use Rattle.songcode.specs.Song.{KeyName, name, artist, original, capo, bpm, time, warning, end, Section, Song}
@@ -42,8 +41,8 @@ sectionWords s first (x ∷ xs) =
 
 -- The measures of the whole song, section after section.
 unfoldable pub allMeasures : Song → List (List Beat)
-unfolding gather played
-allMeasures s = gather (played s) (s .sections)
+unfolding flatMap played
+allMeasures s = flatMap (played s) (s .sections)
 
 -- measures: "first beat 21, beats 6"
 unfoldable pub measureWord : ℕ → ℕ → ℕ
@@ -87,12 +86,12 @@ pub record Tables : Type 0 where
   pub items : List ℕ
 
 unfoldable pub tables : Song → Tables
-unfolding keyWords sectionWords measureWords gather beatWord allMeasures itemWord prompts
+unfolding keyWords sectionWords measureWords flatMap beatWord allMeasures itemWord prompts
 tables s =
     record {
       keys = keyWords s;
       sections = sectionWords s 0 (s .sections);
       measures = measureWords 0 (allMeasures s);
-      beats = gather (map beatWord) (allMeasures s);
+      beats = flatMap (map beatWord) (allMeasures s);
       items = map itemWord (prompts s);
     }

@@ -1,10 +1,10 @@
 -- The description of playing: what a section is, beat for beat. It says when a row of measures is what a text plays, and runs nothing.
 use Prim.Native.Nat.{ℕ, _+_, _*_, _≤_}
 use mathlib.Core.Path.{_≡_}
-use mathlib.Core.List.{List, [], _∷_, _++_}
-use mathlib.Core.Option.{Option, none, some}
+use mathlib.Core.List.{List, [], _∷_, _++_, flatMap}
+use mathlib.Core.Option.{Option, none, some, Option·getD}
 use lib.ListN.{length}
-use Rattle.songcode.specs.Lists.{times, gather, orElse}
+use Rattle.songcode.specs.Lists.{times}
 use Rattle.songcode.specs.Bytes.{Byte}
 use Rattle.songcode.specs.answer.Chords.{Chord}
 use Rattle.songcode.specs.Song.{Sound, chord, again, silence, Sounds, only, also, Measure, Item, measure, loop, refer, Items, one, next}
@@ -33,7 +33,7 @@ pub record PlaysMeasure (n : ℕ) (last : Option Chord) (m : Measure) (beats : L
   pub divides : share * positions m ≡ n
   pub heard : List (Option Chord)
   pub hears : HearsAll last (m .sounds) heard later
-  pub lasts : beats ≡ gather (lasting share) heard
+  pub lasts : beats ≡ flatMap (lasting share) heard
 
 -- A row in N: measure after measure; a loop as often as it says, each pass like the first. References have been put in.
 unfoldable mutual
@@ -105,7 +105,7 @@ pub record Inherits (k : KeyName) (meaning : List Byte → ℕ → Type 0) (defa
   pub songs : Option ℕ
   pub ownSays : Says k meaning (x .keys) own
   pub songSays : Says k meaning (s .keys) songs
-  pub chosen : n ≡ orElse own (orElse songs default)
+  pub chosen : n ≡ Option·getD own (Option·getD songs default)
 
 -- A section's N and tempo, and its parts: its lead-in, one pass of its pattern, what the cuts leave of all passes, its tail.
 pub record Parts : Type 0 where

@@ -1,10 +1,9 @@
 -- The description of the tables: the words of what each section plays, and of the prompter items, each by its row of the table of tables.
 use Prim.Native.Nat.{ℕ, _+_, _≤_}
 use mathlib.Core.Path.{_≡_}
-use mathlib.Core.List.{List, [], _∷_, map}
+use mathlib.Core.List.{List, [], _∷_, map, flatMap}
 use mathlib.Core.Option.{some}
 use lib.ListN.{length}
-use Rattle.songcode.specs.Lists.{gather}
 use Rattle.songcode.specs.Bytes.{Byte}
 use Rattle.songcode.specs.Song.{Key, Items, LyricLine, Section, Song}
 use Rattle.songcode.specs.answer.References.{patternItems}
@@ -68,7 +67,7 @@ lyricsOf x = x .lyrics
 
 -- "Items are written only if every section has lyrics and a pattern that isn't empty, and all have counts; otherwise there are none."
 pub data WrittenItems (s : Song) : List ℕ → Type 0 where
-  items-there : {words : List ℕ} (prompts : List Prompt) → AllSung s (s .sections) → ItemsFrom 0 (gather lyricsOf (s .sections)) prompts
+  items-there : {words : List ℕ} (prompts : List Prompt) → AllSung s (s .sections) → ItemsFrom 0 (flatMap lyricsOf (s .sections)) prompts
       → words ≡ map itemLaid prompts → WrittenItems s words
   no-items : {words : List ℕ} → (AllSung s (s .sections) → ⊥) → words ≡ [] → WrittenItems s words
 
@@ -76,6 +75,6 @@ pub data WrittenItems (s : Song) : List ℕ → Type 0 where
 pub record WrittenTables (s : Song) (ps : List Parts) (t : Tables) : Type 0 where
   pub keys : t .keys ≡ keysLaid (s .keys)
   pub sections : t .sections ≡ partsWords 0 (s .sections) ps
-  pub measures : t .measures ≡ rowWords 0 (gather joined ps)
-  pub beats : t .beats ≡ gather (map beatLaid) (gather joined ps)
+  pub measures : t .measures ≡ rowWords 0 (flatMap joined ps)
+  pub beats : t .beats ≡ flatMap (map beatLaid) (flatMap joined ps)
   pub items : WrittenItems s (t .items)

@@ -1,10 +1,10 @@
 -- What the tally of the sections passed and the lines from here on give together is what the lines of all sections give.
 use Prim.Native.Nat.{_-_}
 use mathlib.Core.Path.{_≡_, sym, ap, _∙_, subst}
-use mathlib.Core.List.{List}
+use mathlib.Core.List.{List, flatMap}
 use mathlib.Core.Bool.{_||_}
 use lib.ListN.{length}
-use Rattle.songcode.specs.Lists.{if_then_else_, any, gather}
+use Rattle.songcode.specs.Lists.{if_then_else_, any}
 use Rattle.songcode.specs.Song.{LyricLine, Section}
 use Rattle.songcode.specs.answer.Lyrics.{isCounted, isPlayed, linesTaken, hasCounts}
 use Rattle.songcode.specs.answer.Answer.{songOf}
@@ -73,7 +73,7 @@ loop-again c =
     )
 
 returns : tie.Need-returns Inv-loop μ-loop
-unfolding Each gather any bareLine countFault
+unfolding Each flatMap any bareLine countFault
 returns c =
     let q = c .before .before .before in
     let l = q .loop in

@@ -3,13 +3,12 @@ use Rattle.judging.proofs.ReferenceLaws.{sectionFault, fault-at, first-
 use Rattle.sections.proofs.MeetLaws.{sections-over}
 use Rattle.scores.specs.Scores.{Told}
 use Rattle.sections.specs.Onward.{sectionsFrom, sectionAt, Onward}
-use Rattle.songcode.specs.Lists.{gather}
 use Rattle.songcode.specs.Complaints.{Complaint, earliest}
 use Rattle.songcode.specs.Song.{Section}
 use Rattle.songcode.specs.answer.Answer.{songOf}
 use Rattle.text.specs.Refusals.{refusalOf}
 use lib.ListN.{length}
-use mathlib.Core.List.{List}
+use mathlib.Core.List.{List, flatMap}
 use mathlib.Core.Path.{_≡_, refl, sym, ap, _∙_}
 use native.Mathlib.Omega.{arith}
 use Prim.Native.Nat.{_-_}
@@ -18,7 +17,7 @@ use Rattle.judging.proofs.references.stage_three.Tie as tie
 
 abbrev Inv-loop : tie.InvT-loop
 Inv-loop s words place₀ place =
-    Onward s place × Told s words × (gather (sectionFault (songOf s .definitions)) (sectionsFrom s place) ≡ gather
+    Onward s place × Told s words × (flatMap (sectionFault (songOf s .definitions)) (sectionsFrom s place) ≡ flatMap
     (sectionFault (songOf s .definitions)) (sectionsFrom s place₀))
 
 abbrev μ-loop : tie.MeasureT-loop
@@ -44,7 +43,7 @@ returns c =
     let r = c .before .before .name-fault .result in
     let f = fault-at ds s (q .loop .place) (m .pass .result) r w (c .before .before .name-fault .ensures) in
     first-section ds (sectionAt s (q .loop .place)) (sectionsFrom s (m .pass .result .next)) r (w .later) f (c .if2 .taken)
-    ∙ ap (λ (xs : List Section). refusalOf (earliest (gather (sectionFault ds) xs))) (sym (w .first))
+    ∙ ap (λ (xs : List Section). refusalOf (earliest (flatMap (sectionFault ds) xs))) (sym (w .first))
     ∙ ap (λ (cs : List Complaint). refusalOf (earliest cs)) (q .loop .inv .2)
 
 loop-less : tie.Need-loop-less Inv-loop μ-loop
@@ -62,17 +61,17 @@ loop-again c =
       w .onward,
       q .loop .inv .1,
       sym (next-section ds (sectionAt s (q .loop .place)) (sectionsFrom s (m .pass .result .next)) r f (c .before .if2 .left))
-          ∙ ap (λ (xs : List Section). gather (sectionFault ds) xs) (sym (w .first))
+          ∙ ap (λ (xs : List Section). flatMap (sectionFault ds) xs) (sym (w .first))
           ∙ q .loop .inv .2,
     )
 
 returns-2 : tie.Need-returns-2 Inv-loop μ-loop
-unfolding sectionFault refusalOf earliest gather
+unfolding sectionFault refusalOf earliest flatMap
 returns-2 c =
     let q = c .before .before in
     let s = q .before .before .before .args .s .now in
     let ds = songOf s .definitions in
-    ap (λ (xs : List Section). refusalOf (earliest (gather (sectionFault ds) xs))) (sym (sections-over s (q .loop .place) (c .if1 .left)))
+    ap (λ (xs : List Section). refusalOf (earliest (flatMap (sectionFault ds) xs))) (sym (sections-over s (q .loop .place) (c .if1 .left)))
     ∙ ap (λ (cs : List Complaint). refusalOf (earliest cs)) (q .loop .inv .2)
 
 pub stage-three-spec : {M : Type 1} → statement M

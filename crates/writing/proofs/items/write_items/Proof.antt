@@ -1,10 +1,9 @@
 -- The items of the sections passed are written, those from here on have room and begin at the measure reached.
 use Prim.Native.Nat.{ℕ, _+_, _-_, _<_, _≤_}
 use mathlib.Core.Path.{_≡_, refl, sym, ap, _∙_, subst}
-use mathlib.Core.List.{List, _++_, map}
+use mathlib.Core.List.{List, _++_, map, flatMap}
 use native.Mathlib.Omega.{arith}
 use lib.ListN.{length, length-map, length-append, length-take, length-drop}
-use Rattle.songcode.specs.Lists.{gather}
 use Rattle.songcode.specs.Song.{Section}
 use Rattle.songcode.specs.answer.Sections.{lyricLine}
 use Rattle.songcode.specs.answer.Lyrics.{counted, promptsFrom}
@@ -141,7 +140,7 @@ loop-again c =
     )
 
 returns-2 : tie.Need-returns-2 Inv-loop μ-loop
-unfolding gather promptsFrom
+unfolding flatMap promptsFrom
 returns-2 c =
     let q = c .before .before in
     let l = q .loop in

@@ -1,11 +1,10 @@
 -- The words of the sections passed are written in all three tables, those from here on have room behind them.
 use Prim.Native.Nat.{_-_, _<_, _≤_}
 use mathlib.Core.Path.{_≡_, refl, _∙_}
-use mathlib.Core.List.{map}
+use mathlib.Core.List.{map, flatMap}
 use native.Mathlib.Omega.{arith}
 use lib.ListN.{length}
 use borrow.Author.Needs.{needs}
-use Rattle.songcode.specs.Lists.{gather}
 use Rattle.songcode.specs.answer.Playing.{timeOf, played}
 use Rattle.songcode.specs.answer.Tables.{sectionWords, measureWords, beatWord, tables}
 use Rattle.songcode.specs.answer.Answer.{songOf}
@@ -30,8 +29,8 @@ Inv-loop s mark song words₀ sections₀ measures₀ beats₀ place₀ k₀ m�
     × (m ≤ length measures)
     × (b ≤ length beats)
     × Wrote sections₀ k sections (sectionWords (songOf s) m (sectionsFrom s place)) (tables (songOf s) .sections)
-    × Wrote measures₀ m measures (measureWords b (gather (played (songOf s)) (sectionsFrom s place))) (tables (songOf s) .measures)
-    × Wrote beats₀ b beats (gather (map beatWord) (gather (played (songOf s)) (sectionsFrom s place))) (tables (songOf s) .beats)
+    × Wrote measures₀ m measures (measureWords b (flatMap (played (songOf s)) (sectionsFrom s place))) (tables (songOf s) .measures)
+    × Wrote beats₀ b beats (flatMap (map beatWord) (flatMap (played (songOf s)) (sectionsFrom s place))) (tables (songOf s) .beats)
 
 abbrev μ-loop : tie.MeasureT-loop
 μ-loop s mark song words₀ sections₀ measures₀ beats₀ place₀ k₀ m₀ b₀ words sections measures beats place k m b = length s - place .at
