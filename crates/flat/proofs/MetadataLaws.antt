@@ -19,9 +19,9 @@ use Rattle.sections.specs.declared.runs.Test.the-variants.{Full}
 use Rattle.sections.specs.Runs.{textLines, passing, linesOf, Longest}
 use Rattle.sections.specs.BlockParts.{blockAt, linesPast, NextAt}
 use Rattle.sections.proofs.NextLaws.{blocks-start, blocks-over}
-use Rattle.scores.proofs.CleanLaws.{clean, no-metadata}
-use Rattle.scores.proofs.LineNumberLaws.{run-behind}
-use Rattle.scores.proofs.MetadataLaws.{begins-full, block-lines, block-past}
+use Rattle.laying.proofs.CleanLaws.{clean, no-metadata}
+use Rattle.laying.proofs.LineNumberLaws.{run-behind}
+use Rattle.laying.proofs.MetadataLaws.{begins-full, block-lines, block-past}
 use Rattle.flat.specs.Sheets.{Sheet, puts}
 use Rattle.flat.specs.Taken.{lineBytes}
 use Rattle.flat.proofs.SheetLaws.{puts-append}

@@ -23,7 +23,7 @@ use Rattle.player.proofs.WindowLaws.{length-flat, length-heads, total-window}
 use Rattle.player.proofs.PartLaws.{PartOf, part-of, filled-window, filled-section, short-window, short-section, part-goes-on, heads-at, beats-at}
 use Rattle.player.proofs.SectionLaws.{section-beats}
 use Rattle.sections.specs.declared.values.Modifiers.{Modifiers}
-use Rattle.scores.specs.declared.texts.Texts.{Texts}
+use Rattle.laying.specs.declared.texts.Texts.{Texts}
 use Rattle.judging.specs.Lengths.{cutOrNone}
 use Rattle.judging.specs.Sums.{rowOfTexts, PlaysWithin}
 use Rattle.flat.specs.Sheets.{Sheet, puts}

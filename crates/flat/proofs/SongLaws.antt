@@ -28,7 +28,7 @@ use Rattle.songcode.proofs.SpeltChords.{Known}
 use Rattle.songcode.proofs.CopyReady.{Good, KnownParts, known}
 use Rattle.songcode.proofs.CopiedExactly.{copied-exactly}
 use Rattle.sections.specs.declared.blocks.Place.{Place}
-use Rattle.scores.specs.Scores.{Ready}
+use Rattle.laying.specs.Scores.{Ready}
 use Rattle.judging.specs.declared.charts.Chart.{Chart}
 use Rattle.judging.specs.Charts.{Clear, Writable}
 use Rattle.judging.proofs.AlongLaws.{Along}

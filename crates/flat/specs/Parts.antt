@@ -7,7 +7,7 @@ use Rattle.songcode.specs.description.Performance.{total}
 use Rattle.player.specs.declared.playing.Counts.{Counts}
 use Rattle.player.specs.Windows.{window}
 use Rattle.sections.specs.declared.values.Modifiers.{Modifiers}
-use Rattle.scores.specs.declared.texts.Texts.{Texts}
+use Rattle.laying.specs.declared.texts.Texts.{Texts}
 use Rattle.judging.specs.Sums.{rowOfTexts}
 
 abbrev pub partOfTexts : List ℕ → ℕ → Texts → Modifiers → ℕ → ℕ → List (List ℕ)

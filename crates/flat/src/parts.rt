@@ -2,7 +2,7 @@
 use judging::cut_or_none;
 use player::Counts;
 use player::play_part;
-use scores::Texts;
+use laying::Texts;
 use sections::Modifiers;
 ghost use mathlib.Core.Path.{_≡_};
 ghost use Prim.Native.Nat.{_≤_};

@@ -3,7 +3,7 @@ use super::measures::put_measures;
 use super::parts::part_of;
 use super::sheets::put_part;
 use packing::measure_of;
-use scores::Texts;
+use laying::Texts;
 use sections::Modifiers;
 ghost use Rattle.judging.specs.Sums.{rowOfTexts, PlaysWithin};
 ghost use Rattle.flat.specs.Sheets.{Adds};

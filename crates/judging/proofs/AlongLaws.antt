@@ -14,8 +14,8 @@ use Rattle.player.specs.Texts.{rowWords}
 use Rattle.player.proofs.SectionMeaning.{rows-length, rows-total}
 use Rattle.sections.specs.declared.blocks.Place.{Place}
 use Rattle.sections.specs.Onward.{Onward, sectionsFrom, sectionAt}
-use Rattle.scores.specs.declared.texts.Opened.{Opened}
-use Rattle.scores.specs.Scores.{Ready, Begins, Opens}
+use Rattle.laying.specs.declared.texts.Opened.{Opened}
+use Rattle.laying.specs.Scores.{Ready, Begins, Opens}
 use Rattle.judging.specs.Sums.{rowOfTexts, PlaysWithin}
 use Rattle.judging.proofs.MeterLaws.{meter-range}
 use Rattle.judging.proofs.PlayedLaws.{played-short, lengths-step}

@@ -28,9 +28,9 @@ use Rattle.sections.specs.Runs.{linesOf}
 use Rattle.sections.specs.Slots.{Setting, settingAmong}
 use Rattle.sections.specs.Values.{timeSaid, bpmSaid, KeysAre}
 use Rattle.sections.proofs.SaidLaws.{key-among}
-use Rattle.scores.specs.Metadata.{linesBefore, MetadataEnds}
+use Rattle.laying.specs.Metadata.{linesBefore, MetadataEnds}
 use Rattle.judging.specs.Charts.{Clear, SongKeys}
-use Rattle.scores.proofs.ComplaintLaws.{Numbered, numbered-if, refused-none}
+use Rattle.laying.proofs.ComplaintLaws.{Numbered, numbered-if, refused-none}
 use Rattle.judging.proofs.ReferenceLaws.{sectionFault, all-numbered}
 use Rattle.judging.proofs.StageLaws.{stage-passed, numbered-meters, numbered-lengths, numbered-counts, numbered-sums}
 use Rattle.judging.specs.Stages.{lyricFaults, playingFaults, laterFaults}

@@ -21,9 +21,9 @@ use Rattle.outlines.specs.Words.{vacant}
 use Rattle.player.specs.Texts.{rowWords}
 use Rattle.player.specs.Walks.{rowOf}
 use Rattle.sections.specs.declared.values.Modifiers.{Modifiers}
-use Rattle.scores.specs.declared.texts.Text.{Text}
-use Rattle.scores.specs.declared.texts.Texts.{Texts}
-use Rattle.scores.specs.Scores.{Carries, sideItems, TextsAre}
+use Rattle.laying.specs.declared.texts.Text.{Text}
+use Rattle.laying.specs.declared.texts.Texts.{Texts}
+use Rattle.laying.specs.Scores.{Carries, sideItems, TextsAre}
 use Rattle.judging.specs.Lengths.{countOfTexts}
 
 -- A text's measures.

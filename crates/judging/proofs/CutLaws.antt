@@ -29,8 +29,8 @@ use Rattle.player.specs.Texts.{rowWords}
 use Rattle.player.specs.Windows.{cutOf, cutSaid, window, firstBeat, lastBeat, keptOf, wholeOf, sectionRow}
 use Rattle.player.proofs.SectionMeaning.{kept-none, kept-total, section-words}
 use Rattle.sections.specs.declared.values.Modifiers.{Modifiers}
-use Rattle.scores.specs.declared.texts.Texts.{Texts}
-use Rattle.scores.specs.Scores.{Carries}
+use Rattle.laying.specs.declared.texts.Texts.{Texts}
+use Rattle.laying.specs.Scores.{Carries}
 use Rattle.judging.specs.Lengths.{cutOrNone, isCut, hasCut, isModified, cutAway}
 
 -- A cut as it is read.

@@ -27,11 +27,11 @@ use Rattle.sections.specs.declared.slots.Said.{Said}
 use Rattle.sections.specs.declared.values.Modifiers.{Modifiers}
 use Rattle.sections.specs.Slots.{settingAt}
 use Rattle.sections.specs.SectionSays.{sideOn, sideSaid}
-use Rattle.scores.specs.declared.texts.Text.{Text}
-use Rattle.scores.specs.declared.texts.Texts.{Texts}
-use Rattle.scores.specs.Scores.{Carries, sideItems, TextsAre}
+use Rattle.laying.specs.declared.texts.Text.{Text}
+use Rattle.laying.specs.declared.texts.Texts.{Texts}
+use Rattle.laying.specs.Scores.{Carries, sideItems, TextsAre}
 use Rattle.judging.specs.Meters.{nothingRefused, textFault, soonerOf, meterFault}
-use Rattle.scores.proofs.ComplaintLaws.{Numbered, numbered-if}
+use Rattle.laying.proofs.ComplaintLaws.{Numbered, numbered-if}
 use Rattle.judging.proofs.SoonerLaws.{sooner-append}
 
 -- A text that tells of its items.

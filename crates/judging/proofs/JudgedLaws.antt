@@ -15,10 +15,10 @@ use Rattle.text.specs.Refusals.{refusalOf}
 use Rattle.sections.specs.declared.blocks.Place.{Place}
 use Rattle.sections.specs.Onward.{sectionsFrom, sectionAt}
 use Rattle.sections.proofs.MeetLaws.{sections-over}
-use Rattle.scores.specs.declared.texts.Opened.{Opened}
-use Rattle.scores.specs.Scores.{Begins, Opens}
+use Rattle.laying.specs.declared.texts.Opened.{Opened}
+use Rattle.laying.specs.Scores.{Begins, Opens}
 use Rattle.judging.specs.Meters.{meterOf, nothingRefused, soonerOf, meterFault}
-use Rattle.scores.proofs.ComplaintLaws.{Numbered}
+use Rattle.laying.proofs.ComplaintLaws.{Numbered}
 use Rattle.judging.proofs.SoonerLaws.{sooner-append}
 use Rattle.judging.proofs.MeterLaws.{meter-is, meter-range}
 use Rattle.judging.proofs.FaultLaws.{numbered-section, section-fault}

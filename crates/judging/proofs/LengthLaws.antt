@@ -16,8 +16,8 @@ use Rattle.songcode.specs.answer.Meter.{sectionCount, mostMeasures, cutFaults, 
 use Rattle.songcode.proofs.ListLaws.{Each, each-append, each-map, nil-is-not-cons}
 use Rattle.text.specs.Refusals.{refusalOf}
 use Rattle.sections.specs.Onward.{Later}
-use Rattle.scores.proofs.ComplaintLaws.{UpTo, Behind, first-wins}
-use Rattle.scores.proofs.FaultLineLaws.{line-if}
+use Rattle.laying.proofs.ComplaintLaws.{UpTo, Behind, first-wins}
+use Rattle.laying.proofs.FaultLineLaws.{line-if}
 
 here-if : (b : Bool) (n line : ℕ) → Each (UpTo line) (complainIf b n line)
 unfolding UpTo

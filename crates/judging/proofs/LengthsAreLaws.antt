@@ -19,8 +19,8 @@ use Rattle.text.specs.Refusals.{refusalOf}
 use Rattle.sections.specs.declared.blocks.Place.{Place}
 use Rattle.sections.specs.declared.values.Modifiers.{Modifiers}
 use Rattle.sections.specs.Onward.{Onward}
-use Rattle.scores.specs.declared.texts.Opened.{Opened}
-use Rattle.scores.specs.Scores.{Begins, Opens}
+use Rattle.laying.specs.declared.texts.Opened.{Opened}
+use Rattle.laying.specs.Scores.{Begins, Opens}
 use Rattle.judging.specs.declared.lengths.Lengths.{Lengths}
 use Rattle.judging.specs.Meters.{meterOf, nothingRefused}
 use Rattle.judging.specs.Lengths.{countOfTexts, cutAway, lengthFault, withLengths}

@@ -34,7 +34,7 @@ use Rattle.sections.specs.Onward.{Onward, sectionAt}
 use Rattle.sections.proofs.SaidLaws.{Tells, modifier-among}
 use Rattle.sections.proofs.TellLaws.{repeat-tells, before-tells, after-tells}
 use Rattle.sections.proofs.SectionLaws.{clean-order}
-use Rattle.scores.proofs.SideLaws.{nothing-there}
+use Rattle.laying.proofs.SideLaws.{nothing-there}
 use Rattle.judging.specs.Lengths.{isCut, hasCut, isModified}
 
 -- A place that is no line says nothing; one that says something is on a line.

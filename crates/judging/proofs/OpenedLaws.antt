@@ -20,8 +20,8 @@ use Rattle.text.specs.Refusals.{refusalOf}
 use Rattle.sections.specs.declared.blocks.Place.{Place}
 use Rattle.sections.specs.declared.values.Modifiers.{Modifiers}
 use Rattle.sections.specs.Onward.{sectionsFrom, Onward, sectionAt}
-use Rattle.scores.specs.declared.texts.Opened.{Opened}
-use Rattle.scores.specs.Scores.{Begins, Opens, sideItems}
+use Rattle.laying.specs.declared.texts.Opened.{Opened}
+use Rattle.laying.specs.Scores.{Begins, Opens, sideItems}
 use Rattle.judging.specs.Meters.{meterOf}
 use Rattle.judging.specs.Lengths.{countOfTexts, cutAway, Measurable}
 use Rattle.judging.proofs.MeterLaws.{meter-is, meter-range}

@@ -24,9 +24,9 @@ use Rattle.player.proofs.SectionLaws.{section-beats}
 use Rattle.player.proofs.SectionMeaning.{rows-length, section-words}
 use Rattle.player.proofs.ShortLaws.{short-row}
 use Rattle.sections.specs.declared.values.Modifiers.{Modifiers}
-use Rattle.scores.specs.declared.texts.Text.{Text}
-use Rattle.scores.specs.declared.texts.Texts.{Texts}
-use Rattle.scores.specs.Scores.{Carries, sideItems, TextsAre}
+use Rattle.laying.specs.declared.texts.Text.{Text}
+use Rattle.laying.specs.declared.texts.Texts.{Texts}
+use Rattle.laying.specs.Scores.{Carries, sideItems, TextsAre}
 use Rattle.judging.specs.Lengths.{cutOrNone}
 use Rattle.judging.specs.Sums.{rowOfTexts, PlaysWithin}
 use Rattle.judging.proofs.CountLaws.{played-length}

@@ -17,10 +17,10 @@ use Rattle.sections.specs.declared.blocks.Place.{Place}
 use Rattle.sections.specs.declared.walking.Passed.{Passed}
 use Rattle.sections.specs.Runs.{linesOf}
 use Rattle.sections.specs.Onward.{sectionAt, Later, Passes}
-use Rattle.scores.specs.Laying.{Names}
+use Rattle.laying.specs.Laying.{Names}
 use Rattle.judging.specs.Meters.{nothingRefused}
-use Rattle.scores.proofs.ComplaintLaws.{UpTo, Numbered, first-wins, gather-behind, refused-none}
-use Rattle.scores.proofs.FaultLineLaws.{section-line}
+use Rattle.laying.proofs.ComplaintLaws.{UpTo, Numbered, first-wins, gather-behind, refused-none}
+use Rattle.laying.proofs.FaultLineLaws.{section-line}
 use Rattle.judging.proofs.StageLaws.{numbered-gather}
 
 module _ (ds : List Definition) (header : ℕ) where

@@ -15,7 +15,7 @@ use Rattle.songcode.proofs.ListLaws.{by-cases, Each}
 use Rattle.songcode.proofs.VerdictAgree.{goes-first}
 use Rattle.text.specs.Refusals.{refusalOf}
 use Rattle.judging.specs.Meters.{soonerOf}
-use Rattle.scores.proofs.ComplaintLaws.{Numbered, before-goes, firstOf, earliest-append, earliest-each}
+use Rattle.laying.proofs.ComplaintLaws.{Numbered, before-goes, firstOf, earliest-append, earliest-each}
 
 -- Two complaints by their lines and numbers.
 not-before : (c d : Complaint) → d .line < c .line → Before c d → ⊥

@@ -22,7 +22,7 @@ use Rattle.songcode.proofs.ListLaws.{by-cases, Each, each-append, nil-is-not-co
 use Rattle.text.specs.declared.Refusal.{Refusal}
 use Rattle.text.specs.Refusals.{refusalOf}
 use Rattle.judging.specs.declared.sums.Totals.{Totals}
-use Rattle.scores.proofs.ComplaintLaws.{Numbered, numbered-if, refused-none}
+use Rattle.laying.proofs.ComplaintLaws.{Numbered, numbered-if, refused-none}
 use Rattle.judging.proofs.FaultLaws.{numbered-section}
 
 -- A stage that refuses gives the verdict; one that complains of nothing leaves it to the rest.

@@ -28,15 +28,15 @@ use Rattle.player.specs.declared.playing.Counts.{Counts}
 use Rattle.sections.specs.Runs.{textLines, linesOf}
 use Rattle.sections.specs.declared.blocks.Place.{Place}
 use Rattle.sections.specs.Onward.{Later, sectionAt, sectionsFrom}
-use Rattle.scores.specs.declared.texts.Text.{Text}
-use Rattle.scores.specs.declared.texts.Opened.{Opened}
+use Rattle.laying.specs.declared.texts.Text.{Text}
+use Rattle.laying.specs.declared.texts.Opened.{Opened}
 use Rattle.judging.specs.declared.lyrics.Tally.{Tally}
 use Rattle.judging.specs.declared.sums.Sums.{Sums}
-use Rattle.scores.specs.Scores.{Carries, Opens}
+use Rattle.laying.specs.Scores.{Carries, Opens}
 use Rattle.judging.specs.Lyrics.{firstLine, bareLine, tallied}
 use Rattle.judging.specs.Sums.{hasLines, hasPrompts, sumDiffers, withSection, totalsOf, Holds}
-use Rattle.scores.proofs.ComplaintLaws.{UpTo, first-wins, gather-behind}
-use Rattle.scores.proofs.FaultLineLaws.{line-if}
+use Rattle.laying.proofs.ComplaintLaws.{UpTo, first-wins, gather-behind}
+use Rattle.laying.proofs.FaultLineLaws.{line-if}
 use Rattle.judging.proofs.LyricLaws.{prompts-length}
 use Rattle.judging.proofs.NumberLaws.{Numbered, lyrics-numbered}
 use Rattle.judging.proofs.TakenLaws.{takenFrom}

@@ -15,8 +15,8 @@ use Rattle.songcode.specs.answer.Answer.{songOf}
 use Rattle.text.specs.Refusals.{refusalOf}
 use Rattle.sections.specs.declared.values.Keys.{Keys}
 use Rattle.judging.specs.declared.charts.Chart.{Chart}
-use Rattle.scores.specs.Metadata.{MetadataEnds}
-use Rattle.scores.specs.Scores.{Ready, Begins}
+use Rattle.laying.specs.Metadata.{MetadataEnds}
+use Rattle.laying.specs.Scores.{Ready, Begins}
 use Rattle.judging.specs.Sums.{Holds}
 use Rattle.judging.specs.Stages.{laterFaults}
 

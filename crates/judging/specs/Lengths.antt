@@ -13,7 +13,7 @@ use Rattle.settings.specs.declared.cuts.CutRead.the-variants as read
 use Rattle.player.specs.Walks.{rowOf}
 use Rattle.player.specs.Windows.{firstBeat, lastBeat}
 use Rattle.sections.specs.declared.values.Modifiers.{Modifiers}
-use Rattle.scores.specs.declared.texts.Texts.{Texts}
+use Rattle.laying.specs.declared.texts.Texts.{Texts}
 use Rattle.judging.specs.declared.lengths.Lengths.{Lengths}
 use Rattle.judging.specs.Meters.{nothingRefused}
 

@@ -7,7 +7,7 @@ use Rattle.text.specs.declared.Refusal.{Refusal}
 use Rattle.outlines.specs.declared.readings.Outline.{Outline}
 use Rattle.outlines.specs.Sizes.{divides}
 use Rattle.sections.specs.declared.values.Modifiers.{Modifiers}
-use Rattle.scores.specs.declared.texts.Texts.{Texts}
+use Rattle.laying.specs.declared.texts.Texts.{Texts}
 
 unfoldable pub meterOf : ℕ → ℕ → ℕ
 unfolding if_then_else_

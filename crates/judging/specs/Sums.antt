@@ -12,7 +12,7 @@ use Rattle.player.specs.declared.playing.Counts.{Counts}
 use Rattle.player.specs.Walks.{rowOf}
 use Rattle.player.specs.Windows.{sectionRow}
 use Rattle.sections.specs.declared.values.Modifiers.{Modifiers}
-use Rattle.scores.specs.declared.texts.Texts.{Texts}
+use Rattle.laying.specs.declared.texts.Texts.{Texts}
 use Rattle.judging.specs.declared.lyrics.Tally.{Tally}
 use Rattle.judging.specs.declared.sums.Sums.{Sums}
 use Rattle.judging.specs.declared.sums.Totals.{Totals}

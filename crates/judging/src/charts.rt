@@ -1,9 +1,9 @@
 // A chart judged by stages 3 to 7: what the writers of the tables need to know of it.
 use super::stages::later_stages;
 use super::sums::Totals;
-use scores::lines_before;
-use scores::load;
-use scores::metadata_end;
+use laying::lines_before;
+use laying::load;
+use laying::metadata_end;
 use sections::Keys;
 use sections::Place;
 use sections::keys_of;

@@ -1,5 +1,5 @@
 // Stage 6: if one of the lyric lines taken has a count, all have.
-use scores::is_played;
+use laying::is_played;
 use sections::Place;
 use sections::Run;
 use sections::pass;
@@ -17,7 +17,7 @@ ghost use Rattle.songcode.specs.answer.Answer.{songOf};
 ghost use Rattle.text.specs.Refusals.{refusalOf};
 ghost use Rattle.sections.specs.Runs.{linesOf};
 ghost use Rattle.sections.specs.BlockParts.{Placed};
-ghost use Rattle.scores.specs.Scores.{Told, Begins};
+ghost use Rattle.laying.specs.Scores.{Told, Begins};
 ghost use Rattle.judging.specs.Lyrics.{firstLine, withLine, tallied, countFault, takenWith};
 
 // Of some lyric lines: how many they are, the sum of their counts, whether one has a count, and the least number of a line that has none, 0 if all have.

@@ -4,7 +4,7 @@ use super::lengths::with_lengths;
 use super::meters::meter_fault;
 use super::meters::meter_of;
 use super::meters::sooner;
-use scores::open_section;
+use laying::open_section;
 use sections::Place;
 use text::Refusal;
 ghost use mathlib.Core.Option.{Option·getD};
@@ -17,7 +17,7 @@ ghost use Rattle.songcode.specs.answer.Playing.{timeAmong};
 ghost use Rattle.songcode.specs.answer.Meter.{meterFaults, lengthFaults};
 ghost use Rattle.songcode.specs.answer.Answer.{songOf};
 ghost use Rattle.text.specs.Refusals.{refusalOf};
-ghost use Rattle.scores.specs.Scores.{Ready, Begins};
+ghost use Rattle.laying.specs.Scores.{Ready, Begins};
 
 // The sections are opened once; what stage 5 finds is given only where stage 4 refuses nothing in the whole song.
 pub fn measure_stages(

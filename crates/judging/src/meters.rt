@@ -1,7 +1,7 @@
 // Stage 4 of a section: measures that fit N, and `%` with a chord before it.
 use outlines::Outline;
 use outlines::sizes_fit;
-use scores::Texts;
+use laying::Texts;
 use sections::Modifiers;
 use text::Refusal;
 ghost use mathlib.Core.Path.{_≡_};

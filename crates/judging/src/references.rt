@@ -1,6 +1,6 @@
 // Stage 3 for sections: a pattern that names a definition which is not there.
 use outlines::is_missing;
-use scores::named_in;
+use laying::named_in;
 use sections::Place;
 use sections::Run;
 use sections::pass;
@@ -17,7 +17,7 @@ ghost use Rattle.text.specs.Refusals.{refusalOf};
 ghost use Rattle.sections.specs.Runs.{linesOf};
 ghost use Rattle.sections.specs.BlockParts.{Placed};
 ghost use Rattle.sections.specs.Onward.{Onward, sectionsFrom};
-ghost use Rattle.scores.specs.Scores.{Told};
+ghost use Rattle.laying.specs.Scores.{Told};
 
 fn name_fault(s: &[u8], words: &[u32], pattern: Run, header: usize) -> Refusal
     requires { ⌜ Placed (now s) pattern × Told (now s) (now words) ⌝ }

@@ -4,7 +4,7 @@ use super::measures::measure_stages;
 use super::references::stage_three;
 use super::sums::Totals;
 use super::sums::stage_seven;
-use scores::Loaded;
+use laying::Loaded;
 use sections::Place;
 use stage2::stage_two;
 use text::Refusal;
@@ -20,7 +20,7 @@ ghost use Rattle.songcode.specs.answer.Tables.{tables};
 ghost use Rattle.songcode.specs.answer.SongText.{textFaults};
 ghost use Rattle.songcode.specs.answer.Answer.{inputFaults, blocksOf, songOf};
 ghost use Rattle.text.specs.Refusals.{refusalOf};
-ghost use Rattle.scores.specs.Scores.{Begins, Loads, Ready};
+ghost use Rattle.laying.specs.Scores.{Begins, Loads, Ready};
 ghost use Rattle.judging.specs.Sums.{Holds};
 ghost use Rattle.judging.specs.Stages.{lyricFaults, playingFaults, laterFaults};
 

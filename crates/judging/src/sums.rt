@@ -5,8 +5,8 @@ use super::lyrics::tally_lyrics;
 use super::meters::meter_of;
 use player::Counts;
 use player::play_section;
-use scores::Texts;
-use scores::open_section;
+use laying::Texts;
+use laying::open_section;
 use sections::Modifiers;
 use sections::Place;
 use text::Refusal;
@@ -25,7 +25,7 @@ ghost use Rattle.songcode.specs.answer.Tables.{tables};
 ghost use Rattle.songcode.specs.answer.Answer.{songOf};
 ghost use Rattle.text.specs.Refusals.{refusalOf};
 ghost use Rattle.player.specs.Windows.{flat, heads};
-ghost use Rattle.scores.specs.Scores.{Ready, Begins};
+ghost use Rattle.laying.specs.Scores.{Ready, Begins};
 ghost use Rattle.judging.specs.Sums.{rowOfTexts, PlaysWithin, hasLines, hasPrompts, sumDiffers, withSection, totalsOf, Holds};
 
 // How many words the tables take, or the refusal of a stage.

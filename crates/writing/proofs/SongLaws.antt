@@ -24,8 +24,8 @@ use Rattle.player.specs.Windows.{heads, flat}
 use Rattle.player.proofs.SectionMeaning.{heads-words, flat-words}
 use Rattle.sections.specs.declared.blocks.Place.{Place}
 use Rattle.sections.specs.Onward.{sectionsFrom, sectionAt}
-use Rattle.scores.specs.declared.texts.Opened.{Opened}
-use Rattle.scores.specs.Scores.{Ready, Opens}
+use Rattle.laying.specs.declared.texts.Opened.{Opened}
+use Rattle.laying.specs.Scores.{Ready, Opens}
 use Rattle.judging.specs.Sums.{rowOfTexts}
 use Rattle.packing.specs.Written.{written}
 use Rattle.writing.specs.Words.{tempoOf}

@@ -19,7 +19,7 @@ ghost use Rattle.songcode.specs.answer.Answer.{songOf};
 ghost use Rattle.text.specs.Spans.{part};
 ghost use Rattle.sections.specs.Runs.{linesOf};
 ghost use Rattle.sections.specs.BlockParts.{Placed};
-ghost use Rattle.scores.specs.Scores.{Begins};
+ghost use Rattle.laying.specs.Scores.{Begins};
 ghost use Rattle.packing.specs.Written.{written};
 
 // A lyric line's word: its text without the count, the count, and its first measure. An empty text has offset 0.

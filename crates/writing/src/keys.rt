@@ -1,6 +1,6 @@
 // The keys table: the places of the eight settings among the metadata.
 use packing::key_word;
-use scores::lines_before;
+use laying::lines_before;
 use sections::Place;
 use sections::Run;
 use sections::find;
@@ -13,7 +13,7 @@ ghost use Rattle.songcode.specs.answer.SongText.{textFaults};
 ghost use Rattle.songcode.specs.answer.Tables.{tables};
 ghost use Rattle.sections.specs.Runs.{linesOf};
 ghost use Rattle.sections.specs.Slots.{settingAmong};
-ghost use Rattle.scores.specs.Metadata.{MetadataEnds};
+ghost use Rattle.laying.specs.Metadata.{MetadataEnds};
 ghost use Rattle.packing.specs.Written.{written};
 ghost use Rattle.writing.specs.Words.{wordOfSetting, ShortSetting};
 

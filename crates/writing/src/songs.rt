@@ -2,7 +2,7 @@
 use judging::meter_of;
 use judging::play;
 use packing::section_word;
-use scores::open_section;
+use laying::open_section;
 use sections::Keys;
 use sections::Place;
 ghost use mathlib.Core.Option.{Option·getD};
@@ -14,7 +14,7 @@ ghost use Rattle.songcode.specs.answer.Playing.{timeAmong, bpmAmong};
 ghost use Rattle.songcode.specs.answer.Meter.{meterFaults, lengthFaults};
 ghost use Rattle.songcode.specs.answer.Tables.{tables};
 ghost use Rattle.songcode.specs.answer.Answer.{songOf};
-ghost use Rattle.scores.specs.Scores.{Ready, Begins};
+ghost use Rattle.laying.specs.Scores.{Ready, Begins};
 ghost use Rattle.packing.specs.Written.{written};
 ghost use Rattle.writing.specs.Words.{tempoOf};
 

@@ -8,7 +8,7 @@ use lib.ListN.{length}
 use Rattle.songcode.specs.answer.SongText.{metadataLines}
 use Rattle.songcode.specs.answer.Answer.{blocksOf}
 use Rattle.sections.proofs.BlockLaws.{longest-placed}
-use Rattle.scores.proofs.MetadataLaws.{is-metadata, is-definition, is-section, not-metadata}
+use Rattle.laying.proofs.MetadataLaws.{is-metadata, is-definition, is-section, not-metadata}
 use Rattle.flat.specs.Sheets.{Sheet, puts}
 use Rattle.flat.specs.Taken.{lineBytes}
 use Rattle.flat.proofs.MetadataLaws.{Begun, saidFrom, begun-start, said-start, begun-next, begun-further, said-next, said-end, said-over}

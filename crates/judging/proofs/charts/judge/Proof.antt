@@ -1,7 +1,7 @@
 -- Input and text without fault, then the later stages: what they find is the verdict, and what is counted is the counts of the tables.
 use Rattle.judging.proofs.ClearLaws.{song-clear, song-keys}
 use Rattle.judging.proofs.StageLaws.{input-small}
-use Rattle.scores.specs.Metadata.{linesBefore}
+use Rattle.laying.specs.Metadata.{linesBefore}
 use Rattle.sections.specs.declared.runs.Run.{Run}
 use Rattle.sections.specs.Runs.{linesOf}
 use Rattle.sections.specs.Values.{KeysAre}

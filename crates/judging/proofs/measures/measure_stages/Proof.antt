@@ -4,7 +4,7 @@ use Rattle.judging.proofs.OpenedLaws.{opened-measurable}
 use Rattle.judging.proofs.LengthsAreLaws.{LengthsAre, lengths-start, lengths-small, lengths-next, lengths-end}
 use Rattle.judging.proofs.StageLaws.{stage-refused, stage-passed, stage-none, numbered-meters}
 use Rattle.songcode.proofs.VerdictAgree.{last-stage}
-use Rattle.scores.specs.Scores.{Ready}
+use Rattle.laying.specs.Scores.{Ready}
 use Rattle.sections.specs.Onward.{Onward}
 use Rattle.songcode.specs.answer.Answer.{songOf}
 use Rattle.songcode.specs.answer.Meter.{meterFaults, lengthFaults}

@@ -1,7 +1,7 @@
 -- The sections passed have no fault, so the faults from here on are those of all sections.
 use Rattle.judging.proofs.ReferenceLaws.{sectionFault, fault-at, first-section, next-section}
 use Rattle.sections.proofs.MeetLaws.{sections-over}
-use Rattle.scores.specs.Scores.{Told}
+use Rattle.laying.specs.Scores.{Told}
 use Rattle.sections.specs.Onward.{sectionsFrom, sectionAt, Onward}
 use Rattle.songcode.specs.Complaints.{Complaint, earliest}
 use Rattle.songcode.specs.Song.{Section}

@@ -10,7 +10,7 @@ use Rattle.songcode.specs.answer.Answer.{inputFaults, blocksOf, songOf}
 use Rattle.sections.specs.declared.runs.Run.{Run}
 use Rattle.sections.specs.Runs.{linesOf}
 use Rattle.sections.specs.Slots.{settingAmong}
-use Rattle.scores.specs.Metadata.{linesBefore}
+use Rattle.laying.specs.Metadata.{linesBefore}
 use Rattle.writing.specs.Words.{wordOfSetting, ShortSetting}
 use Rattle.writing.proofs.KeyLaws.{wordsFrom, words-more, words-over}
 use Rattle.writing.proofs.SettingLaws.{metadata-short}

@@ -1,0 +1,76 @@
+// Pattern text into the buffer of token words: the lines of a run, a lead-in or tail; and the number that a section's pattern names.
+use tokens::kind;
+use tokens::number;
+use sections::Run;
+use sections::Said;
+use text::line_at;
+use tokens::Lexed;
+use tokens::REFERENCE;
+use tokens::end_line;
+use tokens::lex_line;
+use tokens::next_token;
+ghost use mathlib.Core.Path.{_≡_};
+ghost use mathlib.Core.Option.{some};
+ghost use Prim.Native.Nat.{_+_, _≤_, _-_};
+ghost use lib.ListN.{length};
+ghost use Rattle.songcode.specs.Song.{Pattern};
+ghost use Rattle.songcode.specs.answer.Sections.{patternIn};
+ghost use Rattle.tokens.specs.TokenWords.{tokenWords};
+ghost use Rattle.tokens.specs.Lexing.{laid};
+ghost use Rattle.sections.specs.Runs.{linesOf};
+ghost use Rattle.sections.specs.BlockParts.{Placed};
+ghost use Rattle.sections.specs.Slots.{settingAt};
+ghost use Rattle.sections.specs.Values.{Inside};
+ghost use Rattle.laying.specs.Laying.{runTokens, saidTokens, weight, saidWeight, Names};
+
+// The words of the lines of a run from n on, a line end between neighbours; the new fill is returned.
+pub fn lay_run(s: &[u8], run: Run, words: &mut [u32], n: usize) -> usize
+    requires { ⌜ Placed (now s) run × (length (now s) ≤ 65536) × (n + weight (linesOf (now s) run) ≤ length (now words)) ⌝ }
+    ensures held { λ r. ⌜ now (words .exit) ≡ laid n (tokenWords (runTokens (linesOf (now (s .entry)) run))) (now (words .entry)) ⌝ }
+    ensures fill { λ r. ⌜ r ≡ n + length (tokenWords (runTokens (linesOf (now (s .entry)) run))) ⌝ }
+{
+    if run.lines == 0 {
+        return n;
+    }
+    let first = line_at(s, run.number, run.at);
+    let mut fill = lex_line(s, first.start, first.stop, words, n);
+    let mut line = run.number + 1;
+    let mut at = first.next;
+    let mut left = run.lines - 1;
+    while at < s.len() {
+        if left == 0 {
+            return fill;
+        }
+        let found = line_at(s, line, at);
+        let begun = end_line(words, fill);
+        fill = lex_line(s, found.start, found.stop, words, begun);
+        line += 1;
+        at = found.next;
+        left -= 1;
+    }
+    fill
+}
+
+// The words of a lead-in or tail, if there is one.
+pub fn lay_said(s: &[u8], said: Said, words: &mut [u32], n: usize) -> usize
+    requires { ⌜ Inside (now s) said × (length (now s) ≤ 65536) × (n + saidWeight (settingAt (now s) said) ≤ length (now words)) ⌝ }
+    ensures held { λ r. ⌜ now (words .exit) ≡ laid n (tokenWords (saidTokens (settingAt (now (s .entry)) said))) (now (words .entry)) ⌝ }
+    ensures fill { λ r. ⌜ r ≡ n + length (tokenWords (saidTokens (settingAt (now (s .entry)) said))) ⌝ }
+{
+    if said.line == 0 {
+        return n;
+    }
+    lex_line(s, said.start, said.stop, words, n)
+}
+
+// The number that a section's pattern names; 0 where it names none.
+pub fn named_in(s: &[u8], run: Run) -> u32
+    requires { ⌜ Placed (now s) run × (length (now s) ≤ 65536) ⌝ }
+    ensures { λ r. ⌜ ((x : Pattern) → patternIn (linesOf (now (s .entry)) run) ≡ some x → Names x r) ⌝ }
+{
+    let first = line_at(s, run.number, run.at);
+    let Lexed::Token(word, next) = next_token(s, first.start, first.stop) else {
+        return 0;
+    };
+    if kind(word) == REFERENCE { number(word) } else { 0 }
+}
