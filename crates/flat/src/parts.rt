@@ -1,8 +1,8 @@
 // A section played a part at a time.
 use judging::cut_or_none;
+use laying::Texts;
 use player::Counts;
 use player::play_part;
-use laying::Texts;
 use sections::Modifiers;
 ghost use mathlib.Core.Path.{_≡_};
 ghost use Prim.Native.Nat.{_≤_};

@@ -2,8 +2,8 @@
 use super::measures::put_measures;
 use super::parts::part_of;
 use super::sheets::put_part;
-use packing::measure_of;
 use laying::Texts;
+use packing::measure_of;
 use sections::Modifiers;
 ghost use Rattle.judging.specs.Sums.{rowOfTexts, PlaysWithin};
 ghost use Rattle.flat.specs.Sheets.{Adds};

@@ -1,6 +1,6 @@
 // Stage 5 of a section: the song's measures up to its end, and cuts that leave a beat.
-use player::planned;
 use laying::Texts;
+use player::planned;
 use sections::Modifiers;
 use settings::Beats;
 use settings::Cut;

@@ -1,7 +1,7 @@
 // Stage 4 of a section: measures that fit N, and `%` with a chord before it.
+use laying::Texts;
 use outlines::Outline;
 use outlines::sizes_fit;
-use laying::Texts;
 use sections::Modifiers;
 use text::Refusal;
 ghost use mathlib.Core.Path.{_≡_};

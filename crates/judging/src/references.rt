@@ -1,6 +1,6 @@
 // Stage 3 for sections: a pattern that names a definition which is not there.
-use outlines::is_missing;
 use laying::named_in;
+use outlines::is_missing;
 use sections::Place;
 use sections::Run;
 use sections::pass;

@@ -3,10 +3,10 @@ use super::lengths::cut_or_none;
 use super::lyrics::Tally;
 use super::lyrics::tally_lyrics;
 use super::meters::meter_of;
-use player::Counts;
-use player::play_section;
 use laying::Texts;
 use laying::open_section;
+use player::Counts;
+use player::play_section;
 use sections::Modifiers;
 use sections::Place;
 use text::Refusal;
@@ -194,12 +194,7 @@ pub fn stage_seven(
         let texts = x.texts;
         let pattern = texts.pattern;
         let outline = pattern.outline;
-        let c = counts_of(
-            words,
-            meter_of(keys.time, time),
-            texts,
-            section.modifiers,
-        );
+        let c = counts_of(words, meter_of(keys.time, time), texts, section.modifiers);
         let t = tally_lyrics(s, section.lyrics);
         if sum_differs(counted, outline.empty, t, c.measures) {
             return sum_refused(section.header);

@@ -53,8 +53,18 @@ use Rattle.laying.proofs.FitLaws.{run-good}
 use Rattle.laying.proofs.CleanLaws.{clean}
 use Rattle.laying.proofs.NumberedLaws.{Below, taken-below, chain-kept, chain-added, still-marked, alike-kept, none-there, none-stretch, none-outline}
 use Rattle.laying.proofs.NumberedLaws.{new-there, new-stretch, new-outline, alike-other, still-missing, still-empty, still-vacant}
-use Rattle.laying.proofs.DefinitionLaws.{fresh-none, few-before, id-small, head-long, not-seen, lines-say, definitions-left, leaves-next,
-    heads-later, sections-later}
+use Rattle.laying.proofs.DefinitionLaws.{
+  fresh-none,
+  few-before,
+  id-small,
+  head-long,
+  not-seen,
+  lines-say,
+  definitions-left,
+  leaves-next,
+  heads-later,
+  sections-later,
+}
 use Rattle.laying.proofs.EnteredLaws.{entered-long, length-there, id-there, outline-there, mark-there, before-there, text-there}
 use Rattle.laying.proofs.FaultLineLaws.{definition-line, definitions-behind, section-line}
 use Rattle.laying.proofs.HeldLaws.{laid-there, laid-before, held-kept, held-alike, fault-is, items-new, missing-told, filled-told, carries-all}
@@ -181,7 +191,7 @@ module _ (s ws : List ℕ) (mark : ℕ) (p : Place) (w : Loading s ws mark p) (i
     held-mid : (n : ℕ) → Held ds mid mark (definitionOf n (w .earlier)) (isMissing mid n) (stretchOf mid n) (lookUp mid n)
     held-mid n =
         held-alike ds mid ws mark n (definitionOf n (w .earlier)) (alike-kept ws mark (w .count) (w .few) (w .chained) (w .marked) n mid below) before (w
-            .held n)
+        .held n)
 
     module _ (q : Place) (x : NextAt s (e .pattern .number + e .pattern .lines) (e .pattern .next) q) (f : ℕ)
         (f-is : f ≡ faultIn (isMissing mid) (lookUp mid) (drop (mark + 2) (take end mid))) where
@@ -334,7 +344,7 @@ module _ (s ws : List ℕ) (mark : ℕ) (p : Place) (w : Loading s ws mark p) (i
             let l = long in
             rw (y .missing-same, y .at-same, y .outline-same)
             (held-kept ds mid mark vs end (omega arith) vs-before (definitionOf n (w .earlier)) (isMissing mid n) (stretchOf mid n) (lookUp mid n)
-                (held-mid n)))))
+            (held-mid n)))))
           where
             missing-before : (c : Option Definition) → c ≡ none → Held ds mid mark c (isMissing mid n) (stretchOf mid n) (lookUp mid n)
                 → isMissing mid n ≡ true

@@ -1,14 +1,14 @@
 // Pattern text into the buffer of token words: the lines of a run, a lead-in or tail; and the number that a section's pattern names.
-use tokens::kind;
-use tokens::number;
 use sections::Run;
 use sections::Said;
 use text::line_at;
 use tokens::Lexed;
 use tokens::REFERENCE;
 use tokens::end_line;
+use tokens::kind;
 use tokens::lex_line;
 use tokens::next_token;
+use tokens::number;
 ghost use mathlib.Core.Path.{_≡_};
 ghost use mathlib.Core.Option.{some};
 ghost use Prim.Native.Nat.{_+_, _≤_, _-_};
@@ -72,5 +72,9 @@ pub fn named_in(s: &[u8], run: Run) -> u32
     let Lexed::Token(word, next) = next_token(s, first.start, first.stop) else {
         return 0;
     };
-    if kind(word) == REFERENCE { number(word) } else { 0 }
+    if kind(word) == REFERENCE {
+        number(word)
+    } else {
+        0
+    }
 }

@@ -1,10 +1,10 @@
 // A section: counted, its cuts turned into two numbers, and written in one forward pass.
-use score::least;
 use super::leaves::minus;
 use super::pens::Pen;
 use super::walks::again;
 use super::walks::items;
 use score::Stretch;
+use score::least;
 use settings::Cut;
 use tokens::SILENCE_WORD;
 ghost use mathlib.Core.Path.{_≡_};

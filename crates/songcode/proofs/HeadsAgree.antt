@@ -147,9 +147,10 @@ module _ (n : ℕ) (whole : Items) where
   front-headed (some c) row kept p h =
       let a = append-each (Headed n whole) (p .gone) (p .lost ++ ((p .begun ++ p .stays) ∷ p .rest)) (subst (λ r. Each (Headed n whole) r) (p .written) h) in
       let (m, lost, inside, f) = append-each (Headed n whole) (p .lost) ((p .begun ++ p .stays) ∷ p .rest) (a .1) .1 .0 in
-      rw (p .keeps)
-      ((m, lost + length (p .begun), inside, back-left n m lost (p .begun) (p .stays) f),
-      append-each (Headed n whole) (p .lost) ((p .begun ++ p .stays) ∷ p .rest) (a .1) .1 .1)
+      rw (p .keeps) (
+        (m, lost + length (p .begun), inside, back-left n m lost (p .begun) (p .stays) f),
+        append-each (Headed n whole) (p .lost) ((p .begun ++ p .stays) ∷ p .rest) (a .1) .1 .1,
+      )
 
   back-headed : (o : Option Cut) (row kept : List (List Beat)) → CutIf CutsBack o row kept → Each (Headed n whole) row → Each (Headed n whole) kept
   unfolding CutIf Each Headed

@@ -319,7 +319,7 @@ module _ (b : Block) where
       (λ i. let a = twice-in 4 keySaid [] (body b) i in key-doubled (body b) (fromDashes b) (a .before) (a .behind) (a .line) (split-of b) (a .written)
       (key-again .0 (a .holds))))
       (λ i. let a = twice-in 8 modifierSaid [] (body b) i in
-        modifier-doubled (body b) (fromDashes b) (a .before) (a .behind) (a .line) (split-of b) (a .written)
+      modifier-doubled (body b) (fromDashes b) (a .before) (a .behind) (a .line) (split-of b) (a .written)
       (modifier-again .0 (a .holds))))
       (λ i.
       let g = in-gather faults (body b) i in

@@ -1,6 +1,6 @@
 // The keys table: the places of the eight settings among the metadata.
-use packing::key_word;
 use laying::lines_before;
+use packing::key_word;
 use sections::Place;
 use sections::Run;
 use sections::find;

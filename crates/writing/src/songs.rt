@@ -1,8 +1,8 @@
 // Each section's word, measures and beats into the tables.
 use judging::meter_of;
 use judging::play;
-use packing::section_word;
 use laying::open_section;
+use packing::section_word;
 use sections::Keys;
 use sections::Place;
 ghost use mathlib.Core.Option.{Option·getD};

@@ -7,7 +7,7 @@ use Rattle.writing.proofs.write_tables.Tie as tie
 write-song-requires : tie.Need-write-song-requires
 write-song-requires c κs =
     let pre = c .before .before .before .before .before .before .before .before .before .before .before .before .before .before .before .before
-        .before .before .before .pre in
+    .before .before .before .pre in
     let w = pre .0 .2 in
     let room = pre .1 .1 in (
       (w .begins, w .ready, w .filled),
@@ -20,7 +20,7 @@ write-song-requires c κs =
 write-items-requires : tie.Need-write-items-requires
 write-items-requires c κs =
     let pre = c .before .before .before .before .before .before .before .before .before .before .before .before .before .before .before .before
-        .before .before .before .before .before .before .before .before .before .before .before .before .before .pre in
+    .before .before .before .before .before .before .before .before .before .before .before .before .before .pre in
     let w = pre .0 .2 in
     let room = pre .1 .1 .items in
     let holds = w .holds .items in (

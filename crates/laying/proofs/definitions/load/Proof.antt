@@ -37,7 +37,7 @@ same-length c =
     let x = c .before .before .before .before .before .load-one .ensures .1 in
     let i = c .before .before .before .before .before .before .before .before .before .before .before .before .loop .inv .1 in
     let l = length-set (c .before .before .before .before .before .before .before .before .before .before .before .before .before .before
-        .before .args .words .now) 0 0 in
+    .before .args .words .now) 0 0 in
     search needs
 
 returns : tie.Need-returns Inv-loop μ-loop

@@ -37,9 +37,9 @@ enter-requires c κs =
 add-next-block : tie.Need-add-next-block
 add-next-block c =
     let w = c .before .before .before .before .before .before .before .before .before .before .before .before .before .before .before .before
-        .before .pre .0 .small in
+    .before .pre .0 .small in
     let r = c .before .before .before .before .before .before .before .before .before .before .before .before .before
-        .before .read-definition .ensures .pattern-placed in
+    .before .read-definition .ensures .pattern-placed in
     let a = r .behind in
     let b = r .ends in
     omega arith
@@ -47,7 +47,7 @@ add-next-block c =
 next-block-requires : tie.Need-next-block-requires
 next-block-requires c κs =
     let r = c .before .before .before .before .before .before .before .before .before .before .before .before .before
-        .before .read-definition .ensures .pattern-placed in
+    .before .read-definition .ensures .pattern-placed in
     let a = r .number in
     let b = r .behind in
     (omega arith, omega arith, r .ends)
