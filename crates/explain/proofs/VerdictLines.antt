@@ -3,7 +3,7 @@ use Prim.Native.Nat.{ℕ, _≤_}
 use lib.ListN.{length}
 use mathlib.Core.Path.{_≡_, refl, sym, ap, subst, _∙_}
 use mathlib.Core.Logic.{⊎-elim}
-use mathlib.Core.List.{List, [], _∷_, map, List·Memᴰ, List·Memᴰ·head, List·Memᴰ·tail, List·Memᴰ·not-nil, List·Memᴰ·cases-cons}
+use mathlib.Core.List.{List, _∷_, map, List·Memᴰ, List·Memᴰ·head, List·Memᴰ·tail, List·Memᴰ·not-nil, List·Memᴰ·cases-cons}
 use mathlib.Core.List.{Memᴰ·append-right}
 use Rattle.songcode.specs.answer.Lines.{Line, Block}
 use Rattle.songcode.specs.Song.{LyricLine, Section, Song}
@@ -17,16 +17,8 @@ use Rattle.text.specs.declared.lines.Line as text
 use Rattle.text.specs.Spans.{lineText, spans}
 use Rattle.text.proofs.LineLaws.{blocks-spans}
 use Rattle.slips.specs.Finds.{LineOf}
-use Rattle.slips.proofs.BlockLaws.{in-blocks}
+use Rattle.slips.proofs.BlockLaws.{in-map, in-blocks}
 use Rattle.explain.proofs.StageLaws.{lyric-refused, header-refused}
-
-in-map : {A B : Type 0} (f : A → B) (xs : List A) {y : B} → List·Memᴰ y (map f xs) → (x : A) × List·Memᴰ x xs × (y ≡ f x)
-in-map f [] m = absurd (List·Memᴰ·not-nil m)
-in-map f (x ∷ xs) m =
-    ⊎-elim
-    (λ e. (x, List·Memᴰ·head refl, e))
-    (λ i. let r = in-map f xs i in (r .0, List·Memᴰ·tail (r .1), r .2))
-    (List·Memᴰ·cases-cons m)
 
 pub each-right : {A B : Type 0} {R : A → B → Type 0} {xs : List A} {ys : List B} {y : B} → Each R xs ys → List·Memᴰ y ys → (x : A) × List·Memᴰ x xs × R x y
 each-right none-each m = absurd (List·Memᴰ·not-nil m)

@@ -20,7 +20,7 @@ use Rattle.grammar.specs.Verdicts.{isAlone}
 use Rattle.grammar.proofs.ArmLaws.{of-kind}
 
 -- Places where something stands before the item at hand, or the item is no `$n`.
-unfoldable isLate : Place → Bool
+unfoldable pub isLate : Place → Bool
 isLate Fresh = false
 isLate Alone = false
 isLate Wants = true
@@ -34,11 +34,11 @@ isLate Bad = true
 abbrev Late : Check → Type 0
 Late c = isLate (c .place) ≡ true
 
-late-opened : (c : Check) → Late (opened c)
+pub late-opened : (c : Check) → Late (opened c)
 unfolding opened if_then_else_ isLate
 late-opened c = by-cases (leb loopsDeep (c .loops)) (λ t. simp t) (λ t. simp t)
 
-late-closed : (c : Check) → Late (closed c)
+pub late-closed : (c : Check) → Late (closed c)
 unfolding closed if_then_else_ isLate
 late-closed c = by-cases (eqb (c .loops) 0) (λ t. simp t) (λ t. simp t)
 
@@ -84,7 +84,7 @@ not-alone Bad h = refl
 not-alone Fresh h = refl
 not-alone Alone h = sym h
 
-late-is-not-alone : (c : Check) (ks : List Kind) → Late c → isAlone (checkRun c ks .place) ≡ false
+pub late-is-not-alone : (c : Check) (ks : List Kind) → Late c → isAlone (checkRun c ks .place) ≡ false
 late-is-not-alone c ks h = not-alone (checkRun c ks .place) (late-run c ks h)
 
 pub alone-is-whole : (ts : List Token) → isAlone (checkRun first (kindsOf ts) .place) ≡ isSome (wholeReference ts)

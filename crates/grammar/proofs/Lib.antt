@@ -9,3 +9,4 @@ pub mod LateLaws
 pub mod PartLaws
 pub mod LineLaws
 pub mod VerdictLaws
+pub mod BeginningLaws

@@ -50,7 +50,7 @@ module _ (c : Check) (s : List ℕ) (at to : ℕ) (p : at ≤ to) (q : to ≤ le
   unfolding Reads
   line-token {l} {w} {n} h e =
       let t : Reads s at to (Token w n) = rw e at h in
-      (t .1, t .2, text-next c (placed at (part at to s)) (placed n (part n to s)) (t .0) w (part-fits s at to p q r) (t .4) (t .3))
+      (t .1, t .2, text-next c (placed at (part at to s)) (placed n (part n to s)) (t .0) w (part-fits s at to p q r) (t .4 to (t .2) (omega arith)) (t .3))
 
   pub line-over : {l : Lexed} → Reads s at to l → l ≡ End → checkText c (placed at (part at to s)) ≡ c
   unfolding Reads

@@ -9,12 +9,12 @@ use Rattle.grammar.specs.declared.checks.Check.{Check}
 use Rattle.grammar.specs.Kinds.{kindOf, kindsOf}
 use Rattle.grammar.specs.Checks.{first, checkStep, checkRun, checkText, checkLines}
 
-kinds-append : (ts us : List Token) → kindsOf (ts ++ us) ≡ kindsOf ts ++ kindsOf us
+pub kinds-append : (ts us : List Token) → kindsOf (ts ++ us) ≡ kindsOf ts ++ kindsOf us
 unfolding kindsOf
 kinds-append [] us = refl
 kinds-append (t ∷ ts) us = ap (λ (ks : List Kind). kindOf t ∷ ks) (kinds-append ts us)
 
-run-append : (c : Check) (ks js : List Kind) → checkRun c (ks ++ js) ≡ checkRun (checkRun c ks) js
+pub run-append : (c : Check) (ks js : List Kind) → checkRun c (ks ++ js) ≡ checkRun (checkRun c ks) js
 unfolding checkRun
 run-append c [] js = refl
 run-append c (k ∷ ks) js = run-append (checkStep c k) ks js

@@ -137,13 +137,14 @@ module _ (s : List ℕ) (small : length s ≤ 65536) (run : Run) {l : text.Line}
     first-token =
         let g : Reads s (l .start) (l .stop) (lexed.Token w next) = rw e at m in
         let t = g .0 in
-        let d : Each Good (t ∷ tokensFrom next (l .stop) s) = subst (Each Good) (g .4) (part-good s small (l .start) (l .stop)) in
+        let all : tokensFrom (l .start) (l .stop) s ≡ t ∷ tokensFrom next (l .stop) s = g .4 (l .stop) (g .2) (omega arith) in
+        let d : Each Good (t ∷ tokensFrom next (l .stop) s) = subst (Each Good) all (part-good s small (l .start) (l .stop)) in
         record {
           token = t;
           behind-it = tokensFrom next (l .stop) s ++ moreTokens behind;
           good = d .0;
           is = g .3;
-          has = subst (λ (ts : List Token). Shape (ts ++ moreTokens behind) p) (g .4) shape;
+          has = subst (λ (ts : List Token). Shape (ts ++ moreTokens behind) p) all shape;
         }
 
     pub named-is : {k n : ℕ} → k ≡ kindOf w → k ≡ 55 → n ≡ numberOf w → Names p n

@@ -13,6 +13,7 @@ pub use blocks::SectionRead;
 pub use blocks::kind_at;
 pub use blocks::next_block;
 pub use blocks::read_definition;
+pub use blocks::section_parts;
 pub use runs::Run;
 pub use runs::Test;
 pub use runs::run_of;

@@ -114,7 +114,7 @@ marks-at s at stop l (k ∷ ks) h m i =
     let t2 : k .token ≡ sound again = ap (λ (x : Mark). x .token) (sym e) ∙ t in
     let from : m .from ≡ at + f = ap (λ (x : Mark). x .from) e ∙ place in
     let told : tokensFrom (at + f) stop s ≡ sound again ∷ tokensFrom (k .to) stop s =
-    sym (blanks-passed s at stop f refl) ∙ h .3 ∙ ap (λ (x : Token). x ∷ tokensFrom (k .to) stop s) t2 in
+    sym (blanks-passed s at stop f refl stop (omega arith) (omega arith)) ∙ h .3 ∙ ap (λ (x : Token). x ∷ tokensFrom (k .to) stop s) t2 in
     let byte = again-byte s (at + f) stop (omega arith) l (blanks-over s at stop f refl (omega arith) l) _ told in
     (omega arith, ap (λ (j : ℕ). getD s j 0) from ∙ byte))
     (λ j. marks-at s (k .to) stop l ks (h .4) m j)

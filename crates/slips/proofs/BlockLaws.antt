@@ -2,7 +2,7 @@
 use Prim.Native.Nat.{ℕ, zero, suc, _+_, _<_, _≤_}
 use mathlib.Core.Path.{_≡_, refl, sym, ap, _∙_, subst}
 use mathlib.Core.Logic.{_⊎_, inl, inr, ⊎-elim}
-use mathlib.Core.List.{List, [], _∷_, List·Memᴰ, List·Memᴰ·head, List·Memᴰ·tail, List·Memᴰ·not-nil, List·Memᴰ·cases-cons}
+use mathlib.Core.List.{List, [], _∷_, map, List·Memᴰ, List·Memᴰ·head, List·Memᴰ·tail, List·Memᴰ·not-nil, List·Memᴰ·cases-cons}
 use mathlib.Core.List.{Memᴰ·append-left, Memᴰ·append-right}
 use native.Mathlib.Omega.{arith}
 use borrow.Author.Tests.{ltb-true, ltb-false}
@@ -17,7 +17,7 @@ use Rattle.songcode.specs.description.WrittenText.{WrittenBlocks, no-block, a-b
 use Rattle.songcode.proofs.ListLaws.{by-cases}
 use Rattle.songcode.proofs.BlocksAgree.{blocks-sound}
 use Rattle.text.specs.declared.lines.Line as text
-use Rattle.text.specs.Spans.{lineOf, lineAt, Found}
+use Rattle.text.specs.Spans.{lineOf, lineAt, lineText, Found, spans}
 use Rattle.sections.specs.declared.blocks.Place.{Place}
 use Rattle.sections.specs.declared.runs.Run.{Run}
 use Rattle.sections.specs.declared.runs.Test.the-variants.{Full, Body, Early, Pattern}
@@ -25,9 +25,19 @@ use Rattle.sections.specs.Runs.{textLines, passing, linesOf, linesBehind, Longe
 use Rattle.sections.specs.BlockParts.{blockAt, linesPast, NextAt}
 use Rattle.sections.proofs.RunLaws.{lines-next, lines-over}
 use Rattle.sections.proofs.PartLaws.{body-is, pattern-is}
-use Rattle.sections.proofs.NextLaws.{blocks-over}
+use Rattle.sections.proofs.NextLaws.{blocks-start, blocks-over}
 use Rattle.sections.proofs.BlockLaws.{others-are, past-are}
 use Rattle.slips.specs.BlocksMet.{OpensAt, Holds, Behind}
+use Rattle.slips.specs.Finds.{LineOf, InBlock}
+use Rattle.slips.proofs.LineLaws.{From}
+
+pub in-map : {A B : Type 0} (f : A → B) (xs : List A) {y : B} → List·Memᴰ y (map f xs) → (x : A) × List·Memᴰ x xs × (y ≡ f x)
+in-map f [] m = absurd (List·Memᴰ·not-nil m)
+in-map f (x ∷ xs) m =
+    ⊎-elim
+    (λ e. (x, List·Memᴰ·head refl, e))
+    (λ i. let r = in-map f xs i in (r .0, List·Memᴰ·tail (r .1), r .2))
+    (List·Memᴰ·cases-cons m)
 
 -- A block's lines are lines of the file.
 pub in-blocks : {ls : List Line} {bs : List Block} → WrittenBlocks ls bs → (b : Block) → List·Memᴰ b bs
@@ -164,3 +174,12 @@ module _ (s : List ℕ) where
         (λ z. let k = behind .before e n (subst (λ (x : Block). Holds x n) z h) in let y : ⊥ = omega arith in absurd y)
         (λ i. i)
         here-or-later
+
+  -- A line of a block, by its number.
+  pub line-in-block : (n : ℕ) (b : Block) (m : Line) → InBlock s n b m → (l : text.Line) × LineOf s n l × (m ≡ lineText s l)
+  unfolding textLines spans
+  line-in-block n b m i =
+      let w = in-blocks (blocks-sound (textLines s 1 0)) b (subst (λ (bs : List Block). List·Memᴰ b bs) (blocks-start s) (i .listed)) m
+      (List·Memᴰ·tail (i .held)) in
+      let r = in-map (lineText s) (From s 1 0) w in
+      (r .0, record { listed = r .1; number = sym (ap (λ (l : Line). l .number) (r .2)) ∙ i .number }, r .2)

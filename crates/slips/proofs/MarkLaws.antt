@@ -8,15 +8,14 @@ use Rattle.songcode.specs.answer.Tokens.{Token, lineEnd}
 use Rattle.text.specs.declared.lines.Line.{Line}
 use Rattle.text.specs.Spans.{Found}
 use Rattle.text.proofs.WalkLaws.{spans-found, spans-over}
-use Rattle.tokens.specs.Fitting.{Fit, AllFit, kind}
+use Rattle.tokens.specs.Fitting.{Fit, kind}
 use Rattle.tokens.specs.Lexing.{tokensFrom}
 use Rattle.tokens.proofs.KindLaws.{word-kind}
-use Rattle.grammar.proofs.LineLaws.{part-fits}
 use Rattle.slips.specs.declared.readings.Stray.{Stray}
 use Rattle.slips.specs.declared.readings.Reading.{Reading}
 use Rattle.slips.specs.declared.signs.Token as slips
 use Rattle.slips.specs.Marks.{Mark, Marked, endMark, MarkedLines}
-use Rattle.slips.specs.Tokens.{TokenAt}
+use Rattle.slips.specs.Taken.{TokenAt}
 use Rattle.slips.specs.Strays.{heard, hearingSign}
 use Rattle.slips.specs.Readings.{Follows}
 use Rattle.slips.proofs.LineLaws.{From}
@@ -53,24 +52,19 @@ unfolding kind Fit
 follows-end to a h = follows-one lineEnd to to a tt h
 
 -- The token that was found, and those behind it.
-module _ (s : List ℕ) (at to : ℕ) (p : at ≤ to) (q : to ≤ length s) (u : to ≤ 65536) (t : slips.Token)
-    (h : TokenAt s at to t) (a : at < t .next) (b : t .next ≤ to) where
+module _ (s : List ℕ) (at to : ℕ) (u : to ≤ 65536) (t : slips.Token) (h : TokenAt s at to t) (b : t .next ≤ to) where
   abbrev pub mark : Mark
-  mark = record { token = h .some a .0; from = t .from; to = t .next }
-
-  fits : Fit (h .some a .0)
-  unfolding AllFit
-  fits = subst AllFit (h .some a .2) (part-fits s at to p q u) .0
+  mark = record { token = h .token; from = t .from; to = t .next }
 
   pub follows-token : {x r : Reading} {sign : ℕ} → sign ≡ t .word / 67108864 → Taken x sign (t .from) r → Follows x (mark ∷ []) r
   follows-token {x} {r} e k =
-      let i : t .word / 67108864 ≡ kind (h .some a .0) = ap (λ (w : ℕ). w / 67108864) (h .some a .1) ∙ word-kind (h .some a .0) fits in
-      let j = h .some a .4 in
-      follows-one (h .some a .0) (t .from) (t .next) (omega arith) fits (subst (λ (n : ℕ). Taken x n (t .from) r) (e ∙ i) k)
+      let i : t .word / 67108864 ≡ kind (h .token) = ap (λ (w : ℕ). w / 67108864) (h .word) ∙ word-kind (h .token) (h .fits) in
+      let j = h .solid in
+      follows-one (h .token) (t .from) (t .next) (omega arith) (h .fits) (subst (λ (n : ℕ). Taken x n (t .from) r) (e ∙ i) k)
 
   pub marked-more : (ms : List Mark) → Marked s (t .next) to ms → Marked s at to (mark ∷ ms)
   unfolding Marked
-  marked-more ms m = (h .some a .3, h .some a .4, b, h .some a .2, m)
+  marked-more ms m = (h .begins, h .solid, b, h .first to b (omega arith), m)
 
 pub marked-none : (s : List ℕ) (at to : ℕ) → tokensFrom at to s ≡ [] → Marked s at to []
 unfolding Marked

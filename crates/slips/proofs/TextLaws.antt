@@ -16,11 +16,10 @@ use Rattle.songcode.specs.answer.Answer.{blocksOf}
 use Rattle.songcode.proofs.ListLaws.{by-cases}
 use Rattle.text.specs.declared.lines.Line.{Line}
 use Rattle.text.specs.Spans.{lineOf, lineText, Found}
-use Rattle.tokens.specs.Fitting.{Fit, AllFit, kind, amount}
+use Rattle.tokens.specs.Fitting.{Fit, kind, amount}
 use Rattle.tokens.specs.Lexing.{tokensFrom}
 use Rattle.tokens.proofs.LexLaws.{tokens-over}
 use Rattle.tokens.proofs.KindLaws.{word-kind, word-amount}
-use Rattle.grammar.proofs.LineLaws.{part-fits}
 use Rattle.sections.specs.declared.runs.Run.{Run}
 use Rattle.sections.specs.declared.blocks.Place.{Place}
 use Rattle.sections.specs.Runs.{textLines, linesOf}
@@ -30,7 +29,7 @@ use Rattle.slips.specs.declared.readings.Stray.{Stray}
 use Rattle.slips.specs.declared.readings.Reading.{Reading}
 use Rattle.slips.specs.declared.slip.Slip.{Slip}
 use Rattle.slips.specs.declared.signs.Token as slips
-use Rattle.slips.specs.Tokens.{TokenAt}
+use Rattle.slips.specs.Taken.{TokenAt}
 use Rattle.slips.specs.Marks.{Mark, namedBy, namedIn, PlainText, SideText}
 use Rattle.slips.specs.Strays.{StrayAt, TellsStray, StrayTold, unheard, heard}
 use Rattle.slips.specs.Readings.{Follows, ReadsRun, ReadsPattern, ReadsSide, ToldStray}
@@ -119,8 +118,7 @@ module _ (s : List ℕ) (run : Run) where
   unfolding namedIn linesOf
   named-empty h = rw h refl
 
-  module _ (some : run .lines ≡ 0 → ⊥) {l : Line} (f : Found s (run .number) (run .at) l) (a : l .start ≤ l .stop) (b : l .stop ≤ length s)
-      (small : length s ≤ 65536) where
+  module _ (some : run .lines ≡ 0 → ⊥) {l : Line} (f : Found s (run .number) (run .at) l) where
     -- A pattern names what its first line names.
     first-names : run .at ≤ length s → (n : ℕ) → n ≡ namedBy (tokensFrom (l .start) (l .stop) s) → n ≡ namedIn (linesOf s run)
     unfolding namedIn linesOf
@@ -139,30 +137,25 @@ module _ (s : List ℕ) (run : Run) where
             let u : l .stop ≤ l .start = omega arith in
             rw (lines-over s (run .number) (run .at) i) (e ∙ ap namedBy (tokens-over s (l .start) (l .stop) u)))
 
-    module _ (c : run .at ≤ length s) (t : slips.Token) (h : TokenAt s (l .start) (l .stop) t) where
-      pub names-nothing : t .next ≡ l .start → 0 ≡ namedIn (linesOf s run)
-      unfolding namedBy
-      names-nothing e = first-names c 0 (sym (ap namedBy (h .none e)))
+    pub names-nothing : run .at ≤ length s → tokensFrom (l .start) (l .stop) s ≡ [] → 0 ≡ namedIn (linesOf s run)
+    unfolding namedBy
+    names-nothing c e = first-names c 0 (sym (ap namedBy e))
 
-      module _ (k : l .start < t .next) where
-        abbrev token : Token
-        token = h .some k .0
+    module _ (c : run .at ≤ length s) (t : slips.Token) (h : TokenAt s (l .start) (l .stop) t) (k : t .next ≤ l .stop) where
+      opens-with : tokensFrom (l .start) (l .stop) s ≡ h .token ∷ tokensFrom (t .next) (l .stop) s
+      opens-with = h .first (l .stop) k (omega arith)
 
-        fits : Fit token
-        unfolding AllFit
-        fits = subst AllFit (h .some k .2) (part-fits s (l .start) (l .stop) a b (omega arith)) .0
+      kind-is : t .word / 67108864 ≡ kind (h .token)
+      kind-is = ap (λ (w : ℕ). w / 67108864) (h .word) ∙ word-kind (h .token) (h .fits)
 
-        kind-is : t .word / 67108864 ≡ kind token
-        kind-is = ap (λ (w : ℕ). w / 67108864) (h .some k .1) ∙ word-kind token fits
+      pub names-none : (t .word / 67108864 ≡ 55 → ⊥) → 0 ≡ namedIn (linesOf s run)
+      names-none n = first-names c 0 (named-none (h .token) _ (λ e. n (kind-is ∙ e)) ∙ sym (ap namedBy opens-with))
 
-        pub names-none : (t .word / 67108864 ≡ 55 → ⊥) → 0 ≡ namedIn (linesOf s run)
-        names-none n = first-names c 0 (named-none token _ (λ e. n (kind-is ∙ e)) ∙ sym (ap namedBy (h .some k .2)))
-
-        pub names-some : t .word / 67108864 ≡ 55 → t .word % 67108864 ≡ namedIn (linesOf s run)
-        names-some e =
-            first-names c (t .word % 67108864)
-            (ap (λ (w : ℕ). w % 67108864) (h .some k .1) ∙ word-amount token fits ∙ named-some token _ fits (sym kind-is ∙ e)
-            ∙ sym (ap namedBy (h .some k .2)))
+      pub names-some : t .word / 67108864 ≡ 55 → t .word % 67108864 ≡ namedIn (linesOf s run)
+      names-some e =
+          first-names c (t .word % 67108864)
+          (ap (λ (w : ℕ). w % 67108864) (h .word) ∙ word-amount (h .token) (h .fits) ∙ named-some (h .token) _ (h .fits) (sym kind-is ∙ e)
+          ∙ sym (ap namedBy opens-with))
 
 -- What is told of a text is told of the block that holds the verdict's line.
 module _ (s : List ℕ) (line : ℕ) (l : Line) {p : Place} (o : BlockOf s line p) where

@@ -1,7 +1,8 @@
 -- What the finders promise.
 pub mod Places
+pub mod Taken
+pub mod Rules
 pub mod Marks
-pub mod Tokens
 pub mod Strays
 pub mod Readings
 pub mod BlocksMet

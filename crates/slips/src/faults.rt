@@ -10,7 +10,11 @@ use grammar::Check;
 use grammar::Place;
 use tokens::has_slip;
 use tokens::longest_base;
+ghost use mathlib.Core.Path.{_≡_};
+ghost use mathlib.Core.Bool.{true};
+ghost use Prim.Native.Nat.{_≤_};
 ghost use lib.ListN.{length};
+ghost use Rattle.slips.specs.Rules.{alonePlace, isEarlier};
 
 pub const NO_CHORD: usize = 1;
 
@@ -63,8 +67,6 @@ const ENDED: usize = 3;
 
 const REMOVED: usize = 5;
 
-const ALONE: usize = 6;
-
 fn place_number(p: Place) -> usize {
     match p {
         Place::Fresh => FRESH,
@@ -73,7 +75,7 @@ fn place_number(p: Place) -> usize {
         Place::Ended => ENDED,
         Place::Sounds => 4,
         Place::Removed => REMOVED,
-        Place::Alone => ALONE,
+        Place::Alone => 6,
         Place::Full => 7,
         Place::Bad => 8,
     }
@@ -85,13 +87,31 @@ fn wants(place: usize) -> bool {
 }
 
 // Whether a `$n` is all that was read.
+pub fn is_alone(p: Place) -> bool
+    ensures { λ r. ⌜ r ≡ alonePlace p ⌝ }
+{
+    match p {
+        Place::Fresh => false,
+        Place::Wants => false,
+        Place::Joins => false,
+        Place::Ended => false,
+        Place::Sounds => false,
+        Place::Removed => false,
+        Place::Alone => true,
+        Place::Full => false,
+        Place::Bad => false,
+    }
+}
+
 pub fn stands_alone(c: Check) -> bool {
     let place = c.place;
-    place_number(place) == ALONE
+    is_alone(place)
 }
 
 // A word that is no token.
-fn wrong_clause(w: &[u8]) -> usize {
+fn wrong_clause(w: &[u8]) -> usize
+    ensures { λ r. ⌜ (1 ≤ r) × (r ≤ 22) ⌝ }
+{
     if w.len() == 0 {
         return NO_CHORD;
     }
@@ -117,7 +137,9 @@ fn wrong_clause(w: &[u8]) -> usize {
 }
 
 // A `;` or `:`; the sign of the token before it.
-fn separator_clause(place: usize, last: u32) -> usize {
+fn separator_clause(place: usize, last: u32) -> usize
+    ensures { λ r. ⌜ (1 ≤ r) × (r ≤ 22) ⌝ }
+{
     if place == FRESH || last == OPENS {
         return SEPARATOR_FIRST;
     }
@@ -129,7 +151,9 @@ fn separator_clause(place: usize, last: u32) -> usize {
 }
 
 // A `]` with its count.
-fn closing_clause(place: usize, last: u32, loops: usize) -> usize {
+fn closing_clause(place: usize, last: u32, loops: usize) -> usize
+    ensures { λ r. ⌜ (1 ≤ r) × (r ≤ 22) ⌝ }
+{
     if loops == 0 {
         return LOOP_NOT_OPEN;
     }
@@ -144,7 +168,9 @@ fn closing_clause(place: usize, last: u32, loops: usize) -> usize {
 }
 
 // A token behind a text that was right so far.
-pub fn token_clause(c: Check, last: u32, sign: u32, w: &[u8]) -> usize {
+pub fn token_clause(c: Check, last: u32, sign: u32, w: &[u8]) -> usize
+    ensures { λ r. ⌜ (1 ≤ r) × (r ≤ 22) ⌝ }
+{
     let at = c.place;
     let place = place_number(at);
     if sign == WRONG {
@@ -170,7 +196,9 @@ pub fn token_clause(c: Check, last: u32, sign: u32, w: &[u8]) -> usize {
 }
 
 // A line end behind it.
-pub fn line_end_clause(last: u32) -> usize {
+pub fn line_end_clause(last: u32) -> usize
+    ensures { λ r. ⌜ (1 ≤ r) × (r ≤ 22) × (isEarlier r ≡ true) ⌝ }
+{
     if last == OPENS {
         LOOP_LINE_END
     } else {
@@ -179,7 +207,9 @@ pub fn line_end_clause(last: u32) -> usize {
 }
 
 // The end of the text behind it.
-pub fn end_clause(c: Check) -> usize {
+pub fn end_clause(c: Check) -> usize
+    ensures { λ r. ⌜ (1 ≤ r) × (r ≤ 22) × (isEarlier r ≡ true) ⌝ }
+{
     let at = c.place;
     let place = place_number(at);
     if place == FRESH {

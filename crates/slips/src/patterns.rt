@@ -9,6 +9,7 @@ use super::faults::REFERENCE_NOT_HERE;
 use super::faults::REMOVER_INSIDE;
 use super::faults::SEPARATOR_LAST;
 use super::faults::end_clause;
+use super::faults::is_alone;
 use super::faults::line_end_clause;
 use super::faults::stands_alone;
 use super::faults::token_clause;
@@ -19,6 +20,7 @@ use super::signs::REFERENCE;
 use super::signs::WRONG;
 use super::signs::capped;
 use super::signs::is_sound;
+use super::signs::minus;
 use super::signs::sign_of;
 use super::signs::token_from;
 use super::slip::Slip;
@@ -33,17 +35,32 @@ use grammar::start;
 use grammar::step_check;
 use grammar::step_kind;
 use sections::Run;
-use sections::Test;
 use sections::kind_at;
-use sections::run_of;
+use sections::read_definition;
+use sections::section_parts;
 use settings::BlockKind;
 use settings::Kind;
 use settings::kind_of;
 use settings::setting_start;
 use text::byte_at;
 use text::line_at;
-ghost use Prim.Native.Nat.{_+_, _≤_, _<_};
+ghost use mathlib.Core.Path.{_≡_};
+ghost use mathlib.Core.List.{List, [], _∷_, _++_};
+ghost use mathlib.Core.Bool.{true};
+ghost use Prim.Native.Nat.{ℕ, _+_, _≤_, _<_};
 ghost use lib.ListN.{length};
+ghost use Rattle.songcode.specs.answer.Lines.{Line};
+ghost use Rattle.songcode.specs.answer.Tokens.{Token, lineEnd};
+ghost use Rattle.grammar.specs.Checks.{first};
+ghost use Rattle.tokens.specs.TokenWords.{tokenWord};
+ghost use Rattle.tokens.specs.Fitting.{Fit};
+ghost use Rattle.tokens.specs.Lexing.{tokensFrom};
+ghost use Rattle.slips.specs.Rules.{badPlace, amiss, misnamed, isStuck, isSide, isEarlier, Told, Going, Steps, Reads, upTo, piece};
+ghost use Rattle.slips.specs.Rules.{ReadAll, Ruled, RuledAt, sideLine};
+ghost use Rattle.slips.specs.declared.patterns.Whose.the-variants.{Definition, Section, Side};
+ghost use Rattle.sections.specs.Runs.{linesOf};
+ghost use Rattle.sections.specs.BlockParts.{blockAt};
+ghost use Rattle.songcode.specs.answer.Sections.{patternRun, body};
 
 // Whose text it is: a definition's, a section's, a lead-in's or tail's.
 pub enum Whose {
@@ -61,12 +78,14 @@ pub struct Reading {
     pub to: usize,
     pub open: usize,
     pub clause: usize,
-    pub slip_from: usize,
-    pub slip_to: usize,
+    pub spot: usize,
+    pub past: usize,
     pub stop: usize,
 }
 
-fn reading_from(at: usize) -> Reading {
+fn reading_from(at: usize) -> Reading
+    ensures { λ r. ⌜ (r .check ≡ first) × (r .clause ≡ 0) × (r .from ≡ at) × (r .open ≡ 0) ⌝ }
+{
     let check = start();
     Reading {
         check,
@@ -75,13 +94,15 @@ fn reading_from(at: usize) -> Reading {
         to: at,
         open: 0,
         clause: 0,
-        slip_from: 0,
-        slip_to: 0,
+        spot: 0,
+        past: 0,
         stop: 0,
     }
 }
 
-fn blamed(r: Reading, clause: usize, from: usize, to: usize, stop: usize) -> Reading {
+fn blamed(r: Reading, clause: usize, from: usize, to: usize, stop: usize) -> Reading
+    ensures { λ x. ⌜ (x .clause ≡ clause) × (x .spot ≡ from) × (x .past ≡ to) ⌝ }
+{
     let check = r.check;
     Reading {
         check,
@@ -90,13 +111,15 @@ fn blamed(r: Reading, clause: usize, from: usize, to: usize, stop: usize) -> Rea
         to: r.to,
         open: r.open,
         clause,
-        slip_from: from,
-        slip_to: to,
+        spot: from,
+        past: to,
         stop,
     }
 }
 
-fn is_bad(p: Place) -> bool {
+fn is_bad(p: Place) -> bool
+    ensures { λ r. ⌜ r ≡ badPlace p ⌝ }
+{
     match p {
         Place::Fresh => false,
         Place::Wants => false,
@@ -110,25 +133,42 @@ fn is_bad(p: Place) -> bool {
     }
 }
 
-// Whether a `$n` stands where this text has none.
-fn is_misnamed(whose: Whose, c: Check) -> bool {
-    if !c.named {
-        return false;
-    }
+// Whether a `$n` that was read may not stand in the text that it stands in.
+fn is_amiss(whose: Whose, p: Place) -> bool
+    ensures { λ r. ⌜ r ≡ amiss whose p ⌝ }
+{
     match whose {
         Whose::Definition => false,
-        Whose::Section => !stands_alone(c),
+        Whose::Section => !is_alone(p),
         Whose::Side => true,
     }
 }
 
-// Whether no right text goes on from here.
-fn is_stuck(whose: Whose, c: Check) -> bool {
+// Whether a `$n` stands where this text has none.
+fn is_misnamed(whose: Whose, c: Check) -> bool
+    ensures { λ r. ⌜ r ≡ misnamed whose c ⌝ }
+{
+    if !c.named {
+        return false;
+    }
     let place = c.place;
-    is_bad(place) || is_misnamed(whose, c)
+    is_amiss(whose, place)
 }
 
-fn is_side(whose: Whose) -> bool {
+// Whether no right text goes on from here.
+fn is_stuck(whose: Whose, c: Check) -> bool
+    ensures { λ r. ⌜ r ≡ isStuck whose c ⌝ }
+{
+    let place = c.place;
+    if is_bad(place) {
+        return true;
+    }
+    is_misnamed(whose, c)
+}
+
+fn is_side(whose: Whose) -> bool
+    ensures { λ r. ⌜ r ≡ isSide whose ⌝ }
+{
     match whose {
         Whose::Definition => false,
         Whose::Section => false,
@@ -172,7 +212,9 @@ fn stop_of(whose: Whose, c: Check, sign: u32, w: &[u8], from: usize) -> usize {
     from
 }
 
-fn barred_clause(sign: u32) -> usize {
+fn barred_clause(sign: u32) -> usize
+    ensures { λ r. ⌜ (19 ≤ r) × (r ≤ 20) ⌝ }
+{
     if sign == COLON {
         COLON_NOT_HERE
     } else {
@@ -181,8 +223,13 @@ fn barred_clause(sign: u32) -> usize {
 }
 
 // The place that is to change where a token is behind a right beginning: the token, what stands in it behind its `]`, or the token before it.
-fn blame_token(r: Reading, clause: usize, from: usize, to: usize, stop: usize) -> Reading {
-    if clause == REMOVER_INSIDE || clause == SEPARATOR_LAST {
+fn blame_token(r: Reading, clause: usize, from: usize, to: usize, stop: usize) -> Reading
+    ensures { λ x. ⌜ ((1 ≤ clause) × (clause ≤ 22) → r .from ≤ from → from ≤ 65536 → Told from (x .clause) (x .spot)) ⌝ }
+{
+    if clause == REMOVER_INSIDE {
+        return blamed(r, clause, r.from, r.to, stop);
+    }
+    if clause == SEPARATOR_LAST {
         return blamed(r, clause, r.from, r.to, stop);
     }
     if clause == LOOP_COUNT_WRONG {
@@ -192,14 +239,18 @@ fn blame_token(r: Reading, clause: usize, from: usize, to: usize, stop: usize) -
 }
 
 // A `$n` where it may not stand: this token, or the one before it.
-fn blame_reference(r: Reading, sign: u32, from: usize, to: usize) -> Reading {
+fn blame_reference(r: Reading, sign: u32, from: usize, to: usize) -> Reading
+    ensures { λ x. ⌜ (r .from ≤ from → Told from (x .clause) (x .spot)) ⌝ }
+{
     if sign == REFERENCE {
         return blamed(r, REFERENCE_NOT_HERE, from, to, from);
     }
     blamed(r, REFERENCE_NOT_HERE, r.from, r.to, from)
 }
 
-fn passed(r: Reading, check: Check, sign: u32, from: usize, to: usize) -> Reading {
+fn passed(r: Reading, check: Check, sign: u32, from: usize, to: usize) -> Reading
+    ensures { λ x. ⌜ (x .check ≡ check) × (x .clause ≡ 0) × (x .from ≡ from) × (r .open ≤ from → x .open ≤ from) ⌝ }
+{
     let open = if sign == OPENS { from } else { r.open };
     Reading {
         check,
@@ -208,40 +259,55 @@ fn passed(r: Reading, check: Check, sign: u32, from: usize, to: usize) -> Readin
         to,
         open,
         clause: 0,
-        slip_from: 0,
-        slip_to: 0,
+        spot: 0,
+        past: 0,
         stop: 0,
     }
 }
 
+// A token with which no right text goes on.
+fn blame(s: &[u8], whose: Whose, r: Reading, word: u32, from: usize, to: usize) -> Reading
+    requires { ⌜ (from ≤ to) × (to ≤ length (now s)) × (to ≤ 65536) ⌝ }
+    ensures { λ x. ⌜ (r .from ≤ from → Told from (x .clause) (x .spot)) ⌝ }
+{
+    let sign = sign_of(word);
+    let before = r.check;
+    let stop = stop_of(whose, before, sign, &s[from..to], from);
+    if is_barred(whose, sign, &s[from..to]) {
+        return blamed(r, barred_clause(sign), from, to, stop);
+    }
+    if is_misnamed(whose, step_check(before, word)) {
+        return blame_reference(r, sign, from, to);
+    }
+    if is_misplaced(whose, before) {
+        return blame_reference(r, sign, from, to);
+    }
+    let clause = token_clause(before, r.last, sign, &s[from..to]);
+    blame_token(r, clause, from, to, stop)
+}
+
 // One more token.
 fn read_token(s: &[u8], whose: Whose, r: Reading, word: u32, from: usize, to: usize) -> Reading
-    requires { ⌜ (from ≤ to) × (to ≤ length (now s)) ⌝ }
+    requires { ⌜ (from ≤ to) × (to ≤ length (now s)) × (to ≤ 65536) ⌝ }
+    ensures kept { λ x. ⌜ ((r .clause ≡ 0 → ⊥) → x ≡ r) ⌝ }
+    ensures step { λ x. ⌜ ((ts : List Token) (at : ℕ) (t : Token) → Fit t → word ≡ tokenWord t → at ≤ from → Going whose ts at r
+        → Steps whose ts t from to x) ⌝ }
 {
     if r.clause != 0 {
         return r;
     }
     let sign = sign_of(word);
-    let before = r.check;
-    if is_barred(whose, sign, &s[from..to]) {
-        let stop = stop_of(whose, before, sign, &s[from..to], from);
-        return blamed(r, barred_clause(sign), from, to, stop);
+    let check = step_check(r.check, word);
+    if is_stuck(whose, check) {
+        return blame(s, whose, r, word, from, to);
     }
-    let check = step_check(before, word);
-    if !is_stuck(whose, check) {
+    if is_side(whose) {
+        if sign == COLON {
+            return blame(s, whose, r, word, from, to);
+        }
         return passed(r, check, sign, from, to);
     }
-    if is_misnamed(whose, check) || is_misplaced(whose, before) {
-        return blame_reference(r, sign, from, to);
-    }
-    let stop = stop_of(whose, before, sign, &s[from..to], from);
-    blame_token(
-        r,
-        token_clause(before, r.last, sign, &s[from..to]),
-        from,
-        to,
-        stop,
-    )
+    passed(r, check, sign, from, to)
 }
 
 // Whether a section's text is a `$n` so far, and so ends here.
@@ -253,18 +319,34 @@ fn is_misplaced(whose: Whose, c: Check) -> bool {
     }
 }
 
+// The clause of a line end that may not stand behind this.
+fn end_of_line_clause(whose: Whose, c: Check, last: u32) -> usize
+    ensures { λ r. ⌜ (1 ≤ r) × (r ≤ 22) × (isEarlier r ≡ true) ⌝ }
+{
+    if is_misplaced(whose, c) {
+        REFERENCE_NOT_HERE
+    } else {
+        line_end_clause(last)
+    }
+}
+
 // A line end between two lines.
-fn read_line_end(whose: Whose, r: Reading) -> Reading {
+fn read_line_end(whose: Whose, r: Reading) -> Reading
+    ensures kept { λ x. ⌜ ((r .clause ≡ 0 → ⊥) → x ≡ r) ⌝ }
+    ensures step { λ x. ⌜ ((ts : List Token) (at : ℕ) → Going whose ts at r → Steps whose ts lineEnd at at x) ⌝ }
+{
     if r.clause != 0 {
         return r;
     }
-    let before = r.check;
-    if is_misplaced(whose, before) {
-        return blamed(r, REFERENCE_NOT_HERE, r.from, r.to, r.to);
-    }
-    let check = line_between(before);
+    let check = line_between(r.check);
     if is_stuck(whose, check) {
-        return blamed(r, line_end_clause(r.last), r.from, r.to, r.to);
+        return blamed(
+            r,
+            end_of_line_clause(whose, r.check, r.last),
+            r.from,
+            r.to,
+            r.to,
+        );
     }
     Reading {
         check,
@@ -273,20 +355,25 @@ fn read_line_end(whose: Whose, r: Reading) -> Reading {
         to: r.to,
         open: r.open,
         clause: 0,
-        slip_from: 0,
-        slip_to: 0,
+        spot: 0,
+        past: 0,
         stop: 0,
     }
 }
 
 // The end of the text.
-fn read_end(r: Reading) -> Reading {
+fn read_end(r: Reading) -> Reading
+    ensures kept { λ x. ⌜ ((r .clause ≡ 0 → ⊥) → x ≡ r) ⌝ }
+    ensures told { λ x. ⌜ ((at : ℕ) → r .clause ≡ 0 → r .from ≤ at → r .open ≤ at → Told at (x .clause) (x .spot)) ⌝ }
+{
     if r.clause != 0 {
         return r;
     }
     let clause = end_clause(r.check);
-    if clause == LOOP_OPEN && 0 < r.open {
-        return blamed(r, clause, r.open, capped(r.open, 1), r.to);
+    if clause == LOOP_OPEN {
+        if 0 < r.open {
+            return blamed(r, clause, r.open, capped(r.open, 1), r.to);
+        }
     }
     if r.last == OPENS {
         return blamed(r, LOOP_OPEN, r.from, r.to, r.to);
@@ -297,6 +384,9 @@ fn read_end(r: Reading) -> Reading {
 // The tokens of a line.
 fn read_line(s: &[u8], whose: Whose, r: Reading, from: usize, to: usize) -> Reading
     requires { ⌜ (from ≤ to) × (to ≤ length (now s)) × (to ≤ 65536) ⌝ }
+    ensures kept { λ x. ⌜ ((r .clause ≡ 0 → ⊥) → x ≡ r) ⌝ }
+    ensures step { λ x. ⌜ ((passed rest : List Line) (n : ℕ) → Going whose (upTo passed) from r
+        → Reads (now (s .entry)) whose (passed ++ (piece (now (s .entry)) n from to ∷ rest)) (upTo passed ++ tokensFrom from to (now (s .entry))) to x) ⌝ }
 {
     let mut reading = r;
     let mut at = from;
@@ -313,20 +403,20 @@ fn read_line(s: &[u8], whose: Whose, r: Reading, from: usize, to: usize) -> Read
 
 // The lines of a text.
 fn read_lines(s: &[u8], whose: Whose, run: Run) -> Reading
-    requires { ⌜ length (now s) ≤ 65536 ⌝ }
+    requires { ⌜ (length (now s) ≤ 65536) × (run .at ≤ length (now s)) ⌝ }
+    ensures { λ r. ⌜ ((m : Line) (ms : List Line) → linesOf (now (s .entry)) run ≡ m ∷ ms
+        → ReadAll (now (s .entry)) whose (linesOf (now (s .entry)) run) r) ⌝ }
 {
-    let mut reading = reading_from(run.at);
-    let mut at = run.at;
-    let mut left = run.lines;
+    let first = line_at(s, 0, run.at);
+    let mut reading = read_line(s, whose, reading_from(run.at), first.start, first.stop);
+    let mut at = first.next;
+    let mut left = minus(run.lines, 1);
     while at < s.len() {
         if left == 0 {
             return reading;
         }
         let l = line_at(s, 0, at);
-        if left < run.lines {
-            reading = read_line_end(whose, reading);
-        }
-        reading = read_line(s, whose, reading, l.start, l.stop);
+        reading = read_line(s, whose, read_line_end(whose, reading), l.start, l.stop);
         at = l.next;
         left -= 1;
     }
@@ -334,52 +424,83 @@ fn read_lines(s: &[u8], whose: Whose, run: Run) -> Reading
 }
 
 // What a reading says.
-fn slip_in(r: Reading, header: usize) -> Slip {
+fn slip_in(r: Reading, header: usize) -> Slip
+    ensures { λ x. ⌜ (x .clause ≡ r .clause) × (x .from ≡ r .spot) ⌝ }
+{
     let second = if r.open == 0 { r.stop } else { r.open };
     counted(
-        beside(at_place(r.clause, r.slip_from, r.slip_to), header),
+        beside(at_place(r.clause, r.spot, r.past), header),
         r.stop,
         second,
         0,
     )
 }
 
+// A text that is not right, on these lines.
+fn text_slip(s: &[u8], whose: Whose, run: Run, header: usize) -> Slip
+    requires { ⌜ (length (now s) ≤ 65536) × (run .at ≤ length (now s)) ⌝ }
+    ensures { λ x. ⌜ ((m : Line) (ms : List Line) → linesOf (now (s .entry)) run ≡ m ∷ ms
+        → Ruled (now (s .entry)) whose (linesOf (now (s .entry)) run) (x .clause) (x .from)) ⌝ }
+{
+    slip_in(read_end(read_lines(s, whose, run)), header)
+}
+
 // The text of a lead-in or tail.
 fn side_slip(s: &[u8], p: Spot) -> Slip
     requires { ⌜ (p .line .start ≤ p .line .stop) × (p .line .stop ≤ length (now s)) × (length (now s) ≤ 65536) ⌝ }
+    ensures { λ x. ⌜ (p .line .start < p .line .stop
+        → Ruled (now (s .entry)) Side (sideLine (now (s .entry)) (p .line) ∷ []) (x .clause) (x .from)) ⌝ }
 {
     let l = p.line;
     let block = p.block;
-    let q = setting_start(s, l.start, l.stop);
+    if l.stop <= l.start {
+        return at_place(0, l.start, l.stop);
+    }
+    let q = setting_start(s, l.start + 1, l.stop);
     let r = read_line(s, Whose::Side, reading_from(q), q, l.stop);
     slip_in(read_end(r), block.number)
 }
 
+// The pattern of a section.
+fn section_slip(s: &[u8], number: usize, at: usize) -> Slip
+    requires { ⌜ (1 ≤ number) × (number ≤ at + 1) × (at < length (now s)) × (length (now s) ≤ 65536) ⌝ }
+    ensures { λ x. ⌜ ((m : Line) (ms : List Line) → patternRun (body (blockAt (now (s .entry)) number at)) ≡ m ∷ ms
+        → Ruled (now (s .entry)) Section (m ∷ ms) (x .clause) (x .from)) ⌝ }
+{
+    let parts = section_parts(s, number, at);
+    text_slip(s, Whose::Section, parts.pattern, number)
+}
+
+// The text of a definition.
+fn definition_slip(s: &[u8], number: usize, at: usize) -> Slip
+    requires { ⌜ (1 ≤ number) × (number ≤ at + 1) × (at < length (now s)) × (length (now s) ≤ 65536) ⌝ }
+    ensures { λ x. ⌜ ((m : Line) (ms : List Line) → blockAt (now (s .entry)) number at .others ≡ m ∷ ms
+        → Ruled (now (s .entry)) Definition (m ∷ ms) (x .clause) (x .from)) ⌝ }
+{
+    let read = read_definition(s, number, at);
+    text_slip(s, Whose::Definition, read.pattern, number)
+}
+
 // Refusal 7.
 pub fn pattern_slip(s: &[u8], p: Spot) -> Slip
-    requires { ⌜ (p .line .start ≤ p .line .stop) × (p .line .stop ≤ length (now s)) × (p .line .number ≤ p .line .start + 1)
+    requires { ⌜ (p .line .start ≤ p .line .stop) × (p .line .stop ≤ length (now s)) × (1 ≤ p .block .number) × (p .block .number ≤ p .block .at + 1)
         × (p .block .at ≤ length (now s)) × (length (now s) ≤ 65536) ⌝ }
+    ensures { λ x. ⌜ RuledAt (now (s .entry)) (p .line) (p .block) x ⌝ }
 {
     let l = p.line;
     let block = p.block;
     let a = l.start;
     let e = l.stop;
+    if s.len() <= block.at {
+        return at_place(0, a, e);
+    }
     match kind_at(s, block.number, block.at) {
         BlockKind::Metadata => at_place(0, a, e),
-        BlockKind::Definition => {
-            let run = run_of(s, Test::Full, l.number, a);
-            slip_in(
-                read_end(read_lines(s, Whose::Definition, run)),
-                block.number,
-            )
-        }
+        BlockKind::Definition => definition_slip(s, block.number, block.at),
         BlockKind::Section => match kind_of(&s[a..e]) {
             Kind::Key => at_place(0, a, e),
             Kind::Modifier => side_slip(s, p),
-            Kind::Pattern => {
-                let run = run_of(s, Test::Pattern, l.number, a);
-                slip_in(read_end(read_lines(s, Whose::Section, run)), block.number)
-            }
+            Kind::Pattern => section_slip(s, block.number, block.at),
         },
     }
 }

@@ -5,11 +5,11 @@ use text::line_at;
 use tokens::Lexed;
 use tokens::next_token;
 ghost use mathlib.Core.Path.{_≡_};
-ghost use Prim.Native.Nat.{_+_, _/_, _%_, _≤_};
+ghost use Prim.Native.Nat.{_+_, _-_, _/_, _%_, _≤_};
 ghost use lib.ListN.{length};
 ghost use Rattle.sections.specs.Runs.{linesOf};
 ghost use Rattle.slips.specs.Marks.{namedIn};
-ghost use Rattle.slips.specs.Tokens.{TokenAt};
+ghost use Rattle.slips.specs.Taken.{Takes};
 
 // Smaller ones are chords.
 pub const CHORDS: u32 = 34;
@@ -63,7 +63,8 @@ pub struct Token {
 // The first token from a place on; where there is none, it ends where the search began.
 pub fn token_from(s: &[u8], at: usize, to: usize) -> Token
     requires { ⌜ (at ≤ to) × (to ≤ length (now s)) × (to ≤ 65536) ⌝ }
-    ensures { λ r. ⌜ (at ≤ r .next) × (r .next ≤ to) × (r .from ≤ r .next) × TokenAt (now (s .entry)) at to r ⌝ }
+    ensures { λ r. ⌜ (at ≤ r .next) × (r .next ≤ to) × (r .from ≤ r .next) ⌝ }
+    ensures { λ r. ⌜ Takes (now (s .entry)) at to r ⌝ }
 {
     match next_token(s, at, to) {
         Lexed::Token(word, next) => Token {
@@ -112,7 +113,9 @@ pub fn capped(a: usize, b: usize) -> usize
 }
 
 // A difference, 0 where it would be less.
-pub fn minus(a: usize, b: usize) -> usize {
+pub fn minus(a: usize, b: usize) -> usize
+    ensures { λ r. ⌜ r ≡ a - b ⌝ }
+{
     if b <= a { a - b } else { 0 }
 }
 

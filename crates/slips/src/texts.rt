@@ -37,7 +37,7 @@ fn byte_slip(s: &[u8]) -> Slip {
     counted(at_place(clause, at, at + 1), wide(s[at]), 0, 0)
 }
 
-// The slip of every refusal but 12, 13, 16 and 17.
+// The slip of every refusal but 7, 12, 13, 16 and 17.
 fn slip_on(s: &[u8], p: Spot, refusal: usize) -> Slip
     requires { ⌜ (p .line .start ≤ p .line .stop) × (p .line .stop ≤ length (now s)) × (length (now s) ≤ 65536) ⌝ }
     requires { ⌜ (p .line .number ≤ p .line .start + 1) × (1 ≤ p .line .number) ⌝ }
@@ -50,7 +50,6 @@ fn slip_on(s: &[u8], p: Spot, refusal: usize) -> Slip
         4 => key_slip(s, p),
         5 => setting_slip(s, l),
         6 => head_slip(s, l),
-        7 => pattern_slip(s, p),
         8 => line_slip(s, p),
         10 => reference_slip(s, p, refusal),
         11 => reference_slip(s, p, refusal),
@@ -66,6 +65,9 @@ pub fn find_slip(s: &[u8], refusal: usize, line: usize) -> Slip
     ensures { λ r. ⌜ Finds (now (s .entry)) refusal line r ⌝ }
 {
     let p = spot_of(s, line);
+    if refusal == 7 {
+        return pattern_slip(s, p);
+    }
     if refusal == 16 {
         return count_slip(s, p.line);
     }

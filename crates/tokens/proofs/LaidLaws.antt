@@ -43,7 +43,7 @@ laid-next n fill v words held done w f h =
 pub read-next : (s : List ℕ) (at stop : ℕ) {r : Lexed} {v next : ℕ} → r ≡ Token v next → Reads s at stop r
     → (at < next) × (next ≤ stop) × (tokenWords (tokensFrom at stop s) ≡ v ∷ tokenWords (tokensFrom next stop s))
 unfolding Reads tokenWords
-read-next s at stop e m = let g = rw e at m in (g .1, g .2, rw (g .4, g .3))
+read-next s at stop e m = let g = rw e at m in (g .1, g .2, rw (g .4 stop (g .2) (omega arith), g .3))
 
 pub read-end : (s : List ℕ) (at stop : ℕ) {r : Lexed} → r ≡ End → Reads s at stop r → tokenWords (tokensFrom at stop s) ≡ []
 unfolding Reads tokenWords

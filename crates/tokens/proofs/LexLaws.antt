@@ -1,5 +1,5 @@
 -- The tokens of a part of a text, from its first byte on.
-use Prim.Native.Nat.{ℕ, suc, _+_, _-_, _<_, _≤_}
+use Prim.Native.Nat.{ℕ, zero, suc, _+_, _-_, _<_, _≤_}
 use mathlib.Core.Path.{_≡_, refl, sym, ap, _∙_}
 use mathlib.Core.List.{List, [], _∷_, _++_}
 use mathlib.Core.Bool.{true, false, not}
@@ -79,6 +79,39 @@ split at bs =
     let l : length (take k bs) ≡ k = length-take-le k bs (plain-le bs) in
     ap (placed at) (sym (take-append-drop k bs)) ∙ placed-append at (take k bs) (drop k bs) ∙ rw l
 
+-- A shorter text has as many in front, if they all stand in it.
+plain-within : (m : ℕ) (bs : List ℕ) → plainLength bs ≤ m → plainLength (take m bs) ≡ plainLength bs
+unfolding plainLength if_then_else_
+plain-within zero [] h = refl
+plain-within (suc m) [] h = refl
+plain-within zero (b ∷ bs) h = omega arith
+plain-within (suc m) (b ∷ bs) h =
+    by-cases
+    (isPlain b)
+    (λ e. let g : suc (plainLength bs) ≤ suc m = rw e at h in rw e (ap suc (plain-within m bs (omega arith))))
+    (λ e. rw e refl)
+
+blanks-within : (m : ℕ) (bs : List ℕ) → frontBlanks bs ≤ m → frontBlanks (take m bs) ≡ frontBlanks bs
+unfolding frontBlanks if_then_else_
+blanks-within zero [] h = refl
+blanks-within (suc m) [] h = refl
+blanks-within zero (b ∷ bs) h = omega arith
+blanks-within (suc m) (b ∷ bs) h =
+    by-cases
+    (text.blank b)
+    (λ e. let g : suc (frontBlanks bs) ≤ suc m = rw e at h in rw e (ap suc (blanks-within m bs (omega arith))))
+    (λ e. rw e refl)
+
+module _ (s : List ℕ) (at stop to : ℕ) (h : to ≤ stop) where
+  shorter : part at to s ≡ take (to - at) (part at stop s)
+  shorter = sym (take-take (to - at) (stop - at) (drop at s) (omega arith))
+
+  pub plain-sooner : (k : ℕ) → at + k ≤ to → k ≡ plainLength (part at stop s) → k ≡ plainLength (part at to s)
+  plain-sooner k g e = rw shorter (e ∙ sym (plain-within (to - at) (part at stop s) (omega arith)))
+
+  blanks-sooner : (f : ℕ) → at + f ≤ to → f ≡ frontBlanks (part at stop s) → f ≡ frontBlanks (part at to s)
+  blanks-sooner f g e = rw shorter (e ∙ sym (blanks-within (to - at) (part at stop s) (omega arith)))
+
 -- A text read behind its plain bytes.
 lexed-run : (at : ℕ) (bs : List ℕ)
     → lexed (placed at bs) ≡ record { front = placed at (take (plainLength bs) bs); rest = tokens (placed (at + plainLength bs) (drop (plainLength bs) bs)) }
@@ -148,8 +181,12 @@ blanks-end (b ∷ bs) h = by-cases (text.blank b) (λ e. rw e (blanks-end bs (la
     later e = let g : suc (frontBlanks bs) < length (b ∷ bs) = rw e at h in omega arith
 
 module _ (s : List ℕ) (at stop f : ℕ) (e : f ≡ frontBlanks (part at stop s)) where
-  pub blanks-passed : tokensFrom at stop s ≡ tokensFrom (at + f) stop s
-  blanks-passed = tokens-blanks at (part at stop s) ∙ rw (← e, part-drop s at stop f)
+  pub blanks-passed : (to : ℕ) → at + f ≤ to → to ≤ stop → tokensFrom at to s ≡ tokensFrom (at + f) to s
+  blanks-passed to g h = tokens-blanks at (part at to s) ∙ rw (← (blanks-sooner s at stop to h f g e), part-drop s at to f)
+
+  pub blanks-all : stop ≤ at + f → tokensFrom at stop s ≡ []
+  unfolding placed tokens lexed word
+  blanks-all h = tokens-blanks at (part at stop s) ∙ rw (← e, part-drop s at stop f, part-none s (at + f) stop h)
 
   pub blanks-over : at + f < stop → stop ≤ length s → text.blank (getD s (at + f) 0) ≡ false
   blanks-over h l =

@@ -42,10 +42,12 @@ plainLength (b ∷ bs) = if isPlain b then suc (plainLength bs) else 0
 abbrev pub tokensFrom : ℕ → ℕ → List ℕ → List songcode.Token
 tokensFrom at stop s = tokens (placed at (part at stop s))
 
--- What the code finds at a place: the word of the first token and where the next may begin, or that no token is left.
+-- What the code finds at a place: the word of the first token and where the next may begin, or that no token is left. Wherever the part ends, from
+-- there on, the token is the same.
 unfoldable pub Reads : List ℕ → ℕ → ℕ → Lexed → Type 0
 Reads s at stop (Token w n) =
-    (t : songcode.Token) × (at < n) × (n ≤ stop) × (w ≡ tokenWord t) × (tokensFrom at stop s ≡ t ∷ tokensFrom n stop s)
+    (t : songcode.Token) × (at < n) × (n ≤ stop) × (w ≡ tokenWord t)
+    × ((to : ℕ) → n ≤ to → to ≤ stop → tokensFrom at to s ≡ t ∷ tokensFrom n to s)
 Reads s at stop End = tokensFrom at stop s ≡ []
 
 -- A table with new words from a place on; before and behind them it keeps what it held.

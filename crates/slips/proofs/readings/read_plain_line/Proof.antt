@@ -1,5 +1,5 @@
 -- Token by token: the tokens read so far and those that are left are those of the line.
-use Prim.Native.Nat.{_-_, _<_, _≤_}
+use Prim.Native.Nat.{_-_, _≤_}
 use mathlib.Core.Path.{sym, subst}
 use mathlib.Core.List.{List, [], _∷_, _++_, append-assoc, append-nil}
 use native.Mathlib.Omega.{arith}
@@ -26,8 +26,8 @@ returns c =
     let q = c .before .before .before .before .before in
     let a = q .before .before .args in
     let i = q .loop .inv .1 in
-    let h = c .before .before .before .token-from .ensures .3 in
-    let n = marked-none (a .s .now) (q .loop .at) (a .to) (h .none (c .before .if1 .taken)) in
+    let h = c .before .before .before .token-from .ensures .1 in
+    let n = marked-none (a .s .now) (q .loop .at) (a .to) (h .over (c .before .if1 .taken)) in
     record {
       marks = i .0;
       marked = subst (Marked (a .s .now) (a .from) (a .to)) (append-nil (i .0)) (i .2 [] n);
@@ -43,20 +43,19 @@ loop-again c =
     let i = q .loop .inv .1 in
     let t = c .before .before .before .before .token-from in
     let e = t .ensures in
-    let l = e .0 in
-    let k = e .1 in
+    let l = e .0 .0 in
+    let k = e .0 .1 in
     let n = c .before .before .if1 .left in
-    let lt : at < t .result .next = omega arith in
-    let p : at ≤ a .to = omega arith in
-    let d = mark s at (a .to) p (omega arith) (omega arith) (t .result) (e .3) lt k in (
+    let h = e .1 .there (omega arith) in
+    let d = mark s at (a .to) (omega arith) (t .result) h k in (
       omega arith,
       (
         i .0 ++ (d ∷ []),
-        follows-both (i .1) (follows-token s at (a .to) p (omega arith) (omega arith) (t .result) (e .3) lt k (c .before .sign-of .ensures)
+        follows-both (i .1) (follows-token s at (a .to) (omega arith) (t .result) h k (c .before .sign-of .ensures)
             (c .read-token2 .ensures)),
         λ ms m.
             subst (Marked s (a .from) (a .to)) (sym (append-assoc (i .0) (d ∷ []) ms))
-            (i .2 (d ∷ ms) (marked-more s at (a .to) p (omega arith) (omega arith) (t .result) (e .3) lt k ms m)),
+            (i .2 (d ∷ ms) (marked-more s at (a .to) (omega arith) (t .result) h k ms m)),
       ),
     )
 

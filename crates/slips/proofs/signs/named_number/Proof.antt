@@ -21,7 +21,7 @@ returns-2 c =
     let t = c .before .before .before .token-from in
     let e = t .ensures in
     let some = c .before .before .before .before .before .if1 .left in
-    names-nothing s (q .args .run) some f (f .stop) (omega arith) small inside (t .result) (e .3) (c .if2 .taken)
+    names-nothing s (q .args .run) some f inside (t .ensures .1 .over (c .if2 .taken))
 
 returns-3 : tie.Need-returns-3
 returns-3 c =
@@ -35,10 +35,10 @@ returns-3 c =
     let t = c .before .before .before .before .before .before .token-from in
     let e = t .ensures in
     let some = c .before .before .before .before .before .before .before .before .if1 .left in
-    let l = e .0 in
+    let l = e .0 .0 in
     let d = c .before .before .before .if2 .left in
     c .number-of .ensures
-    ∙ names-some s (q .args .run) some f (f .stop) (omega arith) small inside (t .result) (e .3) (omega arith)
+    ∙ names-some s (q .args .run) some f inside (t .result) (e .1 .there (omega arith)) (e .0 .1)
     (sym (c .before .before .sign-of .ensures) ∙ c .before .if3 .taken)
 
 returns-4 : tie.Need-returns-4
@@ -53,9 +53,9 @@ returns-4 c =
     let t = c .before .before .before .before .before .token-from in
     let e = t .ensures in
     let some = c .before .before .before .before .before .before .before .if1 .left in
-    let l = e .0 in
+    let l = e .0 .0 in
     let d = c .before .before .if2 .left in
-    names-none s (q .args .run) some f (f .stop) (omega arith) small inside (t .result) (e .3) (omega arith)
+    names-none s (q .args .run) some f inside (t .result) (e .1 .there (omega arith)) (e .0 .1)
     (λ k. c .if3 .left (c .before .sign-of .ensures ∙ k))
 
 pub named-number-spec : {M : Type 1} → statement M

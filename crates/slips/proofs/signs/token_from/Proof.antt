@@ -1,6 +1,7 @@
 use lib.ListN.{length-take, length-drop}
 use native.Mathlib.Omega.{arith}
-use Rattle.slips.proofs.TokenLaws.{token-ends, token-there, token-none}
+use mathlib.Core.Path.{refl}
+use Rattle.slips.proofs.TokenLaws.{token-ends, takes-one, takes-none}
 use borrow.Author.Needs.{needs}
 use Rattle.slips.proofs.signs.token_from.Statement.{statement}
 use Rattle.slips.proofs.signs.token_from.Tie as tie
@@ -37,18 +38,20 @@ returns c =
     let a = e .0 in
     let b = e .1 in
     let f = c .front-blanks .ensures .1 in
-    let g = simp (length-take, length-drop) at f in
-    let h = c .before .before .before .before .before .next-token .ensures in (
-      omega arith,
-      omega arith,
-      omega arith,
-      token-there (q .args .s .now) (q .args .at) (q .args .to) h (c .before .before .before .word .given .1) (c .front-blanks .ensures .0),
+    let g = simp (length-take, length-drop) at f in (
+      (omega arith, omega arith, omega arith),
+      takes-one (q .args .s .now) (q .args .at) (q .args .to) (q .pre .0) (q .pre .1) (q .pre .2)
+          (c .before .before .before .before .before .next-token .ensures) (c .before .before .before .word .given .1) (c .front-blanks .result)
+          (c .front-blanks .ensures .0),
     )
 
 returns-2 : tie.Need-returns-2
 returns-2 c =
-    let a = c .before .before .before .before .args in
-    (omega arith, omega arith, omega arith, token-none (a .s .now) (a .at) (a .to) (c .before .before .next-token .ensures) (c .enum-told .given .1))
+    let q = c .before .before .before .before in (
+      (omega arith, omega arith, omega arith),
+      takes-none (q .args .s .now) (q .args .at) (q .args .to) (q .pre .0) (q .pre .1) (q .pre .2) (c .before .before .next-token .ensures)
+          (c .enum-told .given .1) refl,
+    )
 
 pub token-from-spec : {M : Type 1} → statement M
 token-from-spec =

@@ -1,5 +1,6 @@
 -- Behind the blanks the first byte tells the token: a case for each sign, and one for a word.
-use Rattle.tokens.proofs.LexLaws.{blanks-passed, blanks-over, tokens-over, at-semicolon, at-colon, at-bracket, at-closing, at-word, plain-byte}
+use Rattle.tokens.proofs.LexLaws.{blanks-passed, blanks-all, blanks-over, at-semicolon, at-colon, at-bracket, at-closing, at-word}
+use Rattle.tokens.proofs.LexLaws.{plain-byte, plain-sooner}
 use Rattle.tokens.specs.Lexing.{Reads}
 use Rattle.tokens.specs.TokenWords.{tokenWord}
 use Rattle.songcode.specs.Bytes.{placed}
@@ -23,8 +24,7 @@ returns c =
     let f = c .before .front-blanks .result in
     let a = i .at + f in
     let n = part-length s (i .at) (i .stop) (omega arith) in
-    let passed = blanks-passed s (i .at) (i .stop) f (c .before .front-blanks .ensures .0) in
-    passed ∙ tokens-over s a (i .stop) (c .if1 .taken)
+    blanks-all s (i .at) (i .stop) f (c .before .front-blanks .ensures .0) (c .if1 .taken)
 
 returns-2 : tie.Need-returns-2
 unfolding Reads tokenWord
@@ -35,7 +35,7 @@ returns-2 c =
     let a = i .at + f in
     let n = part-length s (i .at) (i .stop) (omega arith) in
     let passed = blanks-passed s (i .at) (i .stop) f (c .before .before .before .front-blanks .ensures .0) in
-    (semicolon, omega arith, omega arith, refl, passed ∙ at-semicolon s a (i .stop) (omega arith) (omega arith) (c .if2 .taken))
+    (semicolon, omega arith, omega arith, refl, λ to g h. passed to (omega arith) h ∙ at-semicolon s a to (omega arith) (omega arith) (c .if2 .taken))
 
 returns-3 : tie.Need-returns-3
 unfolding Reads tokenWord
@@ -46,7 +46,7 @@ returns-3 c =
     let a = i .at + f in
     let n = part-length s (i .at) (i .stop) (omega arith) in
     let passed = blanks-passed s (i .at) (i .stop) f (c .before .before .before .before .front-blanks .ensures .0) in
-    (colon, omega arith, omega arith, refl, passed ∙ at-colon s a (i .stop) (omega arith) (omega arith) (c .if3 .taken))
+    (colon, omega arith, omega arith, refl, λ to g h. passed to (omega arith) h ∙ at-colon s a to (omega arith) (omega arith) (c .if3 .taken))
 
 returns-4 : tie.Need-returns-4
 unfolding Reads tokenWord
@@ -57,7 +57,7 @@ returns-4 c =
     let a = i .at + f in
     let n = part-length s (i .at) (i .stop) (omega arith) in
     let passed = blanks-passed s (i .at) (i .stop) f (c .before .before .before .before .before .front-blanks .ensures .0) in
-    (opens, omega arith, omega arith, refl, passed ∙ at-bracket s a (i .stop) (omega arith) (omega arith) (c .if4 .taken))
+    (opens, omega arith, omega arith, refl, λ to g h. passed to (omega arith) h ∙ at-bracket s a to (omega arith) (omega arith) (c .if4 .taken))
 
 returns-5 : tie.Need-returns-5
 unfolding Reads
@@ -76,7 +76,8 @@ returns-5 c =
       omega arith,
       omega arith,
       c .closing-token .ensures,
-      passed ∙ at-closing s a (i .stop) (omega arith) (omega arith) k (p .0) (c .before .before .if5 .taken),
+      λ to g h. passed to (omega arith) h ∙ at-closing s a to (omega arith) (omega arith) k (plain-sooner s (a + 1) (i .stop) to h k g (p .0))
+          (c .before .before .if5 .taken),
     )
 
 returns-6 : tie.Need-returns-6
@@ -99,7 +100,7 @@ returns-6 c =
       omega arith,
       omega arith,
       c .word-token .ensures,
-      passed ∙ at-word s a (i .stop) (omega arith) (omega arith) k (p .0) b,
+      λ to g h. passed to (omega arith) h ∙ at-word s a to (omega arith) (omega arith) k (plain-sooner s (a + 1) (i .stop) to h k g (p .0)) b,
     )
 
 pub next-token-spec : {M : Type 1} → statement M

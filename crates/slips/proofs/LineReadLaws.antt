@@ -1,0 +1,160 @@
+-- A line of pattern text, read token by token.
+use Prim.Native.Nat.{ℕ, _≤_}
+use mathlib.Core.Path.{_≡_, refl, sym, ap, subst, _∙_}
+use mathlib.Core.Logic.{inl, inr}
+use mathlib.Core.List.{List, [], _∷_, _++_, append-nil, append-assoc}
+use native.Mathlib.Omega.{arith}
+use Rattle.songcode.specs.answer.Lines.{Line}
+use Rattle.songcode.specs.answer.Tokens as songcode
+use Rattle.tokens.specs.TokenWords.{tokenWord}
+use Rattle.tokens.specs.Fitting.{Fit}
+use Rattle.tokens.specs.Lexing.{tokensFrom}
+use Rattle.tokens.proofs.LexLaws.{tokens-over}
+use Rattle.slips.specs.declared.patterns.Whose.{Whose}
+use Rattle.slips.specs.declared.patterns.Reading.{Reading}
+use Rattle.slips.specs.declared.signs.Token.{Token}
+use Rattle.slips.specs.Taken.{TokenAt}
+use Rattle.slips.specs.Rules.{upTo, RuledIn, Going, Steps, Reads}
+use Rattle.slips.proofs.CutLaws.{lines, refuses-token}
+
+-- The line up to a place: no word is cut there, and the reading has come so far, or has stopped.
+pub record InLine (s : List ℕ) (w : Whose) (from to : ℕ) (r₀ r : Reading) (at : ℕ) : Type 0 where
+  pub begins : from ≤ at
+  pub ends : at ≤ to
+  pub split : (k : ℕ) → at ≤ k → k ≤ to → tokensFrom from k s ≡ tokensFrom from at s ++ tokensFrom at k s
+  pub kept : (r₀ .clause ≡ 0 → ⊥) → r ≡ r₀
+  pub read : (passed rest : List Line) (n : ℕ) → Going w (upTo passed) from r₀
+      → Reads s w (lines s w passed rest n from to) (upTo passed ++ tokensFrom from at s) at r
+
+-- A reading that goes on does so at every later place, and with the same tokens told otherwise.
+pub later : {w : Whose} {ts us : List songcode.Token} {at to : ℕ} {r : Reading} → ts ≡ us → at ≤ to → Going w ts at r → Going w us to r
+later {w} {ts} {us} {at} {to} {r} e h g =
+    subst (λ (vs : List songcode.Token). Going w vs to r) e
+    (record {
+      unblamed = g .unblamed;
+      check = g .check;
+      free = g .free;
+      unbarred = g .unbarred;
+      behind = let b = g .behind in omega arith;
+      opened = let o = g .opened in omega arith;
+    })
+
+module _ (s : List ℕ) (w : Whose) (from to : ℕ) (h : from ≤ to) (r : Reading) where
+  pub line-begun : InLine s w from to r r from
+  line-begun =
+      let none = tokens-over s from from (omega arith) in
+      record {
+        begins = omega arith;
+        ends = h;
+        split = λ k i j. sym (ap (λ (ts : List songcode.Token). ts ++ tokensFrom from k s) none);
+        kept = λ n. refl;
+        read =
+            λ passed rest n g.
+            inl (later (sym (append-nil (upTo passed)) ∙ ap (λ (ts : List songcode.Token). upTo passed ++ ts) (sym none)) (omega arith) g);
+      }
+
+module _ {s : List ℕ} {w : Whose} {from to : ℕ} {r₀ r : Reading} {at : ℕ} (i : InLine s w from to r₀ r at) where
+  -- One more token.
+  module _ (tok : Token) (t : TokenAt s at to tok) (e : tok .next ≤ to) (x : Reading) (kept : (r .clause ≡ 0 → ⊥) → x ≡ r)
+      (step : (ts : List songcode.Token) (a : ℕ) (u : songcode.Token) → Fit u → tok .word ≡ tokenWord u → a ≤ tok .from → Going w ts a r
+      → Steps w ts u (tok .from) (tok .next) x) where
+    abbrev here : ℕ
+    here = tok .from
+
+    abbrev next : ℕ
+    next = tok .next
+
+    -- The tokens up to the next place, and up to this token.
+    up-to-next : tokensFrom from next s ≡ tokensFrom from at s ++ (t .token ∷ [])
+    up-to-next =
+        let a = t .begins in
+        let b = t .solid in
+        i .split next (omega arith) e
+        ∙ ap (λ (ts : List songcode.Token). tokensFrom from at s ++ ts)
+        (t .first next (omega arith) e ∙ ap (λ (ts : List songcode.Token). t .token ∷ ts) (tokens-over s next next (omega arith)))
+
+    up-to-here : tokensFrom from here s ≡ tokensFrom from at s
+    up-to-here =
+        let a = t .begins in
+        let b = t .solid in
+        i .split here (omega arith) (omega arith)
+        ∙ (ap (λ (ts : List songcode.Token). tokensFrom from at s ++ ts) (t .blanks here (omega arith) (omega arith) ∙ tokens-over s here here (omega arith))
+        ∙ append-nil (tokensFrom from at s))
+
+    split-next : (k : ℕ) → next ≤ k → k ≤ to → tokensFrom from k s ≡ tokensFrom from next s ++ tokensFrom next k s
+    split-next k p q =
+        let a = t .begins in
+        let b = t .solid in
+        i .split k (omega arith) q
+        ∙ (ap (λ (ts : List songcode.Token). tokensFrom from at s ++ ts) (t .first k p q)
+        ∙ (sym (append-assoc (tokensFrom from at s) (t .token ∷ []) (tokensFrom next k s))
+        ∙ ap (λ (ts : List songcode.Token). ts ++ tokensFrom next k s) (sym up-to-next)))
+
+    split-here : tokensFrom from to s ≡ tokensFrom from here s ++ tokensFrom here to s
+    split-here =
+        let b = t .solid in
+        i .split to (i .ends) (omega arith)
+        ∙ (ap (λ (ts : List songcode.Token). tokensFrom from at s ++ ts) (t .blanks to (omega arith) (omega arith))
+        ∙ ap (λ (ts : List songcode.Token). ts ++ tokensFrom here to s) (sym up-to-here))
+
+    token-here : tokensFrom here to s ≡ t .token ∷ tokensFrom next to s
+    token-here = let b = t .solid in sym (t .blanks to (omega arith) (omega arith)) ∙ t .first to e (omega arith)
+
+    module _ (passed rest : List Line) (n : ℕ) where
+      abbrev so-far : List songcode.Token
+      so-far = upTo passed ++ tokensFrom from at s
+
+      stepped : Steps w so-far (t .token) here next x
+          → Reads s w (lines s w passed rest n from to) (upTo passed ++ tokensFrom from next s) next x
+      stepped (inl g) =
+          inl
+          (later
+          (append-assoc (upTo passed) (tokensFrom from at s) (t .token ∷ []) ∙ ap (λ (ts : List songcode.Token). upTo passed ++ ts) (sym up-to-next))
+          (omega arith) g)
+      stepped (inr f) =
+          let a = i .begins in
+          let b = t .begins in
+          let c = t .solid in
+          inr
+          (refuses-token s w passed rest n from to here (omega arith) (omega arith) split-here so-far
+          (ap (λ (ts : List songcode.Token). upTo passed ++ ts) (sym up-to-here)) (t .token) (tokensFrom next to s) token-here x f)
+
+      read-next : Reads s w (lines s w passed rest n from to) so-far at r
+          → Reads s w (lines s w passed rest n from to) (upTo passed ++ tokensFrom from next s) next x
+      read-next (inl g) = let a = t .begins in stepped (step so-far at (t .token) (t .fits) (t .word) (omega arith) g)
+      read-next (inr f) =
+          let same : x ≡ r = kept (λ z. let m = f .told .named .0 in let y : ⊥ = omega arith in y) in
+          inr (subst (λ (y : Reading). RuledIn s w (lines s w passed rest n from to) (y .clause) (y .spot)) (sym same) f)
+
+    pub line-more : InLine s w from to r₀ x next
+    line-more =
+        let a = i .begins in
+        let b = t .begins in
+        let c = t .solid in
+        record {
+          begins = omega arith;
+          ends = e;
+          split = split-next;
+          kept = λ z. kept (subst (λ (y : Reading). y .clause ≡ 0 → ⊥) (sym (i .kept z)) z) ∙ i .kept z;
+          read = λ passed rest n g. read-next passed rest n (i .read passed rest n g);
+        }
+
+  -- No token is left.
+  abbrev pub Done : Type 0
+  Done = ((r₀ .clause ≡ 0 → ⊥) → r ≡ r₀)
+      × ((passed rest : List Line) (n : ℕ) → Going w (upTo passed) from r₀
+      → Reads s w (lines s w passed rest n from to) (upTo passed ++ tokensFrom from to s) to r)
+
+  pub line-done : tokensFrom at to s ≡ [] → Done
+  line-done e = (i .kept, λ passed rest n g. go passed rest n (i .read passed rest n g))
+    where
+      whole : tokensFrom from to s ≡ tokensFrom from at s
+      whole = i .split to (i .ends) (omega arith) ∙ (ap (λ (ts : List songcode.Token). tokensFrom from at s ++ ts) e ∙ append-nil (tokensFrom from at s))
+
+      go : (passed rest : List Line) (n : ℕ) → Reads s w (lines s w passed rest n from to) (upTo passed ++ tokensFrom from at s) at r
+          → Reads s w (lines s w passed rest n from to) (upTo passed ++ tokensFrom from to s) to r
+      go passed rest n (inl g) = inl (later (ap (λ (ts : List songcode.Token). upTo passed ++ ts) (sym whole)) (i .ends) g)
+      go passed rest n (inr f) = inr f
+
+  pub line-over : to ≤ at → Done
+  line-over h = line-done (tokens-over s at to h)

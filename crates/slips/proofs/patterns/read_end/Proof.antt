@@ -1,0 +1,37 @@
+use mathlib.Core.Path.{refl}
+use native.Mathlib.Omega.{arith}
+use Rattle.slips.proofs.ReadingLaws.{told-earlier, told-as}
+use borrow.Author.Needs.{needs}
+use Rattle.slips.proofs.patterns.read_end.Statement.{statement}
+use Rattle.slips.proofs.patterns.read_end.Tie as tie
+
+returns : tie.Need-returns
+returns c = (λ n. refl, λ at z f o. absurd (c .if1 .taken z))
+
+returns-2 : tie.Need-returns-2
+returns-2 c =
+    let k = c .before .before .before .before .before .end-clause .ensures in (
+      λ n. absurd (n (c .before .before .before .before .before .before .if1 .left)),
+      λ at z f o. told-as at (c .blamed .result) (c .blamed .ensures)
+          (told-earlier (k .0, k .1) (k .2) o),
+    )
+
+returns-3 : tie.Need-returns-3
+returns-3 c = (
+  λ n. absurd (n (c .before .before .before .before .before .if1 .left)),
+  λ at z f o. told-as at (c .blamed2 .result) (c .blamed2 .ensures) (told-earlier (omega arith, omega arith) refl f),
+)
+
+returns-4 : tie.Need-returns-4
+returns-4 c =
+    let k = c .before .before .before .before .end-clause .ensures in (
+      λ n. absurd (n (c .before .before .before .before .before .if1 .left)),
+      λ at z f o. told-as at (c .blamed3 .result) (c .blamed3 .ensures)
+          (told-earlier (k .0, k .1) (k .2) f),
+    )
+
+pub read-end-spec : {M : Type 1} → statement M
+read-end-spec =
+    tie.close
+    (tie.spec returns (λ c κs. search needs) (λ c κs. search needs) (λ c κs. search needs) returns-2 (λ c κs. search needs) returns-3
+    (λ c κs. search needs) returns-4)
