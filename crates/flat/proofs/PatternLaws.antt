@@ -18,6 +18,7 @@ use Rattle.packing.specs.declared.fields.MeasureFields.{MeasureFields}
 use Rattle.packing.specs.Fields.{HoldsMeasure}
 use Rattle.player.specs.declared.playing.Counts.{Counts}
 use Rattle.player.specs.Windows.{window, flat, heads}
+use Rattle.player.specs.Arrangements.{Plays}
 use Rattle.player.proofs.ShortLaws.{Short, total-short, short-row}
 use Rattle.player.proofs.WindowLaws.{length-flat, length-heads, total-window}
 use Rattle.player.proofs.PartLaws.{PartOf, part-of, filled-window, filled-section, short-window, short-section, part-goes-on, heads-at, beats-at}
@@ -25,7 +26,7 @@ use Rattle.player.proofs.SectionLaws.{section-beats}
 use Rattle.sections.specs.declared.values.Modifiers.{Modifiers}
 use Rattle.laying.specs.declared.texts.Texts.{Texts}
 use Rattle.judging.specs.Lengths.{cutOrNone}
-use Rattle.judging.specs.Sums.{rowOfTexts, PlaysWithin}
+use Rattle.judging.specs.Sums.{rowOfTexts, TextsWithin}
 use Rattle.flat.specs.Sheets.{Sheet, puts}
 use Rattle.flat.specs.Measures.{beatsIn, measureLine, measureLines, patternLines, Lent}
 use Rattle.flat.proofs.SheetLaws.{puts-append, puts-full}
@@ -233,7 +234,7 @@ module _ (s : List ℕ) (n : ℕ) (row : List (List ℕ)) (filled : Filled row) 
           )
 
 -- What is known of the row of a section that plays within the tables.
-module _ (ws : List ℕ) (n : ℕ) (t : Texts) (m : Modifiers) (h : PlaysWithin ws n t m 0) where
+module _ (ws : List ℕ) (n : ℕ) (t : Texts) (m : Modifiers) (h : TextsWithin ws n t m 0) where
   pub texts-filled : Filled (rowOfTexts ws n t m)
   unfolding rowOfTexts
   texts-filled = filled-section _ _ (m .repeat) _ _ _
@@ -241,13 +242,13 @@ module _ (ws : List ℕ) (n : ℕ) (t : Texts) (m : Modifiers) (h : PlaysWithin 
   pub texts-short : Short (rowOfTexts ws n t m)
   unfolding rowOfTexts
   texts-short =
-      let f = short-row n ws (h .meter) in
+      let f = short-row n ws (h .countable .meter) in
       short-section _ _ (m .repeat) _ _ _ (f (t .lead .at)) (f (t .pattern .at)) (f (t .tail .at))
 
   pub texts-total : total (rowOfTexts ws n t m) ≤ 2097120
   unfolding rowOfTexts
   texts-total =
-      let f = short-row n ws (h .meter) in
+      let f = short-row n ws (h .countable .meter) in
       let b = section-beats (cutOrNone (m .front)) (cutOrNone (m .back)) (m .repeat) _ _ _ (f (t .lead .at)) (f (t .pattern .at)) (f (t .tail .at)) in
       omega (arith, h .room)
 
@@ -262,44 +263,45 @@ pub record Told (s : List ℕ) (n : ℕ) (row : List (List ℕ)) (ms bs ms' bs' 
   pub short : Short row
   pub lent : Lent ms bs
   pub stands : Stands s n row from x goal
-  pub counts : (c .measures ≡ length (window from (length bs) row)) × (c .beats ≡ total (window from (length bs) row))
-  pub measures : ms' ≡ sets ms 0 (heads 0 (window from (length bs) row))
-  pub beats : bs' ≡ sets bs 0 (flat (window from (length bs) row))
+  pub plays : Plays (window from (length bs) row) 0 c ms bs ms' bs'
 
 module _ {s : List ℕ} {n : ℕ} {row : List (List ℕ)} {ms bs ms' bs' : List ℕ} {from : ℕ} {c : Counts} {x goal : Sheet}
     (t : Told s n row ms bs ms' bs' from c x goal) where
   pub told-measures : length ms' ≡ length ms
-  told-measures = ap length (t .measures) ∙ length-sets ms 0 (heads 0 (window from (length bs) row))
+  told-measures = ap length (t .plays .measureTable) ∙ length-sets ms 0 (heads 0 (window from (length bs) row))
 
   pub told-beats : length bs' ≡ length bs
-  told-beats = ap length (t .beats) ∙ length-sets bs 0 (flat (window from (length bs) row))
+  told-beats = ap length (t .plays .beatTable) ∙ length-sets bs 0 (flat (window from (length bs) row))
 
   pub told-few : (c .measures ≤ length ms') × (c .measures ≤ 65536)
   told-few =
       let f = stands-few s n row (t .filled) (t .short) (length bs) (t .lent .two) from x goal (t .stands) in
       let e = told-measures in
-      (omega (arith, t .lent .enough, t .counts .0), omega (arith, t .lent .few, t .counts .0))
+      (omega (arith, t .lent .enough, t .plays .measures), omega (arith, t .lent .few, t .plays .measures))
 
   pub told-none : (y : Sheet) → c .measures ≡ 0 → y ≡ puts (36 ∷ 49 ∷ 10 ∷ []) x → y ≡ goal
-  told-none y e d = stands-none s n row (t .filled) (t .short) (length bs) (t .lent .two) from x y goal (t .stands) (sym (t .counts .0) ∙ e) d
+  told-none y e d = stands-none s n row (t .filled) (t .short) (length bs) (t .lent .two) from x y goal (t .stands) (sym (t .plays .measures) ∙ e) d
 
   pub told-last : (y : Sheet) → (c .measures ≡ 0 → ⊥) → c .beats < length bs'
       → y ≡ puts (measureLines s n (map (beatsIn bs') (take (c .measures) ms'))) x → y ≡ goal
   told-last y some less d =
       let e = told-beats in
-      stands-last s n row (t .filled) (t .short) (length bs) (t .lent .two) ms bs ms' bs' from (t .lent .enough) refl (t .lent .few) (t .measures) (t .beats)
-      x y goal (c .measures) (t .stands) (t .counts .0) some (omega (arith, t .counts .1)) d
+      stands-last s n row (t .filled) (t .short) (length bs) (t .lent .two) ms bs ms' bs' from (t .lent .enough) refl (t .lent .few)
+      (t .plays .measureTable) (t .plays .beatTable)
+      x y goal (c .measures) (t .stands) (t .plays .measures) some (omega (arith, t .plays .beats)) d
 
   module _ (y : Sheet) (full : length bs' ≤ c .beats) (d : y ≡ puts (measureLines s n (map (beatsIn bs') (take (c .measures - 1) ms'))) x) where
     all-beats : length bs ≤ total (window from (length bs) row)
-    all-beats = let e = told-beats in omega (arith, t .counts .1)
+    all-beats = let e = told-beats in omega (arith, t .plays .beats)
 
     pub told-over : 65536 < y .at → y ≡ goal
     told-over =
-        stands-over s n row (t .filled) (t .short) (length bs) (t .lent .two) ms bs ms' bs' from (t .lent .enough) refl (t .lent .few) (t .measures) (t .beats)
-        x y goal (c .measures) (t .stands) (t .counts .0) all-beats d
+        stands-over s n row (t .filled) (t .short) (length bs) (t .lent .two) ms bs ms' bs' from (t .lent .enough) refl (t .lent .few)
+        (t .plays .measureTable) (t .plays .beatTable)
+        x y goal (c .measures) (t .stands) (t .plays .measures) all-beats d
 
     pub told-next : (m : MeasureFields) → HoldsMeasure (getD ms' (c .measures - 1) 0) m → Stands s n row (from + m .first) y goal × (1 ≤ m .first)
     told-next =
-        stands-next s n row (t .filled) (t .short) (length bs) (t .lent .two) ms bs ms' bs' from (t .lent .enough) refl (t .lent .few) (t .measures) (t .beats)
-        x y goal (c .measures) (t .stands) (t .counts .0) all-beats d
+        stands-next s n row (t .filled) (t .short) (length bs) (t .lent .two) ms bs ms' bs' from (t .lent .enough) refl (t .lent .few)
+        (t .plays .measureTable) (t .plays .beatTable)
+        x y goal (c .measures) (t .stands) (t .plays .measures) all-beats d

@@ -1,16 +1,14 @@
 // A section played a part at a time.
-use judging::cut_or_none;
+use judging::arrangement;
 use laying::Texts;
 use player::Counts;
 use player::play_part;
 use sections::Modifiers;
-ghost use mathlib.Core.Path.{_≡_};
 ghost use Prim.Native.Nat.{_≤_};
 ghost use lib.ListN.{length};
-ghost use lib.Seq.{sets};
-ghost use Rattle.player.specs.Windows.{flat, heads};
-ghost use Rattle.judging.specs.Sums.{PlaysWithin};
-ghost use Rattle.flat.specs.Parts.{partOfTexts, Counted};
+ghost use Rattle.player.specs.Windows.{window};
+ghost use Rattle.player.specs.Arrangements.{Plays};
+ghost use Rattle.judging.specs.Sums.{rowOfTexts, TextsWithin};
 
 // The part of a section from a beat on that the lent table of beats has room for, its first beat at 0.
 pub fn part_of(
@@ -22,29 +20,9 @@ pub fn part_of(
     measures: &mut [u32],
     beats: &mut [u32],
 ) -> Counts
-    requires { ⌜ PlaysWithin (now words) n t m 0 × (from ≤ 2097120) ⌝ }
-    ensures counts { λ r. ⌜ Counted r (partOfTexts (now (words .entry)) n t m from (length (now (beats .entry)))) ⌝ }
-    ensures measures { λ r. ⌜ now (measures .exit) ≡ sets (now (measures .entry)) 0
-        (heads 0 (partOfTexts (now (words .entry)) n t m from (length (now (beats .entry))))) ⌝ }
-    ensures beats { λ r. ⌜ now (beats .exit) ≡ sets (now (beats .entry)) 0
-        (flat (partOfTexts (now (words .entry)) n t m from (length (now (beats .entry))))) ⌝ }
+    requires { ⌜ TextsWithin (now words) n t m 0 × (from ≤ 2097120) ⌝ }
+    ensures { λ r. ⌜ Plays (window from (length (now (beats .entry))) (rowOfTexts (now (words .entry)) n t m)) 0 r
+        (now (measures .entry)) (now (beats .entry)) (now (measures .exit)) (now (beats .exit)) ⌝ }
 {
-    let lead = t.lead;
-    let pattern = t.pattern;
-    let tail = t.tail;
-    let front = m.front;
-    let back = m.back;
-    play_part(
-        words,
-        n,
-        lead.at,
-        pattern.at,
-        tail.at,
-        m.repeat,
-        cut_or_none(front),
-        cut_or_none(back),
-        from,
-        measures,
-        beats,
-    )
+    play_part(words, arrangement(n, t, m), from, measures, beats)
 }

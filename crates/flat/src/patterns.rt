@@ -5,7 +5,7 @@ use super::sheets::put_part;
 use laying::Texts;
 use packing::measure_of;
 use sections::Modifiers;
-ghost use Rattle.judging.specs.Sums.{rowOfTexts, PlaysWithin};
+ghost use Rattle.judging.specs.Sums.{rowOfTexts, TextsWithin};
 ghost use Rattle.flat.specs.Sheets.{Adds};
 ghost use Rattle.flat.specs.Measures.{patternLines, Lent};
 
@@ -21,7 +21,7 @@ pub fn put_pattern(
     copy: &mut [u8],
     at: usize,
 ) -> usize
-    requires { ⌜ PlaysWithin (now words) n t m 0 × Lent (now measures) (now beats) ⌝ }
+    requires { ⌜ TextsWithin (now words) n t m 0 × Lent (now measures) (now beats) ⌝ }
     ensures copy { λ r. ⌜ Adds (patternLines (now (s .entry)) n (rowOfTexts (now (words .entry)) n t m)) (now (copy .entry)) at (now (copy .exit)) r ⌝ }
     ensures lent { λ r. ⌜ Lent (now (measures .exit)) (now (beats .exit)) ⌝ }
 {

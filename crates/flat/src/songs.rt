@@ -32,7 +32,7 @@ ghost use Rattle.songcode.specs.answer.Answer.{inputFaults, blocksOf, songOf};
 ghost use Rattle.player.specs.Texts.{rowWords};
 ghost use Rattle.sections.specs.Onward.{Onward, sectionAt};
 ghost use Rattle.laying.specs.Scores.{Told, Begins};
-ghost use Rattle.judging.specs.Sums.{rowOfTexts, PlaysWithin};
+ghost use Rattle.judging.specs.Sums.{rowOfTexts, TextsWithin};
 ghost use Rattle.judging.specs.Charts.{Writable};
 ghost use Rattle.flat.specs.Sheets.{Adds};
 ghost use Rattle.flat.specs.Measures.{Heard, Lent};
@@ -116,7 +116,7 @@ fn put_section(
 ) -> usize
     requires place { ⌜ Onward (now s) p × (p .at < length (now s)) ⌝ }
     requires meter { ⌜ n ≡ timeOf (songOf (now s)) (sectionAt (now s) p) ⌝ }
-    requires plays { ⌜ PlaysWithin (now words) n (x .texts) (x .section .modifiers) 0 ⌝ }
+    requires plays { ⌜ TextsWithin (now words) n (x .texts) (x .section .modifiers) 0 ⌝ }
     requires row { ⌜ rowOfTexts (now words) n (x .texts) (x .section .modifiers) ≡ rowWords (played (songOf (now s)) (sectionAt (now s) p)) ⌝ }
     requires heard { ⌜ Heard (now s) (played (songOf (now s)) (sectionAt (now s) p)) ⌝ }
     requires lent { ⌜ Lent (now measures) (now beats) ⌝ }

@@ -16,7 +16,7 @@ use Rattle.sections.specs.declared.blocks.Place.{Place}
 use Rattle.sections.specs.Onward.{Onward, sectionsFrom, sectionAt}
 use Rattle.laying.specs.declared.texts.Opened.{Opened}
 use Rattle.laying.specs.Scores.{Ready, Begins, Opens}
-use Rattle.judging.specs.Sums.{rowOfTexts, PlaysWithin}
+use Rattle.judging.specs.Sums.{rowOfTexts, TextsWithin}
 use Rattle.judging.proofs.MeterLaws.{meter-range}
 use Rattle.judging.proofs.PlayedLaws.{played-short, lengths-step}
 use Rattle.judging.proofs.PlayLaws.{texts-play, texts-within, texts-beats}
@@ -82,7 +82,7 @@ module _ {s ws vs : List ℕ} {mark : ℕ} {p : Place} {m b : ℕ} (a : Along s 
       append-is-nil (sectionMeter (songOf s) (sectionAt s p)) (flatMap (sectionMeter (songOf s)) (sectionsFrom s (x .next)))
       (ap (λ (xs : List Section). flatMap (sectionMeter (songOf s)) xs) (sym (o .met .first)) ∙ a .meters)
 
-  pub along-within : (base : ℕ) → base ≤ b → PlaysWithin vs n (x .texts) (x .section .modifiers) base
+  pub along-within : (base : ℕ) → base ≤ b → TextsWithin vs n (x .texts) (x .section .modifiers) base
   along-within base h =
       let g = a .beats in
       texts-within (songOf s) (sectionAt s p) vs (x .texts) (x .section .modifiers) (o .texts) (o .met .says .repeat) n base

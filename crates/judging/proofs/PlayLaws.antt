@@ -28,9 +28,9 @@ use Rattle.laying.specs.declared.texts.Text.{Text}
 use Rattle.laying.specs.declared.texts.Texts.{Texts}
 use Rattle.laying.specs.Scores.{Carries, sideItems, TextsAre}
 use Rattle.judging.specs.Lengths.{cutOrNone}
-use Rattle.judging.specs.Sums.{rowOfTexts, PlaysWithin}
+use Rattle.judging.specs.Sums.{rowOfTexts, TextsWithin}
 use Rattle.judging.proofs.CountLaws.{played-length}
-use Rattle.judging.proofs.CutLaws.{cut-said}
+use Rattle.judging.proofs.CutLaws.{cut-said, cut-fits}
 use Rattle.judging.proofs.OpenedLaws.{row-fits}
 use Rattle.songcode.proofs.MeterAgree.{length-side}
 use Rattle.judging.proofs.PlayedLaws.{cut-short}
@@ -121,13 +121,13 @@ module _ (s : Song) (x : Section) (ws : List ℕ) (t : Texts) (m : Modifiers) (h
       rw again (played-length ws (t .pattern) (patternItems (s .definitions) (x .pattern)) n (repeats (x .modifiers))
       (h .pattern))
 
-  pub texts-within : (n base sofar : ℕ) → n ≤ 32 → CutFits (m .front) → sofar + sectionCount s x ≤ 65535 → base ≤ 32 * sofar → PlaysWithin ws n t m base
+  pub texts-within : (n base sofar : ℕ) → n ≤ 32 → CutFits (m .front) → sofar + sectionCount s x ≤ 65535 → base ≤ 32 * sofar → TextsWithin ws n t m base
   unfolding sectionCount
   texts-within n base sofar few c long b =
       let l = lead-length n in
       let p = pattern-length n in
       let q = tail-length n in
-      record { meter = few; cuts = c; measures = omega arith; room = omega arith }
+      record { countable = record { meter = few; cuts = cut-fits _ c; measures = omega arith }; room = omega arith }
 
   pub texts-beats : (n : ℕ) → n ≤ 32 → total (rowOfTexts ws n t m) ≤ 32 * sectionCount s x
   unfolding rowOfTexts sectionCount

@@ -10,6 +10,7 @@ use Rattle.settings.specs.Cuts.{CutFits}
 use Rattle.settings.specs.declared.cuts.Cut.{Cut}
 use Rattle.settings.specs.declared.cuts.CutRead.{CutRead}
 use Rattle.settings.specs.declared.cuts.CutRead.the-variants as read
+use Rattle.player.specs.declared.playing.Arrangement.{Arrangement}
 use Rattle.player.specs.Walks.{rowOf}
 use Rattle.player.specs.Windows.{firstBeat, lastBeat}
 use Rattle.sections.specs.declared.values.Modifiers.{Modifiers}
@@ -20,6 +21,19 @@ use Rattle.judging.specs.Meters.{nothingRefused}
 unfoldable pub cutOrNone : CutRead → Cut
 cutOrNone (read.Cut c) = c
 cutOrNone read.Not = record { measures = record { 0 = 0 }; beats = record { 0 = 0 } }
+
+-- What a section plays in n: its texts, and what its modifiers say.
+abbrev pub arrangementOf : ℕ → Texts → Modifiers → Arrangement
+arrangementOf n t m =
+    record {
+      n = n;
+      lead = t .lead .at;
+      pattern = t .pattern .at;
+      tail = t .tail .at;
+      repeat = m .repeat;
+      front = cutOrNone (m .front);
+      back = cutOrNone (m .back);
+    }
 
 unfoldable pub countOfTexts : Modifiers → Texts → ℕ
 countOfTexts m t = t .lead .outline .measures + m .repeat * t .pattern .outline .measures + t .tail .outline .measures

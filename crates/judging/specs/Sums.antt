@@ -1,38 +1,28 @@
 -- A section played from its texts, and what the sections of a song hold in all.
-use Prim.Native.Nat.{ℕ, _+_, _*_, _≤_}
+use Prim.Native.Nat.{ℕ, _+_}
 use mathlib.Core.Path.{_≡_}
 use mathlib.Core.Bool.{Bool, not, _&&_}
 use mathlib.Core.List.{List}
 use lib.Dec.{eqb}
 use lib.ListN.{length}
-use Rattle.songcode.specs.Lists.{if_then_else_, times}
+use Rattle.songcode.specs.Lists.{if_then_else_}
 use Rattle.songcode.specs.answer.Tables.{Tables}
-use Rattle.settings.specs.Cuts.{CutFits}
 use Rattle.player.specs.declared.playing.Counts.{Counts}
-use Rattle.player.specs.Walks.{rowOf}
-use Rattle.player.specs.Windows.{sectionRow}
+use Rattle.player.specs.Arrangements.{arrangedRow, PlaysWithin}
 use Rattle.sections.specs.declared.values.Modifiers.{Modifiers}
 use Rattle.laying.specs.declared.texts.Texts.{Texts}
 use Rattle.judging.specs.declared.lyrics.Tally.{Tally}
 use Rattle.judging.specs.declared.sums.Sums.{Sums}
 use Rattle.judging.specs.declared.sums.Totals.{Totals}
-use Rattle.judging.specs.Lengths.{cutOrNone}
+use Rattle.judging.specs.Lengths.{arrangementOf}
 
 -- The row that a section plays in n, as words.
 unfoldable pub rowOfTexts : List ℕ → ℕ → Texts → Modifiers → List (List ℕ)
-rowOfTexts ws n t m =
-    sectionRow (cutOrNone (m .front)) (cutOrNone (m .back)) (m .repeat)
-    (rowOf n ws (t .lead .at)) (rowOf n ws (t .pattern .at)) (rowOf n ws (t .tail .at))
+rowOfTexts ws n t m = arrangedRow ws (arrangementOf n t m)
 
 -- The section's measures are known to be few enough before it is played.
-pub record PlaysWithin (ws : List ℕ) (n : ℕ) (t : Texts) (m : Modifiers) (base : ℕ) : Type 0 where
-  pub meter : n ≤ 32
-  pub cuts : CutFits (m .front)
-  pub measures : length (times (m .repeat) (rowOf n ws (t .pattern .at))) ≤ 65535
-  pub room :
-      base + 32 * (length (rowOf n ws (t .lead .at)) + length
-      (times (m .repeat) (rowOf n ws (t .pattern .at))) + length (rowOf n ws (t .tail .at)))
-      ≤ 2097120
+abbrev pub TextsWithin : List ℕ → ℕ → Texts → Modifiers → ℕ → Type 0
+TextsWithin ws n t m base = PlaysWithin ws (arrangementOf n t m) base
 
 -- Whether a section has lyric lines and a pattern that is not empty; whether, moreover, all its lines have counts; whether they sum to another number
 -- of measures, where the lines of the song have counts.

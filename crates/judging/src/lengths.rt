@@ -1,5 +1,6 @@
 // Stage 5 of a section: the song's measures up to its end, and cuts that leave a beat.
 use laying::Texts;
+use player::Arrangement;
 use player::planned;
 use sections::Modifiers;
 use settings::Beats;
@@ -13,10 +14,10 @@ ghost use lib.ListN.{length};
 ghost use Rattle.songcode.specs.Lists.{times};
 ghost use Rattle.settings.specs.Cuts.{CutFits};
 ghost use Rattle.player.specs.Walks.{rowOf};
-ghost use Rattle.judging.specs.Lengths.{cutOrNone, countOfTexts, isCut, hasCut, isModified, cutAway, lengthFault, Measurable, withLengths};
+ghost use Rattle.judging.specs.Lengths.{cutOrNone, arrangementOf, countOfTexts, isCut, hasCut, isModified, cutAway, lengthFault, Measurable, withLengths};
 
 // A cut that takes nothing where there is none.
-pub fn cut_or_none(c: CutRead) -> Cut
+fn cut_or_none(c: CutRead) -> Cut
     ensures { λ r. ⌜ r ≡ cutOrNone c ⌝ }
 {
     match c {
@@ -25,6 +26,31 @@ pub fn cut_or_none(c: CutRead) -> Cut
             measures: Measures(0),
             beats: Beats(0),
         },
+    }
+}
+
+// What a section plays in n: its texts, and what its modifiers say.
+pub fn arrangement(n: usize, t: Texts, m: Modifiers) -> Arrangement
+    ensures { λ r. ⌜ r ≡ arrangementOf n t m ⌝ }
+{
+    let before = t.lead;
+    let own = t.pattern;
+    let after = t.tail;
+    let lead = before.at;
+    let pattern = own.at;
+    let tail = after.at;
+    let front = m.front;
+    let back = m.back;
+    let start = cut_or_none(front);
+    let end = cut_or_none(back);
+    Arrangement {
+        n,
+        lead,
+        pattern,
+        tail,
+        repeat: m.repeat,
+        front: start,
+        back: end,
     }
 }
 
@@ -91,16 +117,7 @@ fn is_cut_away(words: &[u32], n: usize, m: Modifiers, t: Texts) -> bool
     if !has_cut(m) {
         return outline.measures == 0;
     }
-    let front = m.front;
-    let back = m.back;
-    let plan = planned(
-        words,
-        n,
-        pattern.at,
-        m.repeat,
-        cut_or_none(front),
-        cut_or_none(back),
-    );
+    let plan = planned(words, arrangement(n, t, m));
     plan.left == 0
 }
 

@@ -10,7 +10,7 @@ mod sums;
 
 pub use charts::Chart;
 pub use charts::judge;
-pub use lengths::cut_or_none;
+pub use lengths::arrangement;
 pub use meters::meter_of;
 pub use stages::first_stages;
 pub use sums::Totals;

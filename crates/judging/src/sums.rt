@@ -1,5 +1,5 @@
 // Stage 7, and what the song's tables will hold.
-use super::lengths::cut_or_none;
+use super::lengths::arrangement;
 use super::lyrics::Tally;
 use super::lyrics::tally_lyrics;
 use super::meters::meter_of;
@@ -15,7 +15,6 @@ ghost use mathlib.Core.Path.{_≡_};
 ghost use mathlib.Core.List.{[]};
 ghost use Prim.Native.Nat.{_+_, _≤_};
 ghost use lib.ListN.{length};
-ghost use lib.Seq.{sets};
 ghost use Rattle.songcode.specs.Complaints.{earliest};
 ghost use Rattle.songcode.specs.answer.Playing.{timeAmong};
 ghost use Rattle.songcode.specs.description.Performance.{total};
@@ -24,9 +23,9 @@ ghost use Rattle.songcode.specs.answer.Lyrics.{hasCounts, sumFaults};
 ghost use Rattle.songcode.specs.answer.Tables.{tables};
 ghost use Rattle.songcode.specs.answer.Answer.{songOf};
 ghost use Rattle.text.specs.Refusals.{refusalOf};
-ghost use Rattle.player.specs.Windows.{flat, heads};
+ghost use Rattle.player.specs.Arrangements.{Plays};
 ghost use Rattle.laying.specs.Scores.{Ready, Begins};
-ghost use Rattle.judging.specs.Sums.{rowOfTexts, PlaysWithin, hasLines, hasPrompts, sumDiffers, withSection, totalsOf, Holds};
+ghost use Rattle.judging.specs.Sums.{rowOfTexts, TextsWithin, hasLines, hasPrompts, sumDiffers, withSection, totalsOf, Holds};
 
 // How many words the tables take, or the refusal of a stage.
 pub struct Totals {
@@ -57,35 +56,16 @@ pub fn play(
     measures: &mut [u32],
     beats: &mut [u32],
 ) -> Counts
-    requires { ⌜ PlaysWithin (now words) n t m base ⌝ }
-    ensures counts { λ r. ⌜ (r .measures ≡ length (rowOfTexts (now (words .entry)) n t m))
-        × (r .beats ≡ total (rowOfTexts (now (words .entry)) n t m)) ⌝ }
-    ensures measures { λ r. ⌜ now (measures .exit) ≡ sets (now (measures .entry)) 0 (heads base (rowOfTexts (now (words .entry)) n t m)) ⌝ }
-    ensures beats { λ r. ⌜ now (beats .exit) ≡ sets (now (beats .entry)) 0 (flat (rowOfTexts (now (words .entry)) n t m)) ⌝ }
+    requires { ⌜ TextsWithin (now words) n t m base ⌝ }
+    ensures { λ r. ⌜ Plays (rowOfTexts (now (words .entry)) n t m) base r
+        (now (measures .entry)) (now (beats .entry)) (now (measures .exit)) (now (beats .exit)) ⌝ }
 {
-    let lead = t.lead;
-    let pattern = t.pattern;
-    let tail = t.tail;
-    let front = m.front;
-    let back = m.back;
-    play_section(
-        words,
-        n,
-        lead.at,
-        pattern.at,
-        tail.at,
-        m.repeat,
-        cut_or_none(front),
-        cut_or_none(back),
-        base,
-        measures,
-        beats,
-    )
+    play_section(words, arrangement(n, t, m), base, measures, beats)
 }
 
 // How many measures and beats a section plays.
 fn counts_of(words: &[u32], n: usize, t: Texts, m: Modifiers) -> Counts
-    requires { ⌜ PlaysWithin (now words) n t m 0 ⌝ }
+    requires { ⌜ TextsWithin (now words) n t m 0 ⌝ }
     ensures { λ r. ⌜ (r .measures ≡ length (rowOfTexts (now (words .entry)) n t m)) × (r .beats ≡ total (rowOfTexts (now (words .entry)) n t m)) ⌝ }
 {
     let mut no_measures = [0u32; 1];

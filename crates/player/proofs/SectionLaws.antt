@@ -17,6 +17,7 @@ use Rattle.player.specs.declared.playing.Plan.{Plan}
 use Rattle.player.specs.declared.playing.Counts.{Counts}
 use Rattle.settings.specs.declared.cuts.Cut.{Cut}
 use Rattle.player.specs.Page.{Page, Fine, play}
+use Rattle.player.specs.Arrangements.{Opening, Plays}
 use Rattle.player.specs.Windows.{window, firstBeat, lastBeat, keptOf, wholeOf, sectionRow, flat, heads}
 use Rattle.player.proofs.PageLaws.{page, fine-play, play-append}
 use Rattle.player.proofs.ContentLaws.{Done, played, sets-append}
@@ -210,34 +211,34 @@ section-beats f k r lead row tail x y z =
     let u = total-short tail z in
     rw (total-append, total-append) (omega arith)
 
--- Both tables and the counts, as the contracts say them.
-abbrev Told : ℕ → List ℕ → List ℕ → List (List ℕ) → Counts → List ℕ → List ℕ → Type 0
-Told base ms bs row c ms' bs' = ((c .measures ≡ length row) × (c .beats ≡ total row)) × ((ms' ≡ sets ms 0 (heads base row)) × (bs' ≡ sets bs 0 (flat row)))
-
-told-same : (base base' : ℕ) (ms bs : List ℕ) (row row' : List (List ℕ)) (c : Counts) (ms' bs' : List ℕ) → base ≡ base' → row ≡ row'
-    → Told base ms bs row c ms' bs' → Told base' ms bs row' c ms' bs'
-told-same base base' ms bs row row' c ms' bs' e k t = rw (e, k) at t
+plays-same : (base base' : ℕ) (ms bs : List ℕ) (row row' : List (List ℕ)) (c : Counts) (ms' bs' : List ℕ) → base ≡ base' → row ≡ row'
+    → Plays row base c ms bs ms' bs' → Plays row' base' c ms bs ms' bs'
+plays-same base base' ms bs row row' c ms' bs' e k t = rw (e, k) at t
 
 -- A section is the part of all its beats.
 module _ (f k : Cut) (r : ℕ) (lead row tail : List (List ℕ)) (x : Short lead) (y : Short row) (z : Short tail) (p : Pen) (ms bs : List ℕ) (c : Counts)
     (ms' bs' : List ℕ)
-    (t : Told (p .base) ms bs (window (p .skip) (p .left) (sectionRow f k r lead row tail)) c ms' bs') where
-  pub told-section : (base : ℕ) → base + 32 * (length lead + length (times r row) + length tail) ≤ 2097120
-      → (p .base ≡ base) × (p .skip ≡ 0) × (p .left ≡ 2097120 - base) → Told base ms bs (sectionRow f k r lead row tail) c ms' bs'
-  told-section base h e =
+    (t : Plays (window (p .skip) (p .left) (sectionRow f k r lead row tail)) (p .base) c ms bs ms' bs') where
+  pub plays-section : (base : ℕ) → base + 32 * (length lead + length (times r row) + length tail) ≤ 2097120
+      → (p .base ≡ base) × (p .skip ≡ 0) × (p .left ≡ 2097120 - base) → Plays (sectionRow f k r lead row tail) base c ms bs ms' bs'
+  plays-section base h e =
       let n = section-beats f k r lead row tail x y z in
-      told-same (p .base) base ms bs _ _ c ms' bs' (e .0)
+      plays-same (p .base) base ms bs _ _ c ms' bs' (e .0)
       (rw (e .1, e .2) (window-filled (2097120 - base) (sectionRow f k r lead row tail) (filled-section f k r lead row tail) (omega arith))) t
 
-  pub told-part : (from : ℕ) → 32 * (length lead + length (times r row) + length tail) ≤ 2097120
+  pub plays-part : (from : ℕ) → 32 * (length lead + length (times r row) + length tail) ≤ 2097120
       → (p .base ≡ 0) × (p .skip ≡ from) × (p .left ≡ min (length bs) 2097120)
-      → Told 0 ms bs (window from (length bs) (sectionRow f k r lead row tail)) c ms' bs'
-  told-part from h e =
+      → Plays (window from (length bs) (sectionRow f k r lead row tail)) 0 c ms bs ms' bs'
+  plays-part from h e =
       let n = section-beats f k r lead row tail x y z in
-      told-same (p .base) 0 ms bs _ _ c ms' bs' (e .0) (rw (e .1, e .2) (window-room from (length bs) 2097120 (sectionRow f k r lead row tail) (omega arith))) t
+      plays-same (p .base) 0 ms bs _ _ c ms' bs' (e .0)
+      (rw (e .1, e .2) (window-room from (length bs) 2097120 (sectionRow f k r lead row tail) (omega arith))) t
 
 pub fine-rounds : (row : List (List ℕ)) (g : Page) (q : Pen) (ms bs : List ℕ) → page q ms bs ≡ play row g → Fine (g .pen) → Fine q
 fine-rounds row g q ms bs e f = subst (λ (h : Page). Fine (h .pen)) (sym e) (fine-play row g f)
+
+pub opening-fine : (p : Pen) → Opening p → Fine p
+opening-fine p o = record { few = omega (arith, o .measures); fits = omega (arith, o .beats, o .fits) }
 
 -- A pen behind another writes no more than that one would.
 pub fine-pattern : (plan : Plan) (a o : Pen) → Fine a → AtPattern plan a o → Fine o

@@ -4,5 +4,6 @@ pub mod Page
 pub mod Again
 pub mod Walks
 pub mod Windows
+pub mod Arrangements
 pub mod Examples
 pub mod Texts

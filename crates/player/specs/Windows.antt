@@ -9,8 +9,6 @@ use Rattle.songcode.specs.answer.Tables.{measureWord}
 use Rattle.songcode.specs.answer.Playing.{keep}
 use Rattle.songcode.specs.description.Performance.{total}
 use Rattle.settings.specs.declared.cuts.Cut.{Cut}
-use Rattle.score.specs.declared.stretches.Stretch.{Stretch}
-use Rattle.player.specs.Walks.{rowOf}
 
 -- A cut of the description as the code's value.
 unfoldable pub cutOf : Song.Cut → Cut
@@ -61,7 +59,3 @@ module _ {A : Type 0} where
   unfolding measureWord
   heads f [] = []
   heads f (x ∷ xs) = measureWord f (length x) ∷ heads (f + length x) xs
-
--- The row of a section whose three texts stand in the buffer.
-abbrev pub rowOfSection : ℕ → List ℕ → Stretch → Stretch → Stretch → ℕ → Cut → Cut → List (List ℕ)
-rowOfSection n ws lead row tail r front back = sectionRow front back r (rowOf n ws lead) (rowOf n ws row) (rowOf n ws tail)

@@ -7,6 +7,7 @@ mod playing;
 mod walks;
 
 pub use pens::Pen;
+pub use playing::Arrangement;
 pub use playing::Counts;
 pub use playing::Plan;
 pub use playing::planned;

@@ -10,18 +10,29 @@ use tokens::SILENCE_WORD;
 ghost use mathlib.Core.Path.{_≡_};
 ghost use mathlib.Core.Bool.{true};
 ghost use mathlib.Core.List.{_++_};
-ghost use Prim.Native.Nat.{_+_, _-_, _*_, _≤_, min};
+ghost use Prim.Native.Nat.{_+_, _-_, _≤_, min};
 ghost use lib.ListN.{length, take};
-ghost use lib.Seq.{sets};
 ghost use Rattle.songcode.specs.Lists.{times};
 ghost use Rattle.songcode.specs.description.Performance.{total};
 ghost use Rattle.player.specs.Page.{Page, Fine, play};
 ghost use Rattle.player.specs.Walks.{rowOf};
-ghost use Rattle.player.specs.Windows.{window, firstBeat, lastBeat, rowOfSection, flat, heads};
+ghost use Rattle.player.specs.Windows.{window, firstBeat, lastBeat};
+ghost use Rattle.player.specs.Arrangements.{repeatedRow, arrangedRow, Countable, PlaysWithin, Opening, Plays};
 
 pub struct Counts {
     pub measures: usize,
     pub beats: usize,
+}
+
+// What a section plays: in its N, the lead-in, the pattern as often as it is repeated less both cuts, the tail. Each text may be an empty stretch.
+pub struct Arrangement {
+    pub n: usize,
+    pub lead: Stretch,
+    pub pattern: Stretch,
+    pub tail: Stretch,
+    pub repeat: usize,
+    pub front: Cut,
+    pub back: Cut,
 }
 
 // How many measures a row has, the beats to pass over, the beats to write.
@@ -64,48 +75,41 @@ pub fn rounds(
     )
 }
 
-// How many of the first k measures of a stretch there are, repeated r times, and their beats: the same walk with every beat passed over.
-pub fn tally(words: &[u32], n: usize, s: Stretch, r: usize, k: usize) -> Counts
-    requires { ⌜ (n ≤ 32) × (k ≤ 65536) ⌝ }
-    ensures measures { λ c. ⌜ c .measures ≡ min k (length (times r (rowOf n (now (words .entry)) s))) ⌝ }
-    ensures beats { λ c. ⌜ c .beats ≡ total (take k (times r (rowOf n (now (words .entry)) s))) ⌝ }
+// How many of the first k measures of the repeated pattern there are, and their beats: the same walk with every beat passed over.
+pub fn tally(words: &[u32], a: Arrangement, k: usize) -> Counts
+    requires { ⌜ (a .n ≤ 32) × (k ≤ 65536) ⌝ }
+    ensures measures { λ c. ⌜ c .measures ≡ min k (length (repeatedRow (now (words .entry)) a)) ⌝ }
+    ensures beats { λ c. ⌜ c .beats ≡ total (take k (repeatedRow (now (words .entry)) a)) ⌝ }
     ensures bound { λ c. ⌜ c .beats ≤ 2097152 ⌝ }
 {
     let mut ms = [0u32; 1];
     let mut bs = [0u32; 1];
-    let q = rounds(
-        words,
-        n,
-        s,
-        r,
-        Pen {
-            base: 0,
-            todo: k,
-            skip: 4294967295,
-            left: 0,
-            m: 0,
-            b: 0,
-        },
-        &mut ms,
-        &mut bs,
-    );
-    Counts {
-        measures: k - q.todo,
-        beats: 4294967295 - q.skip,
-    }
+    let every = Pen {
+        base: 0,
+        todo: k,
+        skip: 4294967295,
+        left: 0,
+        m: 0,
+        b: 0,
+    };
+    let q = rounds(words, a.n, a.pattern, a.repeat, every, &mut ms, &mut bs);
+    let measures = k - q.todo;
+    let beats = 4294967295 - q.skip;
+    Counts { measures, beats }
 }
 
 // The two cuts as two numbers.
-pub fn planned(words: &[u32], n: usize, s: Stretch, r: usize, front: Cut, back: Cut) -> Plan
-    requires { ⌜ (n ≤ 32) × (length (times r (rowOf n (now words) s)) ≤ 65535) × (front .beats .0 ≤ 9999) ⌝ }
-    ensures todo { λ p. ⌜ p .todo ≡ length (times r (rowOf n (now (words .entry)) s)) ⌝ }
-    ensures skip { λ p. ⌜ p .skip ≡ firstBeat front (times r (rowOf n (now (words .entry)) s)) ⌝ }
-    ensures left { λ p. ⌜ p .left ≡ lastBeat back (times r (rowOf n (now (words .entry)) s))
-        - firstBeat front (times r (rowOf n (now (words .entry)) s)) ⌝ }
+pub fn planned(words: &[u32], a: Arrangement) -> Plan
+    requires { ⌜ Countable (now words) a ⌝ }
+    ensures todo { λ p. ⌜ p .todo ≡ length (repeatedRow (now (words .entry)) a) ⌝ }
+    ensures skip { λ p. ⌜ p .skip ≡ firstBeat (a .front) (repeatedRow (now (words .entry)) a) ⌝ }
+    ensures left { λ p. ⌜ p .left ≡ lastBeat (a .back) (repeatedRow (now (words .entry)) a) - firstBeat (a .front) (repeatedRow (now (words .entry)) a) ⌝ }
 {
-    let all = tally(words, n, s, r, 65536);
-    let f = tally(words, n, s, r, least(front.measures.0, 65536));
-    let e = tally(words, n, s, r, minus(all.measures, back.measures.0));
+    let front = a.front;
+    let back = a.back;
+    let all = tally(words, a, 65536);
+    let f = tally(words, a, least(front.measures.0, 65536));
+    let e = tally(words, a, minus(all.measures, back.measures.0));
     let first = f.beats + front.beats.0;
     let left = minus(minus(e.beats, back.beats.0), first);
     Plan {
@@ -176,38 +180,28 @@ fn at_tail(plan: Plan, lead: Pen, pattern: Pen) -> Pen
     }
 }
 
-// The lead-in, the pattern r times less the two cuts, and the tail, on one page: as many beats as are to be written, behind those that are
+// The lead-in, the pattern repeated less the two cuts, and the tail, on one page: as many beats as are to be written, behind those that are
 // passed over.
-pub fn play_cut(
-    words: &[u32],
-    n: usize,
-    lead: Stretch,
-    pattern: Stretch,
-    tail: Stretch,
-    r: usize,
-    front: Cut,
-    back: Cut,
-    p: Pen,
-    ms: &mut [u32],
-    bs: &mut [u32],
-) -> Counts
-    requires cuts { ⌜ (n ≤ 32) × (front .beats .0 ≤ 9999) × (length (times r (rowOf n (now words) pattern)) ≤ 65535) ⌝ }
-    requires texts { ⌜ length (rowOf n (now words) lead) + length (times r (rowOf n (now words) pattern)) + length (rowOf n (now words) tail) ≤ 65536 ⌝ }
-    requires pen { ⌜ (p .todo ≡ 65536) × (p .m ≡ 0) × (p .b ≡ 0) × (p .skip ≤ 2097120) × (p .base + p .left ≤ 2097120) ⌝ }
-    ensures counts { λ c. ⌜ (c .measures ≡ length (window (p .skip) (p .left) (rowOfSection n (now (words .entry)) lead pattern tail r front back)))
-        × (c .beats ≡ total (window (p .skip) (p .left) (rowOfSection n (now (words .entry)) lead pattern tail r front back))) ⌝ }
-    ensures measures { λ c. ⌜ now (ms .exit) ≡ sets (now (ms .entry)) 0
-        (heads (p .base) (window (p .skip) (p .left) (rowOfSection n (now (words .entry)) lead pattern tail r front back))) ⌝ }
-    ensures beats { λ c. ⌜ now (bs .exit) ≡ sets (now (bs .entry)) 0
-        (flat (window (p .skip) (p .left) (rowOfSection n (now (words .entry)) lead pattern tail r front back))) ⌝ }
+pub fn play_cut(words: &[u32], a: Arrangement, p: Pen, ms: &mut [u32], bs: &mut [u32]) -> Counts
+    requires { ⌜ PlaysWithin (now words) a 0 × Opening p ⌝ }
+    ensures { λ c. ⌜ Plays (window (p .skip) (p .left) (arrangedRow (now (words .entry)) a)) (p .base) c
+        (now (ms .entry)) (now (bs .entry)) (now (ms .exit)) (now (bs .exit)) ⌝ }
 {
-    let plan = planned(words, n, pattern, r, front, back);
-    let a = rounds(words, n, lead, 1, p, ms, bs);
-    let b = rounds(words, n, pattern, r, at_pattern(plan, a), ms, bs);
-    let c = rounds(words, n, tail, 1, at_tail(plan, a, b), ms, bs);
+    let plan = planned(words, a);
+    let led = rounds(words, a.n, a.lead, 1, p, ms, bs);
+    let kept = rounds(
+        words,
+        a.n,
+        a.pattern,
+        a.repeat,
+        at_pattern(plan, led),
+        ms,
+        bs,
+    );
+    let ended = rounds(words, a.n, a.tail, 1, at_tail(plan, led, kept), ms, bs);
     Counts {
-        measures: c.m,
-        beats: c.b,
+        measures: ended.m,
+        beats: ended.b,
     }
 }
 
@@ -224,137 +218,60 @@ fn is_uncut(front: Cut, back: Cut) -> bool
     true
 }
 
-// Three texts behind one another, the second r times, with one pen: nothing is counted beforehand.
-pub fn play_uncut(
-    words: &[u32],
-    n: usize,
-    lead: Stretch,
-    pattern: Stretch,
-    tail: Stretch,
-    r: usize,
-    p: Pen,
-    ms: &mut [u32],
-    bs: &mut [u32],
-) -> Pen
-    requires { ⌜ Fine p × (n ≤ 32) ⌝ }
+// The three texts behind one another, cuts aside, with one pen: nothing is counted beforehand.
+pub fn play_uncut(words: &[u32], a: Arrangement, p: Pen, ms: &mut [u32], bs: &mut [u32]) -> Pen
+    requires { ⌜ Fine p × (a .n ≤ 32) ⌝ }
     ensures { λ q. ⌜ _≡_ {A = Page} (record { pen = q; ms = now (ms .exit); bs = now (bs .exit) })
-        (play (rowOf n (now (words .entry)) lead ++ (times r (rowOf n (now (words .entry)) pattern) ++ rowOf n (now (words .entry)) tail))
+        (play (rowOf (a .n) (now (words .entry)) (a .lead) ++ (repeatedRow (now (words .entry)) a ++ rowOf (a .n) (now (words .entry)) (a .tail)))
         (record { pen = p; ms = now (ms .entry); bs = now (bs .entry) })) ⌝ }
 {
-    let a = rounds(words, n, lead, 1, p, ms, bs);
-    let b = rounds(words, n, pattern, r, a, ms, bs);
-    rounds(words, n, tail, 1, b, ms, bs)
+    let led = rounds(words, a.n, a.lead, 1, p, ms, bs);
+    let kept = rounds(words, a.n, a.pattern, a.repeat, led, ms, bs);
+    rounds(words, a.n, a.tail, 1, kept, ms, bs)
 }
 
 // The same for any cuts; only a pattern that is cut is counted beforehand. Each text may be an empty stretch.
-pub fn play_window(
-    words: &[u32],
-    n: usize,
-    lead: Stretch,
-    pattern: Stretch,
-    tail: Stretch,
-    r: usize,
-    front: Cut,
-    back: Cut,
-    p: Pen,
-    ms: &mut [u32],
-    bs: &mut [u32],
-) -> Counts
-    requires cuts { ⌜ (n ≤ 32) × (front .beats .0 ≤ 9999) × (length (times r (rowOf n (now words) pattern)) ≤ 65535) ⌝ }
-    requires texts { ⌜ length (rowOf n (now words) lead) + length (times r (rowOf n (now words) pattern)) + length (rowOf n (now words) tail) ≤ 65536 ⌝ }
-    requires pen { ⌜ (p .todo ≡ 65536) × (p .m ≡ 0) × (p .b ≡ 0) × (p .skip ≤ 2097120) × (p .base + p .left ≤ 2097120) ⌝ }
-    ensures counts { λ c. ⌜ (c .measures ≡ length (window (p .skip) (p .left) (rowOfSection n (now (words .entry)) lead pattern tail r front back)))
-        × (c .beats ≡ total (window (p .skip) (p .left) (rowOfSection n (now (words .entry)) lead pattern tail r front back))) ⌝ }
-    ensures measures { λ c. ⌜ now (ms .exit) ≡ sets (now (ms .entry)) 0
-        (heads (p .base) (window (p .skip) (p .left) (rowOfSection n (now (words .entry)) lead pattern tail r front back))) ⌝ }
-    ensures beats { λ c. ⌜ now (bs .exit) ≡ sets (now (bs .entry)) 0
-        (flat (window (p .skip) (p .left) (rowOfSection n (now (words .entry)) lead pattern tail r front back))) ⌝ }
+pub fn play_window(words: &[u32], a: Arrangement, p: Pen, ms: &mut [u32], bs: &mut [u32]) -> Counts
+    requires { ⌜ PlaysWithin (now words) a 0 × Opening p ⌝ }
+    ensures { λ c. ⌜ Plays (window (p .skip) (p .left) (arrangedRow (now (words .entry)) a)) (p .base) c
+        (now (ms .entry)) (now (bs .entry)) (now (ms .exit)) (now (bs .exit)) ⌝ }
 {
-    if is_uncut(front, back) {
-        let q = play_uncut(words, n, lead, pattern, tail, r, p, ms, bs);
+    if is_uncut(a.front, a.back) {
+        let q = play_uncut(words, a, p, ms, bs);
         return Counts {
             measures: q.m,
             beats: q.b,
         };
     }
-    play_cut(words, n, lead, pattern, tail, r, front, back, p, ms, bs)
+    play_cut(words, a, p, ms, bs)
 }
 
 // A section, its first beat at `base`.
 pub fn play_section(
     words: &[u32],
-    n: usize,
-    lead: Stretch,
-    pattern: Stretch,
-    tail: Stretch,
-    r: usize,
-    front: Cut,
-    back: Cut,
+    a: Arrangement,
     base: usize,
     ms: &mut [u32],
     bs: &mut [u32],
 ) -> Counts
-    requires cuts { ⌜ (n ≤ 32) × (front .beats .0 ≤ 9999) × (length (times r (rowOf n (now words) pattern)) ≤ 65535) ⌝ }
-    requires room { ⌜ base +
-        32 * (length (rowOf n (now words) lead) + length (times r (rowOf n (now words) pattern)) + length (rowOf n (now words) tail)) ≤ 2097120 ⌝ }
-    ensures counts { λ c. ⌜ (c .measures ≡ length (rowOfSection n (now (words .entry)) lead pattern tail r front back))
-        × (c .beats ≡ total (rowOfSection n (now (words .entry)) lead pattern tail r front back)) ⌝ }
-    ensures measures { λ c. ⌜ now (ms .exit) ≡ sets (now (ms .entry)) 0 (heads base (rowOfSection n (now (words .entry)) lead pattern tail r front back)) ⌝ }
-    ensures beats { λ c. ⌜ now (bs .exit) ≡ sets (now (bs .entry)) 0 (flat (rowOfSection n (now (words .entry)) lead pattern tail r front back)) ⌝ }
+    requires { ⌜ PlaysWithin (now words) a base ⌝ }
+    ensures { λ c. ⌜ Plays (arrangedRow (now (words .entry)) a) base c (now (ms .entry)) (now (bs .entry)) (now (ms .exit)) (now (bs .exit)) ⌝ }
 {
-    play_window(
-        words,
-        n,
-        lead,
-        pattern,
-        tail,
-        r,
-        front,
-        back,
-        opening(base, 0, 2097120 - base),
-        ms,
-        bs,
-    )
+    play_window(words, a, opening(base, 0, 2097120 - base), ms, bs)
 }
 
 // A part of a section: behind `from` of its beats, as many as the table of beats holds. Its measures name their beats in that table.
 pub fn play_part(
     words: &[u32],
-    n: usize,
-    lead: Stretch,
-    pattern: Stretch,
-    tail: Stretch,
-    r: usize,
-    front: Cut,
-    back: Cut,
+    a: Arrangement,
     from: usize,
     ms: &mut [u32],
     bs: &mut [u32],
 ) -> Counts
-    requires cuts { ⌜ (n ≤ 32) × (front .beats .0 ≤ 9999) × (length (times r (rowOf n (now words) pattern)) ≤ 65535) ⌝ }
-    requires room { ⌜
-        32 * (length (rowOf n (now words) lead) + length (times r (rowOf n (now words) pattern)) + length (rowOf n (now words) tail)) ≤ 2097120 ⌝ }
-    requires place { ⌜ from ≤ 2097120 ⌝ }
-    ensures counts { λ c. ⌜ (c .measures ≡ length
-        (window from (length (now (bs .entry))) (rowOfSection n (now (words .entry)) lead pattern tail r front back)))
-        × (c .beats ≡ total (window from (length (now (bs .entry))) (rowOfSection n (now (words .entry)) lead pattern tail r front back))) ⌝ }
-    ensures measures { λ c. ⌜ now (ms .exit) ≡ sets (now (ms .entry)) 0
-        (heads 0 (window from (length (now (bs .entry))) (rowOfSection n (now (words .entry)) lead pattern tail r front back))) ⌝ }
-    ensures beats { λ c. ⌜ now (bs .exit) ≡ sets (now (bs .entry)) 0
-        (flat (window from (length (now (bs .entry))) (rowOfSection n (now (words .entry)) lead pattern tail r front back))) ⌝ }
+    requires { ⌜ PlaysWithin (now words) a 0 × (from ≤ 2097120) ⌝ }
+    ensures { λ c. ⌜ Plays (window from (length (now (bs .entry))) (arrangedRow (now (words .entry)) a)) 0 c
+        (now (ms .entry)) (now (bs .entry)) (now (ms .exit)) (now (bs .exit)) ⌝ }
 {
     let left = least(bs.len(), 2097120);
-    play_window(
-        words,
-        n,
-        lead,
-        pattern,
-        tail,
-        r,
-        front,
-        back,
-        opening(0, from, left),
-        ms,
-        bs,
-    )
+    play_window(words, a, opening(0, from, left), ms, bs)
 }

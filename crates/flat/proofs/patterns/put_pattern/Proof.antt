@@ -4,7 +4,7 @@ use mathlib.Core.Path.{_≡_, refl, _∙_}
 use native.Mathlib.Omega.{arith}
 use lib.ListN.{length}
 use Rattle.songcode.specs.description.Performance.{total}
-use Rattle.judging.specs.Sums.{rowOfTexts, PlaysWithin}
+use Rattle.judging.specs.Sums.{rowOfTexts, TextsWithin}
 use Rattle.flat.specs.Sheets.{puts}
 use Rattle.flat.specs.Measures.{patternLines, Lent}
 use Rattle.flat.proofs.PatternLaws.{Stands, stands-first, stands-within, lent-same, texts-filled, texts-short, texts-total}
@@ -16,7 +16,7 @@ use Rattle.flat.proofs.patterns.put_pattern.Tie as tie
 abbrev Inv-loop : tie.InvT-loop
 Inv-loop s words n t m measures₀ beats₀ copy₀ at from₀ out₀ t16 measures beats copy from out =
     (length measures ≡ length measures₀) × (length beats ≡ length beats₀) × (length copy ≡ length copy₀)
-    × PlaysWithin words n t m 0 × Lent measures₀ beats₀
+    × TextsWithin words n t m 0 × Lent measures₀ beats₀
     × Stands s n (rowOfTexts words n t m) from (record { copy = copy; at = out })
     (puts (patternLines s n (rowOfTexts words n t m)) (record { copy = copy₀; at = out₀ }))
 
@@ -53,9 +53,7 @@ told p =
       short = texts-short (a .words .now) (a .n) (a .t) (a .m) (h .3);
       lent = lent-same (a .measures .now) (a .beats .now) (l .measures) (l .beats) (h .0) (h .1) (h .4);
       stands = h .5;
-      counts = e .0;
-      measures = e .1 .0;
-      beats = e .1 .1;
+      plays = e;
     }
 
 lent : (p : tie.After-part-of Inv-loop μ-loop) → let tables = p .part-of .last .1 .1 .1 .1 .1 in Lent (tables .0) (tables .1 .0)

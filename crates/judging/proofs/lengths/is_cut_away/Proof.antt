@@ -17,23 +17,22 @@ returns-2 c = rw (c .before .before .before .if1 .left, sym (c .before .before .
 
 planned-requires : tie.Need-planned-requires
 planned-requires c κs =
-    let h = c .before .before .before .before .before .before .before .before .pre in
-    (h .0, h .2, rw (c .before .cut-or-none .ensures) (cut-fits _ (h .1)))
+    let h = c .before .before .before .before .before .before .before .pre in
+    rw (c .arrangement .ensures) (record { meter = h .0; cuts = cut-fits _ (h .1); measures = h .2 })
 
 returns-3 : tie.Need-returns-3
 unfolding cutAway if_then_else_
 returns-3 c =
+    let made = c .before .before in
     rw (
-      c .before .before .before .before .before .before .if1 .left,
-      sym (c .before .before .before .before .before .has-cut .ensures)
-          ∙ not-false _ (c .before .before .before .before .if2 .left),
+      made .before .before .before .if1 .left,
+      sym (made .before .before .has-cut .ensures) ∙ not-false _ (made .before .if2 .left),
       c .before .planned .ensures .1 .1,
-      c .before .before .before .cut-or-none .ensures,
-      c .before .before .cut-or-none2 .ensures,
+      made .arrangement .ensures,
     )
 
 pub is-cut-away-spec : {M : Type 1} → statement M
 is-cut-away-spec =
     tie.close
-    (tie.spec (λ c κs. search needs) returns (λ c κs. search needs) returns-2 (λ c κs. search needs) (λ c κs. search needs) planned-requires
+    (tie.spec (λ c κs. search needs) returns (λ c κs. search needs) returns-2 (λ c κs. search needs) planned-requires
     returns-3)

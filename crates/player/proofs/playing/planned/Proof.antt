@@ -1,16 +1,15 @@
+-- The two cuts as two numbers.
 use Rattle.player.proofs.SectionLaws.{planned-is}
-use Rattle.player.specs.Walks.{rowOf}
-use Rattle.songcode.specs.Lists.{times}
+use Rattle.player.specs.Arrangements.{repeatedRow}
 use borrow.Author.Needs.{needs}
 use Rattle.player.proofs.playing.planned.Statement.{statement}
 use Rattle.player.proofs.playing.planned.Tie as tie
 
 returns : tie.Need-returns
 returns c =
-    let q = c .before .before .before .before .before .before .before .before .before .before in
-    let a = q .args in
-    let row = times (a .r) (rowOf (a .n) (a .words .now) (a .s)) in
-    let w = planned-is row (a .front) (a .back) _ _ _ _ _ _ _ (q .pre .1)
+    let q = c .before .before .before .before .before .before .before .before .before .before .before .before in
+    let a = q .args .a in
+    let w = planned-is (repeatedRow (q .args .words .now) a) (a .front) (a .back) _ _ _ _ _ _ _ (q .pre .measures)
     (c .before .before .before .before .before .before .before .before .tally .ensures .0)
     (c .before .before .before .before .before .before .before .least .ensures)
     (c .before .before .before .before .before .before .tally2 .ensures .1 .0)

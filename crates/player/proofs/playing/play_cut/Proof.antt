@@ -1,5 +1,5 @@
 -- Three texts, each with its pen, on one page.
-use Rattle.player.proofs.SectionLaws.{skip-fits, wrote-window, fine-rounds, fine-pattern, fine-tail}
+use Rattle.player.proofs.SectionLaws.{skip-fits, wrote-window, fine-rounds, opening-fine, fine-pattern, fine-tail}
 use Rattle.player.proofs.ShortLaws.{short-times, short-row}
 use Rattle.player.specs.Walks.{rowOf}
 use Rattle.songcode.specs.Lists.{times}
@@ -14,16 +14,17 @@ at-pattern-requires c κs =
     let plan = led .before .before .before in
     let q = plan .before .before .before .before in
     let a = q .args in
+    let x = a .a in
     let ws = a .words .now in
-    let lead = rowOf (a .n) ws (a .lead) in
-    let row = rowOf (a .n) ws (a .pattern) in
-    let tail = rowOf (a .n) ws (a .tail) in
-    let pen = q .pre .1 .1 in
+    let lead = rowOf (x .n) ws (x .lead) in
+    let row = rowOf (x .n) ws (x .pattern) in
+    let tail = rowOf (x .n) ws (x .tail) in
+    let pen = q .pre .1 in
     let e = plan .planned .ensures in
-    skip-fits (a .front) (a .back) (a .r) lead row tail (plan .planned .result) (e .0, e .1 .0, e .1 .1) (a .p) (led .rounds .result) (a .ms .now)
+    skip-fits (x .front) (x .back) (x .repeat) lead row tail (plan .planned .result) (e .0, e .1 .0, e .1 .1) (a .p) (led .rounds .result) (a .ms .now)
     (a .bs .now) _ _
-    (pen .0, pen .1, pen .2) (q .pre .1 .0) (led .rounds .ensures) (q .pre .0 .1)
-    (short-times (a .r) row (short-row (a .n) ws (q .pre .0 .0) (a .pattern))) (q .pre .0 .2) (pen .3)
+    (pen .todo, pen .measures, pen .beats) (omega (arith, q .pre .0 .room)) (led .rounds .ensures) (q .pre .0 .countable .cuts)
+    (short-times (x .repeat) row (short-row (x .n) ws (q .pre .0 .countable .meter) (x .pattern))) (q .pre .0 .countable .measures) (pen .skip)
 
 rounds-requires-2 : tie.Need-rounds-requires-2
 rounds-requires-2 c κs =
@@ -31,14 +32,12 @@ rounds-requires-2 c κs =
     let led = at .before .before .before .before .before in
     let q = led .before .before .before .before .before .before .before in
     let a = q .args in
-    let ws = a .words .now in
-    let lead = rowOf (a .n) ws (a .lead) in
-    let row = rowOf (a .n) ws (a .pattern) in
-    let tail = rowOf (a .n) ws (a .tail) in
-    let pen = q .pre .1 .1 in (
+    let x = a .a in
+    let lead = rowOf (x .n) (a .words .now) (x .lead) in
+    let pen = q .pre .1 in (
       fine-pattern _ _ _ (fine-rounds (times 1 lead) _ _ _ _ (led .rounds .ensures)
-          (record { few = omega (arith, pen .1); fits = omega (arith, pen .2, pen .4) })) (at .at-pattern .ensures),
-      q .pre .0 .0,
+          (opening-fine _ pen)) (at .at-pattern .ensures),
+      q .pre .0 .countable .meter,
     )
 
 rounds-requires-3 : tie.Need-rounds-requires-3
@@ -49,13 +48,16 @@ rounds-requires-3 c κs =
     let led = at .before .before .before .before .before in
     let q = led .before .before .before .before .before .before .before in
     let a = q .args in
+    let x = a .a in
     let ws = a .words .now in
-    let lead = rowOf (a .n) ws (a .lead) in
-    let row = rowOf (a .n) ws (a .pattern) in
-    let tail = rowOf (a .n) ws (a .tail) in
-    let pen = q .pre .1 .1 in
-    let f = fine-rounds (times 1 lead) _ _ _ _ (led .rounds .ensures) (record { few = omega (arith, pen .1); fits = omega (arith, pen .2, pen .4) }) in
-    (fine-tail _ (times (a .r) row) _ _ _ _ _ _ _ _ f (at .at-pattern .ensures) (kept .rounds2 .ensures) (behind .at-tail .ensures), q .pre .0 .0)
+    let lead = rowOf (x .n) ws (x .lead) in
+    let row = rowOf (x .n) ws (x .pattern) in
+    let tail = rowOf (x .n) ws (x .tail) in
+    let pen = q .pre .1 in
+    let f = fine-rounds (times 1 lead) _ _ _ _ (led .rounds .ensures) (opening-fine _ pen) in (
+      fine-tail _ (times (x .repeat) row) _ _ _ _ _ _ _ _ f (at .at-pattern .ensures) (kept .rounds2 .ensures) (behind .at-tail .ensures),
+      q .pre .0 .countable .meter,
+    )
 
 same-length : tie.Need-same-length
 same-length c =
@@ -87,18 +89,19 @@ returns c =
     let plan = led .before .before .before in
     let q = plan .before .before .before .before in
     let a = q .args in
+    let x = a .a in
     let ws = a .words .now in
-    let lead = rowOf (a .n) ws (a .lead) in
-    let row = rowOf (a .n) ws (a .pattern) in
-    let tail = rowOf (a .n) ws (a .tail) in
-    let pen = q .pre .1 .1 in
+    let lead = rowOf (x .n) ws (x .lead) in
+    let row = rowOf (x .n) ws (x .pattern) in
+    let tail = rowOf (x .n) ws (x .tail) in
+    let pen = q .pre .1 in
     let e = plan .planned .ensures in
     let w =
-    wrote-window (a .front) (a .back) (a .r) lead row tail (plan .planned .result) (e .0, e .1 .0, e .1 .1) (a .p) (led .rounds .result) (a .ms .now)
+    wrote-window (x .front) (x .back) (x .repeat) lead row tail (plan .planned .result) (e .0, e .1 .0, e .1 .1) (a .p) (led .rounds .result) (a .ms .now)
     (a .bs .now) _ _
-    (pen .0, pen .1, pen .2) (q .pre .1 .0) (led .rounds .ensures) _ _ _ _ _ _ _ _ (at .at-pattern .ensures) (kept .rounds2 .ensures) (behind .at-tail .ensures)
-    (ended .rounds3 .ensures) in
-    ((w .measures, w .beats), (w .measureTable, w .beatTable))
+    (pen .todo, pen .measures, pen .beats) (omega (arith, q .pre .0 .room)) (led .rounds .ensures)
+    _ _ _ _ _ _ _ _ (at .at-pattern .ensures) (kept .rounds2 .ensures) (behind .at-tail .ensures) (ended .rounds3 .ensures) in
+    record { measures = w .measures; beats = w .beats; measureTable = w .measureTable; beatTable = w .beatTable }
 
 pub play-cut-spec : {M : Type 1} → statement M
 play-cut-spec =

@@ -1,11 +1,27 @@
 -- A part: the window of as many beats as its table holds.
-use Rattle.player.proofs.SectionLaws.{told-part}
+use Rattle.player.proofs.SectionLaws.{plays-part}
 use Rattle.player.proofs.ShortLaws.{short-row}
 use Rattle.player.specs.Walks.{rowOf}
 use mathlib.Core.Path.{_∙_}
+use native.Mathlib.Omega.{arith}
 use borrow.Author.Needs.{needs}
 use Rattle.player.proofs.playing.play_part.Statement.{statement}
 use Rattle.player.proofs.playing.play_part.Tie as tie
+
+play-window-requires : tie.Need-play-window-requires
+play-window-requires c κs =
+    let begun = c .before .before in
+    let q = begun .before .before .before .before .before in
+    let e = begun .opening .ensures in (
+      q .pre .0,
+      record {
+        todo = e .1;
+        measures = e .4;
+        beats = e .5;
+        skip = omega (arith, e .2, q .pre .1);
+        fits = omega (arith, e .0, e .3, begun .before .least .ensures);
+      },
+    )
 
 returns : tie.Need-returns
 returns c =
@@ -13,17 +29,15 @@ returns c =
     let begun = played .before .before .before in
     let q = begun .before .before .before .before .before in
     let a = q .args in
-    let ws = a .words .now in
-    let lead = rowOf (a .n) ws (a .lead) in
-    let row = rowOf (a .n) ws (a .pattern) in
-    let tail = rowOf (a .n) ws (a .tail) in
-    let short = short-row (a .n) ws (q .pre .0 .0) in
+    let x = a .a in
+    let row = rowOf (x .n) (a .words .now) in
+    let short = short-row (x .n) (a .words .now) (q .pre .0 .countable .meter) in
     let e = begun .opening .ensures in
-    told-part (a .front) (a .back) (a .r) lead row tail (short (a .lead)) (short (a .pattern)) (short (a .tail)) (begun .opening .result) (a .ms .now)
-    (a .bs .now) _ _ _ (played .play-window .ensures)
-    (a .from) (q .pre .1 .0) (e .0, e .2, e .3 ∙ begun .before .least .ensures)
+    plays-part (x .front) (x .back) (x .repeat) (row (x .lead)) (row (x .pattern)) (row (x .tail)) (short (x .lead)) (short (x .pattern)) (short (x .tail))
+    (begun .opening .result) (a .ms .now) (a .bs .now) _ _ _ (played .play-window .ensures)
+    (a .from) (omega (arith, q .pre .0 .room)) (e .0, e .2, e .3 ∙ begun .before .least .ensures)
 
 pub play-part-spec : {M : Type 1} → statement M
 play-part-spec =
     tie.close
-    (tie.spec (λ c κs. search needs) (λ c κs. search needs) (λ c κs. search needs) (λ c. search needs) (λ c. search needs) returns)
+    (tie.spec (λ c κs. search needs) (λ c κs. search needs) play-window-requires (λ c. search needs) (λ c. search needs) returns)

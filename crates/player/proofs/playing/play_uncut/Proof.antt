@@ -1,7 +1,7 @@
 -- Three texts, one pen.
 use Rattle.player.proofs.SectionLaws.{three-texts, fine-rounds}
 use Rattle.player.specs.Walks.{rowOf}
-use Rattle.songcode.specs.Lists.{times}
+use Rattle.player.specs.Arrangements.{repeatedRow}
 use borrow.Author.Needs.{needs}
 use Rattle.player.proofs.playing.play_uncut.Statement.{statement}
 use Rattle.player.proofs.playing.play_uncut.Tie as tie
@@ -25,8 +25,9 @@ returns c =
     let kept = ended .before .before .before .before .before .before .before in
     let led = kept .before .before .before .before .before .before .before in
     let a = led .before .before .before .before .before .before .args in
-    let row = rowOf (a .n) (a .words .now) in
-    three-texts (row (a .lead)) (times (a .r) (row (a .pattern))) (row (a .tail)) _ _ _ _ (led .rounds .ensures) (kept .rounds2 .ensures)
+    let x = a .a in
+    let row = rowOf (x .n) (a .words .now) in
+    three-texts (row (x .lead)) (repeatedRow (a .words .now) x) (row (x .tail)) _ _ _ _ (led .rounds .ensures) (kept .rounds2 .ensures)
     (ended .rounds3 .ensures)
 
 pub play-uncut-spec : {M : Type 1} → statement M

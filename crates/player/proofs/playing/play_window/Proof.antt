@@ -1,6 +1,7 @@
 -- Cuts that take nothing, and others.
 use Rattle.player.proofs.SectionLaws.{wrote-uncut}
 use Rattle.player.specs.Walks.{rowOf}
+use native.Mathlib.Omega.{arith}
 use borrow.Author.Needs.{needs}
 use Rattle.player.proofs.playing.play_window.Statement.{statement}
 use Rattle.player.proofs.playing.play_window.Tie as tie
@@ -11,12 +12,14 @@ returns c =
     let test = played .before .before .before in
     let q = test .before .before .before .before .before in
     let a = q .args in
-    let row = rowOf (a .n) (a .words .now) in
-    let pen = q .pre .1 .1 in
+    let x = a .a in
+    let row = rowOf (x .n) (a .words .now) in
+    let pen = q .pre .1 in
     let w =
-    wrote-uncut (a .front) (a .back) (a .r) (row (a .lead)) (row (a .pattern)) (row (a .tail)) (a .p) _ (a .ms .now) (a .bs .now) _ _
-    (test .before .is-uncut .ensures (test .if1 .taken)) (pen .0, pen .1, pen .2) (q .pre .1 .0) (played .play-uncut .ensures) in
-    ((w .measures, w .beats), (w .measureTable, w .beatTable))
+    wrote-uncut (x .front) (x .back) (x .repeat) (row (x .lead)) (row (x .pattern)) (row (x .tail)) (a .p) _ (a .ms .now) (a .bs .now) _ _
+    (test .before .is-uncut .ensures (test .if1 .taken)) (pen .todo, pen .measures, pen .beats) (omega (arith, q .pre .0 .room))
+    (played .play-uncut .ensures) in
+    record { measures = w .measures; beats = w .beats; measureTable = w .measureTable; beatTable = w .beatTable }
 
 pub play-window-spec : {M : Type 1} → statement M
 play-window-spec =

@@ -94,8 +94,8 @@ section-word-requires c κs = let y = c .before .before .before .before .before 
     let n = y .meter-of .result in
     let counts = c .before .before .before .before .before .play in
     let a = along-next (l .inv .0) x i (o .ensures .1 .0) n (meter y) in
-    let m = along-measures (l .inv .0) x i (o .ensures .1 .0) n (meter y) (counts .result .measures) (counts .ensures .0 .0) in
-    let b = along-beats (l .inv .0) x i (o .ensures .1 .0) n (meter y) (counts .result .beats) (counts .ensures .0 .1) in
+    let m = along-measures (l .inv .0) x i (o .ensures .1 .0) n (meter y) (counts .result .measures) (counts .ensures .measures) in
+    let b = along-beats (l .inv .0) x i (o .ensures .1 .0) n (meter y) (counts .result .beats) (counts .ensures .beats) in
     let onward = l .inv .0 .onward in
     let small = l .inv .0 .ready .small in
     let header = i .met .read .header in
@@ -138,8 +138,8 @@ add-m c = let y = c .before .before .before .before .before .before .before .bef
     let n = y .meter-of .result in
     let counts = c .before .before .before .before .before .before .before .play in
     let a = along-next (l .inv .0) x i (o .ensures .1 .0) n (meter y) in
-    let m = along-measures (l .inv .0) x i (o .ensures .1 .0) n (meter y) (counts .result .measures) (counts .ensures .0 .0) in
-    let b = along-beats (l .inv .0) x i (o .ensures .1 .0) n (meter y) (counts .result .beats) (counts .ensures .0 .1) in
+    let m = along-measures (l .inv .0) x i (o .ensures .1 .0) n (meter y) (counts .result .measures) (counts .ensures .measures) in
+    let b = along-beats (l .inv .0) x i (o .ensures .1 .0) n (meter y) (counts .result .beats) (counts .ensures .beats) in
     omega (arith, a .measures, a .few)
 
 add-b : tie.Need-add-b Inv-loop μ-loop
@@ -151,8 +151,8 @@ add-b c = let y = c .before .before .before .before .before .before .before .bef
     let n = y .meter-of .result in
     let counts = c .before .before .before .before .before .before .before .before .play in
     let a = along-next (l .inv .0) x i (o .ensures .1 .0) n (meter y) in
-    let m = along-measures (l .inv .0) x i (o .ensures .1 .0) n (meter y) (counts .result .measures) (counts .ensures .0 .0) in
-    let b = along-beats (l .inv .0) x i (o .ensures .1 .0) n (meter y) (counts .result .beats) (counts .ensures .0 .1) in
+    let m = along-measures (l .inv .0) x i (o .ensures .1 .0) n (meter y) (counts .result .measures) (counts .ensures .measures) in
+    let b = along-beats (l .inv .0) x i (o .ensures .1 .0) n (meter y) (counts .result .beats) (counts .ensures .beats) in
     omega (arith, a .beats, a .few)
 
 loop-less : tie.Need-loop-less Inv-loop μ-loop
@@ -174,8 +174,8 @@ loop-again c = let y = c .before .before .before .before .before .before .before
     let n = y .meter-of .result in
     let counts = c .before .before .before .before .before .before .before .before .before .play in
     let a = along-next (l .inv .0) x i (o .ensures .1 .0) n (meter y) in
-    let m = along-measures (l .inv .0) x i (o .ensures .1 .0) n (meter y) (counts .result .measures) (counts .ensures .0 .0) in
-    let b = along-beats (l .inv .0) x i (o .ensures .1 .0) n (meter y) (counts .result .beats) (counts .ensures .0 .1) in
+    let m = along-measures (l .inv .0) x i (o .ensures .1 .0) n (meter y) (counts .result .measures) (counts .ensures .measures) in
+    let b = along-beats (l .inv .0) x i (o .ensures .1 .0) n (meter y) (counts .result .beats) (counts .ensures .beats) in
     let q = y .before .before .before .before .before .before .before .before .before .before .before .before .before .before .before in
     let table = tables (songOf (q .args .s .now)) in
     let tempo = c .before .before .before .before .tempo-of .ensures ∙ tempo-is _ _ (i .met .says .bpm) (q .pre .1 .0 .2) in
@@ -183,10 +183,10 @@ loop-again c = let y = c .before .before .before .before .before .before .before
     (q .args .sections .now) (l .sections) (table .sections) (l .k) _ _ (room y)
     (c .before .before .before .section-word .ensures) tempo (l .inv .8) in
     let wm = measures-next (l .inv .0) x i (o .ensures .1 .0) n (meter y) (counts .result .measures) (counts .result .beats) m b
-    (q .args .measures .now) (l .measures) (table .measures) _ (l .inv .6) (l .inv .3) (q .pre .1 .1 .1 .1) (counts .ensures .1 .0)
+    (q .args .measures .now) (l .measures) (table .measures) _ (l .inv .6) (l .inv .3) (q .pre .1 .1 .1 .1) (counts .ensures .measureTable)
     (l .inv .9) in
     let wb = beats-next (l .inv .0) x i (o .ensures .1 .0) n (meter y) (counts .result .measures) (counts .result .beats) m b
-    (q .args .beats .now) (l .beats) (table .beats) _ (l .inv .7) (l .inv .4) (q .pre .1 .1 .1 .2) (counts .ensures .1 .1)
+    (q .args .beats .now) (l .beats) (table .beats) _ (l .inv .7) (l .inv .4) (q .pre .1 .1 .1 .2) (counts .ensures .beatTable)
     (l .inv .10) in
     let um = wrote-left _ _ _ _ _ wm in
     let ub = wrote-left _ _ _ _ _ wb in
