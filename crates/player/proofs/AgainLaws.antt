@@ -12,10 +12,10 @@ use Rattle.songcode.specs.description.Performance.{total}
 use Rattle.songcode.proofs.ListLaws.{times-length}
 use Rattle.songcode.proofs.TurnedRows.{total-append}
 use Rattle.player.specs.declared.pens.Pen.{Pen}
-use Rattle.player.specs.Page.{Page, Fine, play}
+use Rattle.player.specs.Page.{Page, Fine, play, page}
 use Rattle.player.specs.Windows.{window, flat, heads}
 use Rattle.player.specs.Again.{Took, Skips, Copies, skippedOf, copiedOf, copyOf, same, later}
-use Rattle.player.proofs.PageLaws.{page, not-none}
+use Rattle.player.proofs.PageLaws.{not-none}
 use Rattle.player.proofs.ContentLaws.{Done, played}
 use Rattle.player.proofs.WindowLaws.{total-window, window-large, length-flat, length-heads}
 use Rattle.player.proofs.CopyLaws.{sets-again, map-same, heads-later}

@@ -298,6 +298,3 @@ pub inked-from : (x : List ℕ) (p r q : Pen) (bs bs' : List ℕ) → p ≡ r
     → _≡_ {A = Ink} (record { pen = q; bs = bs' }) (inked x (record { pen = p; bs = bs }))
     → _≡_ {A = Ink} (record { pen = q; bs = bs' }) (inked x (record { pen = r; bs = bs }))
 inked-from x p r q bs bs' e k = rw e at k
-
-abbrev pub page : Pen → List ℕ → List ℕ → Page
-page p ms bs = record { pen = p; ms = ms; bs = bs }

@@ -16,10 +16,10 @@ use Rattle.player.specs.declared.pens.Pen.{Pen}
 use Rattle.player.specs.declared.playing.Plan.{Plan}
 use Rattle.player.specs.declared.playing.Counts.{Counts}
 use Rattle.settings.specs.declared.cuts.Cut.{Cut}
-use Rattle.player.specs.Page.{Page, Fine, play}
+use Rattle.player.specs.Page.{Page, Fine, play, page}
 use Rattle.player.specs.Arrangements.{Opening, Plays}
 use Rattle.player.specs.Windows.{window, firstBeat, lastBeat, keptOf, wholeOf, sectionRow, flat, heads}
-use Rattle.player.proofs.PageLaws.{page, fine-play, play-append}
+use Rattle.player.proofs.PageLaws.{fine-play, play-append}
 use Rattle.player.proofs.ContentLaws.{Done, played, sets-append}
 use Rattle.player.proofs.ShortLaws.{Short, short-times, total-short, total-few}
 use Rattle.player.proofs.WindowLaws.{total-window, window-none, window-filled, length-flat, length-heads, flat-append, heads-append}

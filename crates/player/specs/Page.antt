@@ -18,6 +18,9 @@ pub record Page : Type 0 where
   pub ms : List ℕ
   pub bs : List ℕ
 
+abbrev pub page : Pen → List ℕ → List ℕ → Page
+page p ms bs = record { pen = p; ms = ms; bs = bs }
+
 -- No more measures than beats, and no more beats than 65,535 measures of 32.
 pub record Fine (p : Pen) : Type 0 where
   pub few : p .m ≤ p .b

@@ -1,5 +1,5 @@
 -- What token words mean as they are walked: rows of measures, the place where the walk ends, and the last chord.
-use Prim.Native.Nat.{ℕ, zero, suc, _+_, _-_, _/_}
+use Prim.Native.Nat.{ℕ, zero, suc, _+_, _-_, _/_, _<_, _≤_}
 use mathlib.Core.List.{List, [], _∷_, _++_}
 use lib.ListN.{length}
 use lib.Dec.{eqb}
@@ -8,7 +8,9 @@ use Rattle.score.specs.declared.stretches.Stretch.{Stretch}
 use Rattle.score.specs.Places.{wordOf, stretchOf}
 use Rattle.tokens.specs.Signs.{kindOf, numberOf, isSeparator, isStop}
 use Rattle.player.specs.Signs.{chordsOf, partsOf, positionsAt}
-use Rattle.player.specs.Page.{Page, play}
+use Rattle.player.specs.declared.measures.Walk.{Walk}
+use Rattle.player.specs.declared.walks.Scope.{Scope}
+use Rattle.player.specs.Page.{Page, play, page}
 
 pub record Read : Type 0 where
   pub row : List (List ℕ)
@@ -96,3 +98,15 @@ level (suc k) n ws to at last = rowsBy (level k n ws) n ws to to at last
 unfoldable pub rowOf : ℕ → List ℕ → Stretch → List (List ℕ)
 unfolding level
 rowOf n ws s = level 8 n ws (s .to) (s .from) 4227858432 .row
+
+-- How the code says it: where a walk has come with both tables, what it reads from there on, and the numbers that it keeps to.
+abbrev pub endOf : Walk → List ℕ → List ℕ → End
+endOf w ms bs = record { at = w .at; last = w .last; page = page (w .pen) ms bs }
+
+abbrev pub levelFrom : Scope → Walk → List ℕ → Read
+levelFrom s w ws = level (s .depth) (s .n) ws (s .to) (w .at) (w .last)
+
+pub record Within (s : Scope) (w : Walk) : Type 0 where
+  pub last : w .last ≤ 4227858432
+  pub meter : s .n ≤ 32
+  pub levels : s .depth < 1000

@@ -15,8 +15,8 @@ ghost use mathlib.Core.Path.{_≡_};
 ghost use Prim.Native.Nat.{_+_, _-_, _*_, _≤_, _<_};
 ghost use lib.ListN.{length};
 ghost use Rattle.player.specs.Signs.{partOf, partsOf, positionsAt, soundingOf, chordsOf};
-ghost use Rattle.player.specs.Page.{Page, Ink, Fine, inked, measureOf};
-ghost use Rattle.player.specs.Walks.{End, finish, oneOf};
+ghost use Rattle.player.specs.Page.{Page, Ink, Fine, page, inked, measureOf};
+ghost use Rattle.player.specs.Walks.{finish, oneOf, endOf};
 
 // Where a walk has come: the place, the last chord, the pen.
 pub struct Walk {
@@ -144,25 +144,18 @@ pub fn measure(
     words: &[u32],
     n: usize,
     to: usize,
-    at: usize,
-    last: u32,
-    p: Pen,
+    from: Walk,
     ms: &mut [u32],
     bs: &mut [u32],
 ) -> Walk
-    requires { ⌜ Fine p × (last ≤ 4227858432) × (n ≤ 32) ⌝ }
-    ensures walk { λ r. ⌜ _≡_ {A = End} (record {
-      at = r .at;
-      last = r .last;
-      page =
-          record { pen = r .pen; ms = now (ms .exit); bs = now (bs .exit) };
-    })
-        (finish (oneOf n (now (words .entry)) to at last) (record { pen = p; ms = now (ms .entry); bs = now (bs .entry) })) ⌝ }
+    requires { ⌜ Fine (from .pen) × (from .last ≤ 4227858432) × (n ≤ 32) ⌝ }
+    ensures walk { λ r. ⌜ endOf r (now (ms .exit)) (now (bs .exit))
+        ≡ finish (oneOf n (now (words .entry)) to (from .at) (from .last)) (page (from .pen) (now (ms .entry)) (now (bs .entry))) ⌝ }
     ensures last { λ r. ⌜ r .last ≤ 4227858432 ⌝ }
 {
-    let seen = look(words, to, at, last);
-    let share = share_of(n, seen.stop - at);
-    let pen = sounded(words, to, at, share, last, seen, p, ms, bs);
+    let seen = look(words, to, from.at, from.last);
+    let share = share_of(n, seen.stop - from.at);
+    let pen = sounded(words, to, from.at, share, from.last, seen, from.pen, ms, bs);
     Walk {
         at: seen.stop,
         last: seen.last,

@@ -1,6 +1,8 @@
 // A section: counted, its cuts turned into two numbers, and written in one forward pass.
 use super::leaves::minus;
+use super::measures::Walk;
 use super::pens::Pen;
+use super::walks::Scope;
 use super::walks::again;
 use super::walks::items;
 use score::Stretch;
@@ -59,20 +61,18 @@ pub fn rounds(
     if r == 0 || p.todo == 0 {
         return p;
     }
-    let w = items(words, n, s.to, s.from, SILENCE_WORD, 8, p, ms, bs);
-    again(
-        words,
+    let scope = Scope {
         n,
-        s.to,
-        s.from,
-        SILENCE_WORD,
-        8,
-        r - 1,
-        p,
-        w.pen,
-        ms,
-        bs,
-    )
+        to: s.to,
+        depth: 8,
+    };
+    let start = Walk {
+        at: s.from,
+        last: SILENCE_WORD,
+        pen: p,
+    };
+    let w = items(words, scope, start, ms, bs);
+    again(words, scope, start, w.pen, r - 1, ms, bs)
 }
 
 // How many of the first k measures of the repeated pattern there are, and their beats: the same walk with every beat passed over.

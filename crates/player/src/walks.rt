@@ -17,148 +17,121 @@ use tokens::is_stop;
 use tokens::kind;
 use tokens::number;
 ghost use mathlib.Core.Path.{_≡_};
-ghost use Prim.Native.Nat.{_+_, _-_, _≤_, _<_};
+ghost use Prim.Native.Nat.{_+_, _≤_, _<_};
 ghost use Rattle.songcode.specs.Lists.{times};
-ghost use Rattle.player.specs.Page.{Page, Fine, play};
+ghost use Rattle.player.specs.Page.{Fine, play, page};
 ghost use Rattle.player.specs.Again.{Took};
-ghost use Rattle.player.specs.Walks.{End, finish, level, itemOf, loopOf, refOf};
+ghost use Rattle.player.specs.Walks.{finish, level, itemOf, loopOf, refOf, endOf, levelFrom, Within};
+
+// Where a walk may read: in which N, up to which place of the row, and how many levels of loops and references deep.
+pub struct Scope {
+    pub n: usize,
+    pub to: usize,
+    pub depth: usize,
+}
 
 // Items up to the end of the text or a closing bracket.
-pub fn items(
-    words: &[u32],
-    n: usize,
-    to: usize,
-    at: usize,
-    last: u32,
-    depth: usize,
-    p: Pen,
-    ms: &mut [u32],
-    bs: &mut [u32],
-) -> Walk
-    requires { ⌜ Fine p × (last ≤ 4227858432) × (n ≤ 32) × (depth < 1000) ⌝ }
-    ensures walk { λ r. ⌜ _≡_ {A = End} (record {
-      at = r .at;
-      last = r .last;
-      page =
-          record { pen = r .pen; ms = now (ms .exit); bs = now (bs .exit) };
-    })
-        (finish (level depth n (now (words .entry)) to at last) (record { pen = p; ms = now (ms .entry); bs = now (bs .entry) })) ⌝ }
+pub fn items(words: &[u32], s: Scope, from: Walk, ms: &mut [u32], bs: &mut [u32]) -> Walk
+    requires { ⌜ Fine (from .pen) × Within s from ⌝ }
+    ensures walk { λ r. ⌜ endOf r (now (ms .exit)) (now (bs .exit))
+        ≡ finish (levelFrom s from (now (words .entry))) (page (from .pen) (now (ms .entry)) (now (bs .entry))) ⌝ }
     ensures last { λ r. ⌜ r .last ≤ 4227858432 ⌝ }
 {
-    let mut w = Walk { at, last, pen: p };
-    if depth == 0 {
+    let mut w = from;
+    if s.depth == 0 {
         return w;
     }
     loop {
-        let i = w.at;
-        if is_stop(kind(word_at(words, to, i))) {
+        if is_stop(kind(word_at(words, s.to, w.at))) {
             return w;
         }
-        w = item(words, n, to, i, w.last, depth - 1, w.pen, ms, bs);
+        let depth = s.depth - 1;
+        let inner = Scope {
+            n: s.n,
+            to: s.to,
+            depth,
+        };
+        w = item(words, inner, w, ms, bs);
     }
 }
 
 // One item, or one separator.
-pub fn item(
-    words: &[u32],
-    n: usize,
-    to: usize,
-    at: usize,
-    last: u32,
-    depth: usize,
-    p: Pen,
-    ms: &mut [u32],
-    bs: &mut [u32],
-) -> Walk
-    requires { ⌜ Fine p × (last ≤ 4227858432) × (n ≤ 32) × (depth < 1000) × (at < to) ⌝ }
-    ensures walk { λ r. ⌜ _≡_ {A = End} (record {
-      at = r .at;
-      last = r .last;
-      page =
-          record { pen = r .pen; ms = now (ms .exit); bs = now (bs .exit) };
-    })
-        (finish (itemOf (level depth n (now (words .entry))) n (now (words .entry)) to at last)
-        (record { pen = p; ms = now (ms .entry); bs = now (bs .entry) })) ⌝ }
+pub fn item(words: &[u32], s: Scope, from: Walk, ms: &mut [u32], bs: &mut [u32]) -> Walk
+    requires { ⌜ Fine (from .pen) × Within s from × (from .at < 18446744073709551615) ⌝ }
+    ensures walk { λ r. ⌜ endOf r (now (ms .exit)) (now (bs .exit))
+        ≡ finish (itemOf (level (s .depth) (s .n) (now (words .entry))) (s .n) (now (words .entry)) (s .to) (from .at) (from .last))
+        (page (from .pen) (now (ms .entry)) (now (bs .entry))) ⌝ }
     ensures last { λ r. ⌜ r .last ≤ 4227858432 ⌝ }
 {
-    let w = word_at(words, to, at);
+    let w = word_at(words, s.to, from.at);
     let k = kind(w);
     if k == OPENS {
-        return loop_(words, n, to, at + 1, last, depth, p, ms, bs);
+        return loop_(words, s, from, ms, bs);
     }
     if k == REFERENCE {
-        return jump(words, n, number(w), at, last, depth, p, ms, bs);
+        return jump(words, number(w), s, from, ms, bs);
     }
     if is_separator(k) {
+        let at = from.at + 1;
+        let pen = from.pen;
         return Walk {
-            at: at + 1,
-            last,
-            pen: p,
+            at,
+            last: from.last,
+            pen,
         };
     }
-    measure(words, n, to, at, last, p, ms, bs)
+    measure(words, s.n, s.to, from, ms, bs)
 }
 
 // A reference: the items of a definition, one level down; then back to behind the reference.
-pub fn jump(
-    words: &[u32],
-    n: usize,
-    x: u32,
-    at: usize,
-    last: u32,
-    depth: usize,
-    p: Pen,
-    ms: &mut [u32],
-    bs: &mut [u32],
-) -> Walk
-    requires { ⌜ Fine p × (last ≤ 4227858432) × (n ≤ 32) × (depth < 1000) × (at < 18446744073709551615) ⌝ }
-    ensures walk { λ r. ⌜ _≡_ {A = End} (record {
-      at = r .at;
-      last = r .last;
-      page =
-          record { pen = r .pen; ms = now (ms .exit); bs = now (bs .exit) };
-    })
-        (finish (refOf (level depth n (now (words .entry))) (now (words .entry)) x at last)
-        (record { pen = p; ms = now (ms .entry); bs = now (bs .entry) })) ⌝ }
+pub fn jump(words: &[u32], x: u32, s: Scope, from: Walk, ms: &mut [u32], bs: &mut [u32]) -> Walk
+    requires { ⌜ Fine (from .pen) × Within s from × (from .at < 18446744073709551615) ⌝ }
+    ensures walk { λ r. ⌜ endOf r (now (ms .exit)) (now (bs .exit))
+        ≡ finish (refOf (level (s .depth) (s .n) (now (words .entry))) (now (words .entry)) x (from .at) (from .last))
+        (page (from .pen) (now (ms .entry)) (now (bs .entry))) ⌝ }
     ensures last { λ r. ⌜ r .last ≤ 4227858432 ⌝ }
 {
-    let s = stretch_of(words, x);
-    let w = items(words, n, s.to, s.from, last, depth, p, ms, bs);
+    let text = stretch_of(words, x);
+    let there = Scope {
+        n: s.n,
+        to: text.to,
+        depth: s.depth,
+    };
+    let begun = from.pen;
+    let start = Walk {
+        at: text.from,
+        last: from.last,
+        pen: begun,
+    };
+    let w = items(words, there, start, ms, bs);
+    let at = from.at + 1;
     let pen = w.pen;
     Walk {
-        at: at + 1,
+        at,
         last: w.last,
         pen,
     }
 }
 
-// The passes of a loop: the first finds its end and its count.
-pub fn loop_(
-    words: &[u32],
-    n: usize,
-    to: usize,
-    at: usize,
-    last: u32,
-    depth: usize,
-    p: Pen,
-    ms: &mut [u32],
-    bs: &mut [u32],
-) -> Walk
-    requires { ⌜ Fine p × (last ≤ 4227858432) × (n ≤ 32) × (depth < 1000) ⌝ }
-    ensures walk { λ r. ⌜ _≡_ {A = End} (record {
-      at = r .at;
-      last = r .last;
-      page =
-          record { pen = r .pen; ms = now (ms .exit); bs = now (bs .exit) };
-    })
-        (finish (loopOf (level depth n (now (words .entry))) (now (words .entry)) to at last)
-        (record { pen = p; ms = now (ms .entry); bs = now (bs .entry) })) ⌝ }
+// The passes of the loop that opens at a place: the first finds its end and its count.
+pub fn loop_(words: &[u32], s: Scope, from: Walk, ms: &mut [u32], bs: &mut [u32]) -> Walk
+    requires { ⌜ Fine (from .pen) × Within s from × (from .at < 18446744073709551615) ⌝ }
+    ensures walk { λ r. ⌜ endOf r (now (ms .exit)) (now (bs .exit))
+        ≡ finish (loopOf (level (s .depth) (s .n) (now (words .entry))) (now (words .entry)) (s .to) (from .at + 1) (from .last))
+        (page (from .pen) (now (ms .entry)) (now (bs .entry))) ⌝ }
     ensures last { λ r. ⌜ r .last ≤ 4227858432 ⌝ }
 {
-    let w = items(words, n, to, at, last, depth, p, ms, bs);
-    let k = passes(words, to, w.at);
-    let end = behind(words, to, w.at);
-    let pen = again(words, n, to, at, last, depth, k, p, w.pen, ms, bs);
+    let at = from.at + 1;
+    let begun = from.pen;
+    let start = Walk {
+        at,
+        last: from.last,
+        pen: begun,
+    };
+    let w = items(words, s, start, ms, bs);
+    let k = passes(words, s.to, w.at);
+    let end = behind(words, s.to, w.at);
+    let pen = again(words, s, start, w.pen, k, ms, bs);
     Walk {
         at: end,
         last: w.last,
@@ -166,35 +139,36 @@ pub fn loop_(
     }
 }
 
-// The items that took the pen from `p` to `q`, k times more; nothing more is looked at once no measure is to be looked at.
+// The items that took the pen from their start to `q`, k times more; nothing more is looked at once no measure is to be looked at.
 pub fn again(
     words: &[u32],
-    n: usize,
-    to: usize,
-    at: usize,
-    last: u32,
-    depth: usize,
-    k: usize,
-    p: Pen,
+    s: Scope,
+    start: Walk,
     q: Pen,
+    k: usize,
     ms: &mut [u32],
     bs: &mut [u32],
 ) -> Pen
-    requires { ⌜ Fine q × (last ≤ 4227858432) × (n ≤ 32) × (depth < 1000) × Took (level depth n (now words) to at last .row) p q (now ms) (now bs) ⌝ }
-    ensures { λ r. ⌜ _≡_ {A = Page} (record { pen = r; ms = now (ms .exit); bs = now (bs .exit) })
-        (play (times k (level depth n (now (words .entry)) to at last .row)) (record { pen = q; ms = now (ms .entry); bs = now (bs .entry) })) ⌝ }
+    requires { ⌜ Fine q × Within s start × Took (levelFrom s start (now words) .row) (start .pen) q (now ms) (now bs) ⌝ }
+    ensures { λ r. ⌜ page r (now (ms .exit)) (now (bs .exit))
+        ≡ play (times k (levelFrom s start (now (words .entry)) .row)) (page q (now (ms .entry)) (now (bs .entry))) ⌝ }
 {
-    if skips(p, q, k) {
-        return skipped(p, q, k);
+    if skips(start.pen, q, k) {
+        return skipped(start.pen, q, k);
     }
-    let mut before = p;
+    let mut before = start.pen;
     let mut after = q;
     let mut i: usize = 0;
     while i < k {
         if after.todo == 0 {
             return after;
         }
-        let next = once_more(words, n, to, at, last, depth, before, after, ms, bs);
+        let pass = Walk {
+            at: start.at,
+            last: start.last,
+            pen: before,
+        };
+        let next = once_more(words, s, pass, after, ms, bs);
         before = after;
         after = next;
         i += 1;
@@ -205,26 +179,27 @@ pub fn again(
 // Once more: passed over, copied, or read again.
 pub fn once_more(
     words: &[u32],
-    n: usize,
-    to: usize,
-    at: usize,
-    last: u32,
-    depth: usize,
-    p: Pen,
+    s: Scope,
+    start: Walk,
     q: Pen,
     ms: &mut [u32],
     bs: &mut [u32],
 ) -> Pen
-    requires { ⌜ Fine q × (last ≤ 4227858432) × (n ≤ 32) × (depth < 1000) × Took (level depth n (now words) to at last .row) p q (now ms) (now bs) ⌝ }
-    ensures { λ r. ⌜ _≡_ {A = Page} (record { pen = r; ms = now (ms .exit); bs = now (bs .exit) })
-        (play (level depth n (now (words .entry)) to at last .row) (record { pen = q; ms = now (ms .entry); bs = now (bs .entry) })) ⌝ }
+    requires { ⌜ Fine q × Within s start × Took (levelFrom s start (now words) .row) (start .pen) q (now ms) (now bs) ⌝ }
+    ensures { λ r. ⌜ page r (now (ms .exit)) (now (bs .exit))
+        ≡ play (levelFrom s start (now (words .entry)) .row) (page q (now (ms .entry)) (now (bs .entry))) ⌝ }
 {
-    if skips(p, q, 1) {
-        return skipped(p, q, 1);
+    if skips(start.pen, q, 1) {
+        return skipped(start.pen, q, 1);
     }
-    if copies(p, q) {
-        return copied(p, q, ms, bs);
+    if copies(start.pen, q) {
+        return copied(start.pen, q, ms, bs);
     }
-    let w = items(words, n, to, at, last, depth, q, ms, bs);
+    let next = Walk {
+        at: start.at,
+        last: start.last,
+        pen: q,
+    };
+    let w = items(words, s, next, ms, bs);
     w.pen
 }

@@ -1,7 +1,7 @@
 -- One measure: passed over, or written and closed.
-use Rattle.player.proofs.PageLaws.{page, measure-none, measure-some, measure-pass, measured, not-none, fine-begun, inked-from}
+use Rattle.player.proofs.PageLaws.{measure-none, measure-some, measure-pass, measured, not-none, fine-begun, inked-from}
 use Rattle.player.proofs.SignLaws.{parts-length}
-use Rattle.player.specs.Page.{restOf}
+use Rattle.player.specs.Page.{restOf, page}
 use Rattle.player.specs.Signs.{partsOf, positionsAt}
 use Rattle.player.specs.declared.pens.Pen.{Pen}
 use mathlib.Core.Path.{sym, ap, _∙_}

@@ -25,9 +25,7 @@ again-requires c κs =
     let l = (level 8 (a .n) (a .words .now) (a .s .to) (a .s .from) 4227858432) in
     let e = c .before .before .before .before .before .before .items .ensures .0 in (
       fine-end _ l (record { pen = a .p; ms = a .ms .now; bs = a .bs .now }) e (q .pre .0),
-      omega arith,
-      q .pre .1,
-      omega arith,
+      record { last = omega arith; meter = q .pre .1; levels = omega arith },
       record { ms-before = a .ms .now; bs-before = a .bs .now; pass = end-page _ l (record { pen = a .p; ms = a .ms .now; bs = a .bs .now }) e },
     )
 

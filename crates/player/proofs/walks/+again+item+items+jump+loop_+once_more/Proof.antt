@@ -5,13 +5,16 @@ use Rattle.player.proofs.WalkLaws.{level-onward, end-onward}
 use Rattle.player.proofs.SignLaws.{stop-inside}
 use Rattle.player.proofs.SectionLaws.{fine-rounds}
 use Rattle.player.proofs.AgainLaws.{skipped-again, skipped-once, took-onward, copied-again}
-use Rattle.player.specs.Walks.{Read, End, finish, itemOf, rowsBy, level}
+use Rattle.player.specs.Walks.{Read, End, finish, itemOf, rowsBy, level, levelFrom}
 use Rattle.player.specs.Page.{Page, Fine, play}
 use Rattle.player.specs.Again.{Took}
 use Rattle.songcode.specs.Lists.{times}
 use lib.ListN.{length}
 use native.Mathlib.Nat.{sub-zero}
 use native.Mathlib.Omega.{arith}
+use Rattle.tokens.specs.Signs.{kindOf, isStop}
+use Rattle.score.specs.Places.{wordOf}
+use mathlib.Core.Bool.{false}
 use mathlib.Core.Path.{_≡_, refl, ap}
 use Prim.Native.Nat.{_+_, _-_, _*_, _≤_}
 use borrow.Author.Needs.{needs}
@@ -53,22 +56,22 @@ use Rattle.player.proofs.walks.+again+item+items+jump+loop_+once_more.{
 use Rattle.player.proofs.walks.+again+item+items+jump+loop_+once_more.Tie.{close}
 
 abbrev μ-again : Measures 3 again-kinds.ps ℕ
-μ-again κs a = 5 * (a .1 .1 .1 .1 .1 .0) + 2
+μ-again κs a = 5 * (a .1 .0 .depth) + 2
 
 abbrev μ-item : Measures 3 item-kinds.ps ℕ
-μ-item κs a = 5 * (a .1 .1 .1 .1 .1 .0) + 4
+μ-item κs a = 5 * (a .1 .0 .depth) + 4
 
 abbrev μ-items : Measures 3 items-kinds.ps ℕ
-μ-items κs a = 5 * (a .1 .1 .1 .1 .1 .0)
+μ-items κs a = 5 * (a .1 .0 .depth)
 
 abbrev μ-jump : Measures 3 jump-kinds.ps ℕ
-μ-jump κs a = 5 * (a .1 .1 .1 .1 .1 .0) + 3
+μ-jump κs a = 5 * (a .1 .1 .0 .depth) + 3
 
 abbrev μ-loop- : Measures 3 loop--kinds.ps ℕ
-μ-loop- κs a = 5 * (a .1 .1 .1 .1 .1 .0) + 3
+μ-loop- κs a = 5 * (a .1 .0 .depth) + 3
 
 abbrev μ-once-more : Measures 3 once-more-kinds.ps ℕ
-μ-once-more κs a = 5 * (a .1 .1 .1 .1 .1 .0) + 1
+μ-once-more κs a = 5 * (a .1 .0 .depth) + 1
 
 abbrev again-at : ℕ → In 3 again-kinds.ps
 again-at t = and 3 again-kinds.ps (is 3 again-kinds.ps μ-again t) again.Pre
@@ -107,147 +110,56 @@ abbrev once-more-below : ℕ → In 3 once-more-kinds.ps
 once-more-below t =
     and 3 once-more-kinds.ps (falls 3 once-more-kinds.ps _<_ μ-once-more t) once-more.Pre
 
+abbrev again-claims : ℕ → again-lts.Claims
+again-claims t =
+    (skips-reads.Asked, skips-reads.Learnt, skipped-reads.Asked, skipped-reads.Learnt, once-more-below t, once-more.Post)
+
 abbrev again-Inv-loop : again-lts.InvT-loop
-again-Inv-loop words n to at last depth k ms₀ bs₀ before₀ after₀ i₀ ms bs before after i =
+again-Inv-loop words s start k ms₀ bs₀ before₀ after₀ i₀ ms bs before after i =
     (i ≤ k) × Fine after × (length ms ≡ length ms₀) × (length bs ≡ length bs₀)
-    × Took (level depth n words to at last .row) before after ms bs
-    × (_≡_ {A = Page} (play (times (k - i) (level depth n words to at last .row)) (record { pen = after; ms = ms; bs = bs }))
-    (play (times k (level depth n words to at last .row)) (record { pen = after₀; ms = ms₀; bs = bs₀ })))
+    × Took (levelFrom s start words .row) before after ms bs
+    × (_≡_ {A = Page} (play (times (k - i) (levelFrom s start words .row)) (record { pen = after; ms = ms; bs = bs }))
+    (play (times k (levelFrom s start words .row)) (record { pen = after₀; ms = ms₀; bs = bs₀ })))
 
 abbrev again-μ-loop : again-lts.MeasureT-loop
-again-μ-loop words n to at last depth k ms₀ bs₀ before₀ after₀ i₀ ms bs before after i = k - i
+again-μ-loop words s start k ms₀ bs₀ before₀ after₀ i₀ ms bs before after i = k - i
 
-again-skips-requires : (t : ℕ) → again-lts.Need-skips-requires (
-  skips-reads.Asked,
-  skips-reads.Learnt,
-  skipped-reads.Asked,
-  skipped-reads.Learnt,
-  once-more-below t,
-  once-more.Post,
-) (again-at t) again.Post again-Inv-loop again-μ-loop
-again-skips-requires t c κs = search needs
-
-again-skipped-requires : (t : ℕ) → again-lts.Need-skipped-requires (
-  skips-reads.Asked,
-  skips-reads.Learnt,
-  skipped-reads.Asked,
-  skipped-reads.Learnt,
-  once-more-below t,
-  once-more.Post,
-) (again-at t) again.Post again-Inv-loop again-μ-loop
+again-skipped-requires : (t : ℕ) → again-lts.Need-skipped-requires (again-claims t) (again-at t) again.Post again-Inv-loop again-μ-loop
 again-skipped-requires t c κs = c .before .skips .ensures (c .if1 .taken)
 
-again-returns : (t : ℕ) → again-lts.Need-returns (
-  skips-reads.Asked,
-  skips-reads.Learnt,
-  skipped-reads.Asked,
-  skipped-reads.Learnt,
-  once-more-below t,
-  once-more.Post,
-) (again-at t) again.Post again-Inv-loop again-μ-loop
+again-returns : (t : ℕ) → again-lts.Need-returns (again-claims t) (again-at t) again.Post again-Inv-loop again-μ-loop
 again-returns t c =
     let q = c .before .before .before .before .before .before in
     let a = q .args in
-    let r = (level (a .depth) (a .n) (a .words .now) (a .to) (a .at) (a .last)) in
-    skipped-again (r .row) (a .p) (a .q) _ (a .k) (a .ms .now) (a .bs .now) (q .pre .1 .4)
+    let r = (level (a .s .depth) (a .s .n) (a .words .now) (a .s .to) (a .start .at) (a .start .last)) in
+    skipped-again (r .row) (a .start .pen) (a .q) _ (a .k) (a .ms .now) (a .bs .now) (q .pre .1 .2)
     (c .before .before .skips .ensures (c .before .if1 .taken)) (c .skipped .ensures)
 
-again-loop-holds : (t : ℕ) → again-lts.Need-loop-holds (
-  skips-reads.Asked,
-  skips-reads.Learnt,
-  skipped-reads.Asked,
-  skipped-reads.Learnt,
-  once-more-below t,
-  once-more.Post,
-) (again-at t) again.Post again-Inv-loop again-μ-loop
+again-loop-holds : (t : ℕ) → again-lts.Need-loop-holds (again-claims t) (again-at t) again.Post again-Inv-loop again-μ-loop
 again-loop-holds t c =
-    let q = c .before .before .before .before .before in
+    let q = c .before .before .before .before .before .before in
     let a = q .args in
-    let r = (level (a .depth) (a .n) (a .words .now) (a .to) (a .at) (a .last)) in
-    (omega arith, q .pre .1 .0, refl, refl, q .pre .1 .4, rw (sub-zero (a .k)))
+    let r = (level (a .s .depth) (a .s .n) (a .words .now) (a .s .to) (a .start .at) (a .start .last)) in
+    (omega arith, q .pre .1 .0, refl, refl, q .pre .1 .2, rw (sub-zero (a .k)))
 
-again-same-length : (t : ℕ) → again-lts.Need-same-length (
-  skips-reads.Asked,
-  skips-reads.Learnt,
-  skipped-reads.Asked,
-  skipped-reads.Learnt,
-  once-more-below t,
-  once-more.Post,
-) (again-at t) again.Post again-Inv-loop again-μ-loop
-again-same-length t c = search needs
-
-again-same-length-2 : (t : ℕ) → again-lts.Need-same-length-2 (
-  skips-reads.Asked,
-  skips-reads.Learnt,
-  skipped-reads.Asked,
-  skipped-reads.Learnt,
-  once-more-below t,
-  once-more.Post,
-) (again-at t) again.Post again-Inv-loop again-μ-loop
-again-same-length-2 t c = search needs
-
-again-returns-2 : (t : ℕ) → again-lts.Need-returns-2 (
-  skips-reads.Asked,
-  skips-reads.Learnt,
-  skipped-reads.Asked,
-  skipped-reads.Learnt,
-  once-more-below t,
-  once-more.Post,
-) (again-at t) again.Post again-Inv-loop again-μ-loop
+again-returns-2 : (t : ℕ) → again-lts.Need-returns-2 (again-claims t) (again-at t) again.Post again-Inv-loop again-μ-loop
 again-returns-2 t c =
-    let q = c .before .before .before .before .before .before .before .before .before in
+    let q = c .before .before .before .before .before .before .before .before .before .before in
     let a = q .args in
-    let r = (level (a .depth) (a .n) (a .words .now) (a .to) (a .at) (a .last)) in
+    let r = (level (a .s .depth) (a .s .n) (a .words .now) (a .s .to) (a .start .at) (a .start .last)) in
     let l = c .before .before .before .loop in
     let g : Page = record { pen = l .after; ms = l .ms; bs = l .bs } in
     loop-early (r .row) _ g _ (c .if2 .taken) (l .inv .5)
 
-again-once-more-requires : (t : ℕ) → again-lts.Need-once-more-requires (
-  skips-reads.Asked,
-  skips-reads.Learnt,
-  skipped-reads.Asked,
-  skipped-reads.Learnt,
-  once-more-below t,
-  once-more.Post,
-) (again-at t) again.Post again-Inv-loop again-μ-loop
-again-once-more-requires t c κs = search needs
-
-again-add-i : (t : ℕ) → again-lts.Need-add-i (
-  skips-reads.Asked,
-  skips-reads.Learnt,
-  skipped-reads.Asked,
-  skipped-reads.Learnt,
-  once-more-below t,
-  once-more.Post,
-) (again-at t) again.Post again-Inv-loop again-μ-loop
-again-add-i t c = search needs
-
-again-loop-less : (t : ℕ) → again-lts.Need-loop-less (
-  skips-reads.Asked,
-  skips-reads.Learnt,
-  skipped-reads.Asked,
-  skipped-reads.Learnt,
-  once-more-below t,
-  once-more.Post,
-) (again-at t) again.Post again-Inv-loop again-μ-loop
-again-loop-less t c = search needs
-
-again-loop-again : (t : ℕ) → again-lts.Need-loop-again (
-  skips-reads.Asked,
-  skips-reads.Learnt,
-  skipped-reads.Asked,
-  skipped-reads.Learnt,
-  once-more-below t,
-  once-more.Post,
-) (again-at t) again.Post again-Inv-loop again-μ-loop
+again-loop-again : (t : ℕ) → again-lts.Need-loop-again (again-claims t) (again-at t) again.Post again-Inv-loop again-μ-loop
 again-loop-again t c =
-    let q = c .before .before .before .before .before .before .before .before .before .before .before .before .before .before .before .before in
+    let q = c .before .before .before .before .before .before .before .before .before .before .before .before .before .before .before .before .before in
     let a = q .args in
-    let r = (level (a .depth) (a .n) (a .words .now) (a .to) (a .at) (a .last)) in
+    let r = (level (a .s .depth) (a .s .n) (a .words .now) (a .s .to) (a .start .at) (a .start .last)) in
     let l = c .before .before .before .before .before .before .before .before .before .before .loop in
     let g : Page = record { pen = l .after; ms = l .ms; bs = l .bs } in
     let e = c .before .before .before .before .once-more .ensures in (
-      omega arith,
+      omega (arith, c .before .before .before .before .before .before .before .before .before .loop-test .taken),
       fine-rounds (r .row) g _ _ _ e (l .inv .1),
       search needs,
       search needs,
@@ -256,43 +168,17 @@ again-loop-again t c =
           e (l .inv .5),
     )
 
-again-same-length-3 : (t : ℕ) → again-lts.Need-same-length-3 (
-  skips-reads.Asked,
-  skips-reads.Learnt,
-  skipped-reads.Asked,
-  skipped-reads.Learnt,
-  once-more-below t,
-  once-more.Post,
-) (again-at t) again.Post again-Inv-loop again-μ-loop
-again-same-length-3 t c = search needs
-
-again-same-length-4 : (t : ℕ) → again-lts.Need-same-length-4 (
-  skips-reads.Asked,
-  skips-reads.Learnt,
-  skipped-reads.Asked,
-  skipped-reads.Learnt,
-  once-more-below t,
-  once-more.Post,
-) (again-at t) again.Post again-Inv-loop again-μ-loop
-again-same-length-4 t c = search needs
-
-again-returns-3 : (t : ℕ) → again-lts.Need-returns-3 (
-  skips-reads.Asked,
-  skips-reads.Learnt,
-  skipped-reads.Asked,
-  skipped-reads.Learnt,
-  once-more-below t,
-  once-more.Post,
-) (again-at t) again.Post again-Inv-loop again-μ-loop
+again-returns-3 : (t : ℕ) → again-lts.Need-returns-3 (again-claims t) (again-at t) again.Post again-Inv-loop again-μ-loop
 again-returns-3 t c =
-    let q = c .before .before .before .before .before .before .before in
+    let q = c .before .before .before .before .before .before .before .before in
     let a = q .args in
-    let r = (level (a .depth) (a .n) (a .words .now) (a .to) (a .at) (a .last)) in
+    let r = (level (a .s .depth) (a .s .n) (a .words .now) (a .s .to) (a .start .at) (a .start .last)) in
     let l = c .before .loop in
     let g : Page = record { pen = l .after; ms = l .ms; bs = l .bs } in
     loop-over (r .row) (a .k) (l .i) g _ (c .loop-test .left) (l .inv .5)
 
-item-word-at-requires : (t : ℕ) → item-lts.Need-word-at-requires (
+abbrev item-claims : ℕ → item-lts.Claims
+item-claims t = (
   word-at-reads.Asked,
   word-at-reads.Learnt,
   kind-reads.Asked,
@@ -307,223 +193,30 @@ item-word-at-requires : (t : ℕ) → item-lts.Need-word-at-requires (
   is-separator-reads.Learnt,
   measure-reads.Asked,
   measure-reads.Learnt,
-) (item-at t) item.Post
-item-word-at-requires t c κs = search needs
+)
 
-item-kind-requires : (t : ℕ) → item-lts.Need-kind-requires (
-  word-at-reads.Asked,
-  word-at-reads.Learnt,
-  kind-reads.Asked,
-  kind-reads.Learnt,
-  loop--below t,
-  loop-.Post,
-  number-reads.Asked,
-  number-reads.Learnt,
-  jump-below t,
-  jump.Post,
-  is-separator-reads.Asked,
-  is-separator-reads.Learnt,
-  measure-reads.Asked,
-  measure-reads.Learnt,
-) (item-at t) item.Post
-item-kind-requires t c κs = search needs
-
-item-add-loop- : (t : ℕ) → item-lts.Need-add-loop- (
-  word-at-reads.Asked,
-  word-at-reads.Learnt,
-  kind-reads.Asked,
-  kind-reads.Learnt,
-  loop--below t,
-  loop-.Post,
-  number-reads.Asked,
-  number-reads.Learnt,
-  jump-below t,
-  jump.Post,
-  is-separator-reads.Asked,
-  is-separator-reads.Learnt,
-  measure-reads.Asked,
-  measure-reads.Learnt,
-) (item-at t) item.Post
-item-add-loop- t c = search needs
-
-item-loop--requires : (t : ℕ) → item-lts.Need-loop--requires (
-  word-at-reads.Asked,
-  word-at-reads.Learnt,
-  kind-reads.Asked,
-  kind-reads.Learnt,
-  loop--below t,
-  loop-.Post,
-  number-reads.Asked,
-  number-reads.Learnt,
-  jump-below t,
-  jump.Post,
-  is-separator-reads.Asked,
-  is-separator-reads.Learnt,
-  measure-reads.Asked,
-  measure-reads.Learnt,
-) (item-at t) item.Post
-item-loop--requires t c κs = search needs
-
-item-same-length : (t : ℕ) → item-lts.Need-same-length (
-  word-at-reads.Asked,
-  word-at-reads.Learnt,
-  kind-reads.Asked,
-  kind-reads.Learnt,
-  loop--below t,
-  loop-.Post,
-  number-reads.Asked,
-  number-reads.Learnt,
-  jump-below t,
-  jump.Post,
-  is-separator-reads.Asked,
-  is-separator-reads.Learnt,
-  measure-reads.Asked,
-  measure-reads.Learnt,
-) (item-at t) item.Post
-item-same-length t c = search needs
-
-item-same-length-2 : (t : ℕ) → item-lts.Need-same-length-2 (
-  word-at-reads.Asked,
-  word-at-reads.Learnt,
-  kind-reads.Asked,
-  kind-reads.Learnt,
-  loop--below t,
-  loop-.Post,
-  number-reads.Asked,
-  number-reads.Learnt,
-  jump-below t,
-  jump.Post,
-  is-separator-reads.Asked,
-  is-separator-reads.Learnt,
-  measure-reads.Asked,
-  measure-reads.Learnt,
-) (item-at t) item.Post
-item-same-length-2 t c = search needs
-
-item-returns : (t : ℕ) → item-lts.Need-returns (
-  word-at-reads.Asked,
-  word-at-reads.Learnt,
-  kind-reads.Asked,
-  kind-reads.Learnt,
-  loop--below t,
-  loop-.Post,
-  number-reads.Asked,
-  number-reads.Learnt,
-  jump-below t,
-  jump.Post,
-  is-separator-reads.Asked,
-  is-separator-reads.Learnt,
-  measure-reads.Asked,
-  measure-reads.Learnt,
-) (item-at t) item.Post
+item-returns : (t : ℕ) → item-lts.Need-returns (item-claims t) (item-at t) item.Post
 item-returns t c =
     let q = c .before .before .before .before .before .before .before .before .before .before .before .before .before in
     let a = q .args in
     let ws = a .words .now in
-    let g : Page = record { pen = a .p; ms = a .ms .now; bs = a .bs .now } in
-    let inner = level (a .depth) (a .n) ws in (
-      item-loop inner (a .n) ws (a .to) (a .at) (a .last) _ _ _ g
+    let g : Page = record { pen = a .from .pen; ms = a .ms .now; bs = a .bs .now } in
+    let inner = level (a .s .depth) (a .s .n) ws in (
+      item-loop inner (a .s .n) ws (a .s .to) (a .from .at) (a .from .last) _ _ _ g
           (c .before .before .before .before .before .before .before .before .before .word-at .ensures)
           (c .before .before .before .before .before .before .before .before .kind .ensures)
           (c .before .before .before .before .before .before .before .if1 .taken) (c .before .before .before .before .loop- .ensures .0),
       c .before .before .before .before .loop- .ensures .1,
     )
 
-item-number-requires : (t : ℕ) → item-lts.Need-number-requires (
-  word-at-reads.Asked,
-  word-at-reads.Learnt,
-  kind-reads.Asked,
-  kind-reads.Learnt,
-  loop--below t,
-  loop-.Post,
-  number-reads.Asked,
-  number-reads.Learnt,
-  jump-below t,
-  jump.Post,
-  is-separator-reads.Asked,
-  is-separator-reads.Learnt,
-  measure-reads.Asked,
-  measure-reads.Learnt,
-) (item-at t) item.Post
-item-number-requires t c κs = search needs
-
-item-jump-requires : (t : ℕ) → item-lts.Need-jump-requires (
-  word-at-reads.Asked,
-  word-at-reads.Learnt,
-  kind-reads.Asked,
-  kind-reads.Learnt,
-  loop--below t,
-  loop-.Post,
-  number-reads.Asked,
-  number-reads.Learnt,
-  jump-below t,
-  jump.Post,
-  is-separator-reads.Asked,
-  is-separator-reads.Learnt,
-  measure-reads.Asked,
-  measure-reads.Learnt,
-) (item-at t) item.Post
-item-jump-requires t c κs = search needs
-
-item-same-length-3 : (t : ℕ) → item-lts.Need-same-length-3 (
-  word-at-reads.Asked,
-  word-at-reads.Learnt,
-  kind-reads.Asked,
-  kind-reads.Learnt,
-  loop--below t,
-  loop-.Post,
-  number-reads.Asked,
-  number-reads.Learnt,
-  jump-below t,
-  jump.Post,
-  is-separator-reads.Asked,
-  is-separator-reads.Learnt,
-  measure-reads.Asked,
-  measure-reads.Learnt,
-) (item-at t) item.Post
-item-same-length-3 t c = search needs
-
-item-same-length-4 : (t : ℕ) → item-lts.Need-same-length-4 (
-  word-at-reads.Asked,
-  word-at-reads.Learnt,
-  kind-reads.Asked,
-  kind-reads.Learnt,
-  loop--below t,
-  loop-.Post,
-  number-reads.Asked,
-  number-reads.Learnt,
-  jump-below t,
-  jump.Post,
-  is-separator-reads.Asked,
-  is-separator-reads.Learnt,
-  measure-reads.Asked,
-  measure-reads.Learnt,
-) (item-at t) item.Post
-item-same-length-4 t c = search needs
-
-item-returns-2 : (t : ℕ) → item-lts.Need-returns-2 (
-  word-at-reads.Asked,
-  word-at-reads.Learnt,
-  kind-reads.Asked,
-  kind-reads.Learnt,
-  loop--below t,
-  loop-.Post,
-  number-reads.Asked,
-  number-reads.Learnt,
-  jump-below t,
-  jump.Post,
-  is-separator-reads.Asked,
-  is-separator-reads.Learnt,
-  measure-reads.Asked,
-  measure-reads.Learnt,
-) (item-at t) item.Post
+item-returns-2 : (t : ℕ) → item-lts.Need-returns-2 (item-claims t) (item-at t) item.Post
 item-returns-2 t c =
     let q = c .before .before .before .before .before .before .before .before .before .before .before .before .before .before .before in
     let a = q .args in
     let ws = a .words .now in
-    let g : Page = record { pen = a .p; ms = a .ms .now; bs = a .bs .now } in
-    let inner = level (a .depth) (a .n) ws in (
-      item-refer inner (a .n) ws (a .to) (a .at) (a .last) _ _ _ _ g
+    let g : Page = record { pen = a .from .pen; ms = a .ms .now; bs = a .bs .now } in
+    let inner = level (a .s .depth) (a .s .n) ws in (
+      item-refer inner (a .s .n) ws (a .s .to) (a .from .at) (a .from .last) _ _ _ _ g
           (c .before .before .before .before .before .before .before .before .before .before .before .word-at .ensures)
           (c .before .before .before .before .before .before .before .before .before .before .kind .ensures)
           (c .before .before .before .before .before .before .before .before .before .if1 .left)
@@ -533,147 +226,28 @@ item-returns-2 t c =
       c .before .before .before .before .jump .ensures .1,
     )
 
-item-is-separator-requires : (t : ℕ) → item-lts.Need-is-separator-requires (
-  word-at-reads.Asked,
-  word-at-reads.Learnt,
-  kind-reads.Asked,
-  kind-reads.Learnt,
-  loop--below t,
-  loop-.Post,
-  number-reads.Asked,
-  number-reads.Learnt,
-  jump-below t,
-  jump.Post,
-  is-separator-reads.Asked,
-  is-separator-reads.Learnt,
-  measure-reads.Asked,
-  measure-reads.Learnt,
-) (item-at t) item.Post
-item-is-separator-requires t c κs = search needs
-
-item-add-t24 : (t : ℕ) → item-lts.Need-add-t24 (
-  word-at-reads.Asked,
-  word-at-reads.Learnt,
-  kind-reads.Asked,
-  kind-reads.Learnt,
-  loop--below t,
-  loop-.Post,
-  number-reads.Asked,
-  number-reads.Learnt,
-  jump-below t,
-  jump.Post,
-  is-separator-reads.Asked,
-  is-separator-reads.Learnt,
-  measure-reads.Asked,
-  measure-reads.Learnt,
-) (item-at t) item.Post
-item-add-t24 t c = search needs
-
-item-returns-3 : (t : ℕ) → item-lts.Need-returns-3 (
-  word-at-reads.Asked,
-  word-at-reads.Learnt,
-  kind-reads.Asked,
-  kind-reads.Learnt,
-  loop--below t,
-  loop-.Post,
-  number-reads.Asked,
-  number-reads.Learnt,
-  jump-below t,
-  jump.Post,
-  is-separator-reads.Asked,
-  is-separator-reads.Learnt,
-  measure-reads.Asked,
-  measure-reads.Learnt,
-) (item-at t) item.Post
+item-returns-3 : (t : ℕ) → item-lts.Need-returns-3 (item-claims t) (item-at t) item.Post
 item-returns-3 t c =
-    let q = c .before .before .before .before .before .before .before .before .before in
+    let tested = c .before .before .before in
+    let seen = tested .before .before .before in
+    let q = seen .before .before .before .before .before in
     let a = q .args in
     let ws = a .words .now in
-    let g : Page = record { pen = a .p; ms = a .ms .now; bs = a .bs .now } in
-    let inner = level (a .depth) (a .n) ws in (
-      item-separator inner (a .n) ws (a .to) (a .at) (a .last) _ _ _ g (c .before .before .before .before .before .word-at .ensures)
-          (c .before .before .before .before .kind .ensures) (c .before .before .before .if1 .left) (c .before .before .if2 .left)
-          (c .before .is-separator .ensures) (c .if3 .taken),
-      q .pre .1 .1,
+    let g : Page = record { pen = a .from .pen; ms = a .ms .now; bs = a .bs .now } in
+    let inner = level (a .s .depth) (a .s .n) ws in (
+      item-separator inner (a .s .n) ws (a .s .to) (a .from .at) (a .from .last) _ _ _ g (seen .before .word-at .ensures) (seen .kind .ensures)
+          (tested .before .before .if1 .left) (tested .before .if2 .left) (tested .is-separator .ensures) (c .before .before .if3 .taken),
+      q .pre .1 .1 .last,
     )
 
-item-measure-requires : (t : ℕ) → item-lts.Need-measure-requires (
-  word-at-reads.Asked,
-  word-at-reads.Learnt,
-  kind-reads.Asked,
-  kind-reads.Learnt,
-  loop--below t,
-  loop-.Post,
-  number-reads.Asked,
-  number-reads.Learnt,
-  jump-below t,
-  jump.Post,
-  is-separator-reads.Asked,
-  is-separator-reads.Learnt,
-  measure-reads.Asked,
-  measure-reads.Learnt,
-) (item-at t) item.Post
-item-measure-requires t c κs = search needs
-
-item-same-length-5 : (t : ℕ) → item-lts.Need-same-length-5 (
-  word-at-reads.Asked,
-  word-at-reads.Learnt,
-  kind-reads.Asked,
-  kind-reads.Learnt,
-  loop--below t,
-  loop-.Post,
-  number-reads.Asked,
-  number-reads.Learnt,
-  jump-below t,
-  jump.Post,
-  is-separator-reads.Asked,
-  is-separator-reads.Learnt,
-  measure-reads.Asked,
-  measure-reads.Learnt,
-) (item-at t) item.Post
-item-same-length-5 t c = search needs
-
-item-same-length-6 : (t : ℕ) → item-lts.Need-same-length-6 (
-  word-at-reads.Asked,
-  word-at-reads.Learnt,
-  kind-reads.Asked,
-  kind-reads.Learnt,
-  loop--below t,
-  loop-.Post,
-  number-reads.Asked,
-  number-reads.Learnt,
-  jump-below t,
-  jump.Post,
-  is-separator-reads.Asked,
-  is-separator-reads.Learnt,
-  measure-reads.Asked,
-  measure-reads.Learnt,
-) (item-at t) item.Post
-item-same-length-6 t c = search needs
-
-item-returns-4 : (t : ℕ) → item-lts.Need-returns-4 (
-  word-at-reads.Asked,
-  word-at-reads.Learnt,
-  kind-reads.Asked,
-  kind-reads.Learnt,
-  loop--below t,
-  loop-.Post,
-  number-reads.Asked,
-  number-reads.Learnt,
-  jump-below t,
-  jump.Post,
-  is-separator-reads.Asked,
-  is-separator-reads.Learnt,
-  measure-reads.Asked,
-  measure-reads.Learnt,
-) (item-at t) item.Post
+item-returns-4 : (t : ℕ) → item-lts.Need-returns-4 (item-claims t) (item-at t) item.Post
 item-returns-4 t c =
     let q = c .before .before .before .before .before .before .before .before .before .before .before .before .before .before .before .before in
     let a = q .args in
     let ws = a .words .now in
-    let g : Page = record { pen = a .p; ms = a .ms .now; bs = a .bs .now } in
-    let inner = level (a .depth) (a .n) ws in (
-      item-one inner (a .n) ws (a .to) (a .at) (a .last) _ _ _ _ g
+    let g : Page = record { pen = a .from .pen; ms = a .ms .now; bs = a .bs .now } in
+    let inner = level (a .s .depth) (a .s .n) ws in (
+      item-one inner (a .s .n) ws (a .s .to) (a .from .at) (a .from .last) _ _ _ _ g
           (c .before .before .before .before .before .before .before .before .before .before .before .before .word-at .ensures)
           (c .before .before .before .before .before .before .before .before .before .before .before .kind .ensures)
           (c .before .before .before .before .before .before .before .before .before .before .if1 .left)
@@ -683,406 +257,176 @@ item-returns-4 t c =
       c .before .before .before .before .measure .ensures .1,
     )
 
+abbrev items-claims : ℕ → items-lts.Claims
+items-claims t = (
+  word-at-reads.Asked,
+  word-at-reads.Learnt,
+  kind-reads.Asked,
+  kind-reads.Learnt,
+  is-stop-reads.Asked,
+  is-stop-reads.Learnt,
+  item-below t,
+  item.Post,
+)
+
 abbrev items-Inv-loop : items-lts.InvT-loop
-items-Inv-loop words n to at last depth ms₀ bs₀ w₀ ms bs w =
-    (f : ℕ) × (to ≤ w .at + f) × (w .last ≤ 4227858432) × Fine (w .pen) × (length ms ≡ length ms₀) × (length bs ≡ length bs₀)
-    × (_≡_ {A = End} (finish (rowsBy (level (depth - 1) n words) n words f to (w .at) (w .last))
-    (record { pen = w .pen; ms = ms; bs = bs })) (finish (level depth n words to at last) (record { pen = w₀ .pen; ms = ms₀; bs = bs₀ })))
+items-Inv-loop words s ms₀ bs₀ w₀ ms bs w =
+    (f : ℕ) × (s .to ≤ w .at + f) × (w .last ≤ 4227858432) × Fine (w .pen) × (length ms ≡ length ms₀) × (length bs ≡ length bs₀)
+    × (_≡_ {A = End} (finish (rowsBy (level (s .depth - 1) (s .n) words) (s .n) words f (s .to) (w .at) (w .last))
+    (record { pen = w .pen; ms = ms; bs = bs })) (finish (levelFrom s w₀ words) (record { pen = w₀ .pen; ms = ms₀; bs = bs₀ })))
 
 abbrev items-μ-loop : items-lts.MeasureT-loop
-items-μ-loop words n to at last depth ms₀ bs₀ w₀ ms bs w = to - w .at
+items-μ-loop words s ms₀ bs₀ w₀ ms bs w = s .to - w .at
 
-items-returns : (t : ℕ) → items-lts.Need-returns (
-  word-at-reads.Asked,
-  word-at-reads.Learnt,
-  kind-reads.Asked,
-  kind-reads.Learnt,
-  is-stop-reads.Asked,
-  is-stop-reads.Learnt,
-  item-below t,
-  item.Post,
-) (items-at t) items.Post items-Inv-loop items-μ-loop
+items-returns : (t : ℕ) → items-lts.Need-returns (items-claims t) (items-at t) items.Post items-Inv-loop items-μ-loop
 items-returns t c =
-    let q = c .before .before .before .before in
+    let q = c .before .before .before .before .before in
     let a = q .args in
     let ws = a .words .now in
-    let g : Page = record { pen = a .p; ms = a .ms .now; bs = a .bs .now } in
-    let inner = level (a .depth) (a .n) ws in
-    (level-none (a .depth) (a .n) ws (a .to) (a .at) (a .last) g (c .if1 .taken), q .pre .1 .1)
+    let g : Page = record { pen = a .from .pen; ms = a .ms .now; bs = a .bs .now } in
+    let inner = level (a .s .depth) (a .s .n) ws in
+    (level-none (a .s .depth) (a .s .n) ws (a .s .to) (a .from .at) (a .from .last) g (c .if1 .taken), q .pre .1 .1 .last)
 
-items-loop-holds : (t : ℕ) → items-lts.Need-loop-holds (
-  word-at-reads.Asked,
-  word-at-reads.Learnt,
-  kind-reads.Asked,
-  kind-reads.Learnt,
-  is-stop-reads.Asked,
-  is-stop-reads.Learnt,
-  item-below t,
-  item.Post,
-) (items-at t) items.Post items-Inv-loop items-μ-loop
+items-loop-holds : (t : ℕ) → items-lts.Need-loop-holds (items-claims t) (items-at t) items.Post items-Inv-loop items-μ-loop
 items-loop-holds t c =
-    let q = c .before .before .before .before in
+    let q = c .before .before .before .before .before in
     let a = q .args in
     let ws = a .words .now in
-    let g : Page = record { pen = a .p; ms = a .ms .now; bs = a .bs .now } in
-    let inner = level (a .depth) (a .n) ws in (
-      a .to,
+    let g : Page = record { pen = a .from .pen; ms = a .ms .now; bs = a .bs .now } in
+    let inner = level (a .s .depth) (a .s .n) ws in (
+      a .s .to,
       omega arith,
-      q .pre .1 .1,
+      q .pre .1 .1 .last,
       q .pre .1 .0,
       refl,
       refl,
-      ap (λ (r : Read). finish r g) (level-more (a .depth) (a .n) ws (a .to) (a .at) (a .last) (c .if1 .left)),
+      ap (λ (r : Read). finish r g) (level-more (a .s .depth) (a .s .n) ws (a .s .to) (a .from .at) (a .from .last) (c .if1 .left)),
     )
 
-items-word-at-requires : (t : ℕ) → items-lts.Need-word-at-requires (
-  word-at-reads.Asked,
-  word-at-reads.Learnt,
-  kind-reads.Asked,
-  kind-reads.Learnt,
-  is-stop-reads.Asked,
-  is-stop-reads.Learnt,
-  item-below t,
-  item.Post,
-) (items-at t) items.Post items-Inv-loop items-μ-loop
-items-word-at-requires t c κs = search needs
-
-items-kind-requires : (t : ℕ) → items-lts.Need-kind-requires (
-  word-at-reads.Asked,
-  word-at-reads.Learnt,
-  kind-reads.Asked,
-  kind-reads.Learnt,
-  is-stop-reads.Asked,
-  is-stop-reads.Learnt,
-  item-below t,
-  item.Post,
-) (items-at t) items.Post items-Inv-loop items-μ-loop
-items-kind-requires t c κs = search needs
-
-items-is-stop-requires : (t : ℕ) → items-lts.Need-is-stop-requires (
-  word-at-reads.Asked,
-  word-at-reads.Learnt,
-  kind-reads.Asked,
-  kind-reads.Learnt,
-  is-stop-reads.Asked,
-  is-stop-reads.Learnt,
-  item-below t,
-  item.Post,
-) (items-at t) items.Post items-Inv-loop items-μ-loop
-items-is-stop-requires t c κs = search needs
-
-items-same-length : (t : ℕ) → items-lts.Need-same-length (
-  word-at-reads.Asked,
-  word-at-reads.Learnt,
-  kind-reads.Asked,
-  kind-reads.Learnt,
-  is-stop-reads.Asked,
-  is-stop-reads.Learnt,
-  item-below t,
-  item.Post,
-) (items-at t) items.Post items-Inv-loop items-μ-loop
-items-same-length t c = search needs
-
-items-same-length-2 : (t : ℕ) → items-lts.Need-same-length-2 (
-  word-at-reads.Asked,
-  word-at-reads.Learnt,
-  kind-reads.Asked,
-  kind-reads.Learnt,
-  is-stop-reads.Asked,
-  is-stop-reads.Learnt,
-  item-below t,
-  item.Post,
-) (items-at t) items.Post items-Inv-loop items-μ-loop
-items-same-length-2 t c = search needs
-
-items-returns-2 : (t : ℕ) → items-lts.Need-returns-2 (
-  word-at-reads.Asked,
-  word-at-reads.Learnt,
-  kind-reads.Asked,
-  kind-reads.Learnt,
-  is-stop-reads.Asked,
-  is-stop-reads.Learnt,
-  item-below t,
-  item.Post,
-) (items-at t) items.Post items-Inv-loop items-μ-loop
+items-returns-2 : (t : ℕ) → items-lts.Need-returns-2 (items-claims t) (items-at t) items.Post items-Inv-loop items-μ-loop
 items-returns-2 t c =
-    let a = c .before .before .before .before .before .before .before .before .before .args in
+    let a = c .before .before .before .before .before .before .before .before .before .before .args in
     let ws = a .words .now in
     let l = c .before .before .before .before .loop in
     let g : Page = record { pen = l .w .pen; ms = l .ms; bs = l .bs } in
-    let inner = level (a .depth - 1) (a .n) ws in
-    let t = stop-test ws (a .to) (l .w .at) _ _ (c .before .is-stop .result) _ (c .before .before .before .word-at .ensures)
+    let inner = level (a .s .depth - 1) (a .s .n) ws in
+    let t = stop-test ws (a .s .to) (l .w .at) _ _ (c .before .is-stop .result) _ (c .before .before .before .word-at .ensures)
     (c .before .before .kind .ensures) (c .before .is-stop .ensures) (c .if2 .taken) in
-    (rows-end _ (l .w .at) (l .w .last) g _ (rows-stop inner (a .n) ws (l .inv .0) (a .to) (l .w .at) (l .w .last) t) (l .inv .6), l .inv .2)
+    (rows-end _ (l .w .at) (l .w .last) g _ (rows-stop inner (a .s .n) ws (l .inv .0) (a .s .to) (l .w .at) (l .w .last) t) (l .inv .6), l .inv .2)
 
-items-sub-item : (t : ℕ) → items-lts.Need-sub-item (
-  word-at-reads.Asked,
-  word-at-reads.Learnt,
-  kind-reads.Asked,
-  kind-reads.Learnt,
-  is-stop-reads.Asked,
-  is-stop-reads.Learnt,
-  item-below t,
-  item.Post,
-) (items-at t) items.Post items-Inv-loop items-μ-loop
-items-sub-item t c = search needs
+items-goes-on : (t : ℕ) (c : items-lts.Else2 (items-claims t) (items-at t) items.Post items-Inv-loop items-μ-loop) →
+    let l = c .before .before .before .before in
+    let a = l .before .before .before .before .before .before .args in
+    isStop (kindOf (wordOf (a .words .now) (a .s .to) (l .loop .w .at))) ≡ false
+items-goes-on t c =
+    let l = c .before .before .before .before in
+    let a = l .before .before .before .before .before .before .args in
+    stop-test (a .words .now) (a .s .to) (l .loop .w .at) _ _ (c .before .is-stop .result) _ (c .before .before .before .word-at .ensures)
+    (c .before .before .kind .ensures) (c .before .is-stop .ensures) (c .if2 .left)
 
-items-item-requires : (t : ℕ) → items-lts.Need-item-requires (
-  word-at-reads.Asked,
-  word-at-reads.Learnt,
-  kind-reads.Asked,
-  kind-reads.Learnt,
-  is-stop-reads.Asked,
-  is-stop-reads.Learnt,
-  item-below t,
-  item.Post,
-) (items-at t) items.Post items-Inv-loop items-μ-loop
+items-item-requires : (t : ℕ) → items-lts.Need-item-requires (items-claims t) (items-at t) items.Post items-Inv-loop items-μ-loop
 items-item-requires t c κs =
-    let a = c .before .before .before .before .before .before .before .before .before .before .before .args in
-    let ws = a .words .now in
-    let l = c .before .before .before .before .before .before .loop in
-    let g : Page = record { pen = l .w .pen; ms = l .ms; bs = l .bs } in
-    let inner = level (a .depth - 1) (a .n) ws in
-    let t = stop-test ws (a .to) (l .w .at) _ _ (c .before .before .before .is-stop .result) _
-    (c .before .before .before .before .before .word-at .ensures) (c .before .before .before .before .kind .ensures)
-    (c .before .before .before .is-stop .ensures) (c .before .before .if2 .left) in
-    let h = stop-inside ws (a .to) (l .w .at) t in
+    let at = c .before .before .before .before .before .before .before in
+    let a = at .before .before .before .before .before .before .args in
+    let h = stop-inside (a .words .now) (a .s .to) (at .loop .w .at) (items-goes-on t (c .before .before .before)) in
     search needs
 
-items-loop-less : (t : ℕ) → items-lts.Need-loop-less (
-  word-at-reads.Asked,
-  word-at-reads.Learnt,
-  kind-reads.Asked,
-  kind-reads.Learnt,
-  is-stop-reads.Asked,
-  is-stop-reads.Learnt,
-  item-below t,
-  item.Post,
-) (items-at t) items.Post items-Inv-loop items-μ-loop
+items-loop-less : (t : ℕ) → items-lts.Need-loop-less (items-claims t) (items-at t) items.Post items-Inv-loop items-μ-loop
 items-loop-less t c =
-    let a = c .before .before .before .before .before .before .before .before .before .before .before .before .before .before .before .before .args in
+    let tested = c .before .before .before .before .before .before .before .before in
+    let at = tested .before .before .before .before in
+    let l = at .loop in
+    let a = at .before .before .before .before .before .before .args in
     let ws = a .words .now in
-    let l = c .before .before .before .before .before .before .before .before .before .before .before .loop in
     let g : Page = record { pen = l .w .pen; ms = l .ms; bs = l .bs } in
-    let inner = level (a .depth - 1) (a .n) ws in
-    let t = stop-test ws (a .to) (l .w .at) _ _ (c .before .before .before .before .before .before .before .before .is-stop .result) _
-    (c .before .before .before .before .before .before .before .before .before .before .word-at .ensures)
-    (c .before .before .before .before .before .before .before .before .before .kind .ensures)
-    (c .before .before .before .before .before .before .before .before .is-stop .ensures)
-    (c .before .before .before .before .before .before .before .if2 .left) in
-    let h = stop-inside ws (a .to) (l .w .at) t in
-    let e = end-onward (l .w .at + 1) _ (itemOf inner (a .n) ws (a .to) (l .w .at) (l .w .last)) g
-    (c .before .before .before .before .item .ensures .0)
-    (item-onward inner (a .n) ws (a .to) (l .w .at) (l .w .last) (level-onward (a .depth - 1) (a .n) ws) t) in
+    let inner = level (a .s .depth - 1) (a .s .n) ws in
+    let r = itemOf inner (a .s .n) ws (a .s .to) (l .w .at) (l .w .last) in
+    let done = c .before .before .before .before .item .ensures in
+    let on = items-goes-on t tested in
+    let h = stop-inside ws (a .s .to) (l .w .at) on in
+    let e = end-onward (l .w .at + 1) _ r g (done .0)
+    (item-onward inner (a .s .n) ws (a .s .to) (l .w .at) (l .w .last) (level-onward (a .s .depth - 1) (a .s .n) ws) on) in
     omega (arith, e, h)
 
-items-loop-again : (t : ℕ) → items-lts.Need-loop-again (
-  word-at-reads.Asked,
-  word-at-reads.Learnt,
-  kind-reads.Asked,
-  kind-reads.Learnt,
-  is-stop-reads.Asked,
-  is-stop-reads.Learnt,
-  item-below t,
-  item.Post,
-) (items-at t) items.Post items-Inv-loop items-μ-loop
+items-loop-again : (t : ℕ) → items-lts.Need-loop-again (items-claims t) (items-at t) items.Post items-Inv-loop items-μ-loop
 items-loop-again t c =
-    let a = c .before .before .before .before .before .before .before .before .before .before .before .before .before .before .before .before .args in
+    let tested = c .before .before .before .before .before .before .before .before in
+    let at = tested .before .before .before .before in
+    let l = at .loop in
+    let a = at .before .before .before .before .before .before .args in
     let ws = a .words .now in
-    let l = c .before .before .before .before .before .before .before .before .before .before .before .loop in
     let g : Page = record { pen = l .w .pen; ms = l .ms; bs = l .bs } in
-    let inner = level (a .depth - 1) (a .n) ws in
-    let t = stop-test ws (a .to) (l .w .at) _ _ (c .before .before .before .before .before .before .before .before .is-stop .result) _
-    (c .before .before .before .before .before .before .before .before .before .before .word-at .ensures)
-    (c .before .before .before .before .before .before .before .before .before .kind .ensures)
-    (c .before .before .before .before .before .before .before .before .is-stop .ensures)
-    (c .before .before .before .before .before .before .before .if2 .left) in
-    let h = stop-inside ws (a .to) (l .w .at) t in
-    let e = end-onward (l .w .at + 1) _ (itemOf inner (a .n) ws (a .to) (l .w .at) (l .w .last)) g
-    (c .before .before .before .before .item .ensures .0)
-    (item-onward inner (a .n) ws (a .to) (l .w .at) (l .w .last) (level-onward (a .depth - 1) (a .n) ws) t) in (
+    let inner = level (a .s .depth - 1) (a .s .n) ws in
+    let r = itemOf inner (a .s .n) ws (a .s .to) (l .w .at) (l .w .last) in
+    let done = c .before .before .before .before .item .ensures in
+    let on = items-goes-on t tested in
+    let h = stop-inside ws (a .s .to) (l .w .at) on in
+    let e = end-onward (l .w .at + 1) _ r g (done .0)
+    (item-onward inner (a .s .n) ws (a .s .to) (l .w .at) (l .w .last) (level-onward (a .s .depth - 1) (a .s .n) ws) on) in (
       l .inv .0 - 1,
       omega (arith, e, h, l .inv .1),
-      c .before .before .before .before .item .ensures .1,
-      fine-end _ (itemOf inner (a .n) ws (a .to) (l .w .at) (l .w .last)) g (c .before .before .before .before .item .ensures .0)
-          (l .inv .3),
+      done .1,
+      fine-end _ r g (done .0) (l .inv .3),
       search needs,
       search needs,
-      rows-next inner (a .n) ws (l .inv .0) (a .to) (l .w .at) (l .w .last) g _ _
-          (omega (arith, h, l .inv .1)) t (c .before .before .before .before .item .ensures .0) (l .inv .6),
+      rows-next inner (a .s .n) ws (l .inv .0) (a .s .to) (l .w .at) (l .w .last) g _ _ (omega (arith, h, l .inv .1)) on (done .0) (l .inv .6),
     )
 
-jump-stretch-of-requires : (t : ℕ) → jump-lts.Need-stretch-of-requires (
-  stretch-of-reads.Asked,
-  stretch-of-reads.Learnt,
-  items-below t,
-  items.Post,
-) (jump-at t) jump.Post
-jump-stretch-of-requires t c κs = search needs
+abbrev jump-claims : ℕ → jump-lts.Claims
+jump-claims t =
+    (stretch-of-reads.Asked, stretch-of-reads.Learnt, items-below t, items.Post)
 
-jump-items-requires : (t : ℕ) → jump-lts.Need-items-requires (
-  stretch-of-reads.Asked,
-  stretch-of-reads.Learnt,
-  items-below t,
-  items.Post,
-) (jump-at t) jump.Post
-jump-items-requires t c κs = search needs
-
-jump-add-t17 : (t : ℕ) → jump-lts.Need-add-t17 (
-  stretch-of-reads.Asked,
-  stretch-of-reads.Learnt,
-  items-below t,
-  items.Post,
-) (jump-at t) jump.Post
-jump-add-t17 t c = search needs
-
-jump-same-length : (t : ℕ) → jump-lts.Need-same-length (
-  stretch-of-reads.Asked,
-  stretch-of-reads.Learnt,
-  items-below t,
-  items.Post,
-) (jump-at t) jump.Post
-jump-same-length t c = search needs
-
-jump-same-length-2 : (t : ℕ) → jump-lts.Need-same-length-2 (
-  stretch-of-reads.Asked,
-  stretch-of-reads.Learnt,
-  items-below t,
-  items.Post,
-) (jump-at t) jump.Post
-jump-same-length-2 t c = search needs
-
-jump-returns : (t : ℕ) → jump-lts.Need-returns (
-  stretch-of-reads.Asked,
-  stretch-of-reads.Learnt,
-  items-below t,
-  items.Post,
-) (jump-at t) jump.Post
+jump-returns : (t : ℕ) → jump-lts.Need-returns (jump-claims t) (jump-at t) jump.Post
 jump-returns t c =
-    let q = c .before .before .before .before .before .before .before .before .before .before .before .before in
-    let a = q .args in
-    let ws = a .words .now in
-    let g : Page = record { pen = a .p; ms = a .ms .now; bs = a .bs .now } in
-    let inner = level (a .depth) (a .n) ws in (
-      refer-done inner (a .n) ws (a .x) (a .at) (a .last) _ _ g
-          (c .before .before .before .before .before .before .before .before .stretch-of .ensures)
-          (c .before .before .before .before .before .items .ensures .0),
-      c .before .before .before .before .before .items .ensures .1,
-    )
-
-loop--items-requires : (t : ℕ) → loop--lts.Need-items-requires (
-  items-below t,
-  items.Post,
-  passes-reads.Asked,
-  passes-reads.Learnt,
-  behind-reads.Asked,
-  behind-reads.Learnt,
-  again-below t,
-  again.Post,
-) (loop--at t) loop-.Post
-loop--items-requires t c κs = search needs
-
-loop--passes-requires : (t : ℕ) → loop--lts.Need-passes-requires (
-  items-below t,
-  items.Post,
-  passes-reads.Asked,
-  passes-reads.Learnt,
-  behind-reads.Asked,
-  behind-reads.Learnt,
-  again-below t,
-  again.Post,
-) (loop--at t) loop-.Post
-loop--passes-requires t c κs = search needs
-
-loop--behind-requires : (t : ℕ) → loop--lts.Need-behind-requires (
-  items-below t,
-  items.Post,
-  passes-reads.Asked,
-  passes-reads.Learnt,
-  behind-reads.Asked,
-  behind-reads.Learnt,
-  again-below t,
-  again.Post,
-) (loop--at t) loop-.Post
-loop--behind-requires t c κs = search needs
-
-loop--again-requires : (t : ℕ) → loop--lts.Need-again-requires (
-  items-below t,
-  items.Post,
-  passes-reads.Asked,
-  passes-reads.Learnt,
-  behind-reads.Asked,
-  behind-reads.Learnt,
-  again-below t,
-  again.Post,
-) (loop--at t) loop-.Post
-loop--again-requires t c κs =
     let q = c .before .before .before .before .before .before .before .before .before .before .before .before .before .before in
     let a = q .args in
-    let r = (level (a .depth) (a .n) (a .words .now) (a .to) (a .at) (a .last)) in
+    let ws = a .words .now in
+    let g : Page = record { pen = a .from .pen; ms = a .ms .now; bs = a .bs .now } in
+    let inner = level (a .s .depth) (a .s .n) ws in (
+      refer-done inner (a .s .n) ws (a .x) (a .from .at) (a .from .last) _ _ g
+          (c .before .before .before .before .before .before .before .before .before .before .stretch-of .ensures)
+          (c .before .before .before .before .before .before .items .ensures .0),
+      c .before .before .before .before .before .before .items .ensures .1,
+    )
+
+abbrev loop--claims : ℕ → loop--lts.Claims
+loop--claims t =
+    (items-below t, items.Post, passes-reads.Asked, passes-reads.Learnt, behind-reads.Asked, behind-reads.Learnt, again-below t, again.Post)
+
+loop--again-requires : (t : ℕ) → loop--lts.Need-again-requires (loop--claims t) (loop--at t) loop-.Post
+loop--again-requires t c κs =
+    let q = c .before .before .before .before .before .before .before .before .before .before .before .before .before .before .before .before in
+    let a = q .args in
+    let r = (level (a .s .depth) (a .s .n) (a .words .now) (a .s .to) (a .from .at + 1) (a .from .last)) in
     let e = c .before .before .before .before .before .before .before .before .items .ensures .0 in (
       omega (arith, q .pre .0),
       (
-        fine-end _ r (record { pen = a .p; ms = a .ms .now; bs = a .bs .now }) e (q .pre .1 .0),
-        q .pre .1 .1,
-        q .pre .1 .2,
-        q .pre .1 .3,
+        fine-end _ r (record { pen = a .from .pen; ms = a .ms .now; bs = a .bs .now }) e (q .pre .1 .0),
+        record { last = q .pre .1 .1 .last; meter = q .pre .1 .1 .meter; levels = q .pre .1 .1 .levels },
         record {
           ms-before = a .ms .now;
           bs-before = a .bs .now;
           pass =
-              end-page _ r (record { pen = a .p; ms = a .ms .now; bs = a .bs .now }) e;
+              end-page _ r (record { pen = a .from .pen; ms = a .ms .now; bs = a .bs .now }) e;
         },
       ),
     )
 
-loop--same-length : (t : ℕ) → loop--lts.Need-same-length (
-  items-below t,
-  items.Post,
-  passes-reads.Asked,
-  passes-reads.Learnt,
-  behind-reads.Asked,
-  behind-reads.Learnt,
-  again-below t,
-  again.Post,
-) (loop--at t) loop-.Post
-loop--same-length t c = search needs
-
-loop--same-length-2 : (t : ℕ) → loop--lts.Need-same-length-2 (
-  items-below t,
-  items.Post,
-  passes-reads.Asked,
-  passes-reads.Learnt,
-  behind-reads.Asked,
-  behind-reads.Learnt,
-  again-below t,
-  again.Post,
-) (loop--at t) loop-.Post
-loop--same-length-2 t c = search needs
-
-loop--returns : (t : ℕ) → loop--lts.Need-returns (
-  items-below t,
-  items.Post,
-  passes-reads.Asked,
-  passes-reads.Learnt,
-  behind-reads.Asked,
-  behind-reads.Learnt,
-  again-below t,
-  again.Post,
-) (loop--at t) loop-.Post
+loop--returns : (t : ℕ) → loop--lts.Need-returns (loop--claims t) (loop--at t) loop-.Post
 loop--returns t c =
-    let a = c .before .before .before .before .before .before .before .before .before .before .before .before .before .before .before
-    .before .before .before .before .args in
+    let gone = c .before .before .before .before .before .before .before in
+    let walked = gone .before .before .before .before .before .before in
+    let a = walked .before .before .before .before .before .before .before .before .args in
     let ws = a .words .now in
-    let e = c .before .before .before .before .before .before .before .before .before .before .before .before .before .items .ensures in (
-      loop-done (level (a .depth) (a .n) ws) (a .n) ws (a .to) (a .at) (a .last) _ _ _
-          (record { pen = a .p; ms = a .ms .now; bs = a .bs .now }) _ (e .0)
-          (c .before .before .before .before .before .before .before .before .passes .ensures .0)
-          (c .before .before .before .before .before .before .before .behind .ensures .0) (c .before .before .before .before .again .ensures),
+    let e = walked .items .ensures in (
+      loop-done (level (a .s .depth) (a .s .n) ws) (a .s .n) ws (a .s .to) (a .from .at + 1) (a .from .last) _ _ _
+          (record { pen = a .from .pen; ms = a .ms .now; bs = a .bs .now }) _ (e .0) (gone .before .passes .ensures .0) (gone .behind .ensures .0)
+          (c .before .before .before .before .again .ensures),
       e .1,
     )
 
-once-more-skips-requires : (t : ℕ) → once-more-lts.Need-skips-requires (
+abbrev once-more-claims : ℕ → once-more-lts.Claims
+once-more-claims t = (
   skips-reads.Asked,
   skips-reads.Learnt,
   skipped-reads.Asked,
@@ -1093,331 +437,62 @@ once-more-skips-requires : (t : ℕ) → once-more-lts.Need-skips-requires (
   copied-reads.Learnt,
   items-below t,
   items.Post,
-) (once-more-at t) once-more.Post
-once-more-skips-requires t c κs = search needs
+)
 
-once-more-skipped-requires : (t : ℕ) → once-more-lts.Need-skipped-requires (
-  skips-reads.Asked,
-  skips-reads.Learnt,
-  skipped-reads.Asked,
-  skipped-reads.Learnt,
-  copies-reads.Asked,
-  copies-reads.Learnt,
-  copied-reads.Asked,
-  copied-reads.Learnt,
-  items-below t,
-  items.Post,
-) (once-more-at t) once-more.Post
+once-more-skipped-requires : (t : ℕ) → once-more-lts.Need-skipped-requires (once-more-claims t) (once-more-at t) once-more.Post
 once-more-skipped-requires t c κs = c .before .skips .ensures (c .if1 .taken)
 
-once-more-returns : (t : ℕ) → once-more-lts.Need-returns (
-  skips-reads.Asked,
-  skips-reads.Learnt,
-  skipped-reads.Asked,
-  skipped-reads.Learnt,
-  copies-reads.Asked,
-  copies-reads.Learnt,
-  copied-reads.Asked,
-  copied-reads.Learnt,
-  items-below t,
-  items.Post,
-) (once-more-at t) once-more.Post
+once-more-returns : (t : ℕ) → once-more-lts.Need-returns (once-more-claims t) (once-more-at t) once-more.Post
 once-more-returns t c =
     let q = c .before .before .before .before .before .before in
     let a = q .args in
-    let r = (level (a .depth) (a .n) (a .words .now) (a .to) (a .at) (a .last)) in
-    skipped-once (r .row) (a .p) (a .q) _ (a .ms .now) (a .bs .now) (q .pre .1 .4)
+    let r = (level (a .s .depth) (a .s .n) (a .words .now) (a .s .to) (a .start .at) (a .start .last)) in
+    skipped-once (r .row) (a .start .pen) (a .q) _ (a .ms .now) (a .bs .now) (q .pre .1 .2)
     (c .before .before .skips .ensures (c .before .if1 .taken)) (c .skipped .ensures)
 
-once-more-copies-requires : (t : ℕ) → once-more-lts.Need-copies-requires (
-  skips-reads.Asked,
-  skips-reads.Learnt,
-  skipped-reads.Asked,
-  skipped-reads.Learnt,
-  copies-reads.Asked,
-  copies-reads.Learnt,
-  copied-reads.Asked,
-  copied-reads.Learnt,
-  items-below t,
-  items.Post,
-) (once-more-at t) once-more.Post
-once-more-copies-requires t c κs = search needs
-
-once-more-copied-requires : (t : ℕ) → once-more-lts.Need-copied-requires (
-  skips-reads.Asked,
-  skips-reads.Learnt,
-  skipped-reads.Asked,
-  skipped-reads.Learnt,
-  copies-reads.Asked,
-  copies-reads.Learnt,
-  copied-reads.Asked,
-  copied-reads.Learnt,
-  items-below t,
-  items.Post,
-) (once-more-at t) once-more.Post
+once-more-copied-requires : (t : ℕ) → once-more-lts.Need-copied-requires (once-more-claims t) (once-more-at t) once-more.Post
 once-more-copied-requires t c κs =
     let q = c .before .before .before .before .before .before .before .before .before in
     let a = q .args in
-    let r = (level (a .depth) (a .n) (a .words .now) (a .to) (a .at) (a .last)) in
-    let o = took-onward (r .row) (a .p) (a .q) (a .ms .now) (a .bs .now) (q .pre .1 .4) in
+    let r = (level (a .s .depth) (a .s .n) (a .words .now) (a .s .to) (a .start .at) (a .start .last)) in
+    let o = took-onward (r .row) (a .start .pen) (a .q) (a .ms .now) (a .bs .now) (q .pre .1 .2) in
     (q .pre .1 .0, c .before .before .before .copies .ensures (c .before .before .if2 .taken), o .0, o .1)
 
-once-more-same-length : (t : ℕ) → once-more-lts.Need-same-length (
-  skips-reads.Asked,
-  skips-reads.Learnt,
-  skipped-reads.Asked,
-  skipped-reads.Learnt,
-  copies-reads.Asked,
-  copies-reads.Learnt,
-  copied-reads.Asked,
-  copied-reads.Learnt,
-  items-below t,
-  items.Post,
-) (once-more-at t) once-more.Post
-once-more-same-length t c = search needs
-
-once-more-same-length-2 : (t : ℕ) → once-more-lts.Need-same-length-2 (
-  skips-reads.Asked,
-  skips-reads.Learnt,
-  skipped-reads.Asked,
-  skipped-reads.Learnt,
-  copies-reads.Asked,
-  copies-reads.Learnt,
-  copied-reads.Asked,
-  copied-reads.Learnt,
-  items-below t,
-  items.Post,
-) (once-more-at t) once-more.Post
-once-more-same-length-2 t c = search needs
-
-once-more-returns-2 : (t : ℕ) → once-more-lts.Need-returns-2 (
-  skips-reads.Asked,
-  skips-reads.Learnt,
-  skipped-reads.Asked,
-  skipped-reads.Learnt,
-  copies-reads.Asked,
-  copies-reads.Learnt,
-  copied-reads.Asked,
-  copied-reads.Learnt,
-  items-below t,
-  items.Post,
-) (once-more-at t) once-more.Post
+once-more-returns-2 : (t : ℕ) → once-more-lts.Need-returns-2 (once-more-claims t) (once-more-at t) once-more.Post
 once-more-returns-2 t c =
     let q = c .before .before .before .before .before .before .before .before .before .before .before .before .before .before in
     let a = q .args in
-    let r = (level (a .depth) (a .n) (a .words .now) (a .to) (a .at) (a .last)) in
+    let r = (level (a .s .depth) (a .s .n) (a .words .now) (a .s .to) (a .start .at) (a .start .last)) in
     let e = c .before .before .before .before .copied .ensures in
-    copied-again (r .row) (a .p) (a .q) _ (a .ms .now) (a .bs .now) _ _ (q .pre .1 .0) (q .pre .1 .4)
+    copied-again (r .row) (a .start .pen) (a .q) _ (a .ms .now) (a .bs .now) _ _ (q .pre .1 .0) (q .pre .1 .2)
     (c .before .before .before .before .before .before .before .before .copies .ensures
     (c .before .before .before .before .before .before .before .if2 .taken)) (e .0) (e .1 .0) (e .1 .1)
 
-once-more-items-requires : (t : ℕ) → once-more-lts.Need-items-requires (
-  skips-reads.Asked,
-  skips-reads.Learnt,
-  skipped-reads.Asked,
-  skipped-reads.Learnt,
-  copies-reads.Asked,
-  copies-reads.Learnt,
-  copied-reads.Asked,
-  copied-reads.Learnt,
-  items-below t,
-  items.Post,
-) (once-more-at t) once-more.Post
-once-more-items-requires t c κs = search needs
-
-once-more-same-length-3 : (t : ℕ) → once-more-lts.Need-same-length-3 (
-  skips-reads.Asked,
-  skips-reads.Learnt,
-  skipped-reads.Asked,
-  skipped-reads.Learnt,
-  copies-reads.Asked,
-  copies-reads.Learnt,
-  copied-reads.Asked,
-  copied-reads.Learnt,
-  items-below t,
-  items.Post,
-) (once-more-at t) once-more.Post
-once-more-same-length-3 t c = search needs
-
-once-more-same-length-4 : (t : ℕ) → once-more-lts.Need-same-length-4 (
-  skips-reads.Asked,
-  skips-reads.Learnt,
-  skipped-reads.Asked,
-  skipped-reads.Learnt,
-  copies-reads.Asked,
-  copies-reads.Learnt,
-  copied-reads.Asked,
-  copied-reads.Learnt,
-  items-below t,
-  items.Post,
-) (once-more-at t) once-more.Post
-once-more-same-length-4 t c = search needs
-
-once-more-returns-3 : (t : ℕ) → once-more-lts.Need-returns-3 (
-  skips-reads.Asked,
-  skips-reads.Learnt,
-  skipped-reads.Asked,
-  skipped-reads.Learnt,
-  copies-reads.Asked,
-  copies-reads.Learnt,
-  copied-reads.Asked,
-  copied-reads.Learnt,
-  items-below t,
-  items.Post,
-) (once-more-at t) once-more.Post
+once-more-returns-3 : (t : ℕ) → once-more-lts.Need-returns-3 (once-more-claims t) (once-more-at t) once-more.Post
 once-more-returns-3 t c =
     let q = c .before .before .before .before .before .before .before .before .before .before .before .before .before .before .before in
     let a = q .args in
-    let r = (level (a .depth) (a .n) (a .words .now) (a .to) (a .at) (a .last)) in
+    let r = (level (a .s .depth) (a .s .n) (a .words .now) (a .s .to) (a .start .at) (a .start .last)) in
     end-page _ r (record { pen = a .q; ms = a .ms .now; bs = a .bs .now }) (c .before .before .before .before .before .items .ensures .0)
 
 pub +again+item+items+jump+loop-+once-more-spec : {M : Type 1} → statement M
 +again+item+items+jump+loop-+once-more-spec =
-    close μ-again μ-item μ-items μ-jump μ-loop- μ-once-more (λ t. again-lts.spec (
-      skips-reads.Asked,
-      skips-reads.Learnt,
-      skipped-reads.Asked,
-      skipped-reads.Learnt,
-      once-more-below t,
-      once-more.Post,
-    )
-    (again-at t)
-    again.Post
-    again-Inv-loop
-    again-μ-loop
-    (again-skips-requires t)
-    (again-skipped-requires t)
-    (again-returns t)
-    (again-loop-holds t)
-    (again-same-length t)
-    (again-same-length-2 t)
-    (again-returns-2 t)
-    (again-once-more-requires t)
-    (again-add-i t)
-    (again-loop-less t)
-    (again-loop-again t)
-    (again-same-length-3 t)
-    (again-same-length-4 t)
+    close μ-again μ-item μ-items μ-jump μ-loop- μ-once-more
+    (λ t. again-lts.spec (again-claims t) (again-at t) again.Post again-Inv-loop again-μ-loop (λ c κs. search needs)
+    (again-skipped-requires t) (again-returns t) (again-loop-holds t) (λ c. search needs) (λ c. search needs) (again-returns-2 t)
+    (λ c κs. search needs) (λ c. search needs) (λ c. search needs) (again-loop-again t) (λ c. search needs) (λ c. search needs)
     (again-returns-3 t))
-    (λ t. item-lts.spec (
-      word-at-reads.Asked,
-      word-at-reads.Learnt,
-      kind-reads.Asked,
-      kind-reads.Learnt,
-      loop--below t,
-      loop-.Post,
-      number-reads.Asked,
-      number-reads.Learnt,
-      jump-below t,
-      jump.Post,
-      is-separator-reads.Asked,
-      is-separator-reads.Learnt,
-      measure-reads.Asked,
-      measure-reads.Learnt,
-    )
-    (item-at t)
-    item.Post
-    (item-word-at-requires t)
-    (item-kind-requires t)
-    (item-add-loop- t)
-    (item-loop--requires t)
-    (item-same-length t)
-    (item-same-length-2 t)
-    (item-returns t)
-    (item-number-requires t)
-    (item-jump-requires t)
-    (item-same-length-3 t)
-    (item-same-length-4 t)
-    (item-returns-2 t)
-    (item-is-separator-requires t)
-    (item-add-t24 t)
-    (item-returns-3 t)
-    (item-measure-requires t)
-    (item-same-length-5 t)
-    (item-same-length-6 t)
-    (item-returns-4 t))
-    (λ t. items-lts.spec (
-      word-at-reads.Asked,
-      word-at-reads.Learnt,
-      kind-reads.Asked,
-      kind-reads.Learnt,
-      is-stop-reads.Asked,
-      is-stop-reads.Learnt,
-      item-below t,
-      item.Post,
-    )
-    (items-at t)
-    items.Post
-    items-Inv-loop
-    items-μ-loop
-    (items-returns t)
-    (items-loop-holds t)
-    (items-word-at-requires t)
-    (items-kind-requires t)
-    (items-is-stop-requires t)
-    (items-same-length t)
-    (items-same-length-2 t)
-    (items-returns-2 t)
-    (items-sub-item t)
-    (items-item-requires t)
-    (items-loop-less t)
-    (items-loop-again t))
-    (λ t. jump-lts.spec (
-      stretch-of-reads.Asked,
-      stretch-of-reads.Learnt,
-      items-below t,
-      items.Post,
-    )
-    (jump-at t)
-    jump.Post
-    (jump-stretch-of-requires t)
-    (jump-items-requires t)
-    (jump-add-t17 t)
-    (jump-same-length t)
-    (jump-same-length-2 t)
-    (jump-returns t))
-    (λ t. loop--lts.spec (
-      items-below t,
-      items.Post,
-      passes-reads.Asked,
-      passes-reads.Learnt,
-      behind-reads.Asked,
-      behind-reads.Learnt,
-      again-below t,
-      again.Post,
-    )
-    (loop--at t)
-    loop-.Post
-    (loop--items-requires t)
-    (loop--passes-requires t)
-    (loop--behind-requires t)
-    (loop--again-requires t)
-    (loop--same-length t)
-    (loop--same-length-2 t)
-    (loop--returns t))
-    λ t. once-more-lts.spec (
-      skips-reads.Asked,
-      skips-reads.Learnt,
-      skipped-reads.Asked,
-      skipped-reads.Learnt,
-      copies-reads.Asked,
-      copies-reads.Learnt,
-      copied-reads.Asked,
-      copied-reads.Learnt,
-      items-below t,
-      items.Post,
-    )
-    (once-more-at t)
-    once-more.Post
-    (once-more-skips-requires t)
-    (once-more-skipped-requires t)
-    (once-more-returns t)
-    (once-more-copies-requires t)
-    (once-more-copied-requires t)
-    (once-more-same-length t)
-    (once-more-same-length-2 t)
-    (once-more-returns-2 t)
-    (once-more-items-requires t)
-    (once-more-same-length-3 t)
-    (once-more-same-length-4 t)
-    (once-more-returns-3 t)
+    (λ t. item-lts.spec (item-claims t) (item-at t) item.Post (λ c κs. search needs) (λ c κs. search needs) (λ c κs. search needs)
+    (λ c. search needs) (λ c. search needs) (item-returns t) (λ c κs. search needs) (λ c κs. search needs) (λ c. search needs)
+    (λ c. search needs) (item-returns-2 t) (λ c κs. search needs) (λ c. search needs) (item-returns-3 t) (λ c κs. search needs)
+    (λ c. search needs) (λ c. search needs) (item-returns-4 t))
+    (λ t. items-lts.spec (items-claims t) (items-at t) items.Post items-Inv-loop items-μ-loop (items-returns t) (items-loop-holds t)
+    (λ c κs. search needs) (λ c κs. search needs) (λ c κs. search needs) (λ c. search needs) (λ c. search needs) (items-returns-2 t)
+    (λ c. search needs) (items-item-requires t) (items-loop-less t) (items-loop-again t))
+    (λ t. jump-lts.spec (jump-claims t) (jump-at t) jump.Post (λ c κs. search needs) (λ c κs. search needs) (λ c. search needs)
+    (λ c. search needs) (λ c. search needs) (jump-returns t))
+    (λ t. loop--lts.spec (loop--claims t) (loop--at t) loop-.Post (λ c. search needs) (λ c κs. search needs) (λ c κs. search needs)
+    (λ c κs. search needs) (loop--again-requires t) (λ c. search needs) (λ c. search needs) (loop--returns t))
+    λ t. once-more-lts.spec (once-more-claims t) (once-more-at t) once-more.Post (λ c κs. search needs) (once-more-skipped-requires t)
+    (once-more-returns t) (λ c κs. search needs) (once-more-copied-requires t) (λ c. search needs) (λ c. search needs)
+    (once-more-returns-2 t) (λ c κs. search needs) (λ c. search needs) (λ c. search needs) (once-more-returns-3 t)
