@@ -104,6 +104,10 @@ song-clear song z =
     let e = verdict-clear (sumFaults song) [] (numbered-sums song) (d .1) in
     record { references = a .0; meters = b .0; lengths = c .0; counts = d .0; sums = e .0 }
 
+pub clear-none : (song : Song) → Clear song → verdict (laterFaults song) ≡ none
+unfolding laterFaults playingFaults lyricFaults verdict earliest stageOr
+clear-none song clear = rw (clear .references, clear .meters, clear .lengths, clear .counts, clear .sums) refl
+
 -- The song's time and bpm, as they are found among the lines before the metadata's end.
 module _ (s : List ℕ) (p : Place) (k : Keys) (ends : MetadataEnds s p) (are : KeysAre (linesOf s (linesBefore p)) k) where
   song-key : (f : List Byte → Option ℕ) (n : KeyName) → keyPlace n < 8

@@ -5,9 +5,9 @@ use mathlib.Core.Path.{_≡_, refl, ap, _∙_}
 use mathlib.Core.List.{List, []}
 use mathlib.Core.Logic.{_⊎_, inl, inr, ⊎-elim}
 use native.Mathlib.Omega.{arith}
-use lib.Dec.{ltb}
+use lib.Dec.{eqb, ltb}
 use lib.ListN.{length}
-use borrow.Author.Tests.{eq-eqb, ne-eqb, ltb-true, ltb-false}
+use borrow.Author.Tests.{eq-eqb, ne-eqb, eqb-true, eqb-false, ltb-true, ltb-false}
 use Rattle.songcode.specs.Lists.{if_then_else_}
 use Rattle.songcode.specs.Complaints.{earliest}
 use Rattle.songcode.specs.answer.Playing.{timeAmong}
@@ -19,6 +19,7 @@ use Rattle.text.specs.Refusals.{refusalOf}
 use Rattle.sections.specs.declared.blocks.Place.{Place}
 use Rattle.sections.specs.declared.values.Modifiers.{Modifiers}
 use Rattle.sections.specs.Onward.{Onward}
+use Rattle.laying.specs.declared.texts.Texts.{Texts}
 use Rattle.laying.specs.declared.texts.Opened.{Opened}
 use Rattle.laying.specs.Scores.{Begins, Opens}
 use Rattle.judging.specs.declared.lengths.Lengths.{Lengths}
@@ -44,6 +45,15 @@ pub lengths-end : (s : List ℕ) (p : Place) (x : Lengths) → length s ≤ p .a
     → x .refusal ≡ refusalOf (earliest (lengthFaults (songOf s) 0 (songOf s .sections)))
 unfolding LengthsAre
 lengths-end s p x h w e = ⊎-elim (λ a. a .0 ∙ measured-end s p (x .measures) h (a .2 e)) (λ b. b .1 e) w
+
+-- Where nothing is refused up to a section's end, nothing was before it, and its measures are added.
+pub lengths-added : (ws : List ℕ) (n header : ℕ) (m : Modifiers) (t : Texts) (x : Lengths) → withLengths ws n header m t x .refusal .number ≡ 0
+    → (x .refusal .number ≡ 0) × (withLengths ws n header m t x .measures ≡ x .measures + countOfTexts m t)
+unfolding withLengths if_then_else_
+lengths-added ws n header m t x h =
+    by-cases (eqb (x .refusal .number) 0)
+    (λ e. (eqb-true (x .refusal .number) 0 e, rw e))
+    (λ e. absurd (eqb-false (x .refusal .number) 0 e (rw e at h)))
 
 -- One more section is opened.
 module _ (s ws : List ℕ) (p : Place) (r : Opened) (w : Opens s p ws r) {time : ℕ}

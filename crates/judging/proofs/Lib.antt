@@ -19,5 +19,7 @@ pub mod SumLaws
 pub mod TallyLaws
 pub mod NumberLaws
 pub mod TakenLaws
+pub mod OffLaws
 pub mod SoonerLaws
 pub mod VerdictLaws
+pub mod WalkLaws

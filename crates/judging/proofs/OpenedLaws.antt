@@ -79,7 +79,7 @@ module _ (s ws : List ℕ) (p : Place) (r : Opened) (w : Opens s p ws r) where
   counted = section-counted song x ws m (r .texts) (w .texts) (w .met .says .repeat) (w .met .read .modifiers .repeat-fits .0)
 
   -- Where the measures are few enough, all are counted.
-  all-counted : (k : ℕ) → k + countOfTexts m (r .texts) ≤ 65535 → countOfTexts m (r .texts) ≡ sectionCount song x
+  pub all-counted : (k : ℕ) → k + countOfTexts m (r .texts) ≤ 65535 → countOfTexts m (r .texts) ≡ sectionCount song x
   all-counted k h = ⊎-elim (λ e. e) (λ e. let q = e .0 in let z : ⊥ = omega arith in absurd z) counted
 
   too-many : (k : ℕ) → 65535 < k + countOfTexts m (r .texts) → 65535 < k + sectionCount song x

@@ -5,19 +5,23 @@ use mathlib.Core.List.{List, [], _∷_, flatMap}
 use mathlib.Core.Bool.{Bool, true, false, not}
 use mathlib.Core.Option.{Option, none, some}
 use native.Mathlib.Omega.{arith}
+use lib.ListN.{length}
 use Rattle.songcode.specs.Lists.{isSome}
 use Rattle.songcode.specs.Complaints.{Complaint, complaint, earlier, earliest}
-use Rattle.songcode.specs.Song.{Pattern, items, named, Definition, Section, Song}
+use Rattle.songcode.specs.Song.{Pattern, items, named, Definition, Section}
 use Rattle.songcode.specs.answer.Sections.{patternIn}
 use Rattle.songcode.specs.answer.References.{definitionOf, namedFault, sectionReference, definitionsReferences, referenceFaults}
+use Rattle.songcode.specs.answer.Answer.{songOf}
 use Rattle.songcode.proofs.ListLaws.{true-is-not-false, Each, each-map}
 use Rattle.text.specs.declared.Refusal.{Refusal}
 use Rattle.text.specs.Refusals.{refusalOf}
 use Rattle.sections.specs.declared.blocks.Place.{Place}
-use Rattle.sections.specs.declared.walking.Passed.{Passed}
 use Rattle.sections.specs.Runs.{linesOf}
-use Rattle.sections.specs.Onward.{sectionAt, Later, Passes}
+use Rattle.sections.specs.Onward.{sectionsFrom, sectionAt, Later}
+use Rattle.sections.proofs.MeetLaws.{sections-over}
+use Rattle.laying.specs.declared.texts.Opened.{Opened}
 use Rattle.laying.specs.Laying.{Names}
+use Rattle.laying.specs.Scores.{Begins, Opens}
 use Rattle.judging.specs.Meters.{nothingRefused}
 use Rattle.laying.proofs.ComplaintLaws.{UpTo, Numbered, first-wins, gather-behind, refused-none}
 use Rattle.laying.proofs.FaultLineLaws.{section-line}
@@ -85,7 +89,7 @@ module _ (ds : List Definition) where
   all-numbered xs = numbered-gather sectionFault numbered xs
 
   -- A section's refusal is that of all from it on; where it has none, the next ones' is.
-  pub first-section : (x : Section) (xs : List Section) (r : Refusal) → Later (x .header) xs → r ≡ refusalOf (earliest (sectionFault x))
+  first-section : (x : Section) (xs : List Section) (r : Refusal) → Later (x .header) xs → r ≡ refusalOf (earliest (sectionFault x))
       → (r .number ≡ 0 → ⊥) → r ≡ refusalOf (earliest (flatMap sectionFault (x ∷ xs)))
   unfolding flatMap refusalOf earliest
   first-section x xs r w e n =
@@ -95,34 +99,44 @@ module _ (ds : List Definition) where
       of : (cs : List Complaint) → cs ≡ [] → refusalOf (earliest cs) .number ≡ 0
       of cs z = rw z refl
 
-  pub next-section : (x : Section) (xs : List Section) (r : Refusal) → r ≡ refusalOf (earliest (sectionFault x)) → r .number ≡ 0
+  next-section : (x : Section) (xs : List Section) (r : Refusal) → r ≡ refusalOf (earliest (sectionFault x)) → r .number ≡ 0
       → flatMap sectionFault (x ∷ xs) ≡ flatMap sectionFault xs
   unfolding flatMap
   next-section x xs r e z = rw (refused-none (sectionFault x) (numbered x) (ap (λ (q : Refusal). q .number) (sym e) ∙ z)) refl
 
-  -- The fault of the section that is met at a place.
-  pub fault-at : (s : List ℕ) (p : Place) (m : Passed) (r : Refusal) → Passes s p m
+  -- The fault of a section that is opened.
+  pub fault-at : {s ws : List ℕ} {p : Place} {m : Opened} (r : Refusal) → Opens s p ws m
       → ((x : Pattern) → patternIn (linesOf s (m .section .pattern)) ≡ some x → r ≡ refusalOf (earliest (sectionReference ds x (m .section .header))))
       → r ≡ refusalOf (earliest (sectionFault (sectionAt s p)))
   unfolding sectionFault
-  fault-at s p m r w f =
-      f (sectionAt s p .pattern) (w .written) ∙ ap (λ (h : ℕ). refusalOf (earliest (sectionReference ds (sectionAt s p .pattern) h)))
-      (w .says .header)
+  fault-at {s} {ws} {p} {m} r w f =
+      f (sectionAt s p .pattern) (w .met .written) ∙ ap (λ (h : ℕ). refusalOf (earliest (sectionReference ds (sectionAt s p .pattern) h)))
+      (w .met .says .header)
 
--- Stage 3 of the whole song, where nothing is wrong with the definitions.
-module _ (song : Song) (clear : definitionsReferences [] (song .definitions) ≡ []) where
-  references-are : referenceFaults song ≡ flatMap (sectionFault (song .definitions)) (song .sections)
-  unfolding referenceFaults sectionFault
-  references-are = rw clear refl
+-- Stage 3 from section to section, where nothing is wrong with the definitions: what is left of it is all of it.
+unfoldable pub ReferencesLeft : List ℕ → Place → Type 0
+ReferencesLeft s p = flatMap (sectionFault (songOf s .definitions)) (sectionsFrom s p) ≡ referenceFaults (songOf s)
 
-  pub song-references : (xs : List Section) (r : Refusal) → xs ≡ song .sections
-      → r ≡ refusalOf (earliest (flatMap (sectionFault (song .definitions)) xs)) → r ≡ refusalOf (earliest (referenceFaults song))
-  song-references xs r e h =
-      h ∙ ap (λ (ys : List Section). refusalOf (earliest (flatMap (sectionFault (song .definitions)) ys))) e
-      ∙ ap (λ (cs : List Complaint). refusalOf (earliest cs)) (sym references-are)
+pub references-start : {s : List ℕ} {p : Place} → Begins s p → definitionsReferences [] (songOf s .definitions) ≡ [] → ReferencesLeft s p
+unfolding ReferencesLeft referenceFaults sectionFault
+references-start {s} b clear = rw clear (ap (flatMap (sectionFault (songOf s .definitions))) (b .sections))
 
-  pub references-none : (r : Refusal) → r ≡ refusalOf (earliest (referenceFaults song)) → r .number ≡ 0 → referenceFaults song ≡ []
-  references-none r h z =
-      references-are
-      ∙ refused-none (flatMap (sectionFault (song .definitions)) (song .sections)) (all-numbered (song .definitions) (song .sections))
-      (ap (λ (cs : List Complaint). refusalOf (earliest cs) .number) (sym references-are) ∙ ap (λ (q : Refusal). q .number) (sym h) ∙ z)
+pub references-over : (s : List ℕ) (p : Place) → length s ≤ p .at → ReferencesLeft s p → referenceFaults (songOf s) ≡ []
+unfolding ReferencesLeft flatMap
+references-over s p h w = sym w ∙ ap (flatMap (sectionFault (songOf s .definitions))) (sections-over s p h)
+
+module _ {s ws : List ℕ} {p : Place} {m : Opened} (o : Opens s p ws m) {r : Refusal}
+    (e : r ≡ refusalOf (earliest (sectionFault (songOf s .definitions) (sectionAt s p)))) where
+  pub references-stop : (r .number ≡ 0 → ⊥) → ReferencesLeft s p → r ≡ refusalOf (earliest (referenceFaults (songOf s)))
+  unfolding ReferencesLeft
+  references-stop n w =
+      first-section (songOf s .definitions) (sectionAt s p) (sectionsFrom s (m .next)) r (o .met .later) e n
+      ∙ ap (λ (xs : List Section). refusalOf (earliest (flatMap (sectionFault (songOf s .definitions)) xs))) (sym (o .met .first))
+      ∙ ap (λ (cs : List Complaint). refusalOf (earliest cs)) w
+
+  pub references-next : r .number ≡ 0 → ReferencesLeft s p → ReferencesLeft s (m .next)
+  unfolding ReferencesLeft
+  references-next z w =
+      sym (next-section (songOf s .definitions) (sectionAt s p) (sectionsFrom s (m .next)) r e z)
+      ∙ ap (flatMap (sectionFault (songOf s .definitions))) (sym (o .met .first))
+      ∙ w

@@ -6,13 +6,14 @@ use mathlib.Core.Logic.{inl, inr, ⊎-elim}
 use mathlib.Core.Bool.{true, false}
 use mathlib.Core.Option.{Option, none, some}
 use native.Mathlib.Omega.{arith}
-use lib.Dec.{ltb}
-use borrow.Author.Tests.{ne-eqb, ltb-true, ltb-false}
+use lib.Dec.{eqb, ltb}
+use borrow.Author.Tests.{ne-eqb, eqb-true, eqb-false, ltb-true, ltb-false}
 use Rattle.songcode.specs.Lists.{if_then_else_}
 use Rattle.songcode.specs.Complaints.{Complaint, goesFirst, earlier, earliest}
 use Rattle.songcode.specs.description.Given.{Before}
 use Rattle.songcode.proofs.ListLaws.{by-cases, Each}
 use Rattle.songcode.proofs.VerdictAgree.{goes-first}
+use Rattle.text.specs.declared.Refusal.{Refusal}
 use Rattle.text.specs.Refusals.{refusalOf}
 use Rattle.judging.specs.Meters.{soonerOf}
 use Rattle.laying.proofs.ComplaintLaws.{Numbered, before-goes, firstOf, earliest-append, earliest-each}
@@ -77,3 +78,22 @@ unfolding Numbered
 sooner-append xs ys h k =
     ap refusalOf (earliest-append xs ys)
     ∙ sooner-first (earliest xs) (earliest ys) (λ c e. earliest-each (λ c. 1 ≤ c .number) xs c h e) (λ c e. earliest-each (λ c. 1 ≤ c .number) ys c k e)
+
+-- Where nothing is refused of two, nothing is of either.
+pub sooner-none : (a b : Refusal) → soonerOf a b .number ≡ 0 → (a .number ≡ 0) × (b .number ≡ 0)
+unfolding soonerOf if_then_else_
+sooner-none a b h =
+    by-cases (eqb (a .number) 0)
+    (λ t. (eqb-true (a .number) 0 t, rw t at h))
+    (λ t.
+    let n = eqb-false (a .number) 0 t in
+    by-cases (eqb (b .number) 0)
+    (λ u. absurd (n (rw (t, u) at h)))
+    (λ u.
+    let m = eqb-false (b .number) 0 u in
+    by-cases (ltb (b .line) (a .line))
+    (λ v. absurd (m (rw (t, u, v) at h)))
+    (λ v.
+    by-cases (ltb (a .line) (b .line))
+    (λ w. absurd (n (rw (t, u, v, w) at h)))
+    (λ w. by-cases (ltb (b .number) (a .number)) (λ z. absurd (m (rw (t, u, v, w, z) at h))) (λ z. absurd (n (rw (t, u, v, w, z) at h)))))))

@@ -5,7 +5,7 @@ use mathlib.Core.List.{List, [], _∷_, _++_, flatMap}
 use mathlib.Core.Bool.{Bool, true, false, not, _&&_}
 use mathlib.Core.Option.{Option, none, some}
 use native.Mathlib.Omega.{arith}
-use borrow.Author.Tests.{ltb-false}
+use borrow.Author.Tests.{eqb-true, eqb-false, ltb-false}
 use lib.Dec.{eqb, leb, ltb}
 use lib.ListN.{length}
 use Rattle.songcode.specs.Lists.{if_then_else_, isEmpty}
@@ -17,11 +17,12 @@ use Rattle.songcode.specs.answer.Meter.{sectionMeter, meterFaults, sectionCount
 use Rattle.songcode.specs.answer.Lyrics.{isCounted, isPlayed, counted, linesTaken, hasCounts, countFaults, sumFault, sumFaults}
 use Rattle.songcode.specs.answer.Characters.{goodBytes}
 use Rattle.songcode.specs.answer.Answer.{mostBytes, lineOfPlace, inputFaults}
-use Rattle.songcode.proofs.VerdictAgree.{verdict-append}
+use Rattle.songcode.proofs.VerdictAgree.{verdict-append, last-stage}
 use Rattle.songcode.proofs.ListLaws.{by-cases, Each, each-append, nil-is-not-cons}
 use Rattle.text.specs.declared.Refusal.{Refusal}
 use Rattle.text.specs.Refusals.{refusalOf}
 use Rattle.judging.specs.declared.sums.Totals.{Totals}
+use Rattle.judging.specs.Meters.{firstGiven}
 use Rattle.laying.proofs.ComplaintLaws.{Numbered, numbered-if, refused-none}
 use Rattle.judging.proofs.FaultLaws.{numbered-section}
 
@@ -36,7 +37,7 @@ stage-refused xs rest r e n = e ∙ of (earliest xs) (λ z. n (ap (λ (q : Refus
     of (some c) m = refl
 
 -- Stages that refuse give the verdict, whatever comes behind them.
-pub stages-refused : (xs rest : List (List Complaint)) (r : Refusal) → r ≡ refusalOf (verdict xs) → (r .number ≡ 0 → ⊥) → r ≡ refusalOf (verdict (xs ++ rest))
+stages-refused : (xs rest : List (List Complaint)) (r : Refusal) → r ≡ refusalOf (verdict xs) → (r .number ≡ 0 → ⊥) → r ≡ refusalOf (verdict (xs ++ rest))
 unfolding refusalOf stageOr
 stages-refused xs rest r e n = of (verdict xs) e ∙ ap refusalOf (sym (verdict-append xs rest))
   where
@@ -51,6 +52,34 @@ stage-passed xs rest e = rw e refl
 -- A stage whose complaints are numbered has none where its refusal has number 0.
 pub stage-none : (xs : List Complaint) (r : Refusal) → Each Numbered xs → r ≡ refusalOf (earliest xs) → r .number ≡ 0 → xs ≡ []
 stage-none xs r h e z = refused-none xs h (ap (λ (q : Refusal). q .number) (sym e) ∙ z)
+
+-- Of two stages the first that refuses, and of two groups of stages.
+pub given-none : (a b : Refusal) → firstGiven a b .number ≡ 0 → (a .number ≡ 0) × (b .number ≡ 0)
+unfolding firstGiven if_then_else_
+given-none a b h =
+    by-cases (eqb (a .number) 0)
+    (λ t. (eqb-true (a .number) 0 t, rw t at h))
+    (λ t. let z : a .number ≡ 0 = rw t at h in absurd (eqb-false (a .number) 0 t z))
+
+pub two-stages : (xs ys : List Complaint) (a b : Refusal) → Each Numbered xs → a ≡ refusalOf (earliest xs) → (xs ≡ [] → b ≡ refusalOf (earliest ys))
+    → firstGiven a b ≡ refusalOf (verdict (xs ∷ ys ∷ []))
+unfolding firstGiven if_then_else_
+two-stages xs ys a b h e g =
+    by-cases (eqb (a .number) 0)
+    (λ t.
+    let none = stage-none xs a h e (eqb-true (a .number) 0 t) in
+    rw t (g none ∙ ap refusalOf (sym (last-stage ys)) ∙ sym (stage-passed xs (ys ∷ []) none)))
+    (λ t. rw t (stage-refused xs (ys ∷ []) a e (eqb-false (a .number) 0 t)))
+
+pub groups-given : (xs ys : List (List Complaint)) (a b : Refusal) → a ≡ refusalOf (verdict xs)
+    → (a .number ≡ 0 → (verdict xs ≡ none) × (b ≡ refusalOf (verdict ys))) → firstGiven a b ≡ refusalOf (verdict (xs ++ ys))
+unfolding firstGiven if_then_else_ stageOr
+groups-given xs ys a b e g =
+    by-cases (eqb (a .number) 0)
+    (λ t.
+    let h = g (eqb-true (a .number) 0 t) in
+    rw t (h .1 ∙ ap refusalOf (sym (verdict-append xs ys ∙ ap (λ (o : Option Complaint). stageOr o (verdict ys)) (h .0)))))
+    (λ t. rw t (stages-refused xs ys a e (eqb-false (a .number) 0 t)))
 
 -- The complaints of every stage are numbered.
 pub numbered-gather : {A : Type 0} (f : A → List Complaint) → ((x : A) → Each Numbered (f x)) → (xs : List A) → Each Numbered (flatMap f xs)

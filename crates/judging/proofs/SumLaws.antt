@@ -5,29 +5,26 @@ use mathlib.Core.List.{List, [], _∷_, _++_, map, flatMap}
 use mathlib.Core.Bool.{Bool, true, false, not, _&&_, Bool·not-not, and-true, and-assoc}
 use mathlib.Core.Option.{Option, none, some}
 use native.Mathlib.Omega.{arith}
-use native.Mathlib.Nat.{le-refl}
 use lib.Dec.{eqb, ltb}
 use lib.ListN.{length, length-map, length-append, length-take}
 use borrow.Author.Tests.{ne-eqb}
-use Rattle.songcode.specs.Lists.{if_then_else_, isEmpty, isSome, every, when}
-use Rattle.songcode.specs.Complaints.{Complaint, complaint, complainIf, earliest, earlier}
+use Rattle.songcode.specs.Lists.{if_then_else_, isEmpty, isSome, every}
 use Rattle.songcode.specs.Song.{Items, LyricLine, Section, Song}
 use Rattle.songcode.specs.answer.References.{patternItems}
 use Rattle.songcode.specs.answer.Playing.{Beat, played}
 use Rattle.songcode.specs.description.Performance.{total}
-use Rattle.songcode.specs.answer.Lyrics.{isCounted, isPlayed, linesTaken, hasCounts, counted, sumFault, sumFaults, hasItems, prompts}
+use Rattle.songcode.specs.answer.Lyrics.{isCounted, isPlayed, linesTaken, counted, hasItems, prompts}
 use Rattle.songcode.specs.answer.Tables.{sectionWords, allMeasures, measureWords, beatWord, itemWord, tables}
 use Rattle.songcode.specs.description.WrittenTables.{lyricsOf}
 use Rattle.songcode.specs.answer.Answer.{songOf}
-use Rattle.songcode.proofs.ListLaws.{by-cases, both-pass, nil-is-not-cons, Each}
+use Rattle.songcode.proofs.ListLaws.{by-cases, both-pass, Each}
 use Rattle.songcode.proofs.TurnedRows.{total-append}
 use Rattle.songcode.specs.answer.Sections.{lyricLine}
-use Rattle.text.specs.Refusals.{refusalOf}
 use Rattle.outlines.specs.Words.{vacant}
 use Rattle.player.specs.declared.playing.Counts.{Counts}
 use Rattle.sections.specs.Runs.{textLines, linesOf}
 use Rattle.sections.specs.declared.blocks.Place.{Place}
-use Rattle.sections.specs.Onward.{Later, sectionAt, sectionsFrom}
+use Rattle.sections.specs.Onward.{sectionAt, sectionsFrom}
 use Rattle.laying.specs.declared.texts.Text.{Text}
 use Rattle.laying.specs.declared.texts.Opened.{Opened}
 use Rattle.judging.specs.declared.lyrics.Tally.{Tally}
@@ -35,8 +32,6 @@ use Rattle.judging.specs.declared.sums.Sums.{Sums}
 use Rattle.laying.specs.Scores.{Carries, Opens}
 use Rattle.judging.specs.Lyrics.{firstLine, bareLine, tallied}
 use Rattle.judging.specs.Sums.{hasLines, hasPrompts, sumDiffers, withSection, totalsOf, Holds}
-use Rattle.laying.proofs.ComplaintLaws.{UpTo, first-wins, gather-behind}
-use Rattle.laying.proofs.FaultLineLaws.{line-if}
 use Rattle.judging.proofs.LyricLaws.{prompts-length}
 use Rattle.judging.proofs.NumberLaws.{Numbered, lyrics-numbered}
 use Rattle.judging.proofs.TakenLaws.{takenFrom}
@@ -98,23 +93,23 @@ module _ (s : Song) (x : Section) (empty : Bool) (t : Tally) (e : empty ≡ not 
       let b : eqb (t .bare) 0 ≡ every isCounted (x .lyrics) = ap (λ (y : Tally). eqb (y .bare) 0) u ∙ tallied-bare (x .lyrics) h in
       rw (lines-said, b)
 
-  differs-said : (c : Bool) (k : ℕ) → k ≡ length (played s x) → sumDiffers c empty t k ≡ c && offSum s x
+  differs-said : (k : ℕ) → k ≡ length (played s x) → sumDiffers empty t k ≡ offSum s x
   unfolding sumDiffers
-  differs-said c k h =
+  differs-said k h =
       let w : t .sum ≡ counted (x .lyrics) = ap (λ (y : Tally). y .sum) u ∙ tallied-sum (x .lyrics) in
       rw (lines-said, w, h)
 
 -- The tally of the lyric lines of a section that is opened.
 module _ {s vs : List ℕ} {p : Place} (x : Opened) (o : Opens s p vs x) (t : Tally)
     (u : t ≡ tallied (map lyricLine (linesOf s (x .section .lyrics)))) where
-  opened-empty : x .texts .pattern .outline .empty ≡ not (isPlayed (songOf s) (sectionAt s p))
+  pub opened-empty : x .texts .pattern .outline .empty ≡ not (isPlayed (songOf s) (sectionAt s p))
   unfolding isPlayed
   opened-empty = empty-is vs (x .texts .pattern) (patternItems (songOf s .definitions) (sectionAt s p .pattern)) (o .texts .pattern)
 
-  opened-tally : t ≡ tallied (sectionAt s p .lyrics)
+  pub opened-tally : t ≡ tallied (sectionAt s p .lyrics)
   opened-tally = u ∙ ap tallied (o .met .says .lyrics)
 
-  opened-lined : Numbered (sectionAt s p .lyrics)
+  pub opened-lined : Numbered (sectionAt s p .lyrics)
   unfolding linesOf
   opened-lined =
       subst (λ ls. Numbered ls) (o .met .says .lyrics) (lyrics-numbered s (x .section .lyrics .number) (x .section .lyrics .at)
@@ -123,9 +118,9 @@ module _ {s vs : List ℕ} {p : Place} (x : Opened) (o : Opens s p vs x) (t : Ta
   opened-prompts : hasPrompts (x .texts .pattern .outline .empty) t ≡ isPrompted (songOf s) (sectionAt s p)
   opened-prompts = prompts-said (songOf s) (sectionAt s p) _ t opened-empty opened-tally opened-lined
 
-  opened-differs : (c : Bool) (k : ℕ) → k ≡ length (played (songOf s) (sectionAt s p))
-      → sumDiffers c (x .texts .pattern .outline .empty) t k ≡ c && offSum (songOf s) (sectionAt s p)
-  opened-differs c k e = differs-said (songOf s) (sectionAt s p) _ t opened-empty opened-tally c k e
+  pub opened-differs : (k : ℕ) → k ≡ length (played (songOf s) (sectionAt s p))
+      → sumDiffers (x .texts .pattern .outline .empty) t k ≡ offSum (songOf s) (sectionAt s p)
+  opened-differs k e = differs-said (songOf s) (sectionAt s p) _ t opened-empty opened-tally k e
 
   opened-lines : t .lines ≡ length (sectionAt s p .lyrics)
   unfolding tallied
@@ -139,41 +134,6 @@ module _ {s vs : List ℕ} {p : Place} (x : Opened) (o : Opens s p vs x) (t : Ta
       let e : t .lines ≡ length (linesOf s r) = ap (λ (y : Tally). y .lines) u ∙ length-map (linesOf s r) lyricLine in
       let f = length-take (r .lines) (textLines s (r .number) (r .at)) in
       omega (arith, w .number, w .behind, w .ends)
-
--- The complaints of stage 7 about the sections that are left.
-unfoldable pub faultsLeft : Song → List Section → List Complaint
-unfolding if_then_else_ flatMap sumFault
-faultsLeft s xs = if hasCounts s then flatMap (sumFault s) xs else []
-
-pub faults-start : (s : Song) → sumFaults s ≡ faultsLeft s (s .sections)
-unfolding sumFaults faultsLeft
-faults-start s = refl
-
-fault-line : (s : Song) (x : Section) → Each (λ c. c .line ≡ x .header) (sumFault s x)
-unfolding sumFault
-fault-line s x = line-if (offSum s x) 17 (x .header)
-
-pub faults-end : (s : Song) → sumFaults s ≡ faultsLeft s [] → refusalOf (earliest (sumFaults s)) ≡ record { number = 0; line = 0 }
-unfolding faultsLeft flatMap if_then_else_ refusalOf earliest
-faults-end s h = by-cases (hasCounts s) (λ c. let w : sumFaults s ≡ [] = rw c at h in rw w) (λ c. let w : sumFaults s ≡ [] = rw c at h in rw w)
-
-module _ (s : Song) (x : Section) (xs : List Section) where
-  faults-pass : hasCounts s && offSum s x ≡ false → faultsLeft s (x ∷ xs) ≡ faultsLeft s xs
-  unfolding faultsLeft flatMap sumFault complainIf when if_then_else_
-  faults-pass e =
-      by-cases (hasCounts s)
-      (λ c. let f : offSum s x ≡ false = rw c at e in rw (c, f))
-      (λ c. rw c)
-
-  faults-stop : hasCounts s && offSum s x ≡ true → Later (x .header) xs → sumFaults s ≡ faultsLeft s (x ∷ xs)
-      → refusalOf (earliest (sumFaults s)) ≡ record { number = 17; line = x .header }
-  unfolding faultsLeft flatMap sumFault complainIf when if_then_else_ refusalOf earliest earlier UpTo Each
-  faults-stop e l h =
-      let b = both-pass (hasCounts s) (offSum s x) e in
-      let here = complaint 17 (x .header) ∷ [] in
-      let w : sumFaults s ≡ here ++ flatMap (sumFault s) xs = h ∙ rw (b .0, b .1) in
-      ap refusalOf (ap earliest w ∙ first-wins (x .header) here (flatMap (sumFault s) xs) (le-refl (x .header), tt)
-      (gather-behind (x .header) (sumFault s) (fault-line s) xs l) (λ z. nil-is-not-cons (sym z)))
 
 -- The sums so far, and what the sections that are left add to them.
 pub record Summed (s : Song) (rest : List Section) (x : Sums) : Type 0 where
@@ -220,27 +180,9 @@ summed-next s y rest x c l b m t e p h =
       all = ap (λ (q : Bool). (x .all && q) && every (isPrompted s) rest) p ∙ and-assoc (x .all) (isPrompted s y) (every (isPrompted s) rest) ∙ h .all;
     }
 
--- A section that is opened: stage 7 refuses it, or goes on to the next.
+-- A section that is opened.
 module _ {s vs : List ℕ} {p : Place} (x : Opened) (o : Opens s p vs x) (t : Tally)
     (u : t ≡ tallied (map lyricLine (linesOf s (x .section .lyrics)))) where
-  pub opened-off : (c r : Bool) (k : ℕ) → c ≡ hasCounts (songOf s) → r ≡ sumDiffers c (x .texts .pattern .outline .empty) t k
-      → k ≡ length (played (songOf s) (sectionAt s p))
-      → hasCounts (songOf s) && offSum (songOf s) (sectionAt s p) ≡ r
-  opened-off c r k e f g = ap (λ (b : Bool). b && offSum (songOf s) (sectionAt s p)) (sym e) ∙ sym (opened-differs x o t u c k g) ∙ sym f
-
-  pub opened-refused : hasCounts (songOf s) && offSum (songOf s) (sectionAt s p) ≡ true → sumFaults (songOf s) ≡ faultsLeft (songOf s) (sectionsFrom s p)
-      → refusalOf (earliest (sumFaults (songOf s))) ≡ record { number = 17; line = x .section .header }
-  opened-refused e h =
-      faults-stop (songOf s) (sectionAt s p) (sectionsFrom s (x .next)) e (o .met .later)
-      (h ∙ ap (λ (xs : List Section). faultsLeft (songOf s) xs) (o .met .first))
-      ∙ ap (λ (k : ℕ). record { number = 17; line = k }) (sym (o .met .says .header))
-
-  pub opened-passed : hasCounts (songOf s) && offSum (songOf s) (sectionAt s p) ≡ false → sumFaults (songOf s) ≡ faultsLeft (songOf s) (sectionsFrom s p)
-      → sumFaults (songOf s) ≡ faultsLeft (songOf s) (sectionsFrom s (x .next))
-  opened-passed e h =
-      h ∙ ap (λ (xs : List Section). faultsLeft (songOf s) xs) (o .met .first) ∙ faults-pass (songOf s) (sectionAt s p)
-      (sectionsFrom s (x .next)) e
-
   pub opened-summed : (y z : Sums) (c : Counts) (b : Bool) → z ≡ withSection y c (t .lines) b
       → b ≡ hasPrompts (x .texts .pattern .outline .empty) t → c .measures ≡ length (played (songOf s) (sectionAt s p))
       → c .beats ≡ total (played (songOf s) (sectionAt s p))
@@ -250,12 +192,6 @@ module _ {s vs : List ℕ} {p : Place} (x : Opened) (o : Opens s p vs x) (t : Ta
       subst (λ v. Summed (songOf s) (sectionsFrom s (x .next)) v) (sym w)
       (summed-next (songOf s) (sectionAt s p) (sectionsFrom s (x .next)) y c (t .lines) b m d (opened-lines x o t u)
       (e ∙ opened-prompts x o t u) g)
-
-pub with-counts : (z y : Sums) (c : Counts) (l : ℕ) (b : Bool) → z ≡ withSection y c l b
-    → (z .sections ≡ y .sections + 1) × (z .measures ≡ y .measures + c .measures) × (z .beats ≡ y .beats + c .beats)
-    × (z .lines ≡ y .lines + l)
-unfolding withSection
-with-counts z y c l b e = rw e (refl, refl, refl, refl)
 
 -- The words of the tables are as many.
 pub section-words-length : (s : Song) (first : ℕ) (xs : List Section) → length (sectionWords s first xs) ≡ length xs

@@ -6,7 +6,7 @@ use mathlib.Core.Bool.{Bool, true, false, not, _||_, or-assoc}
 use mathlib.Core.Option.{Option, none, some}
 use native.Mathlib.Omega.{arith}
 use lib.Dec.{eqb, ltb}
-use borrow.Author.Tests.{ne-eqb, ltb-true, ltb-false, eqb-true}
+use borrow.Author.Tests.{not-true, not-false, ne-eqb, ltb-true, ltb-false, eqb-true}
 use Rattle.songcode.specs.Lists.{if_then_else_, any, when}
 use Rattle.songcode.specs.Complaints.{Complaint, complaint, complainIf, goesFirst, earlier, earliest}
 use Rattle.songcode.specs.Song.{LyricLine, Section, Song}
@@ -14,6 +14,7 @@ use Rattle.songcode.specs.answer.Lyrics.{isCounted, isPlayed, linesTaken, hasCo
 use Rattle.songcode.proofs.ListLaws.{by-cases, any-append, Each, each-append}
 use Rattle.text.specs.Refusals.{refusalOf}
 use Rattle.judging.specs.declared.lyrics.Tally.{Tally}
+use Rattle.judging.specs.declared.lyrics.Taken.{Taken}
 use Rattle.judging.specs.Lyrics.{firstLine, bareLine, tallied, takenWith, countFault}
 use Rattle.judging.proofs.TallyLaws.{first-zero, first-two, first-assoc}
 use Rattle.judging.proofs.NumberLaws.{Numbered}
@@ -30,39 +31,35 @@ bare-append (l ∷ xs) ys =
 abbrev pub takenFrom : Song → List Section → List LyricLine
 takenFrom s xs = flatMap (λ x. if isPlayed s x then x .lyrics else []) xs
 
-module _ (s : Song) (x : Section) (xs : List Section) {played : Bool} (p : played ≡ isPlayed s x) where
-  taken-played : played ≡ true → takenFrom s (x ∷ xs) ≡ x .lyrics ++ takenFrom s xs
+module _ (s : Song) (x : Section) (xs : List Section) {empty : Bool} (p : empty ≡ not (isPlayed s x)) where
+  taken-played : empty ≡ false → takenFrom s (x ∷ xs) ≡ x .lyrics ++ takenFrom s xs
   unfolding flatMap if_then_else_
-  taken-played e = let q : isPlayed s x ≡ true = sym p ∙ e in rw q
+  taken-played e = let q = not-false (isPlayed s x) (sym p ∙ e) in rw q
 
-  taken-not : played ≡ false → takenFrom s (x ∷ xs) ≡ takenFrom s xs
+  taken-not : empty ≡ true → takenFrom s (x ∷ xs) ≡ takenFrom s xs
   unfolding flatMap if_then_else_
-  taken-not e = let q : isPlayed s x ≡ false = sym p ∙ e in rw q
+  taken-not e = let q = not-true (isPlayed s x) (sym p ∙ e) in rw q
 
   pub taken-numbered : Numbered (x .lyrics) → Numbered (takenFrom s xs) → Numbered (takenFrom s (x ∷ xs))
   taken-numbered a b =
-      by-cases played
-      (λ e. rw (taken-played e) (each-append _ (x .lyrics) (takenFrom s xs) a b))
+      by-cases empty
       (λ e. rw (taken-not e) b)
+      (λ e. rw (taken-played e) (each-append _ (x .lyrics) (takenFrom s xs) a b))
 
-  module _ (c : Bool) (b : ℕ) {r : Tally} (i : r ≡ takenWith played c b (tallied (x .lyrics))) where
-    is-by : {t : Bool} → played ≡ t → r ≡ takenWith t c b (tallied (x .lyrics))
-    is-by e = i ∙ ap (λ (q : Bool). takenWith q c b (tallied (x .lyrics))) e
-
-    pub taken-counted : r .counted || any isCounted (takenFrom s xs) ≡ c || any isCounted (takenFrom s (x ∷ xs))
+  module _ (y : Taken) {t : Tally} (i : t ≡ tallied (x .lyrics)) where
+    pub taken-counted : takenWith empty y t .counted || any isCounted (takenFrom s xs) ≡ y .counted || any isCounted (takenFrom s (x ∷ xs))
     unfolding takenWith tallied if_then_else_
     taken-counted =
-        by-cases played
-        (λ e. rw (taken-played e, any-append, ap (λ (t : Tally). t .counted) (is-by e))
-        (or-assoc c (any isCounted (x .lyrics)) (any isCounted (takenFrom s xs))))
-        (λ e. rw (taken-not e, ap (λ (t : Tally). t .counted) (is-by e)))
+        by-cases empty
+        (λ e. rw (taken-not e, e))
+        (λ e. rw (taken-played e, any-append, e, i) (or-assoc (y .counted) (any isCounted (x .lyrics)) (any isCounted (takenFrom s xs))))
 
-    pub taken-bare : firstLine (r .bare) (bareLine (takenFrom s xs)) ≡ firstLine b (bareLine (takenFrom s (x ∷ xs)))
+    pub taken-bare : firstLine (takenWith empty y t .bare) (bareLine (takenFrom s xs)) ≡ firstLine (y .bare) (bareLine (takenFrom s (x ∷ xs)))
     unfolding takenWith tallied if_then_else_
     taken-bare =
-        by-cases played
-        (λ e. rw (taken-played e, bare-append, ap (λ (t : Tally). t .bare) (is-by e)) (sym (first-assoc b (bareLine (x .lyrics)) (bareLine (takenFrom s xs)))))
-        (λ e. rw (taken-not e, ap (λ (t : Tally). t .bare) (is-by e)))
+        by-cases empty
+        (λ e. rw (taken-not e, e))
+        (λ e. rw (taken-played e, bare-append, e, i) (sym (first-assoc (y .bare) (bareLine (x .lyrics)) (bareLine (takenFrom s xs)))))
 
 -- The complaint of the first line without a count.
 bareOf : ℕ → Option Complaint
@@ -98,19 +95,21 @@ first-bare (l ∷ ls) a =
     (λ e. rw e (ap (λ (o : Option Complaint). some (earlier (complaint 16 (l .number)) o)) (first-bare ls (a .1)) ∙ earlier-bare (l .number)
     (bareLine ls) (a .0)))
 
-fault-of : (b : ℕ) → countFault true b .refusal ≡ refusalOf (bareOf b)
+fault-of : (b : ℕ) → countFault (record { counted = true; bare = b }) ≡ refusalOf (bareOf b)
 unfolding countFault refusalOf bareOf if_then_else_
 fault-of zero = refl
 fault-of (suc b) = rw (ne-eqb (suc b) 0 (λ (z : suc b ≡ 0). let y : ⊥ = omega arith in y))
 
-no-fault : (b : ℕ) → countFault false b .refusal ≡ refusalOf (earliest [])
+no-fault : (b : ℕ) → countFault (record { counted = false; bare = b }) ≡ refusalOf (earliest [])
 unfolding countFault refusalOf earliest if_then_else_
 no-fault b = refl
 
-pub count-refusal : (s : Song) (c : Bool) (b : ℕ) → c ≡ hasCounts s → b ≡ bareLine (linesTaken s) → Numbered (linesTaken s)
-    → countFault c b .refusal ≡ refusalOf (earliest (countFaults s))
+pub count-refusal : (s : Song) (y : Taken) → y .counted ≡ hasCounts s → y .bare ≡ bareLine (linesTaken s) → Numbered (linesTaken s)
+    → countFault y ≡ refusalOf (earliest (countFaults s))
 unfolding countFaults if_then_else_
-count-refusal s c b i j a =
-    by-cases (hasCounts s)
-    (λ e. rw (i, j, e) (fault-of (bareLine (linesTaken s)) ∙ ap refusalOf (sym (first-bare (linesTaken s) a))))
-    (λ e. rw (i, e) (no-fault b))
+count-refusal s y i j a =
+    let parts : y ≡ record { counted = hasCounts s; bare = bareLine (linesTaken s) } = rw (← i, ← j) refl in
+    ap countFault parts
+    ∙ by-cases (hasCounts s)
+    (λ e. rw e (fault-of (bareLine (linesTaken s)) ∙ ap refusalOf (sym (first-bare (linesTaken s) a))))
+    (λ e. rw e (no-fault (bareLine (linesTaken s))))

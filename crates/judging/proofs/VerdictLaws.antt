@@ -13,7 +13,7 @@ use Rattle.text.specs.Refusals.{refusalOf}
 use Rattle.stage2.proofs.SmallLines.{stage-clear}
 use Rattle.judging.specs.Charts.{Clear}
 use Rattle.judging.specs.Stages.{lyricFaults, playingFaults, laterFaults}
-use Rattle.judging.proofs.ClearLaws.{verdict-clear}
+use Rattle.judging.proofs.ClearLaws.{verdict-clear, clear-none}
 use Rattle.judging.proofs.StageLaws.{numbered-input, input-small}
 
 -- The stages of the song alone.
@@ -55,13 +55,9 @@ module _ (bs : List ℕ) where
     pub late-refused : (r : Refusal) → r ≡ refusalOf (verdict (laterFaults (songOf bs))) → (r .number ≡ 0 → ⊥) → songAnswer bs ≡ refused (r .number) (r .line)
     late-refused r e n = refuses (complaint (r .number) (r .line)) (later-are ∙ given (verdict (laterFaults (songOf bs))) r e n)
 
-    later-none : Clear (songOf bs) → verdict (laterFaults (songOf bs)) ≡ none
-    unfolding laterFaults playingFaults lyricFaults verdict earliest stageOr
-    later-none clear = rw (clear .references, clear .meters, clear .lengths, clear .counts, clear .sums) refl
-
     pub song-accepted : Clear (songOf bs) → songAnswer bs ≡ accepted (tables (songOf bs))
     unfolding songAnswer answerBy
-    song-accepted clear = rw (later-are ∙ later-none clear) refl
+    song-accepted clear = rw (later-are ∙ clear-none (songOf bs) clear) refl
 
 -- Where stages 1 and 2 refuse nothing they complain of nothing.
 pub first-clear : (s : List ℕ) (r : Refusal) → r ≡ refusalOf (verdict (inputFaults s ∷ textFaults (blocksOf s) ∷ [])) → r .number ≡ 0

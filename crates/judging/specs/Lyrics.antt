@@ -7,8 +7,10 @@ use lib.ListN.{length}
 use Rattle.songcode.specs.Lists.{if_then_else_, any}
 use Rattle.songcode.specs.Song.{LyricLine}
 use Rattle.songcode.specs.answer.Lyrics.{isCounted, counted}
+use Rattle.text.specs.declared.Refusal.{Refusal}
 use Rattle.judging.specs.declared.lyrics.Tally.{Tally}
-use Rattle.judging.specs.declared.lyrics.Counted.{Counted}
+use Rattle.judging.specs.declared.lyrics.Taken.{Taken}
+use Rattle.judging.specs.Meters.{nothingRefused}
 
 -- The least of two line numbers, where 0 is none.
 unfoldable pub firstLine : ℕ → ℕ → ℕ
@@ -31,16 +33,12 @@ unfoldable pub tallied : List LyricLine → Tally
 unfolding any isCounted counted bareLine
 tallied ls = record { lines = length ls; sum = counted ls; counted = any isCounted ls; bare = bareLine ls }
 
-unfoldable pub takenWith : Bool → Bool → ℕ → Tally → Tally
+-- With the lyric lines of one more section, which are taken where its pattern is not empty.
+unfoldable pub takenWith : Bool → Taken → Tally → Taken
 unfolding if_then_else_ firstLine
-takenWith played c b t =
-    if played then record { lines = 0; sum = 0; counted = c || t .counted; bare = firstLine b (t .bare) }
-    else record { lines = 0; sum = 0; counted = c; bare = b }
+takenWith empty y t = if empty then y else record { counted = y .counted || t .counted; bare = firstLine (y .bare) (t .bare) }
 
-unfoldable pub countFault : Bool → ℕ → Counted
+-- What stage 6 refuses of the lines taken.
+unfoldable pub countFault : Taken → Refusal
 unfolding if_then_else_
-countFault c b =
-    record {
-      counted = c;
-      refusal = if c && not (eqb b 0) then record { number = 16; line = b } else record { number = 0; line = 0 };
-    }
+countFault y = if y .counted && not (eqb (y .bare) 0) then record { number = 16; line = y .bare } else nothingRefused

@@ -32,6 +32,11 @@ soonerOf a b =
     else (if ltb (a .line) (b .line) then a
     else (if ltb (b .number) (a .number) then b else a))))
 
+-- The refusal of the first of two stages, else that of the second.
+unfoldable pub firstGiven : Refusal → Refusal → Refusal
+unfolding if_then_else_
+firstGiven a b = if eqb (a .number) 0 then b else a
+
 unfoldable pub meterFault : ℕ → Modifiers → Texts → ℕ → Refusal
 unfolding soonerOf textFault
 meterFault header m t n =

@@ -7,6 +7,8 @@ use lib.Dec.{eqb}
 use lib.ListN.{length}
 use Rattle.songcode.specs.Lists.{if_then_else_}
 use Rattle.songcode.specs.answer.Tables.{Tables}
+use Rattle.songcode.specs.description.Performance.{total}
+use Rattle.text.specs.declared.Refusal.{Refusal}
 use Rattle.player.specs.declared.playing.Counts.{Counts}
 use Rattle.player.specs.Arrangements.{arrangedRow, PlaysWithin}
 use Rattle.sections.specs.declared.values.Modifiers.{Modifiers}
@@ -14,6 +16,7 @@ use Rattle.laying.specs.declared.texts.Texts.{Texts}
 use Rattle.judging.specs.declared.lyrics.Tally.{Tally}
 use Rattle.judging.specs.declared.sums.Sums.{Sums}
 use Rattle.judging.specs.declared.sums.Totals.{Totals}
+use Rattle.judging.specs.Meters.{nothingRefused}
 use Rattle.judging.specs.Lengths.{arrangementOf}
 
 -- The row that a section plays in n, as words.
@@ -24,8 +27,13 @@ rowOfTexts ws n t m = arrangedRow ws (arrangementOf n t m)
 abbrev pub TextsWithin : List ℕ → ℕ → Texts → Modifiers → ℕ → Type 0
 TextsWithin ws n t m base = PlaysWithin ws (arrangementOf n t m) base
 
+-- How many measures and beats it plays.
+unfoldable pub countsOf : List ℕ → ℕ → Texts → Modifiers → Counts
+unfolding rowOfTexts
+countsOf ws n t m = record { measures = length (rowOfTexts ws n t m); beats = total (rowOfTexts ws n t m) }
+
 -- Whether a section has lyric lines and a pattern that is not empty; whether, moreover, all its lines have counts; whether they sum to another number
--- of measures, where the lines of the song have counts.
+-- of measures.
 unfoldable pub hasLines : Bool → Tally → Bool
 hasLines empty t = not empty && not (eqb (t .lines) 0)
 
@@ -33,19 +41,22 @@ unfoldable pub hasPrompts : Bool → Tally → Bool
 unfolding hasLines
 hasPrompts empty t = hasLines empty t && eqb (t .bare) 0
 
-unfoldable pub sumDiffers : Bool → Bool → Tally → ℕ → Bool
+unfoldable pub sumDiffers : Bool → Tally → ℕ → Bool
 unfolding hasLines
-sumDiffers counted empty t measures = counted && (hasLines empty t && not (eqb (t .sum) measures))
+sumDiffers empty t measures = hasLines empty t && not (eqb (t .sum) measures)
 
 unfoldable pub withSection : Sums → Counts → ℕ → Bool → Sums
 withSection x c l b =
     record { sections = x .sections + 1; measures = x .measures + c .measures; beats = x .beats + c .beats; lines = x .lines + l; all = x .all && b }
 
+abbrev pub refusedWith : Refusal → Totals
+refusedWith refusal = record { refusal = refusal; sections = 0; measures = 0; beats = 0; items = 0 }
+
 unfoldable pub totalsOf : Sums → Totals
 unfolding if_then_else_
 totalsOf x =
     record {
-      refusal = record { number = 0; line = 0 };
+      refusal = nothingRefused;
       sections = x .sections;
       measures = x .measures;
       beats = x .beats;

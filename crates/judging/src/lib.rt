@@ -5,8 +5,10 @@ mod lyrics;
 mod measures;
 mod meters;
 mod references;
+mod singing;
 mod stages;
 mod sums;
+mod walking;
 
 pub use charts::Chart;
 pub use charts::judge;

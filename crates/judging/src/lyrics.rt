@@ -1,8 +1,5 @@
 // Stage 6: if one of the lyric lines taken has a count, all have.
-use laying::is_played;
-use sections::Place;
 use sections::Run;
-use sections::pass;
 use settings::lyric_words;
 use text::Refusal;
 use text::line_at;
@@ -10,15 +7,10 @@ ghost use mathlib.Core.Path.{_≡_};
 ghost use mathlib.Core.List.{map};
 ghost use Prim.Native.Nat.{_+_, _≤_, _<_, _*_};
 ghost use lib.ListN.{length};
-ghost use Rattle.songcode.specs.Complaints.{earliest};
 ghost use Rattle.songcode.specs.answer.Sections.{lyricLine};
-ghost use Rattle.songcode.specs.answer.Lyrics.{hasCounts, countFaults};
-ghost use Rattle.songcode.specs.answer.Answer.{songOf};
-ghost use Rattle.text.specs.Refusals.{refusalOf};
 ghost use Rattle.sections.specs.Runs.{linesOf};
 ghost use Rattle.sections.specs.BlockParts.{Placed};
-ghost use Rattle.laying.specs.Scores.{Told, Begins};
-ghost use Rattle.judging.specs.Lyrics.{firstLine, withLine, tallied, countFault, takenWith};
+ghost use Rattle.judging.specs.Lyrics.{firstLine, withLine, tallied, takenWith, countFault};
 
 // Of some lyric lines: how many they are, the sum of their counts, whether one has a count, and the least number of a line that has none, 0 if all have.
 pub struct Tally {
@@ -90,71 +82,36 @@ pub fn tally_lyrics(s: &[u8], run: Run) -> Tally
     t
 }
 
-// Whether a line taken has a count, and what stage 6 refuses.
-pub struct Counted {
+// Of the lyric lines taken so far: whether one has a count, and the least number of a line that has none, 0 if all have.
+pub struct Taken {
     pub counted: bool,
-    pub refusal: Refusal,
+    pub bare: usize,
 }
 
-fn count_fault(counted: bool, bare: usize) -> Counted
-    ensures { λ r. ⌜ r ≡ countFault counted bare ⌝ }
+// "Take the lyric lines of all sections whose pattern isn't empty": with those of one more section.
+pub fn taken_with(empty: bool, y: Taken, t: Tally) -> Taken
+    ensures { λ r. ⌜ r ≡ takenWith empty y t ⌝ }
 {
-    if counted {
-        if bare != 0 {
-            return Counted {
-                counted,
-                refusal: Refusal {
-                    number: 16,
-                    line: bare,
-                },
+    if empty {
+        return y;
+    }
+    Taken {
+        counted: y.counted || t.counted,
+        bare: first_line(y.bare, t.bare),
+    }
+}
+
+// What stage 6 refuses.
+pub fn count_fault(y: Taken) -> Refusal
+    ensures { λ r. ⌜ r ≡ countFault y ⌝ }
+{
+    if y.counted {
+        if y.bare != 0 {
+            return Refusal {
+                number: 16,
+                line: y.bare,
             };
         }
     }
-    Counted {
-        counted,
-        refusal: Refusal { number: 0, line: 0 },
-    }
-}
-
-// The lines of one more section, if they are taken.
-fn taken_with(played: bool, counted: bool, bare: usize, t: Tally) -> Tally
-    ensures { λ r. ⌜ r ≡ takenWith played counted bare t ⌝ }
-{
-    if played {
-        return Tally {
-            lines: 0,
-            sum: 0,
-            counted: counted || t.counted,
-            bare: first_line(bare, t.bare),
-        };
-    }
-    Tally {
-        lines: 0,
-        sum: 0,
-        counted,
-        bare,
-    }
-}
-
-// "Take the lyric lines of all sections whose pattern isn't empty".
-pub fn stage_six(s: &[u8], words: &[u32], first: Place) -> Counted
-    requires { ⌜ Begins (now s) first × Told (now s) (now words) ⌝ }
-    ensures refusal { λ r. ⌜ r .refusal ≡ refusalOf (earliest (countFaults (songOf (now (s .entry))))) ⌝ }
-    ensures counted { λ r. ⌜ r .counted ≡ hasCounts (songOf (now (s .entry))) ⌝ }
-{
-    let mut place = first;
-    let mut t = Tally {
-        lines: 0,
-        sum: 0,
-        counted: false,
-        bare: 0,
-    };
-    while place.at < s.len() {
-        let x = pass(s, place);
-        let section = x.section;
-        let played = is_played(s, section.pattern, words);
-        t = taken_with(played, t.counted, t.bare, tally_lyrics(s, section.lyrics));
-        place = x.next;
-    }
-    count_fault(t.counted, t.bare)
+    Refusal { number: 0, line: 0 }
 }

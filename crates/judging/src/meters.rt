@@ -5,7 +5,7 @@ use outlines::sizes_fit;
 use sections::Modifiers;
 use text::Refusal;
 ghost use mathlib.Core.Path.{_≡_};
-ghost use Rattle.judging.specs.Meters.{meterOf, textFault, soonerOf, meterFault};
+ghost use Rattle.judging.specs.Meters.{meterOf, textFault, soonerOf, firstGiven, meterFault};
 
 // "N is the section's time, else the song's"; "the default is 4/4".
 pub fn meter_of(own: usize, song: usize) -> usize
@@ -47,6 +47,13 @@ pub fn sooner(a: Refusal, b: Refusal) -> Refusal
         return a;
     }
     if b.number < a.number { b } else { a }
+}
+
+// The refusal of the first of two stages, else that of the second.
+pub fn first_given(a: Refusal, b: Refusal) -> Refusal
+    ensures { λ r. ⌜ r ≡ firstGiven a b ⌝ }
+{
+    if a.number == 0 { b } else { a }
 }
 
 // A section's pattern names the header, its lead-in and tail their own lines.

@@ -31,7 +31,7 @@ later-stages-requires c κs =
     let keys = song-keys s (ends .result) (found .result) (ends .ensures)
     (subst (λ (run : Run). KeysAre (linesOf s run) (found .result))
     (c .before .before .before .before .before .before .lines-before .ensures) (found .ensures)) in
-    (c .before .before .before .load .ensures .0, keys .time, keys .time-fits)
+    (c .before .before .before .load .ensures .0, keys .time)
 
 returns : tie.Need-returns
 returns c =

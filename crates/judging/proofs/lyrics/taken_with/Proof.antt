@@ -9,15 +9,15 @@ use Rattle.judging.proofs.lyrics.taken_with.Tie as tie
 
 returns : tie.Need-returns
 unfolding takenWith if_then_else_
-returns c =
-    let a = c .before .before .before .args in
-    let one : c .before .if2 .t7 ≡ a .counted || a .t .counted = ⊎-elim (λ w. rw (w .0 .taken) (w .1 ∙ w .0 .taken))
-    (λ w. rw (w .0 .left) (w .1)) (c .before .if2 .came) in
-    rw (c .before .before .if1 .taken, c .first-line .ensures, one)
+returns c = rw (c .if1 .taken)
 
 returns-2 : tie.Need-returns-2
 unfolding takenWith if_then_else_
-returns-2 c = rw (c .if1 .left)
+returns-2 c =
+    let a = c .before .before .before .args in
+    let one : c .before .if2 .t6 ≡ a .y .counted || a .t .counted = ⊎-elim (λ w. rw (w .0 .taken) (w .1 ∙ w .0 .taken))
+    (λ w. rw (w .0 .left) (w .1)) (c .before .if2 .came) in
+    rw (c .before .before .if1 .left, c .first-line .ensures, one)
 
 pub taken-with-spec : {M : Type 1} → statement M
-taken-with-spec = tie.close (tie.spec (λ c κs. search needs) returns returns-2)
+taken-with-spec = tie.close (tie.spec returns (λ c κs. search needs) returns-2)

@@ -6,25 +6,11 @@ use Rattle.judging.proofs.sums.sum_differs.Tie as tie
 
 returns : tie.Need-returns
 unfolding sumDiffers
-returns c = rw (not-true (c .before .args .counted) (c .if1 .taken))
+returns c = rw (← (c .before .has-lines .ensures), not-true (c .before .has-lines .result) (c .if1 .taken))
 
 returns-2 : tie.Need-returns-2
 unfolding sumDiffers
-returns-2 c =
-    rw (
-      ← (c .before .has-lines .ensures),
-      not-true (c .before .has-lines .result) (c .if2 .taken),
-      not-false (c .before .before .before .args .counted) (c .before .before .if1 .left),
-    )
-
-returns-3 : tie.Need-returns-3
-unfolding sumDiffers
-returns-3 c =
-    rw (
-      ← (c .before .before .has-lines .ensures),
-      not-false (c .before .before .has-lines .result) (c .before .if2 .left),
-      not-false (c .before .before .before .before .args .counted) (c .before .before .before .if1 .left),
-    )
+returns-2 c = rw (← (c .before .before .has-lines .ensures), not-false (c .before .before .has-lines .result) (c .before .if1 .left))
 
 pub sum-differs-spec : {M : Type 1} → statement M
-sum-differs-spec = tie.close (tie.spec returns (λ c κs. search needs) returns-2 returns-3)
+sum-differs-spec = tie.close (tie.spec (λ c κs. search needs) returns returns-2)

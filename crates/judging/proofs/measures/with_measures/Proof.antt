@@ -1,0 +1,11 @@
+use Rattle.judging.specs.Measures.{withMeasures}
+use borrow.Author.Needs.{needs}
+use Rattle.judging.proofs.measures.with_measures.Statement.{statement}
+use Rattle.judging.proofs.measures.with_measures.Tie as tie
+
+pub with-measures-spec : {M : Type 1} → statement M
+unfolding withMeasures
+with-measures-spec =
+    tie.close
+    (tie.spec (λ c κs. search needs) (λ c κs. search needs) (λ c κs. search needs)
+    (λ c. rw (c .with-lengths .ensures, c .before .sooner .ensures, c .before .before .meter-fault .ensures)))

@@ -1,0 +1,9 @@
+use borrow.Author.Tests.{eq-eqb, ne-eqb}
+use Rattle.songcode.specs.Lists.{if_then_else_}
+use Rattle.judging.specs.Meters.{firstGiven}
+use Rattle.judging.proofs.meters.first_given.Statement.{statement}
+use Rattle.judging.proofs.meters.first_given.Tie as tie
+
+pub first-given-spec : {M : Type 1} → statement M
+unfolding firstGiven if_then_else_
+first-given-spec = tie.close (tie.spec (λ c. rw (eq-eqb _ 0 (c .if1 .taken))) (λ c. rw (ne-eqb _ 0 (c .if1 .left))))
