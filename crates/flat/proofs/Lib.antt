@@ -4,6 +4,7 @@ pub mod BlockLaws
 pub mod LineLaws
 pub mod MetadataLaws
 pub mod SilentLaws
+pub mod RowLaws
 pub mod AnswerLaws
 pub mod SectionLaws
 pub mod SongLaws

@@ -18,15 +18,12 @@ use Rattle.packing.specs.declared.fields.MeasureFields.{MeasureFields}
 use Rattle.packing.specs.Fields.{HoldsMeasure}
 use Rattle.player.specs.declared.playing.Counts.{Counts}
 use Rattle.player.specs.Windows.{window, flat, heads}
-use Rattle.player.specs.Arrangements.{Plays}
+use Rattle.player.specs.declared.playing.Arrangement.{Arrangement}
+use Rattle.player.specs.Arrangements.{arrangedRow, PlaysWithin, Plays}
 use Rattle.player.proofs.ShortLaws.{Short, total-short, short-row}
 use Rattle.player.proofs.WindowLaws.{length-flat, length-heads, total-window}
 use Rattle.player.proofs.PartLaws.{PartOf, part-of, filled-window, filled-section, short-window, short-section, part-goes-on, heads-at, beats-at}
 use Rattle.player.proofs.SectionLaws.{section-beats}
-use Rattle.sections.specs.declared.values.Modifiers.{Modifiers}
-use Rattle.laying.specs.declared.texts.Texts.{Texts}
-use Rattle.judging.specs.Lengths.{cutOrNone}
-use Rattle.judging.specs.Sums.{rowOfTexts, TextsWithin}
 use Rattle.flat.specs.Sheets.{Sheet, puts}
 use Rattle.flat.specs.Measures.{beatsIn, measureLine, measureLines, patternLines, Lent}
 use Rattle.flat.proofs.SheetLaws.{puts-append, puts-full}
@@ -234,22 +231,19 @@ module _ (s : List ℕ) (n : ℕ) (row : List (List ℕ)) (filled : Filled row) 
           )
 
 -- What is known of the row of a section that plays within the tables.
-module _ (ws : List ℕ) (n : ℕ) (t : Texts) (m : Modifiers) (h : TextsWithin ws n t m 0) where
-  pub texts-filled : Filled (rowOfTexts ws n t m)
-  unfolding rowOfTexts
-  texts-filled = filled-section _ _ (m .repeat) _ _ _
+module _ (ws : List ℕ) (x : Arrangement) (h : PlaysWithin ws x 0) where
+  pub arranged-filled : Filled (arrangedRow ws x)
+  arranged-filled = filled-section _ _ (x .repeat) _ _ _
 
-  pub texts-short : Short (rowOfTexts ws n t m)
-  unfolding rowOfTexts
-  texts-short =
-      let f = short-row n ws (h .countable .meter) in
-      short-section _ _ (m .repeat) _ _ _ (f (t .lead .at)) (f (t .pattern .at)) (f (t .tail .at))
+  pub arranged-short : Short (arrangedRow ws x)
+  arranged-short =
+      let f = short-row (x .n) ws (h .countable .meter) in
+      short-section _ _ (x .repeat) _ _ _ (f (x .lead)) (f (x .pattern)) (f (x .tail))
 
-  pub texts-total : total (rowOfTexts ws n t m) ≤ 2097120
-  unfolding rowOfTexts
-  texts-total =
-      let f = short-row n ws (h .countable .meter) in
-      let b = section-beats (cutOrNone (m .front)) (cutOrNone (m .back)) (m .repeat) _ _ _ (f (t .lead .at)) (f (t .pattern .at)) (f (t .tail .at)) in
+  pub arranged-total : total (arrangedRow ws x) ≤ 2097120
+  arranged-total =
+      let f = short-row (x .n) ws (h .countable .meter) in
+      let b = section-beats (x .front) (x .back) (x .repeat) _ _ _ (f (x .lead)) (f (x .pattern)) (f (x .tail)) in
       omega (arith, h .room)
 
 -- Tables as long as lent ones.

@@ -2,10 +2,10 @@
 use Prim.Native.Nat.{ℕ, _+_}
 use mathlib.Core.Path.{_≡_, refl}
 use mathlib.Core.List.{List, [], _∷_, _++_}
-use mathlib.Core.Bool.{Bool, true, false, not, _&&_}
+use mathlib.Core.Bool.{true, false, not, _&&_}
 use mathlib.Core.Option.{Option, none, some}
 use lib.Dec.{leb, ltb}
-use Rattle.songcode.specs.Lists.{isEmpty, isSome, any}
+use Rattle.songcode.specs.Lists.{isEmpty, isSome}
 use Rattle.songcode.specs.Complaints.{complainIf}
 use Rattle.songcode.specs.Song.{Items, Section, Song, Modifiers, unmodified}
 use Rattle.songcode.specs.answer.References.{patternItems}
@@ -54,13 +54,3 @@ silent-all s sofar (x ∷ xs) e =
     let cuts = cutFaults (timeOf s x) (x .header) (x .modifiers) (patternItems (s .definitions) (x .pattern)) in
     let split = append-is-nil (over ++ cuts) (lengthFaults s (sofar + sectionCount s x) xs) e in
     (plays-nothing s x (append-is-nil over cuts (split .0) .1), silent-all s (sofar + sectionCount s x) xs (split .1))
-
--- The sections from one on: it plays nothing, or those behind it say.
-pub nothing-here : (s : Song) (x : Section) (xs : List Section) (r : Bool) → playsNothing s x ≡ not r → not r ≡ true → any (playsNothing s) (x ∷ xs) ≡ true
-unfolding any
-nothing-here s x xs r e z = rw (e, z)
-
-pub nothing-behind : (s : Song) (x : Section) (xs : List Section) (r : Bool) → playsNothing s x ≡ not r → not r ≡ false
-    → any (playsNothing s) (x ∷ xs) ≡ any (playsNothing s) xs
-unfolding any
-nothing-behind s x xs r e z = rw (e, z)

@@ -27,11 +27,7 @@ use Rattle.songcode.proofs.ChordsPlayed.{OfRow}
 use Rattle.songcode.proofs.SpeltChords.{Known}
 use Rattle.songcode.proofs.CopyReady.{Good, KnownParts, known}
 use Rattle.songcode.proofs.CopiedExactly.{copied-exactly}
-use Rattle.sections.specs.declared.blocks.Place.{Place}
-use Rattle.laying.specs.Scores.{Ready}
-use Rattle.judging.specs.declared.charts.Chart.{Chart}
-use Rattle.judging.specs.Charts.{Clear, Writable}
-use Rattle.judging.proofs.AlongLaws.{Along}
+use Rattle.judging.specs.Charts.{Clear}
 use Rattle.judging.proofs.StageLaws.{input-small}
 use Rattle.flat.specs.Sheets.{Sheet, puts}
 use Rattle.flat.specs.Taken.{lineBytes}
@@ -64,26 +60,6 @@ heard-all bs input texts clear =
     silent-verdict (songStages bs) (input, (texts, (clear .references, (clear .meters, (clear .lengths, (clear .counts, (clear .sums, tt))))))) in
     let e : copyOf bs ≡ some (flatCopy bs) = rw v refl in
     heard-song bs (input-small bs input) (copied-exactly bs (flatCopy bs) .0 e)
-
--- Counts are not needed along the sections.
-pub along-alone : {s ws : List ℕ} {mark : ℕ} {p : Place} {m b : ℕ} → Along s ws mark p m b → Along s ws mark p 0 0
-along-alone a =
-    record {
-      onward = a .onward;
-      ready = a .ready;
-      filled = a .filled;
-      sofar = a .sofar;
-      few = a .few;
-      measures = omega arith;
-      beats = omega arith;
-      meters = a .meters;
-      lengths = a .lengths;
-    }
-
--- The words of a section laid behind the definitions leave the song as it was.
-pub writable-again : {s ws vs : List ℕ} {r : Chart} → Writable s ws r → Ready s vs (r .mark) → Writable s vs r
-writable-again w ready =
-    record { ends = w .ends; keys = w .keys; ready = ready; begins = w .begins; filled = w .filled; clear = w .clear; holds = w .holds }
 
 -- Every block of a copy has a line.
 keys-lined : (ls : List (List ℕ)) → Lined (keyBlock ls)

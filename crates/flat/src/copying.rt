@@ -2,34 +2,36 @@
 use super::answers::Copied;
 use super::answers::refused;
 use super::songs::put_copy;
-use judging::Chart;
 use judging::first_stages;
 use judging::judge;
 use score::LONG_ROW;
 use score::SHORT_ROW;
+use score::Stretch;
+use sections::Place;
 ghost use mathlib.Core.Path.{_≡_};
 ghost use mathlib.Core.List.{[]};
-ghost use Prim.Native.Nat.{_<_};
+ghost use Prim.Native.Nat.{_+_, _≤_};
 ghost use lib.ListN.{length};
 ghost use Rattle.songcode.specs.answer.SongText.{textFaults};
 ghost use Rattle.songcode.specs.answer.Answer.{inputFaults, blocksOf};
-ghost use Rattle.judging.specs.Charts.{Writable};
+ghost use Rattle.laying.specs.Scores.{Begins};
+ghost use Rattle.judging.specs.Charts.{Laid};
 ghost use Rattle.flat.specs.Answers.{Flattened};
 
 // A song that nothing is wrong with: its copy is counted before the lent buffer is touched, and written where it has room.
-fn copy_chart(text: &[u8], chart: Chart, words: &mut [u32], copy: &mut [u8]) -> Copied
-    requires { ⌜ (inputFaults (now text) ≡ []) × (textFaults (blocksOf (now text)) ≡ []) × Writable (now text) (now words) chart ⌝ }
+fn copy_chart(text: &[u8], first: Place, words: &[u32], rows: Stretch, copy: &mut [u8]) -> Copied
+    requires { ⌜ (inputFaults (now text) ≡ []) × (textFaults (blocksOf (now text)) ≡ []) × Begins (now text) first × Laid (now text) (now words) rows ⌝ }
     ensures { λ r. ⌜ Flattened (now (text .entry)) (now (copy .entry)) r (now (copy .exit)) ⌝ }
 {
-    let mut first = [0u8; 1];
-    let length = put_copy(text, chart, words, &mut first);
+    let mut none = [0u8; 1];
+    let length = put_copy(text, first, words, rows, &mut none);
     if 65536 < length {
         return refused(20, 0);
     }
     if copy.len() < length {
         return refused(20, 0);
     }
-    put_copy(text, chart, words, copy);
+    put_copy(text, first, words, rows, copy);
     Copied {
         refusal: 0,
         line: 0,
@@ -39,7 +41,7 @@ fn copy_chart(text: &[u8], chart: Chart, words: &mut [u32], copy: &mut [u8]) -> 
 
 // A chart that stages 1 and 2 have passed; `words` is the row that its texts are laid into.
 fn copy_song(text: &[u8], words: &mut [u32], copy: &mut [u8]) -> Copied
-    requires { ⌜ (inputFaults (now text) ≡ []) × (textFaults (blocksOf (now text)) ≡ []) × (length (now text) < length (now words)) ⌝ }
+    requires { ⌜ (inputFaults (now text) ≡ []) × (textFaults (blocksOf (now text)) ≡ []) × (length (now text) + 16 ≤ length (now words)) ⌝ }
     ensures { λ r. ⌜ Flattened (now (text .entry)) (now (copy .entry)) r (now (copy .exit)) ⌝ }
 {
     let chart = judge(text, words);
@@ -48,12 +50,12 @@ fn copy_song(text: &[u8], words: &mut [u32], copy: &mut [u8]) -> Copied
     if late.number != 0 {
         return refused(late.number, late.line);
     }
-    copy_chart(text, chart, words, copy)
+    copy_chart(text, chart.first, words, chart.rows, copy)
 }
 
 // The same for a chart of at most 2,048 bytes, as nearly all are: a small buffer is soon cleared.
 fn copy_short(text: &[u8], copy: &mut [u8]) -> Copied
-    requires { ⌜ (inputFaults (now text) ≡ []) × (textFaults (blocksOf (now text)) ≡ []) × (length (now text) < 2064) ⌝ }
+    requires { ⌜ (inputFaults (now text) ≡ []) × (textFaults (blocksOf (now text)) ≡ []) × (length (now text) + 16 ≤ 2064) ⌝ }
     ensures { λ r. ⌜ Flattened (now (text .entry)) (now (copy .entry)) r (now (copy .exit)) ⌝ }
 {
     let mut words = [0u32; SHORT_ROW];
@@ -62,7 +64,7 @@ fn copy_short(text: &[u8], copy: &mut [u8]) -> Copied
 
 // The same for any chart that stage 1 has passed.
 fn copy_long(text: &[u8], copy: &mut [u8]) -> Copied
-    requires { ⌜ (inputFaults (now text) ≡ []) × (textFaults (blocksOf (now text)) ≡ []) × (length (now text) < 65552) ⌝ }
+    requires { ⌜ (inputFaults (now text) ≡ []) × (textFaults (blocksOf (now text)) ≡ []) × (length (now text) + 16 ≤ 65552) ⌝ }
     ensures { λ r. ⌜ Flattened (now (text .entry)) (now (copy .entry)) r (now (copy .exit)) ⌝ }
 {
     let mut words = [0u32; LONG_ROW];

@@ -3,7 +3,6 @@ mod answers;
 mod copying;
 mod lines;
 mod measures;
-mod parts;
 mod patterns;
 mod sheets;
 mod songs;

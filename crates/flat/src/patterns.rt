@@ -1,11 +1,10 @@
 // The measures of a section as it plays them, a part at a time.
 use super::measures::put_measures;
-use super::parts::part_of;
 use super::sheets::put_part;
-use laying::Texts;
 use packing::measure_of;
-use sections::Modifiers;
-ghost use Rattle.judging.specs.Sums.{rowOfTexts, TextsWithin};
+use player::Arrangement;
+use player::play_part;
+ghost use Rattle.player.specs.Arrangements.{arrangedRow, PlaysWithin};
 ghost use Rattle.flat.specs.Sheets.{Adds};
 ghost use Rattle.flat.specs.Measures.{patternLines, Lent};
 
@@ -13,22 +12,21 @@ ghost use Rattle.flat.specs.Measures.{patternLines, Lent};
 pub fn put_pattern(
     s: &[u8],
     words: &[u32],
-    n: usize,
-    t: Texts,
-    m: Modifiers,
+    x: Arrangement,
     measures: &mut [u32],
     beats: &mut [u32],
     copy: &mut [u8],
     at: usize,
 ) -> usize
-    requires { ⌜ TextsWithin (now words) n t m 0 × Lent (now measures) (now beats) ⌝ }
-    ensures copy { λ r. ⌜ Adds (patternLines (now (s .entry)) n (rowOfTexts (now (words .entry)) n t m)) (now (copy .entry)) at (now (copy .exit)) r ⌝ }
+    requires { ⌜ PlaysWithin (now words) x 0 × Lent (now measures) (now beats) ⌝ }
+    ensures copy { λ r. ⌜ Adds (patternLines (now (s .entry)) (x .n) (arrangedRow (now (words .entry)) x)) (now (copy .entry)) at (now (copy .exit)) r ⌝ }
     ensures lent { λ r. ⌜ Lent (now (measures .exit)) (now (beats .exit)) ⌝ }
 {
+    let n = x.n;
     let mut from = 0;
     let mut out = at;
     loop {
-        let c = part_of(words, n, t, m, from, measures, beats);
+        let c = play_part(words, x, from, measures, beats);
         if c.measures == 0 {
             return put_part(b"$1\n", 0, 3, copy, out);
         }

@@ -6,11 +6,11 @@ use super::patterns::put_pattern;
 use super::sheets::put;
 use super::sheets::put_line;
 use super::sheets::put_part;
-use judging::Chart;
-use judging::meter_of;
-use laying::Opened;
-use laying::is_played;
-use laying::open_section;
+use laying::is_empty;
+use player::Arrangement;
+use player::arrangement_in;
+use score::Stretch;
+use score::section_at;
 use sections::Place;
 use sections::Test;
 use sections::kind_at;
@@ -26,14 +26,13 @@ ghost use lib.ListN.{length};
 ghost use Rattle.songcode.specs.Lists.{any};
 ghost use Rattle.songcode.specs.answer.SongText.{textFaults, metadataLines};
 ghost use Rattle.songcode.specs.answer.Playing.{timeOf, played};
-ghost use Rattle.songcode.specs.answer.Meter.{lengthFaults};
 ghost use Rattle.songcode.specs.answer.Flat.{emptyBlock, playsNothing, flatCopy};
 ghost use Rattle.songcode.specs.answer.Answer.{inputFaults, blocksOf, songOf};
 ghost use Rattle.player.specs.Texts.{rowWords};
+ghost use Rattle.player.specs.Arrangements.{arrangedRow, PlaysWithin};
 ghost use Rattle.sections.specs.Onward.{Onward, sectionAt};
-ghost use Rattle.laying.specs.Scores.{Told, Begins};
-ghost use Rattle.judging.specs.Sums.{rowOfTexts, TextsWithin};
-ghost use Rattle.judging.specs.Charts.{Writable};
+ghost use Rattle.laying.specs.Scores.{Begins};
+ghost use Rattle.judging.specs.Charts.{Laid};
 ghost use Rattle.flat.specs.Sheets.{Adds};
 ghost use Rattle.flat.specs.Measures.{Heard, Lent};
 ghost use Rattle.flat.specs.Taken.{lineBytes};
@@ -75,18 +74,18 @@ fn put_metadata(s: &[u8], copy: &mut [u8]) -> usize
 }
 
 // Whether a section plays nothing.
-fn has_empty(s: &[u8], first: Place, words: &[u32]) -> bool
-    requires { ⌜ Begins (now s) first × Told (now s) (now words) × (lengthFaults (songOf (now s)) 0 (songOf (now s) .sections) ≡ []) ⌝ }
+fn has_empty(s: &[u8], words: &[u32], rows: Stretch) -> bool
+    requires { ⌜ Laid (now s) (now words) rows ⌝ }
     ensures { λ r. ⌜ r ≡ any (playsNothing (songOf (now (s .entry)))) (songOf (now (s .entry)) .sections) ⌝ }
 {
-    let mut place = first;
-    while place.at < s.len() {
-        let x = pass(s, place);
-        let section = x.section;
-        if !is_played(s, section.pattern, words) {
+    let end = rows.to;
+    let mut row = rows.from;
+    while row < end {
+        let v = section_at(words, row);
+        if is_empty(words, v.pattern) {
             return true;
         }
-        place = x.next;
+        row = v.next;
     }
     false
 }
@@ -107,83 +106,68 @@ fn put_section(
     s: &[u8],
     p: Place,
     words: &[u32],
-    n: usize,
-    x: Opened,
+    x: Arrangement,
     measures: &mut [u32],
     beats: &mut [u32],
     copy: &mut [u8],
     at: usize,
 ) -> usize
     requires place { ⌜ Onward (now s) p × (p .at < length (now s)) ⌝ }
-    requires meter { ⌜ n ≡ timeOf (songOf (now s)) (sectionAt (now s) p) ⌝ }
-    requires plays { ⌜ TextsWithin (now words) n (x .texts) (x .section .modifiers) 0 ⌝ }
-    requires row { ⌜ rowOfTexts (now words) n (x .texts) (x .section .modifiers) ≡ rowWords (played (songOf (now s)) (sectionAt (now s) p)) ⌝ }
+    requires meter { ⌜ x .n ≡ timeOf (songOf (now s)) (sectionAt (now s) p) ⌝ }
+    requires plays { ⌜ PlaysWithin (now words) x 0 ⌝ }
+    requires row { ⌜ arrangedRow (now words) x ≡ rowWords (played (songOf (now s)) (sectionAt (now s) p)) ⌝ }
     requires heard { ⌜ Heard (now s) (played (songOf (now s)) (sectionAt (now s) p)) ⌝ }
     requires lent { ⌜ Lent (now measures) (now beats) ⌝ }
     ensures copy { λ r. ⌜ Adds (blockBytes at (flatAt (now (s .entry)) p)) (now (copy .entry)) at (now (copy .exit)) r ⌝ }
     ensures lent { λ r. ⌜ Lent (now (measures .exit)) (now (beats .exit)) ⌝ }
 {
-    let section = x.section;
     let header = line_at(s, p.number, p.at);
     let second = p.number + 1;
     let begun = begin_block(copy, at);
     let titled = put_line(s, header.start, header.stop, copy, begun);
     let keyed = put_keys(s, second, header.next, copy, titled);
-    let played = put_pattern(
-        s,
-        words,
-        n,
-        x.texts,
-        section.modifiers,
-        measures,
-        beats,
-        copy,
-        keyed,
-    );
+    let played = put_pattern(s, words, x, measures, beats, copy, keyed);
     put_ending(s, second, header.next, copy, played)
 }
 
-// The blocks of all sections, one behind the other.
+// The blocks of all sections, one behind the other: what each plays from the row, its other lines from the text.
 fn put_sections(
     s: &[u8],
-    chart: Chart,
-    words: &mut [u32],
+    first: Place,
+    words: &[u32],
+    rows: Stretch,
     measures: &mut [u32],
     beats: &mut [u32],
     copy: &mut [u8],
     at: usize,
 ) -> usize
-    requires chart { ⌜ (inputFaults (now s) ≡ []) × (textFaults (blocksOf (now s)) ≡ []) × Writable (now s) (now words) chart ⌝ }
+    requires song { ⌜ (inputFaults (now s) ≡ []) × (textFaults (blocksOf (now s)) ≡ []) × Begins (now s) first × Laid (now s) (now words) rows ⌝ }
     requires lent { ⌜ Lent (now measures) (now beats) ⌝ }
-    ensures copy { λ r. ⌜ AddsBlocks (flatFrom (now (s .entry)) (chart .first)) (now (copy .entry)) at (now (copy .exit)) r ⌝ }
-    ensures words { λ r. ⌜ Writable (now (s .entry)) (now (words .exit)) chart ⌝ }
-    ensures lent { λ r. ⌜ Lent (now (measures .exit)) (now (beats .exit)) ⌝ }
+    ensures { λ r. ⌜ AddsBlocks (flatFrom (now (s .entry)) first) (now (copy .entry)) at (now (copy .exit)) r ⌝ }
 {
-    let song = chart.song;
-    let mark = chart.mark;
-    let mut place = chart.first;
+    let mut place = first;
+    let mut row = rows.from;
     let mut out = at;
     while place.at < s.len() {
-        let x = open_section(s, place, mark, words);
-        let section = x.section;
-        let keys = section.keys;
-        let n = meter_of(keys.time, song.time);
-        out = put_section(s, place, words, n, x, measures, beats, copy, out);
+        let x = pass(s, place);
+        let v = section_at(words, row);
+        let y = arrangement_in(words, v);
+        out = put_section(s, place, words, y, measures, beats, copy, out);
         place = x.next;
+        row = v.next;
     }
     out
 }
 
 // The copy of a song that nothing is wrong with, and its length; 65,537 where it has more than 65,536 bytes.
-pub fn put_copy(s: &[u8], chart: Chart, words: &mut [u32], copy: &mut [u8]) -> usize
-    requires { ⌜ (inputFaults (now s) ≡ []) × (textFaults (blocksOf (now s)) ≡ []) × Writable (now s) (now words) chart ⌝ }
-    ensures copy { λ r. ⌜ Adds (flatCopy (now (s .entry))) (now (copy .entry)) 0 (now (copy .exit)) r ⌝ }
-    ensures words { λ r. ⌜ Writable (now (s .entry)) (now (words .exit)) chart ⌝ }
+pub fn put_copy(s: &[u8], first: Place, words: &[u32], rows: Stretch, copy: &mut [u8]) -> usize
+    requires { ⌜ (inputFaults (now s) ≡ []) × (textFaults (blocksOf (now s)) ≡ []) × Begins (now s) first × Laid (now s) (now words) rows ⌝ }
+    ensures { λ r. ⌜ Adds (flatCopy (now (s .entry))) (now (copy .entry)) 0 (now (copy .exit)) r ⌝ }
 {
     let mut measures = [0u32; 4096];
     let mut beats = [0u32; 4096];
     let keyed = put_metadata(s, copy);
-    let empty = has_empty(s, chart.first, words);
+    let empty = has_empty(s, words, rows);
     let begun = put_empty(empty, copy, keyed);
-    put_sections(s, chart, words, &mut measures, &mut beats, copy, begun)
+    put_sections(s, first, words, rows, &mut measures, &mut beats, copy, begun)
 }

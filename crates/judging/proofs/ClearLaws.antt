@@ -29,7 +29,8 @@ use Rattle.sections.specs.Slots.{Setting, settingAmong}
 use Rattle.sections.specs.Values.{timeSaid, bpmSaid, KeysAre}
 use Rattle.sections.proofs.SaidLaws.{key-among}
 use Rattle.laying.specs.Metadata.{linesBefore, MetadataEnds}
-use Rattle.judging.specs.Charts.{Clear, SongKeys}
+use Rattle.laying.specs.Rows.{SongKeys}
+use Rattle.judging.specs.Charts.{Clear}
 use Rattle.laying.proofs.ComplaintLaws.{Numbered, numbered-if, refused-none}
 use Rattle.judging.proofs.ReferenceLaws.{sectionFault, all-numbered}
 use Rattle.judging.proofs.StageLaws.{stage-passed, numbered-meters, numbered-lengths, numbered-counts, numbered-sums}

@@ -31,7 +31,8 @@ use Rattle.player.proofs.SectionMeaning.{kept-none, kept-total, section-words}
 use Rattle.sections.specs.declared.values.Modifiers.{Modifiers}
 use Rattle.laying.specs.declared.texts.Texts.{Texts}
 use Rattle.laying.specs.Scores.{Carries}
-use Rattle.judging.specs.Lengths.{cutOrNone, isCut, hasCut, isModified, cutAway}
+use Rattle.judging.specs.Lengths.{cutOrNone, isModified, cutAway}
+use Rattle.laying.specs.Rows.{readCut, hasCut}
 
 -- A cut as it is read.
 pub cut-said : (o : Option Cut) → cutOrNone (cutIs o) ≡ cutSaid o
@@ -39,8 +40,8 @@ unfolding cutOrNone cutIs cutSaid cutOf
 cut-said none = refl
 cut-said (some c) = refl
 
-no-cut : (o : Option Cut) → isCut (cutIs o) ≡ false → o ≡ none
-unfolding isCut cutIs
+no-cut : (o : Option Cut) → readCut (cutIs o) ≡ false → o ≡ none
+unfolding readCut cutIs
 no-cut none e = refl
 no-cut (some c) e = true-is-not-false refl e
 
@@ -108,9 +109,9 @@ module _ (ws : List ℕ) (n header : ℕ) (ms : song.Modifiers) (m : Modifiers) 
       → cutAway ws n m t ≡ isEmpty (keptMeasures n ms (some r))
   unfolding Carries cutAway keptMeasures cutRow applied hasCut if_then_else_
   row-uncut r w e =
-      let q = none-passes (isCut (m .front)) (isCut (m .back)) e in
-      let f = no-cut (ms .cutStart) (ap isCut (sym front) ∙ q .0) in
-      let b = no-cut (ms .cutEnd) (ap isCut (sym back) ∙ q .1) in
+      let q = none-passes (readCut (m .front)) (readCut (m .back)) e in
+      let f = no-cut (ms .cutStart) (ap readCut (sym front) ∙ q .0) in
+      let b = no-cut (ms .cutEnd) (ap readCut (sym back) ∙ q .1) in
       rw (w .0, q .0, q .1, f, b, w .1 .measures, ← often) (sym (uncut-empty n (m .repeat) r played))
 
   pub cut-away-is : (o : Option Items) → Carries ws (t .pattern) o → 1 ≤ n

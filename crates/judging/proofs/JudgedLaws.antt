@@ -17,10 +17,11 @@ use Rattle.sections.specs.Onward.{sectionsFrom, sectionAt}
 use Rattle.sections.proofs.MeetLaws.{sections-over}
 use Rattle.laying.specs.declared.texts.Opened.{Opened}
 use Rattle.laying.specs.Scores.{Begins, Opens}
-use Rattle.judging.specs.Meters.{meterOf, nothingRefused, soonerOf, meterFault}
+use Rattle.laying.specs.Rows.{meterOf}
+use Rattle.judging.specs.Meters.{nothingRefused, soonerOf, meterFault}
 use Rattle.laying.proofs.ComplaintLaws.{Numbered}
 use Rattle.judging.proofs.SoonerLaws.{sooner-append}
-use Rattle.judging.proofs.MeterLaws.{meter-is, meter-range}
+use Rattle.laying.proofs.MeterLaws.{meter-is, meter-range}
 use Rattle.judging.proofs.FaultLaws.{numbered-section, section-fault}
 
 -- The complaints so far, whose refusal is known, and those of the sections from the place on are all of the stage.

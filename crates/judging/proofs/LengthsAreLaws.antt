@@ -23,7 +23,8 @@ use Rattle.laying.specs.declared.texts.Texts.{Texts}
 use Rattle.laying.specs.declared.texts.Opened.{Opened}
 use Rattle.laying.specs.Scores.{Begins, Opens}
 use Rattle.judging.specs.declared.lengths.Lengths.{Lengths}
-use Rattle.judging.specs.Meters.{meterOf, nothingRefused}
+use Rattle.laying.specs.Rows.{meterOf}
+use Rattle.judging.specs.Meters.{nothingRefused}
 use Rattle.judging.specs.Lengths.{countOfTexts, cutAway, lengthFault, withLengths}
 use Rattle.judging.proofs.OpenedLaws.{Measured, measured-start, measured-end, opened-passes, opened-cut, opened-on}
 

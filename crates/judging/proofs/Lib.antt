@@ -1,7 +1,6 @@
 -- Laws that the proofs of the functions cite, and that callers use.
 pub mod ReferenceLaws
 pub mod StageLaws
-pub mod MeterLaws
 pub mod FaultLaws
 pub mod JudgedLaws
 pub mod CountLaws
@@ -13,8 +12,9 @@ pub mod LengthsAreLaws
 pub mod ClearLaws
 pub mod PlayedLaws
 pub mod LyricLaws
+pub mod ArrangedLaws
 pub mod PlayLaws
-pub mod AlongLaws
+pub mod AheadLaws
 pub mod SumLaws
 pub mod TallyLaws
 pub mod NumberLaws
@@ -22,4 +22,5 @@ pub mod TakenLaws
 pub mod OffLaws
 pub mod SoonerLaws
 pub mod VerdictLaws
+pub mod RowIsLaws
 pub mod WalkLaws

@@ -35,7 +35,8 @@ use Rattle.sections.proofs.SaidLaws.{Tells, modifier-among}
 use Rattle.sections.proofs.TellLaws.{repeat-tells, before-tells, after-tells}
 use Rattle.sections.proofs.SectionLaws.{clean-order}
 use Rattle.laying.proofs.SideLaws.{nothing-there}
-use Rattle.judging.specs.Lengths.{isCut, hasCut, isModified}
+use Rattle.judging.specs.Lengths.{isModified}
+use Rattle.laying.specs.Rows.{readCut, hasCut}
 
 -- A place that is no line says nothing; one that says something is on a line.
 line-there : (s : List ℕ) (r : Said) {x : Side} → bind (settingAt s r) sideSaid ≡ some x → r .line ≡ 0 → ⊥
@@ -46,8 +47,8 @@ no-line : (s : List ℕ) (r : Said) → settingAt s r ≡ none → r .line ≡ 0
 unfolding settingAt if_then_else_
 no-line s r e = by-cases (eqb (r .line) 0) (λ t. eqb-true (r .line) 0 t) (λ t. none-some (rw t at e) refl)
 
-cut-said : {c : CutRead} (o : Option Cut) → c ≡ cutIs o → isCut c ≡ isSome o
-unfolding isCut cutIs isSome
+cut-said : {c : CutRead} (o : Option Cut) → c ≡ cutIs o → readCut c ≡ isSome o
+unfolding readCut cutIs isSome
 cut-said none e = rw e
 cut-said (some c) e = rw e
 

@@ -22,9 +22,9 @@ use Rattle.sections.specs.declared.values.Modifiers.{Modifiers}
 use Rattle.sections.specs.Onward.{sectionsFrom, Onward, sectionAt}
 use Rattle.laying.specs.declared.texts.Opened.{Opened}
 use Rattle.laying.specs.Scores.{Begins, Opens, sideItems}
-use Rattle.judging.specs.Meters.{meterOf}
+use Rattle.laying.specs.Rows.{meterOf}
 use Rattle.judging.specs.Lengths.{countOfTexts, cutAway, Measurable}
-use Rattle.judging.proofs.MeterLaws.{meter-is, meter-range}
+use Rattle.laying.proofs.MeterLaws.{meter-is, meter-range}
 use Rattle.sections.proofs.MeetLaws.{sections-over}
 use Rattle.judging.proofs.CountLaws.{Counted, carried-fits, played-length, section-counted, pattern-within}
 use Rattle.judging.proofs.ModifierLaws.{modified-is}

@@ -1,21 +1,18 @@
 -- The texts of an opened section play what the definitions say of the section, and few enough measures for the tables.
 use Prim.Native.Nat.{ℕ, _+_, _*_, _≤_}
-use mathlib.Core.Path.{_≡_, refl, _∙_}
-use mathlib.Core.List.{List, [], _∷_, _++_}
+use mathlib.Core.Path.{_≡_, _∙_}
+use mathlib.Core.List.{List, [], _++_}
 use mathlib.Core.Option.{Option, none, some, bind}
 use native.Mathlib.Omega.{arith}
 use lib.ListN.{length}
 use Rattle.songcode.specs.Lists.{times}
 use Rattle.songcode.specs.Song.{Items, Section, Song, Side}
 use Rattle.songcode.specs.answer.References.{patternItems}
-use Rattle.songcode.specs.Song as song
-use Rattle.songcode.specs.answer.Playing.{Beat, repeats, cutRow, measuresOf}
-use Rattle.songcode.specs.answer.Playing.{sideMeasures, keptMeasures, timeOf, played}
+use Rattle.songcode.specs.answer.Playing.{repeats}
+use Rattle.songcode.specs.answer.Playing.{sideMeasures, timeOf, played}
 use Rattle.songcode.specs.description.Performance.{total}
-use Rattle.songcode.specs.answer.Meter.{rowFaults, playedFaults, sideFaults, sectionMeter, measuresIn, sideCount, sectionCount}
-use Rattle.songcode.proofs.ListLaws.{append-is-nil, times-length}
-use Rattle.songcode.specs.EitherOrder.{Filled}
-use Rattle.songcode.proofs.RowLaws.{filled-items}
+use Rattle.songcode.specs.answer.Meter.{playedFaults, sideFaults, sectionMeter, measuresIn, sideCount, sectionCount}
+use Rattle.songcode.proofs.ListLaws.{append-is-nil}
 use Rattle.songcode.proofs.SectionPlays.{meter-some, pass-of}
 use Rattle.settings.specs.Cuts.{cutIs, CutFits}
 use Rattle.player.specs.Texts.{rowWords}
@@ -29,11 +26,10 @@ use Rattle.laying.specs.declared.texts.Texts.{Texts}
 use Rattle.laying.specs.Scores.{Carries, sideItems, TextsAre}
 use Rattle.judging.specs.Lengths.{cutOrNone}
 use Rattle.judging.specs.Sums.{rowOfTexts, TextsWithin}
+use Rattle.judging.proofs.ArrangedLaws.{pass-filled, side-filled, kept-pass}
 use Rattle.judging.proofs.CountLaws.{played-length}
 use Rattle.judging.proofs.CutLaws.{cut-said, cut-fits}
-use Rattle.judging.proofs.OpenedLaws.{row-fits}
 use Rattle.songcode.proofs.MeterAgree.{length-side}
-use Rattle.judging.proofs.PlayedLaws.{cut-short}
 
 -- The row of a text in the buffer.
 module _ (ws : List ℕ) (n : ℕ) where
@@ -46,34 +42,6 @@ module _ (ws : List ℕ) (n : ℕ) where
   unfolding Carries sideItems bind sideMeasures rowWords
   carried-side t none h = h .1 n
   carried-side t (some x) h = h .2 n
-
--- Every measure of a text that stage 4 passes has a beat.
-row-filled : (n l : ℕ) (r : Items) → 1 ≤ n → rowFaults n l r ≡ [] → Filled (measuresOf n none r)
-row-filled n l r h e = filled-items n none r h (row-fits n l r e)
-
-pass-filled : (n l : ℕ) (o : Option Items) → 1 ≤ n → playedFaults n l o ≡ [] → Filled (pass-of n o)
-unfolding playedFaults pass-of Filled
-pass-filled n l none h e = tt
-pass-filled n l (some r) h e = row-filled n l r h e
-
-side-filled : (n : ℕ) (o : Option Side) → 1 ≤ n → sideFaults n o ≡ [] → Filled (sideMeasures n o)
-unfolding sideFaults sideMeasures Filled
-side-filled n none h e = tt
-side-filled n (some x) h e = row-filled n (x .line) (x .items) h e
-
--- An empty pattern is cut to nothing.
-no-length : {A : Type 0} (xs : List A) → length xs ≤ 0 → xs ≡ []
-no-length [] h = refl
-no-length (x ∷ xs) h = absurd (omega arith)
-
-kept-pass : (n : ℕ) (ms : song.Modifiers) (o : Option Items) → cutRow ms (times (repeats ms) (pass-of n o)) ≡ keptMeasures n ms o
-unfolding pass-of keptMeasures
-kept-pass n ms none =
-    let row : List (List Beat) = [] in
-    let a = cut-short ms (times (repeats ms) row) in
-    let b : length (times (repeats ms) row) ≡ 0 = times-length (repeats ms) row ∙ omega arith in
-    no-length (cutRow ms (times (repeats ms) row)) (omega arith)
-kept-pass n ms (some r) = refl
 
 -- A section whose texts stand in the buffer.
 module _ (s : Song) (x : Section) (ws : List ℕ) (t : Texts) (m : Modifiers) (h : TextsAre (s .definitions) x ws t)

@@ -32,7 +32,8 @@ use Rattle.laying.specs.Scores.{Begins, Opens}
 use Rattle.laying.proofs.ComplaintLaws.{refused-none}
 use Rattle.judging.specs.declared.measures.Metered.{Metered}
 use Rattle.judging.specs.declared.singing.Sung.{Sung}
-use Rattle.judging.specs.Meters.{meterOf, firstGiven, meterFault}
+use Rattle.laying.specs.Rows.{meterOf}
+use Rattle.judging.specs.Meters.{firstGiven, meterFault}
 use Rattle.judging.specs.Measures.{withMeasures, meteredRefusal}
 use Rattle.judging.specs.Lyrics.{firstLine, bareLine}
 use Rattle.judging.specs.Sums.{rowOfTexts, countsOf, withSection, totalsOf, Holds}
@@ -41,7 +42,7 @@ use Rattle.judging.specs.Walking.{nothingMetered, nothingSung, walkRefus
 use Rattle.judging.specs.Stages.{lyricFaults, playingFaults, laterFaults}
 use Rattle.judging.proofs.FaultLaws.{numbered-section}
 use Rattle.judging.proofs.SoonerLaws.{sooner-none}
-use Rattle.judging.proofs.MeterLaws.{meter-is, meter-range}
+use Rattle.laying.proofs.MeterLaws.{meter-is, meter-range}
 use Rattle.judging.proofs.JudgedLaws.{Judged, judged-start, judged-next, judged-end, opened-fault}
 use Rattle.judging.proofs.OpenedLaws.{all-counted}
 use Rattle.judging.proofs.LengthsAreLaws.{LengthsAre, lengths-start, lengths-small, lengths-added, lengths-next, lengths-end}

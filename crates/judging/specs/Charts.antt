@@ -1,20 +1,22 @@
 -- A chart that stages 3 to 7 have judged.
-use mathlib.Core.Option.{Option·getD}
 use Prim.Native.Nat.{ℕ, _≤_}
 use mathlib.Core.Path.{_≡_}
 use mathlib.Core.List.{List, []}
 use lib.ListN.{length}
 use Rattle.songcode.specs.Complaints.{verdict}
 use Rattle.songcode.specs.Song.{Song}
-use Rattle.songcode.specs.answer.Playing.{timeAmong, bpmAmong}
 use Rattle.songcode.specs.answer.References.{referenceFaults}
 use Rattle.songcode.specs.answer.Meter.{meterFaults, lengthFaults}
 use Rattle.songcode.specs.answer.Lyrics.{countFaults, sumFaults}
 use Rattle.songcode.specs.answer.Tables.{Tables, tables}
 use Rattle.songcode.specs.answer.Answer.{songOf}
 use Rattle.text.specs.Refusals.{refusalOf}
-use Rattle.sections.specs.declared.values.Keys.{Keys}
+use Rattle.score.specs.declared.stretches.Stretch.{Stretch}
+use Rattle.score.specs.Fitting.{SectionsFit}
+use Rattle.score.specs.Seen.{RowFrom}
 use Rattle.judging.specs.declared.charts.Chart.{Chart}
+use Rattle.judging.specs.declared.walking.Outcome.{Outcome}
+use Rattle.laying.specs.declared.definitions.Loaded.{Loaded}
 use Rattle.laying.specs.Metadata.{MetadataEnds}
 use Rattle.laying.specs.Scores.{Ready, Begins}
 use Rattle.judging.specs.Sums.{Holds}
@@ -28,21 +30,27 @@ pub record Clear (song : Song) : Type 0 where
   pub counts : countFaults song ≡ []
   pub sums : sumFaults song ≡ []
 
--- The song's time, 0 where it has none, and its bpm, 511 where it has none.
-pub record SongKeys (song : Song) (k : Keys) : Type 0 where
-  pub time : k .time ≡ Option·getD (timeAmong (song .keys)) 0
-  pub time-fits : k .time ≤ 32
-  pub bpm : k .bpm ≡ Option·getD (bpmAmong (song .keys)) 511
-  pub bpm-fits : k .bpm ≤ 511
+-- The row holds the song's definitions and then all its sections, and nothing is wrong with the song.
+pub record Laid (s ws : List ℕ) (rows : Stretch) : Type 0 where
+  pub mark : ℕ
+  pub ready : Ready s ws mark
+  pub row : RowFrom (songOf s) ws (rows .from) (rows .to) (songOf s .sections)
+  pub fits : SectionsFit (songOf s) (songOf s .sections)
+  pub clear : Clear (songOf s)
 
--- The song can be written: the buffer holds its definitions, and nothing is wrong with it.
+-- Nothing is refused: the row holds the definitions and behind them the sections, and so many words the tables take.
+pub record LaidOut (s : List ℕ) (ws : List ℕ) (l : Loaded) (r : Outcome) : Type 0 where
+  pub early : l .refusal .number ≡ 0
+  pub ready : Ready s ws (l .mark)
+  pub row : RowFrom (songOf s) ws (r .rows .from) (r .rows .to) (songOf s .sections)
+  pub fits : SectionsFit (songOf s) (songOf s .sections)
+  pub holds : Holds (tables (songOf s)) (r .totals)
+
+-- The song can be written: the row holds its definitions and its sections, and nothing is wrong with it.
 pub record Writable (s : List ℕ) (ws : List ℕ) (r : Chart) : Type 0 where
   pub ends : MetadataEnds s (r .end)
-  pub keys : SongKeys (songOf s) (r .song)
-  pub ready : Ready s ws (r .mark)
   pub begins : Begins s (r .first)
-  pub filled : r .mark ≤ r .first .at
-  pub clear : Clear (songOf s)
+  pub laid : Laid s ws (r .rows)
   pub holds : Holds (tables (songOf s)) (r .totals)
 
 pub record Judges (s : List ℕ) (ws : List ℕ) (r : Chart) : Type 0 where

@@ -15,6 +15,7 @@ use Rattle.player.specs.Walks.{rowOf}
 use Rattle.player.specs.Windows.{firstBeat, lastBeat}
 use Rattle.sections.specs.declared.values.Modifiers.{Modifiers}
 use Rattle.laying.specs.declared.texts.Texts.{Texts}
+use Rattle.laying.specs.Rows.{hasCut}
 use Rattle.judging.specs.declared.lengths.Lengths.{Lengths}
 use Rattle.judging.specs.Meters.{nothingRefused}
 
@@ -37,14 +38,6 @@ arrangementOf n t m =
 
 unfoldable pub countOfTexts : Modifiers → Texts → ℕ
 countOfTexts m t = t .lead .outline .measures + m .repeat * t .pattern .outline .measures + t .tail .outline .measures
-
-unfoldable pub isCut : CutRead → Bool
-isCut (read.Cut c) = true
-isCut read.Not = false
-
-unfoldable pub hasCut : Modifiers → Bool
-unfolding isCut
-hasCut m = isCut (m .front) || isCut (m .back)
 
 unfoldable pub isModified : Modifiers → Bool
 unfolding hasCut

@@ -9,10 +9,6 @@ use Rattle.outlines.specs.Sizes.{divides}
 use Rattle.sections.specs.declared.values.Modifiers.{Modifiers}
 use Rattle.laying.specs.declared.texts.Texts.{Texts}
 
-unfoldable pub meterOf : ℕ → ℕ → ℕ
-unfolding if_then_else_
-meterOf own song = if eqb own 0 then (if eqb song 0 then 4 else song) else own
-
 abbrev pub nothingRefused : Refusal
 nothingRefused = record { number = 0; line = 0 }
 

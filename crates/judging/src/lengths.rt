@@ -1,5 +1,6 @@
 // Stage 5 of a section: the song's measures up to its end, and cuts that leave a beat.
 use laying::Texts;
+use laying::has_cut;
 use player::Arrangement;
 use player::planned;
 use sections::Modifiers;
@@ -14,7 +15,7 @@ ghost use lib.ListN.{length};
 ghost use Rattle.songcode.specs.Lists.{times};
 ghost use Rattle.settings.specs.Cuts.{CutFits};
 ghost use Rattle.player.specs.Walks.{rowOf};
-ghost use Rattle.judging.specs.Lengths.{cutOrNone, arrangementOf, countOfTexts, isCut, hasCut, isModified, cutAway, lengthFault, Measurable, withLengths};
+ghost use Rattle.judging.specs.Lengths.{cutOrNone, arrangementOf, countOfTexts, isModified, cutAway, lengthFault, Measurable, withLengths};
 
 // A cut that takes nothing where there is none.
 fn cut_or_none(c: CutRead) -> Cut
@@ -66,24 +67,6 @@ fn section_count(m: Modifiers, t: Texts) -> usize
     let own = pattern.outline;
     let after = tail.outline;
     before.measures + m.repeat * own.measures + after.measures
-}
-
-fn is_cut(c: CutRead) -> bool
-    ensures { λ r. ⌜ r ≡ isCut c ⌝ }
-{
-    match c {
-        CutRead::Cut(cut) => true,
-        CutRead::Not => false,
-    }
-}
-
-// Whether a section has a cut.
-fn has_cut(m: Modifiers) -> bool
-    ensures { λ r. ⌜ r ≡ hasCut m ⌝ }
-{
-    let front = m.front;
-    let back = m.back;
-    is_cut(front) || is_cut(back)
 }
 
 // Whether a section has a modifier.

@@ -12,8 +12,5 @@ mod walking;
 
 pub use charts::Chart;
 pub use charts::judge;
-pub use lengths::arrangement;
-pub use meters::meter_of;
 pub use stages::first_stages;
 pub use sums::Totals;
-pub use sums::play;

@@ -5,17 +5,7 @@ use outlines::sizes_fit;
 use sections::Modifiers;
 use text::Refusal;
 ghost use mathlib.Core.Path.{_≡_};
-ghost use Rattle.judging.specs.Meters.{meterOf, textFault, soonerOf, firstGiven, meterFault};
-
-// "N is the section's time, else the song's"; "the default is 4/4".
-pub fn meter_of(own: usize, song: usize) -> usize
-    ensures { λ r. ⌜ r ≡ meterOf own song ⌝ }
-{
-    if own != 0 {
-        return own;
-    }
-    if song != 0 { song } else { 4 }
-}
+ghost use Rattle.judging.specs.Meters.{textFault, soonerOf, firstGiven, meterFault};
 
 // What is wrong with a text in N, on that line.
 fn text_fault(o: Outline, n: usize, line: usize) -> Refusal

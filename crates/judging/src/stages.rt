@@ -1,22 +1,24 @@
 // The stages one after another, up to the first that refuses.
-use super::sums::Totals;
 use super::sums::refused;
+use super::walking::Outcome;
 use super::walking::walk;
 use laying::Loaded;
+use score::Stretch;
+use sections::Keys;
 use stage2::stage_two;
 use text::Refusal;
 use text::judge_input;
-ghost use mathlib.Core.Option.{Option·getD};
 ghost use mathlib.Core.Path.{_≡_};
 ghost use mathlib.Core.List.{[], _∷_};
+ghost use Prim.Native.Nat.{_+_, _≤_};
+ghost use lib.ListN.{length};
 ghost use Rattle.songcode.specs.Complaints.{verdict};
-ghost use Rattle.songcode.specs.answer.Playing.{timeAmong};
-ghost use Rattle.songcode.specs.answer.Tables.{tables};
 ghost use Rattle.songcode.specs.answer.SongText.{textFaults};
 ghost use Rattle.songcode.specs.answer.Answer.{inputFaults, blocksOf, songOf};
 ghost use Rattle.text.specs.Refusals.{refusalOf};
-ghost use Rattle.laying.specs.Scores.{Loads, Ready};
-ghost use Rattle.judging.specs.Sums.{Holds};
+ghost use Rattle.laying.specs.Scores.{Loads};
+ghost use Rattle.laying.specs.Rows.{SongKeys};
+ghost use Rattle.judging.specs.Charts.{LaidOut};
 ghost use Rattle.judging.specs.Stages.{laterFaults};
 
 // Stages 1 and 2.
@@ -30,16 +32,18 @@ pub fn first_stages(s: &[u8]) -> Refusal
     stage_two(s)
 }
 
-// Stages 3 to 7; where none refuses, how many words the tables take.
-pub fn later_stages(s: &[u8], loaded: Loaded, time: usize, words: &mut [u32]) -> Totals
-    requires { ⌜ Loads (now s) (now words) loaded × (time ≡ Option·getD (timeAmong (songOf (now s) .keys)) 0) ⌝ }
-    ensures refusal { λ r. ⌜ r .refusal ≡ refusalOf (verdict (laterFaults (songOf (now (s .entry))))) ⌝ }
-    ensures holds { λ r. ⌜ (r .refusal .number ≡ 0 → Holds (tables (songOf (now (s .entry)))) r) ⌝ }
-    ensures ready { λ r. ⌜ (r .refusal .number ≡ 0 → (loaded .refusal .number ≡ 0) × Ready (now (s .entry)) (now (words .exit)) (loaded .mark)) ⌝ }
+// Stages 3 to 7; where none refuses, how many words the tables take, and all sections stand in the row.
+pub fn later_stages(s: &[u8], loaded: Loaded, song: Keys, words: &mut [u32]) -> Outcome
+    requires { ⌜ Loads (now s) (now words) loaded × SongKeys (songOf (now s)) song × (length (now s) + 16 ≤ length (now words)) ⌝ }
+    ensures refusal { λ r. ⌜ r .totals .refusal ≡ refusalOf (verdict (laterFaults (songOf (now (s .entry))))) ⌝ }
+    ensures laid { λ r. ⌜ (r .totals .refusal .number ≡ 0 → LaidOut (now (s .entry)) (now (words .exit)) loaded r) ⌝ }
 {
     let early = loaded.refusal;
     if early.number != 0 {
-        return refused(early);
+        return Outcome {
+            totals: refused(early),
+            rows: Stretch { from: 0, to: 0 },
+        };
     }
-    walk(s, loaded.mark, loaded.sections, time, words)
+    walk(s, song, loaded.mark, loaded.sections, words)
 }

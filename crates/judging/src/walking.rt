@@ -5,7 +5,6 @@ use super::measures::Metered;
 use super::measures::metered_refusal;
 use super::measures::with_measures;
 use super::meters::first_given;
-use super::meters::meter_of;
 use super::references::name_fault;
 use super::singing::Sung;
 use super::singing::lyric_refusal;
@@ -14,21 +13,24 @@ use super::sums::Sums;
 use super::sums::Totals;
 use super::sums::refused;
 use super::sums::totals_of;
-use laying::open_section;
+use laying::lay_section;
+use score::Stretch;
+use sections::Keys;
 use sections::Place;
 use text::Refusal;
-ghost use mathlib.Core.Option.{Option·getD};
 ghost use mathlib.Core.Path.{_≡_};
 ghost use mathlib.Core.List.{[]};
-ghost use Prim.Native.Nat.{_≤_};
+ghost use Prim.Native.Nat.{_+_, _≤_};
 ghost use lib.ListN.{length};
 ghost use Rattle.songcode.specs.Complaints.{verdict};
 ghost use Rattle.songcode.specs.answer.References.{definitionsReferences};
-ghost use Rattle.songcode.specs.answer.Playing.{timeAmong};
 ghost use Rattle.songcode.specs.answer.Tables.{tables};
 ghost use Rattle.songcode.specs.answer.Answer.{songOf};
 ghost use Rattle.text.specs.Refusals.{refusalOf};
+ghost use Rattle.score.specs.Fitting.{SectionsFit};
+ghost use Rattle.score.specs.Seen.{RowFrom};
 ghost use Rattle.laying.specs.Scores.{Begins, Ready};
+ghost use Rattle.laying.specs.Rows.{SongKeys};
 ghost use Rattle.judging.specs.Sums.{Holds};
 ghost use Rattle.judging.specs.Stages.{laterFaults};
 ghost use Rattle.judging.specs.Walking.{nothingMetered, nothingSung, outcomeOf};
@@ -66,7 +68,7 @@ fn nothing_sung() -> Sung
 }
 
 // Behind the last section: the first of stages 4 to 7 that refuses, or what the tables take.
-fn outcome(x: Metered, y: Sung) -> Totals
+fn outcome_of(x: Metered, y: Sung) -> Totals
     ensures { λ r. ⌜ r ≡ outcomeOf x y ⌝ }
 {
     let refusal = first_given(metered_refusal(x), lyric_refusal(y));
@@ -76,32 +78,48 @@ fn outcome(x: Metered, y: Sung) -> Totals
     totals_of(y.sums)
 }
 
-// What stage 3 refuses is given at once; sections are counted only while stages 4 and 5 refuse nothing.
-pub fn walk(s: &[u8], mark: usize, first: Place, time: usize, words: &mut [u32]) -> Totals
-    requires { ⌜ Begins (now s) first × Ready (now s) (now words) mark × (mark ≤ first .at)
-        × (time ≡ Option·getD (timeAmong (songOf (now s) .keys)) 0) × (definitionsReferences [] (songOf (now s) .definitions) ≡ []) ⌝ }
-    ensures refusal { λ r. ⌜ r .refusal ≡ refusalOf (verdict (laterFaults (songOf (now (s .entry))))) ⌝ }
-    ensures holds { λ r. ⌜ (r .refusal .number ≡ 0 → Holds (tables (songOf (now (s .entry)))) r) ⌝ }
+// What the stages give, and where the sections stand in the row.
+pub struct Outcome {
+    pub totals: Totals,
+    pub rows: Stretch,
+}
+
+// Each section is laid behind the last one. What stage 3 refuses is given at once; sections are counted only while stages 4 and 5 refuse nothing.
+pub fn walk(s: &[u8], song: Keys, mark: usize, first: Place, words: &mut [u32]) -> Outcome
+    requires place { ⌜ Begins (now s) first × Ready (now s) (now words) mark × (mark ≤ first .at) × (length (now s) + 16 ≤ length (now words)) ⌝ }
+    requires song { ⌜ SongKeys (songOf (now s)) song × (definitionsReferences [] (songOf (now s) .definitions) ≡ []) ⌝ }
+    ensures refusal { λ r. ⌜ r .totals .refusal ≡ refusalOf (verdict (laterFaults (songOf (now (s .entry))))) ⌝ }
+    ensures holds { λ r. ⌜ (r .totals .refusal .number ≡ 0 → Holds (tables (songOf (now (s .entry)))) (r .totals)) ⌝ }
+    ensures row { λ r. ⌜ (r .totals .refusal .number ≡ 0
+        → RowFrom (songOf (now (s .entry))) (now (words .exit)) (r .rows .from) (r .rows .to) (songOf (now (s .entry)) .sections)
+        × SectionsFit (songOf (now (s .entry))) (songOf (now (s .entry)) .sections)) ⌝ }
     ensures ready { λ r. ⌜ Ready (now (s .entry)) (now (words .exit)) mark × (length (now (words .exit)) ≡ length (now (words .entry))) ⌝ }
 {
     let mut place = first;
+    let from = mark + 1;
+    let mut at = from;
     let mut metered = nothing_metered();
     let mut sung = nothing_sung();
     while place.at < s.len() {
-        let x = open_section(s, place, mark, words);
+        let x = lay_section(s, place, song, at, words);
         let section = x.section;
-        let keys = section.keys;
         let fault = name_fault(s, words, section.pattern, section.header);
         if fault.number != 0 {
-            return refused(fault);
+            return Outcome {
+                totals: refused(fault),
+                rows: Stretch { from, to: at },
+            };
         }
-        let n = meter_of(keys.time, time);
-        metered = with_measures(words, n, x, metered);
+        metered = with_measures(words, x.meter, x, metered);
         let refusal = metered_refusal(metered);
         if refusal.number == 0 {
-            sung = sing(s, words, n, x, sung);
+            sung = sing(s, words, x.meter, x, sung);
         }
+        at = x.end;
         place = x.next;
     }
-    outcome(metered, sung)
+    Outcome {
+        totals: outcome_of(metered, sung),
+        rows: Stretch { from, to: at },
+    }
 }

@@ -1,6 +1,12 @@
 -- Laws that the proofs of the functions cite, and that callers use.
 pub mod ComplaintLaws
 pub mod LaidLaws
+pub mod LyricRowLaws
+pub mod PartsLaidLaws
+pub mod BulkLaws
+pub mod MeterLaws
+pub mod SideRowLaws
+pub mod SectionLaidLaws
 pub mod LayingLaws
 pub mod WeightLaws
 pub mod ReachedLaws
@@ -8,7 +14,7 @@ pub mod FitLaws
 pub mod NamedLaws
 pub mod SideLaws
 pub mod TextLaws
-pub mod OpenLaws
+pub mod EmptyLaws
 pub mod CleanLaws
 pub mod LineNumberLaws
 pub mod MetadataLaws

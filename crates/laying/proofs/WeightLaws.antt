@@ -170,7 +170,7 @@ unfolding left if_then_else_
 left-length p [] = omega arith
 left-length p (b ∷ bs) = let h = left-length p bs in by-cases (p b) (λ e. rw e (omega arith)) (λ e. rw e (omega arith))
 
-setting-length : (l : Line) → length (settingOf l) ≤ length (l .text)
+pub setting-length : (l : Line) → length (settingOf l) ≤ length (l .text)
 unfolding settingOf settingIn behindFirst
 setting-length l =
     let bs = behindFirst (l .text) in

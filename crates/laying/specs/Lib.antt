@@ -3,3 +3,4 @@ pub mod Laying
 pub mod Metadata
 pub mod Scores
 pub mod Loading
+pub mod Rows

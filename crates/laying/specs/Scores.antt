@@ -2,10 +2,11 @@
 use Prim.Native.Nat.{ℕ, _+_, _<_, _≤_}
 use mathlib.Core.Path.{_≡_}
 use mathlib.Core.List.{List, []}
-use mathlib.Core.Bool.{false, not}
+use mathlib.Core.Bool.{Bool, false, not}
 use mathlib.Core.Option.{Option, none, some, bind}
+use lib.Dec.{eqb}
 use lib.ListN.{length, take}
-use Rattle.songcode.specs.Lists.{isSome}
+use Rattle.songcode.specs.Lists.{if_then_else_, isSome}
 use Rattle.songcode.specs.Complaints.{earliest}
 use Rattle.songcode.specs.answer.Lines.{blocks}
 use Rattle.songcode.specs.Song.{Items, named, Definition, Section, Side}
@@ -14,7 +15,9 @@ use Rattle.songcode.specs.answer.Playing.{measuresOf}
 use Rattle.songcode.specs.answer.SongText.{sectionBlocks}
 use Rattle.songcode.specs.answer.Answer.{blocksOf, songOf}
 use Rattle.text.specs.Refusals.{refusalOf}
-use Rattle.score.specs.Places.{stretchOf}
+use Rattle.tokens.specs.Signs.{kindOf, numberOf}
+use Rattle.score.specs.declared.stretches.Stretch.{Stretch}
+use Rattle.score.specs.Places.{wordOf, stretchOf}
 use Rattle.player.specs.Walks.{rowOf}
 use Rattle.player.specs.Texts.{rowWords}
 use Rattle.outlines.specs.Words.{vacant, lookUp, isMissing}
@@ -31,6 +34,11 @@ use Rattle.laying.specs.declared.texts.Opened.{Opened}
 unfoldable pub namedText : List ℕ → ℕ → Text
 unfolding stretchOf lookUp
 namedText ws n = record { at = stretchOf ws n; outline = lookUp ws n }
+
+-- Whether a text names an empty definition.
+unfoldable pub isEmptyText : List ℕ → Stretch → Bool
+unfolding if_then_else_ wordOf lookUp
+isEmptyText ws t = if eqb (kindOf (wordOf ws (t .to) (t .from))) 55 then lookUp ws (numberOf (wordOf ws (t .to) (t .from))) .empty else false
 
 -- A text in the buffer that plays these items, references put in, and whose outline tells of them; no items are an empty text.
 unfoldable pub Carries : List ℕ → Text → Option Items → Type 0

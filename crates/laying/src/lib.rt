@@ -1,16 +1,21 @@
 // The pattern texts of a chart as token words: those of the definitions are laid into a buffer once, a section's behind them.
 mod definitions;
+mod empty;
 mod laying;
 mod metadata;
+mod rows;
 mod texts;
 
 pub use definitions::Loaded;
 pub use definitions::load;
+pub use empty::is_empty;
 pub use laying::named_in;
 pub use metadata::lines_before;
 pub use metadata::metadata_end;
+pub use rows::has_cut;
+pub use rows::meter_of;
 pub use texts::Opened;
 pub use texts::Text;
 pub use texts::Texts;
 pub use texts::is_played;
-pub use texts::open_section;
+pub use texts::lay_section;

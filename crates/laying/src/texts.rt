@@ -1,19 +1,24 @@
 // A section opened: what it says, and its three texts in the buffer behind the definitions, each with its outline.
-use super::laying::lay_run;
-use super::laying::lay_said;
 use super::laying::named_in;
+use super::rows::Places;
+use super::rows::enter_section;
+use super::rows::lay_parts;
+use super::rows::meter_of;
+use super::rows::tempo_of;
 use outlines::Outline;
 use outlines::outline_for;
 use outlines::outline_of;
+use score::SECTION_HEADS;
 use score::Stretch;
 use score::stretch_of;
+use sections::Keys;
 use sections::Place;
 use sections::Run;
 use sections::SectionRead;
 use sections::meet;
 ghost use mathlib.Core.Path.{_≡_};
 ghost use mathlib.Core.Option.{some};
-ghost use Prim.Native.Nat.{_≤_, _<_};
+ghost use Prim.Native.Nat.{_+_, _≤_, _<_};
 ghost use lib.ListN.{length, take, drop};
 ghost use Rattle.songcode.specs.Lists.{isSome};
 ghost use Rattle.songcode.specs.Song.{Pattern};
@@ -25,7 +30,8 @@ ghost use Rattle.outlines.specs.Words.{lookUp};
 ghost use Rattle.sections.specs.Runs.{linesOf};
 ghost use Rattle.sections.specs.BlockParts.{Placed};
 ghost use Rattle.sections.specs.Onward.{Onward};
-ghost use Rattle.laying.specs.Scores.{namedText, Told, Ready, Opens};
+ghost use Rattle.laying.specs.Scores.{namedText, Told};
+ghost use Rattle.laying.specs.Rows.{toldTexts, RoomFor, Before, SongKeys, Lays};
 
 // A text in the buffer, and what it says.
 pub struct Text {
@@ -39,10 +45,12 @@ pub struct Texts {
     pub tail: Text,
 }
 
-// A section, its texts, and where the next begins.
+// A section, its N, its texts, where its words end in the row, and where the next begins.
 pub struct Opened {
     pub section: SectionRead,
+    pub meter: usize,
     pub texts: Texts,
+    pub end: usize,
     pub next: Place,
 }
 
@@ -69,36 +77,64 @@ fn named_text(words: &[u32], x: u32) -> Text
     }
 }
 
-// The section at a place; its lead-in, pattern and tail are laid into the buffer behind the definitions.
-pub fn open_section(s: &[u8], p: Place, mark: usize, words: &mut [u32]) -> Opened
-    requires { ⌜ Onward (now s) p × (p .at < length (now s)) × Ready (now s) (now words) mark × (mark ≤ p .at) ⌝ }
-    ensures opens { λ r. ⌜ Opens (now (s .entry)) p (now (words .exit)) r ⌝ }
-    ensures ready { λ r. ⌜ Ready (now (s .entry)) (now (words .exit)) mark × (length (now (words .exit)) ≡ length (now (words .entry))) ⌝ }
+// The texts of a section whose words stand at these places; its pattern may be the text of a definition.
+fn told_texts(words: &[u32], p: Places, named: u32) -> Texts
+    ensures { λ r. ⌜ r ≡ toldTexts (now (words .entry)) p named ⌝ }
 {
-    let met = meet(s, p);
-    let section = met.section;
-    let modifiers = section.modifiers;
-    let named = named_in(s, section.pattern);
-    let fill = mark + 1;
-    let a = lay_said(s, modifiers.before, words, fill);
-    let b = lay_run(s, section.pattern, words, a);
-    let c = lay_said(s, modifiers.after, words, b);
-    let lead = plain_text(words, Stretch { from: fill, to: a });
-    let tail = plain_text(words, Stretch { from: b, to: c });
+    let lead = plain_text(
+        words,
+        Stretch {
+            from: p.from,
+            to: p.begun,
+        },
+    );
+    let tail = plain_text(
+        words,
+        Stretch {
+            from: p.ended,
+            to: p.last,
+        },
+    );
     let pattern = if named == 0 {
-        plain_text(words, Stretch { from: a, to: b })
+        plain_text(
+            words,
+            Stretch {
+                from: p.begun,
+                to: p.ended,
+            },
+        )
     } else {
         named_text(words, named)
     };
-    let texts = Texts {
+    Texts {
         lead,
         pattern,
         tail,
-    };
+    }
+}
+
+// The section at a place of the text, laid into the row from another place on.
+pub fn lay_section(s: &[u8], p: Place, song: Keys, at: usize, words: &mut [u32]) -> Opened
+    requires place { ⌜ Onward (now s) p × (p .at < length (now s)) × RoomFor (now s) p at × (length (now s) + 16 ≤ length (now words)) ⌝ }
+    requires row { ⌜ Before (now s) (now words) at × SongKeys (songOf (now s)) song ⌝ }
+    ensures lays { λ r. ⌜ Lays (now (s .entry)) p song at (now (words .entry)) (now (words .exit)) r ⌝ }
+    ensures length { λ r. ⌜ length (now (words .exit)) ≡ length (now (words .entry)) ⌝ }
+{
+    let met = meet(s, p);
+    let section = met.section;
+    let keys = section.keys;
+    let named = named_in(s, section.pattern);
+    let meter = meter_of(keys.time, song.time);
+    let tempo = tempo_of(keys.bpm, song.bpm);
+    let places = lay_parts(s, section, words, at + SECTION_HEADS);
+    enter_section(words, at, section, meter, tempo, places);
+    let texts = told_texts(words, places, named);
     let next = met.next;
     Opened {
         section,
+        meter,
         texts,
+        end: places.end,
         next,
     }
 }

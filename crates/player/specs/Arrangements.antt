@@ -6,11 +6,26 @@ use lib.ListN.{length}
 use lib.Seq.{sets}
 use Rattle.songcode.specs.Lists.{times}
 use Rattle.songcode.specs.description.Performance.{total}
+use Rattle.score.specs.declared.views.View.{View}
+use Rattle.score.specs.Places.{playedText}
 use Rattle.player.specs.declared.pens.Pen.{Pen}
 use Rattle.player.specs.declared.playing.Arrangement.{Arrangement}
 use Rattle.player.specs.declared.playing.Counts.{Counts}
 use Rattle.player.specs.Walks.{rowOf}
 use Rattle.player.specs.Windows.{sectionRow, flat, heads}
+
+-- What the section that is seen plays.
+unfoldable pub arrangementIn : List ℕ → View → Arrangement
+arrangementIn ws v =
+    record {
+      n = v .meter;
+      lead = v .lead;
+      pattern = playedText ws (v .pattern);
+      tail = v .tail;
+      repeat = v .repeat;
+      front = v .front;
+      back = v .back;
+    }
 
 -- The pattern as often as it is repeated, before the cuts.
 abbrev pub repeatedRow : List ℕ → Arrangement → List (List ℕ)

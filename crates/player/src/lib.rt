@@ -4,6 +4,7 @@ mod leaves;
 mod measures;
 mod pens;
 mod playing;
+mod seen;
 mod walks;
 
 pub use pens::Pen;
@@ -13,3 +14,4 @@ pub use playing::Plan;
 pub use playing::planned;
 pub use playing::play_part;
 pub use playing::play_section;
+pub use seen::arrangement_in;

@@ -8,7 +8,7 @@ use score::LONG_ROW;
 use score::SHORT_ROW;
 ghost use mathlib.Core.Path.{_≡_};
 ghost use mathlib.Core.List.{[]};
-ghost use Prim.Native.Nat.{_<_};
+ghost use Prim.Native.Nat.{_+_, _≤_};
 ghost use lib.ListN.{length};
 ghost use Rattle.songcode.specs.answer.SongText.{textFaults};
 ghost use Rattle.songcode.specs.answer.Answer.{inputFaults, blocksOf};
@@ -16,7 +16,7 @@ ghost use Rattle.reader.specs.Answers.{Counted};
 
 // A chart that stages 1 and 2 have passed; `words` is the row that its texts are laid into.
 fn count_song(text: &[u8], words: &mut [u32]) -> Answer
-    requires { ⌜ (inputFaults (now text) ≡ []) × (textFaults (blocksOf (now text)) ≡ []) × (length (now text) < length (now words)) ⌝ }
+    requires { ⌜ (inputFaults (now text) ≡ []) × (textFaults (blocksOf (now text)) ≡ []) × (length (now text) + 16 ≤ length (now words)) ⌝ }
     ensures { λ r. ⌜ Counted (now (text .entry)) r ⌝ }
 {
     let chart = judge(text, words);
@@ -30,7 +30,7 @@ fn count_song(text: &[u8], words: &mut [u32]) -> Answer
 
 // The same for a chart of at most 2,048 bytes, as nearly all are: a small buffer is soon cleared.
 fn count_short(text: &[u8]) -> Answer
-    requires { ⌜ (inputFaults (now text) ≡ []) × (textFaults (blocksOf (now text)) ≡ []) × (length (now text) < 2064) ⌝ }
+    requires { ⌜ (inputFaults (now text) ≡ []) × (textFaults (blocksOf (now text)) ≡ []) × (length (now text) + 16 ≤ 2064) ⌝ }
     ensures { λ r. ⌜ Counted (now (text .entry)) r ⌝ }
 {
     let mut words = [0u32; SHORT_ROW];
@@ -39,7 +39,7 @@ fn count_short(text: &[u8]) -> Answer
 
 // The same for any chart that stage 1 has passed.
 fn count_long(text: &[u8]) -> Answer
-    requires { ⌜ (inputFaults (now text) ≡ []) × (textFaults (blocksOf (now text)) ≡ []) × (length (now text) < 65552) ⌝ }
+    requires { ⌜ (inputFaults (now text) ≡ []) × (textFaults (blocksOf (now text)) ≡ []) × (length (now text) + 16 ≤ 65552) ⌝ }
     ensures { λ r. ⌜ Counted (now (text .entry)) r ⌝ }
 {
     let mut words = [0u32; LONG_ROW];

@@ -10,7 +10,7 @@ use score::SHORT_ROW;
 use writing::write_tables;
 ghost use mathlib.Core.Path.{_≡_};
 ghost use mathlib.Core.List.{[]};
-ghost use Prim.Native.Nat.{_<_};
+ghost use Prim.Native.Nat.{_+_, _≤_};
 ghost use lib.ListN.{length};
 ghost use Rattle.songcode.specs.answer.SongText.{textFaults};
 ghost use Rattle.songcode.specs.answer.Answer.{inputFaults, blocksOf};
@@ -53,7 +53,7 @@ fn read_song(
     beats: &mut [u32],
     items: &mut [u64],
 ) -> Answer
-    requires { ⌜ (inputFaults (now text) ≡ []) × (textFaults (blocksOf (now text)) ≡ []) × (length (now text) < length (now words)) ⌝ }
+    requires { ⌜ (inputFaults (now text) ≡ []) × (textFaults (blocksOf (now text)) ≡ []) × (length (now text) + 16 ≤ length (now words)) ⌝ }
     ensures { λ r. ⌜ Promised (now (text .entry)) (record {
       keys = now (keys .entry);
       sections = now (sections .entry);
@@ -98,7 +98,7 @@ fn read_short(
     beats: &mut [u32],
     items: &mut [u64],
 ) -> Answer
-    requires { ⌜ (inputFaults (now text) ≡ []) × (textFaults (blocksOf (now text)) ≡ []) × (length (now text) < 2064) ⌝ }
+    requires { ⌜ (inputFaults (now text) ≡ []) × (textFaults (blocksOf (now text)) ≡ []) × (length (now text) + 16 ≤ 2064) ⌝ }
     ensures { λ r. ⌜ Promised (now (text .entry)) (record {
       keys = now (keys .entry);
       sections = now (sections .entry);
@@ -127,7 +127,7 @@ fn read_long(
     beats: &mut [u32],
     items: &mut [u64],
 ) -> Answer
-    requires { ⌜ (inputFaults (now text) ≡ []) × (textFaults (blocksOf (now text)) ≡ []) × (length (now text) < 65552) ⌝ }
+    requires { ⌜ (inputFaults (now text) ≡ []) × (textFaults (blocksOf (now text)) ≡ []) × (length (now text) + 16 ≤ 65552) ⌝ }
     ensures { λ r. ⌜ Promised (now (text .entry)) (record {
       keys = now (keys .entry);
       sections = now (sections .entry);

@@ -1,3 +1,8 @@
 -- What the contracts on the row of words say.
 pub mod Places
 pub mod Standing
+pub mod Sections
+pub mod Fitting
+pub mod Views
+pub mod Seen
+pub mod LyricLines

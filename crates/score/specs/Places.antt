@@ -4,6 +4,7 @@ use mathlib.Core.List.{List}
 use lib.Dec.{eqb}
 use lib.ListN.{take, getD}
 use Rattle.songcode.specs.Lists.{if_then_else_}
+use Rattle.tokens.specs.Signs.{kindOf, numberOf}
 use Rattle.score.specs.declared.stretches.Stretch.{Stretch}
 
 -- The word at a place of the text that ends before `to`; past the end a word of kind 54, that of no token of a pattern.
@@ -35,3 +36,8 @@ placeOf ws x = placeBy 26 ws 0 x
 -- Where the token words of that definition stand; an empty stretch where there is none.
 unfoldable pub stretchOf : List ℕ → ℕ → Stretch
 stretchOf ws x = record { from = placeOf ws x + 2; to = placeOf ws x + lengthAt ws (placeOf ws x) }
+
+-- What is played of a text: where it begins with `$n`, the definition's words.
+unfoldable pub playedText : List ℕ → Stretch → Stretch
+unfolding if_then_else_ wordOf stretchOf
+playedText ws t = if eqb (kindOf (wordOf ws (t .to) (t .from))) 55 then stretchOf ws (numberOf (wordOf ws (t .to) (t .from))) else t

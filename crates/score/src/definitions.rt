@@ -1,9 +1,13 @@
 // The definitions at the front of the row, found from head to head. Every function is safe on every content.
 use super::stretches::Stretch;
+use super::stretches::word_at;
+use tokens::REFERENCE;
+use tokens::kind;
+use tokens::number;
 ghost use mathlib.Core.Path.{_≡_};
 ghost use Prim.Native.Nat.{_≤_};
 ghost use lib.ListN.{getD};
-ghost use Rattle.score.specs.Places.{headWord, lengthAt, idAt, placeOf, stretchOf};
+ghost use Rattle.score.specs.Places.{headWord, lengthAt, idAt, placeOf, stretchOf, playedText};
 
 // A head is a length times 2^15 and a number times 2.
 const LENGTH: u32 = 32768;
@@ -72,4 +76,15 @@ pub fn stretch_of(words: &[u32], x: u32) -> Stretch
         from: place + HEADS,
         to: place + length_at(words, place),
     }
+}
+
+// What is played of a text: where it begins with `$n`, the definition's words.
+pub fn played_text(words: &[u32], text: Stretch) -> Stretch
+    ensures { λ r. ⌜ r ≡ playedText (now (words .entry)) text ⌝ }
+{
+    let w = word_at(words, text.to, text.from);
+    if kind(w) == REFERENCE {
+        return stretch_of(words, number(w));
+    }
+    text
 }

@@ -1,7 +1,7 @@
 // A text in the row: the stretch of its token words, and the word at a place of it. Both are safe on every content.
 use tokens::WRONG_WORD;
 ghost use mathlib.Core.Path.{_≡_};
-ghost use Prim.Native.Nat.{min};
+ghost use Prim.Native.Nat.{min, _-_};
 ghost use Rattle.score.specs.Places.{wordOf};
 
 // The row of a chart of at most 2,048 bytes, as nearly all are, and of any chart: a word for each byte, and some more.
@@ -34,4 +34,11 @@ pub fn least(a: usize, b: usize) -> usize
     ensures { λ r. ⌜ r ≡ min a b ⌝ }
 {
     if a < b { a } else { b }
+}
+
+// A difference, 0 where there is none.
+pub fn minus(a: usize, b: usize) -> usize
+    ensures { λ r. ⌜ r ≡ a - b ⌝ }
+{
+    if a < b { 0 } else { a - b }
 }

@@ -1,6 +1,5 @@
 -- Laws that the proofs of the writers cite.
 pub mod SongLaws
-pub mod ItemLaws
 pub mod PromptLaws
 pub mod GoodLaws
 pub mod SettingLaws

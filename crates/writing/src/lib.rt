@@ -1,9 +1,8 @@
-// All tables of a song that nothing is wrong with.
+// All tables of a song that nothing is wrong with: the keys from the text, all others from the row.
 mod items;
 mod keys;
 mod songs;
 
-use items::write_items;
 use judging::Chart;
 use keys::write_keys;
 use songs::write_song;
@@ -20,7 +19,7 @@ ghost use Rattle.packing.specs.Written.{written};
 pub fn write_tables(
     s: &[u8],
     chart: Chart,
-    words: &mut [u32],
+    words: &[u32],
     keys: &mut [u32],
     sections: &mut [u64],
     measures: &mut [u32],
@@ -35,12 +34,16 @@ pub fn write_tables(
     ensures beats { λ _. ⌜ now (beats .exit) ≡ written (tables (songOf (now (s .entry))) .beats) (now (beats .entry)) ⌝ }
     ensures items { λ _. ⌜ now (items .exit) ≡ written (tables (songOf (now (s .entry))) .items) (now (items .entry)) ⌝ }
 {
-    let end = chart.end;
-    let song = chart.song;
-    let mark = chart.mark;
-    let first = chart.first;
     let totals = chart.totals;
-    write_keys(s, end, keys);
-    write_song(s, mark, first, song, words, sections, measures, beats);
-    write_items(s, first, totals.items, items);
+    write_keys(s, chart.end, keys);
+    write_song(
+        s,
+        words,
+        chart.rows,
+        totals.items,
+        sections,
+        measures,
+        beats,
+        items,
+    );
 }

@@ -1,78 +1,56 @@
-// Each section's word, measures and beats into the tables.
-use judging::meter_of;
-use judging::play;
-use laying::open_section;
+// Each section's word, measures, beats and items into the tables, in one walk over the row.
+use super::items::lyrics_taken;
+use super::items::write_lyrics;
 use packing::section_word;
-use sections::Keys;
-use sections::Place;
-ghost use mathlib.Core.Option.{Option·getD};
+use player::arrangement_in;
+use player::play_section;
+use score::Stretch;
+use score::section_at;
 ghost use mathlib.Core.Path.{_≡_};
-ghost use mathlib.Core.List.{[]};
-ghost use Prim.Native.Nat.{_≤_};
 ghost use lib.ListN.{length};
-ghost use Rattle.songcode.specs.answer.Playing.{timeAmong, bpmAmong};
-ghost use Rattle.songcode.specs.answer.Meter.{meterFaults, lengthFaults};
 ghost use Rattle.songcode.specs.answer.Tables.{tables};
 ghost use Rattle.songcode.specs.answer.Answer.{songOf};
-ghost use Rattle.laying.specs.Scores.{Ready, Begins};
+ghost use Rattle.judging.specs.Charts.{Laid, Roomy};
 ghost use Rattle.packing.specs.Written.{written};
-ghost use Rattle.writing.specs.Words.{tempoOf};
 
-// "bpm (section's, else song's, else 511)"
-fn tempo_of(own: usize, song: usize) -> usize
-    ensures { λ r. ⌜ r ≡ tempoOf own song ⌝ }
-{
-    if own == 511 { song } else { own }
-}
-
+// The sections that stand in the row from one place up to another, of the song that the text describes; so many items it has.
 pub fn write_song(
     s: &[u8],
-    mark: usize,
-    first: Place,
-    song: Keys,
-    words: &mut [u32],
+    words: &[u32],
+    rows: Stretch,
+    count: usize,
     sections: &mut [u64],
     measures: &mut [u32],
     beats: &mut [u32],
+    items: &mut [u64],
 )
-    requires ready { ⌜ Begins (now s) first × Ready (now s) (now words) mark × (mark ≤ first .at) ⌝ }
-    requires keys { ⌜ (song .time ≡ Option·getD (timeAmong (songOf (now s) .keys)) 0) × (song .time ≤ 32)
-        × (song .bpm ≡ Option·getD (bpmAmong (songOf (now s) .keys)) 511) × (song .bpm ≤ 511) ⌝ }
-    requires clear { ⌜ (meterFaults (songOf (now s)) ≡ []) × (lengthFaults (songOf (now s)) 0 (songOf (now s) .sections) ≡ []) ⌝ }
-    requires room { ⌜ (length (tables (songOf (now s)) .sections) ≤ length (now sections))
-        × (length (tables (songOf (now s)) .measures) ≤ length (now measures)) × (length (tables (songOf (now s)) .beats) ≤ length (now beats)) ⌝ }
+    requires song { ⌜ Laid (now s) (now words) rows × (count ≡ length (tables (songOf (now s)) .items)) ⌝ }
+    requires room { ⌜ Roomy (tables (songOf (now s))) (now sections) (now measures) (now beats) (now items) ⌝ }
     ensures sections { λ _. ⌜ now (sections .exit) ≡ written (tables (songOf (now (s .entry))) .sections) (now (sections .entry)) ⌝ }
     ensures measures { λ _. ⌜ now (measures .exit) ≡ written (tables (songOf (now (s .entry))) .measures) (now (measures .entry)) ⌝ }
     ensures beats { λ _. ⌜ now (beats .exit) ≡ written (tables (songOf (now (s .entry))) .beats) (now (beats .entry)) ⌝ }
+    ensures items { λ _. ⌜ now (items .exit) ≡ written (tables (songOf (now (s .entry))) .items) (now (items .entry)) ⌝ }
 {
-    let mut place = first;
+    let end = rows.to;
+    let mut at = rows.from;
     let mut k = 0;
     let mut m = 0;
     let mut b = 0;
-    while place.at < s.len() {
-        let x = open_section(s, place, mark, words);
-        let section = x.section;
-        let keys = section.keys;
-        let n = meter_of(keys.time, song.time);
-        let c = play(
+    let mut i = 0;
+    while at < end {
+        let v = section_at(words, at);
+        let c = play_section(
             words,
-            n,
-            x.texts,
-            section.modifiers,
+            arrangement_in(words, v),
             b,
             &mut measures[m..],
             &mut beats[b..],
         );
-        sections[k] = section_word(
-            section.header,
-            m,
-            c.measures,
-            n,
-            tempo_of(keys.bpm, song.bpm),
-        );
+        sections[k] = section_word(v.header, m, c.measures, v.meter, v.tempo);
+        i += write_lyrics(words, lyrics_taken(count, v.lyrics), m, &mut items[i..]);
         k += 1;
         m += c.measures;
         b += c.beats;
-        place = x.next;
+        at = v.next;
     }
 }

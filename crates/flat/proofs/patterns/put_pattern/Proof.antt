@@ -4,59 +4,59 @@ use mathlib.Core.Path.{_≡_, refl, _∙_}
 use native.Mathlib.Omega.{arith}
 use lib.ListN.{length}
 use Rattle.songcode.specs.description.Performance.{total}
-use Rattle.judging.specs.Sums.{rowOfTexts, TextsWithin}
+use Rattle.player.specs.Arrangements.{arrangedRow, PlaysWithin}
 use Rattle.flat.specs.Sheets.{puts}
 use Rattle.flat.specs.Measures.{patternLines, Lent}
-use Rattle.flat.proofs.PatternLaws.{Stands, stands-first, stands-within, lent-same, texts-filled, texts-short, texts-total}
+use Rattle.flat.proofs.PatternLaws.{Stands, stands-first, stands-within, lent-same, arranged-filled, arranged-short, arranged-total}
 use Rattle.flat.proofs.PatternLaws.{Told, told-measures, told-beats, told-few, told-none, told-last, told-over, told-next}
 use borrow.Author.Needs.{needs}
 use Rattle.flat.proofs.patterns.put_pattern.Statement.{statement}
 use Rattle.flat.proofs.patterns.put_pattern.Tie as tie
 
 abbrev Inv-loop : tie.InvT-loop
-Inv-loop s words n t m measures₀ beats₀ copy₀ at from₀ out₀ t16 measures beats copy from out =
+Inv-loop s words x measures₀ beats₀ copy₀ at n from₀ out₀ t16 measures beats copy from out =
     (length measures ≡ length measures₀) × (length beats ≡ length beats₀) × (length copy ≡ length copy₀)
-    × TextsWithin words n t m 0 × Lent measures₀ beats₀
-    × Stands s n (rowOfTexts words n t m) from (record { copy = copy; at = out })
-    (puts (patternLines s n (rowOfTexts words n t m)) (record { copy = copy₀; at = out₀ }))
+    × PlaysWithin words x 0 × Lent measures₀ beats₀
+    × Stands s n (arrangedRow words x) from (record { copy = copy; at = out })
+    (puts (patternLines s n (arrangedRow words x)) (record { copy = copy₀; at = out₀ }))
 
 abbrev μ-loop : tie.MeasureT-loop
-μ-loop s words n t m measures₀ beats₀ copy₀ at from₀ out₀ t16 measures beats copy from out =
-    total (rowOfTexts words n t m) - from
+μ-loop s words x measures₀ beats₀ copy₀ at n from₀ out₀ t16 measures beats copy from out =
+    total (arrangedRow words x) - from
 
 loop-holds : tie.Need-loop-holds Inv-loop μ-loop
 loop-holds c =
     let q = c .before .before .before .before .before in
-    (refl, refl, refl, q .pre .0, q .pre .1, stands-first (q .args .s .now) (q .args .n) _ _)
+    (refl, refl, refl, q .pre .0, q .pre .1, stands-first (q .args .s .now) (q .args .x .n) _ _)
 
 within : (c : tie.At-loop Inv-loop μ-loop) → c .loop .from ≤ 2097120
 within c =
     let a = c .before .before .before .before .before .before .args in
     let w = stands-within _ _ _ _ _ _ (c .loop .inv .5) in
-    let t = texts-total (a .words .now) (a .n) (a .t) (a .m) (c .loop .inv .3) in
+    let t = arranged-total (a .words .now) (a .x) (c .loop .inv .3) in
     omega arith
 
-told : (p : tie.After-part-of Inv-loop μ-loop) →
+told : (p : tie.After-play-part Inv-loop μ-loop) →
     let l = p .before .before .before .loop in
     let a = p .before .before .before .before .before .before .before .before .before .args in
-    let row = rowOfTexts (a .words .now) (a .n) (a .t) (a .m) in
-    let tables = p .part-of .last .1 .1 .1 .1 .1 in
-    Told (a .s .now) (a .n) row (l .measures) (l .beats) (tables .0) (tables .1 .0) (l .from) (p .part-of .result) (record { copy = l .copy; at = l .out })
-    (puts (patternLines (a .s .now) (a .n) row) (record { copy = a .copy .now; at = a .at }))
+    let row = arrangedRow (a .words .now) (a .x) in
+    let tables = p .play-part .last .1 .1 .1 in
+    Told (a .s .now) (a .x .n) row (l .measures) (l .beats) (tables .0) (tables .1 .0) (l .from) (p .play-part .result) (record { copy = l .copy; at = l .out })
+    (puts (patternLines (a .s .now) (a .x .n) row) (record { copy = a .copy .now; at = a .at }))
 told p =
     let l = p .before .before .before .loop in
     let a = p .before .before .before .before .before .before .before .before .before .args in
     let h = l .inv in
-    let e = p .part-of .ensures in
+    let e = p .play-part .ensures in
     record {
-      filled = texts-filled (a .words .now) (a .n) (a .t) (a .m) (h .3);
-      short = texts-short (a .words .now) (a .n) (a .t) (a .m) (h .3);
+      filled = arranged-filled (a .words .now) (a .x) (h .3);
+      short = arranged-short (a .words .now) (a .x) (h .3);
       lent = lent-same (a .measures .now) (a .beats .now) (l .measures) (l .beats) (h .0) (h .1) (h .4);
       stands = h .5;
       plays = e;
     }
 
-lent : (p : tie.After-part-of Inv-loop μ-loop) → let tables = p .part-of .last .1 .1 .1 .1 .1 in Lent (tables .0) (tables .1 .0)
+lent : (p : tie.After-play-part Inv-loop μ-loop) → let tables = p .play-part .last .1 .1 .1 in Lent (tables .0) (tables .1 .0)
 lent p =
     let h = p .before .before .before .loop .inv in
     lent-same _ _ _ _ (told-measures (told p) ∙ h .0) (told-beats (told p) ∙ h .1) (h .4)
@@ -109,11 +109,11 @@ next : (c : tie.After-struct-known4 Inv-loop μ-loop) →
     let q = c .before .before .before .before .before .before .before .before .before .before .before in
     let l = q .before .before .before .before .before .before .before .before .before .before .before in
     let a = l .before .before .before .before .before .before .args in
-    let row = rowOfTexts (a .words .now) (a .n) (a .t) (a .m) in
+    let row = arrangedRow (a .words .now) (a .x) in
     let written = c .before .before .before .before .before .before .put-measures2 in
-    Stands (a .s .now) (a .n) row (l .loop .from + c .before .measure-of .result .first)
+    Stands (a .s .now) (a .x .n) row (l .loop .from + c .before .measure-of .result .first)
     (record { copy = written .last .1 .1 .1 .1 .1 .0; at = written .result })
-    (puts (patternLines (a .s .now) (a .n) row) (record { copy = a .copy .now; at = a .at }))
+    (puts (patternLines (a .s .now) (a .x .n) row) (record { copy = a .copy .now; at = a .at }))
     × (1 ≤ c .before .measure-of .result .first)
 next c =
     let q = c .before .before .before .before .before .before .before .before .before .before .before in

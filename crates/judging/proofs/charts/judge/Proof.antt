@@ -31,30 +31,31 @@ later-stages-requires c κs =
     let keys = song-keys s (ends .result) (found .result) (ends .ensures)
     (subst (λ (run : Run). KeysAre (linesOf s run) (found .result))
     (c .before .before .before .before .before .before .lines-before .ensures) (found .ensures)) in
-    (c .before .before .before .load .ensures .0, keys .time)
+    let pre = c .before .before .before .before .before .before .before .before .before .before .pre in
+    (c .before .before .before .load .ensures .0, keys, rw (c .before .before .before .load .ensures .1) (pre .2))
 
 returns : tie.Need-returns
 returns c =
-    let s = c .before .before .before .before .before .before .before .before .before .before .before .before .before .before .args .s .now in
-    let found = c .before .before .before .before .before .before .before .before .before .keys-of in
-    let ends = c .before .before .before .before .before .before .before .before .before .before .before .metadata-end in
-    let loads = c .before .before .before .before .before .before .before .load .ensures .0 in
-    let later = c .before .before .before .later-stages .ensures in
+    let s = c .before .before .before .before .before .before .before .before .before .before .before .before .before .before .before .before .args .s .now in
+    let found = c .before .before .before .before .before .before .before .before .before .before .before .keys-of in
+    let ends = c .before .before .before .before .before .before .before .before .before .before .before .before .before .metadata-end in
+    let loads = c .before .before .before .before .before .before .before .before .before .load .ensures .0 in
+    let later = c .before .before .before .before .before .later-stages .ensures in
     record {
       refusal = later .0;
       writable = λ z.
+          let all = later .1 z in
           record {
             ends = ends .ensures;
-            keys =
-                song-keys s (ends .result) (found .result) (ends .ensures)
-                (subst (λ (run : Run). KeysAre (linesOf s run) (found .result))
-                (c .before .before .before .before .before .before .before .before .before .before .lines-before .ensures)
-                (found .ensures));
-            ready = later .1 .1 z .1;
-            begins = loads .begins (later .1 .1 z .0);
-            filled = loads .filled (later .1 .1 z .0);
-            clear = song-clear (songOf s) (ap (λ (q : Refusal). q .number) (sym (later .0)) ∙ z);
-            holds = later .1 .0 z;
+            begins = loads .begins (all .early);
+            laid = record {
+              mark = c .before .before .before .before .before .before .before .before .before .load .result .mark;
+              ready = all .ready;
+              row = all .row;
+              fits = all .fits;
+              clear = song-clear (songOf s) (ap (λ (q : Refusal). q .number) (sym (later .0)) ∙ z);
+            };
+            holds = all .holds;
           };
     }
 

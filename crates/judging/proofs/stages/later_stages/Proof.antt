@@ -19,19 +19,28 @@ returns c =
     let n = c .before .if1 .taken in
     let e = ap (λ (r : Totals). r .refusal) (c .refused .ensures) in (
       e ∙ stage-refused (referenceFaults song) (playingFaults song) (loaded .refusal) (loads .refused n) n,
-      ((λ z. refused-says (c .refused .result) (loaded .refusal) e n z), (λ z. refused-says (c .refused .result) (loaded .refusal) e n z)),
+      (λ z. refused-says (c .refused .result) (loaded .refusal) e n z),
     )
 
 walk-requires : tie.Need-walk-requires
 walk-requires c κs =
     let pre = c .before .before .before .before .before .before .pre in
     let z = c .before .if1 .left in
-    (pre .0 .begins z, pre .0 .ready z, pre .0 .filled z, pre .1, pre .0 .clear z)
+    ((pre .0 .begins z, pre .0 .ready z, pre .0 .filled z, pre .2), (pre .1, pre .0 .clear z))
 
 returns-2 : tie.Need-returns-2
 returns-2 c =
     let later = c .before .before .walk .ensures in
-    (later .0, (later .1 .0, (λ z. (c .before .before .before .before .if1 .left, later .1 .1 .0))))
+    (
+      later .0,
+      λ z. record {
+        early = c .before .before .before .before .if1 .left;
+        ready = later .1 .1 .1 .0;
+        row = later .1 .1 .0 z .0;
+        fits = later .1 .1 .0 z .1;
+        holds = later .1 .0 z;
+      },
+    )
 
 pub later-stages-spec : {M : Type 1} → statement M
 later-stages-spec = tie.close (tie.spec (λ c κs. search needs) returns walk-requires (λ c. search needs) returns-2)

@@ -1,13 +1,13 @@
--- What is known of the sections passed, and what is left of stage 3, is all of it; behind the last the outcome is the verdict.
+-- What is known of the sections passed, and what is left of stage 3, is all of it; behind the last the outcome is the verdict, and all of them stand in the row.
 use Rattle.judging.proofs.OpenedLaws.{opened-measurable}
 use Rattle.judging.proofs.LengthsAreLaws.{lengths-small}
 use Rattle.judging.proofs.ReferenceLaws.{ReferencesLeft, fault-at, references-start, references-over, references-stop, references-next}
 use Rattle.judging.proofs.StageLaws.{stage-refused, refused-says}
+use Rattle.judging.proofs.RowIsLaws.{RowIs, row-is-start, row-before, row-is-next, row-is-end}
 use Rattle.judging.proofs.WalkLaws.{Walked, walked-start, walk-sings, walk-on, walk-refused, outcome-verdict, outcome-holds}
 use Rattle.judging.specs.declared.sums.Totals.{Totals}
 use Rattle.judging.specs.Stages.{playingFaults, laterFaults}
 use Rattle.judging.specs.Sums.{Holds}
-use Rattle.laying.specs.Scores.{Ready}
 use Rattle.sections.specs.Onward.{Onward}
 use Rattle.songcode.specs.answer.Answer.{songOf}
 use Rattle.songcode.specs.answer.References.{referenceFaults}
@@ -22,118 +22,133 @@ use Rattle.judging.proofs.walking.walk.Statement.{statement}
 use Rattle.judging.proofs.walking.walk.Tie as tie
 
 abbrev Inv-loop : tie.InvT-loop
-Inv-loop s mark time words₀ place₀ metered₀ sung₀ words place metered sung =
-    Onward s place × Ready s words mark × (length words ≡ length words₀) × (mark ≤ place .at) × ReferencesLeft s place × Walked s place metered sung
+Inv-loop s song mark words₀ place₀ from at₀ metered₀ sung₀ words place at metered sung =
+    Onward s place × RowIs s words mark at place × (length words ≡ length words₀) × ReferencesLeft s place × Walked s place metered sung
 
 abbrev μ-loop : tie.MeasureT-loop
-μ-loop s mark time words₀ place₀ metered₀ sung₀ words place metered sung = length s - place .at
+μ-loop s song mark words₀ place₀ from at₀ metered₀ sung₀ words place at metered sung = length s - place .at
 
 loop-holds : tie.Need-loop-holds Inv-loop μ-loop
 loop-holds c =
     let h = c .before .before .before .before .pre in (
-      h .0 .onward,
-      h .1,
+      h .0 .0 .onward,
+      row-is-start (h .0 .0) (h .0 .1) (h .0 .2),
       refl,
-      h .2,
-      references-start (h .0) (h .4),
-      rw (c .nothing-sung .ensures, c .before .nothing-metered .ensures) (walked-start (h .0)),
+      references-start (h .0 .0) (h .1 .1),
+      rw (c .nothing-sung .ensures, c .before .nothing-metered .ensures) (walked-start (h .0 .0)),
     )
 
-open-section-requires : tie.Need-open-section-requires Inv-loop μ-loop
-open-section-requires c κs = let i = c .before .before .before .loop .inv in (i .0, c .before .if1 .taken, i .1, i .3)
+lay-section-requires : tie.Need-lay-section-requires Inv-loop μ-loop
+lay-section-requires c κs =
+    let i = c .before .before .before .loop .inv in
+    let h = c .before .before .before .before .before .before .before .before .pre in
+    ((i .0, c .before .if1 .taken, i .1 .room, rw (i .2) (h .0 .3)), (row-before (i .1), h .1 .0))
 
 name-fault-requires : tie.Need-name-fault-requires Inv-loop μ-loop
-name-fault-requires c κs = let w = c .before .before .before .before .before .open-section .ensures in (w .0 .met .read .pattern-placed, w .1 .0 .told _ refl)
+name-fault-requires c κs =
+    let q = c .before .before .before .before in
+    let i = q .before .before .before .before .loop .inv in
+    let h = q .before .before .before .before .before .before .before .before .before .pre in
+    let w = q .lay-section .ensures in
+    let laid = row-is-next (q .lay-section .result) (i .1) (w .0) (rw (i .2) (h .0 .3)) (w .1) in
+    (w .0 .opens .met .read .pattern-placed, laid .ready .told _ refl)
 
 same-length : tie.Need-same-length Inv-loop μ-loop
 same-length c =
-    let q = c .before .before .before .before .before .before .before .before .before in
-    q .open-section .ensures .1 .1 ∙ q .before .before .before .before .loop .inv .2
+    let q = c .before .before .before .before .before .before .before .before in
+    q .lay-section .ensures .1 ∙ q .before .before .before .before .loop .inv .2
 
 returns : tie.Need-returns Inv-loop μ-loop
 unfolding laterFaults
 returns c =
-    let q = c .before .before .before .before .before .before .before .before .before in
+    let q = c .before .before .before .before .before .before .before .before in
     let i = q .before .before .before .before .loop .inv in
-    let w = q .open-section .ensures in
+    let h = q .before .before .before .before .before .before .before .before .before .pre in
+    let w = q .lay-section .ensures in
+    let laid = row-is-next (q .lay-section .result) (i .1) (w .0) (rw (i .2) (h .0 .3)) (w .1) in
     let song = songOf (q .before .before .before .before .before .before .before .before .before .args .s .now) in
     let fault = c .before .before .before .name-fault in
     let n = c .before .if2 .taken in
     let e = ap (λ (r : Totals). r .refusal) (c .refused .ensures) in
-    let three = references-stop (w .0) (fault-at (song .definitions) (fault .result) (w .0) (fault .ensures)) n (i .4) in (
+    let three = references-stop (w .0 .opens) (fault-at (song .definitions) (fault .result) (w .0 .opens) (fault .ensures)) n (i .3) in (
       e ∙ stage-refused (referenceFaults song) (playingFaults song) (fault .result) three n,
-      ((λ z. refused-says (c .refused .result) (fault .result) e n z), (w .1 .0, w .1 .1 ∙ i .2)),
+      (
+        (λ z. refused-says (c .refused .result) (fault .result) e n z),
+        ((λ z. refused-says (c .refused .result) (fault .result) e n z), (laid .ready, w .1 ∙ i .2)),
+      ),
     )
 
 with-measures-requires : tie.Need-with-measures-requires Inv-loop μ-loop
 with-measures-requires c κs =
-    let q = c .before .before .before .before .before .before .before .before .before .before in (
-      rw (c .before .meter-of .ensures) (opened-measurable _ _ _ _ (q .open-section .ensures .0)
-          (q .before .before .before .before .before .before .before .before .before .pre .3)),
-      lengths-small _ _ _ (q .before .before .before .before .loop .inv .5 .lengths),
-    )
+    let q = c .before .before .before .before .before .before .before .before in
+    let i = q .before .before .before .before .loop .inv in
+    let h = q .before .before .before .before .before .before .before .before .before .pre in
+    let w = q .lay-section .ensures in
+    let laid = row-is-next (q .lay-section .result) (i .1) (w .0) (rw (i .2) (h .0 .3)) (w .1) in
+    (rw (w .0 .said) (opened-measurable _ _ _ _ (w .0 .opens) (h .1 .0 .time)), lengths-small _ _ _ (i .4 .lengths))
 
 sing-requires : tie.Need-sing-requires Inv-loop μ-loop
 sing-requires c κs =
-    let q = c .before .before .before .before .before .before .before .before .before .before .before .before .before .before .before in
+    let q = c .before .before .before .before .before .before .before .before .before .before .before .before .before in
     let i = q .before .before .before .before .loop .inv in
-    walk-sings (q .open-section .result) (q .open-section .ensures .0) (i .0) (q .before .before .if1 .taken) (i .1 .small)
-    (q .before .before .before .before .before .before .before .before .before .pre .3)
-    (c .before .before .before .before .before .before .meter-of .ensures) _ _ (i .5)
+    let h = q .before .before .before .before .before .before .before .before .before .pre in
+    let w = q .lay-section .ensures in
+    let laid = row-is-next (q .lay-section .result) (i .1) (w .0) (rw (i .2) (h .0 .3)) (w .1) in
+    walk-sings (q .lay-section .result) (w .0 .opens) (i .0) (q .before .before .if1 .taken) (i .1 .ready .small) (h .1 .0 .time) (w .0 .said) _ _ (i .4)
     (c .before .before .before .before .with-measures .ensures) (c .before .before .before .metered-refusal .ensures) (c .before .if3 .taken)
 
 loop-less : tie.Need-loop-less Inv-loop μ-loop
 loop-less c =
-    let q = c .before .before .before .before .before .before .before .before .before .before .before .before .before .before .before in
-    omega (arith, q .open-section .ensures .0 .met .further, q .before .before .if1 .taken)
+    let q = c .before .before .before .before .before .before .before .before .before .before .before .before .before in
+    omega (arith, q .lay-section .ensures .0 .opens .met .further, q .before .before .if1 .taken)
 
 loop-again : tie.Need-loop-again Inv-loop μ-loop
 loop-again c =
-    let q = c .before .before .before .before .before .before .before .before .before .before .before .before .before .before .before in
+    let q = c .before .before .before .before .before .before .before .before .before .before .before .before .before in
     let i = q .before .before .before .before .loop .inv in
-    let w = q .open-section .ensures in
-    let further = w .0 .met .further in
+    let h = q .before .before .before .before .before .before .before .before .before .pre in
+    let w = q .lay-section .ensures in
+    let laid = row-is-next (q .lay-section .result) (i .1) (w .0) (rw (i .2) (h .0 .3)) (w .1) in
     let song = songOf (q .before .before .before .before .before .before .before .before .before .args .s .now) in
-    let fault = c .before .before .before .before .before .before .before .before .before .name-fault in
+    let fault = c .before .before .before .before .before .before .before .before .name-fault in
     let inside = q .before .before .if1 .taken in
-    let time = q .before .before .before .before .before .before .before .before .before .pre .3 in
-    let meter = c .before .before .before .before .before .before .meter-of .ensures in
+    let time = h .1 .0 .time in
+    let meter = w .0 .said in
     let measures = c .before .before .before .before .with-measures .ensures in
     let refusal = c .before .before .before .metered-refusal .ensures in (
-      w .0 .met .onward,
-      w .1 .0,
-      w .1 .1 ∙ i .2,
-      omega (arith, i .3),
-      references-next (w .0) (fault-at (song .definitions) (fault .result) (w .0) (fault .ensures))
-          (c .before .before .before .before .before .before .before .if2 .left) (i .4),
+      w .0 .opens .met .onward,
+      laid,
+      w .1 ∙ i .2,
+      references-next (w .0 .opens) (fault-at (song .definitions) (fault .result) (w .0 .opens) (fault .ensures)) (c .before .before .before .before .before .before .if2 .left) (i .3),
       ⊎-elim
-          (λ v. walk-on (q .open-section .result) (w .0) (i .0) inside (i .1 .small) time meter _ _ (i .5) measures refusal (v .0 .taken)
+          (λ v. walk-on (q .lay-section .result) (w .0 .opens) (i .0) inside (i .1 .ready .small) time meter _ _ (i .4) measures refusal (v .0 .taken)
           (v .3 ∙ v .2 .ensures))
-          (λ v. walk-refused (q .open-section .result) (w .0) (i .0) inside (i .1 .small) time meter _ _ (i .5) measures refusal (v .0 .left) (v .1))
+          (λ v. walk-refused (q .lay-section .result) (w .0 .opens) (i .0) inside (i .1 .ready .small) time meter _ _ (i .4) measures refusal (v .0 .left) (v .1))
           (c .before .if3 .came),
     )
 
 same-length-2 : tie.Need-same-length-2 Inv-loop μ-loop
-same-length-2 c = c .before .before .before .loop .inv .2
+same-length-2 c =
+    c .before .before .before .loop .inv .2
 
 returns-2 : tie.Need-returns-2 Inv-loop μ-loop
 returns-2 c =
     let l = c .before .before .before .loop in
     let s = c .before .before .before .before .before .before .before .before .args .s .now in
     let over = c .before .if1 .left in
-    let none = references-over s (l .place) over (l .inv .4) in
-    let e = c .outcome .ensures in (
-      ap (λ (t : Totals). t .refusal) e ∙ outcome-verdict over (l .metered) (l .sung) (l .inv .5) none,
+    let none = references-over s (l .place) over (l .inv .3) in
+    let e = c .outcome-of .ensures in (
+      ap (λ (t : Totals). t .refusal) e ∙ outcome-verdict over (l .metered) (l .sung) (l .inv .4) none,
       (
         (λ z. subst (λ t. Holds (tables (songOf s)) t) (sym e)
-            (outcome-holds over (l .metered) (l .sung) (l .inv .5) (ap (λ (t : Totals). t .refusal .number) (sym e) ∙ z))),
-        (l .inv .1, l .inv .2),
+            (outcome-holds over (l .metered) (l .sung) (l .inv .4) (ap (λ (t : Totals). t .refusal .number) (sym e) ∙ z))),
+        ((λ z. row-is-end (l .inv .1) over), (l .inv .1 .ready, l .inv .2)),
       ),
     )
 
 pub walk-spec : {M : Type 1} → statement M
 walk-spec =
     tie.close
-    (tie.spec Inv-loop μ-loop (λ c κs. search needs) (λ c κs. search needs) loop-holds open-section-requires name-fault-requires
-    (λ c κs. search needs) same-length returns (λ c κs. search needs) with-measures-requires (λ c κs. search needs) sing-requires loop-less
+    (tie.spec Inv-loop μ-loop (λ c. search needs) (λ c κs. search needs) (λ c κs. search needs) loop-holds lay-section-requires name-fault-requires
+    (λ c κs. search needs) same-length returns with-measures-requires (λ c κs. search needs) sing-requires loop-less
     loop-again (λ c κs. search needs) same-length-2 returns-2)

@@ -21,7 +21,7 @@ returns-2 c =
     let bs = entry .args .text .now in
     let judge = c .before .before .before .before .before .before .before .judge in
     let w = judge .ensures .writable (c .before .if1 .left) in
-    let is = song-accepted bs (entry .pre .0) (entry .pre .1) (w .clear) in
+    let is = song-accepted bs (entry .pre .0) (entry .pre .1) (w .laid .clear) in
     counted-accepted bs (tables (songOf bs)) (judge .result .totals) (c .accepted .result) is (w .holds) (c .accepted .ensures)
 
 pub count-song-spec : {M : Type 1} → statement M

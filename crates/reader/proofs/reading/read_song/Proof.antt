@@ -34,7 +34,7 @@ returns-2 c =
     let judge = c .before .before .before .before .before .before .before .before .before .judge in
     let w = judge .ensures .writable (c .before .before .before .if1 .left) in
     let short = short-is (roomOf lent) (songOf bs) (judge .result .totals) (w .holds) (sym (c .before .before .is-short .ensures) ∙ c .before .if2 .taken) in
-    let is = short-refused (roomOf lent) bs (song-accepted bs (entry .pre .0) (entry .pre .1) (w .clear)) short in
+    let is = short-refused (roomOf lent) bs (song-accepted bs (entry .pre .0) (entry .pre .1) (w .laid .clear)) short in
     promised-refused bs lent 18 0 (c .refused2 .result) is (c .refused2 .ensures)
 
 write-tables-requires : tie.Need-write-tables-requires
@@ -58,25 +58,20 @@ write-tables-requires c κs =
 returns-3 : tie.Need-returns-3
 unfolding roomOf
 returns-3 c =
-    let entry = c .before .before .before .before .before .before .before .before .before .before .before .before .before .before .before
-    .before .before .before .before .before .before .before .before .before .before .before .before .before .before .before .before
-    .before .before .before .before .before .before in
+    let wrote = c .before .before .before .before .before .before .before .before .before .before .before in
+    let asked = wrote .before .before .before .before .before .before .before in
+    let judged = asked .before .before .before .before .before .before .before .before in
+    let entry = judged .before .before .before .before .before .before .before .before .before in
     let a = entry .args in
     let bs = a .text .now in
     let lent : Lent = record { keys = a .keys .now; sections = a .sections .now; measures = a .measures .now; beats = a .beats .now; items = a .items .now } in
-    let judge = c .before .before .before .before .before .before .before .before .before .before .before .before .before .before .before
-    .before .before .before .before .before .before .before .before .before .before .before .before .before .judge in
-    let w = judge .ensures .writable (c .before .before .before .before .before .before .before .before .before .before .before .before
-    .before .before .before .before .before .before .before .before .before .before .if1 .left) in
-    let long = long-is (roomOf lent) (songOf bs) (judge .result .totals) (w .holds)
-    (sym (c .before .before .before .before .before .before .before .before .before .before .before .before .before .before .before
-    .before .before .before .before .before .before .is-short .ensures)
-    ∙ c .before .before .before .before .before .before .before .before .before .before .before .before .before .before .before .before
-    .before .before .before .before .if2 .left) in
-    let is = roomy-accepted (roomOf lent) bs (song-accepted bs (entry .pre .0) (entry .pre .1) (w .clear)) long in
-    let wrote = c .before .before .before .before .before .before .before .before .before .before .before .before .before .write-tables .ensures in
-    promised-accepted bs lent _ (tables (songOf bs)) (judge .result .totals) (c .accepted .result) is (w .holds) (wrote .0) (wrote .1 .0)
-    (wrote .1 .1 .0) (wrote .1 .1 .1 .0) (wrote .1 .1 .1 .1) (c .accepted .ensures)
+    let judge = judged .judge in
+    let w = judge .ensures .writable (asked .before .before .if1 .left) in
+    let long = long-is (roomOf lent) (songOf bs) (judge .result .totals) (w .holds) (sym (asked .before .is-short .ensures) ∙ asked .if2 .left) in
+    let is = roomy-accepted (roomOf lent) bs (song-accepted bs (entry .pre .0) (entry .pre .1) (w .laid .clear)) long in
+    let all = wrote .write-tables .ensures in
+    promised-accepted bs lent _ (tables (songOf bs)) (judge .result .totals) (c .accepted .result) is (w .holds) (all .0) (all .1 .0)
+    (all .1 .1 .0) (all .1 .1 .1 .0) (all .1 .1 .1 .1) (c .accepted .ensures)
 
 pub read-song-spec : {M : Type 1} → statement M
 read-song-spec =

@@ -1,0 +1,83 @@
+-- The sections that are passed stand in the row, and those ahead have room behind them.
+use Prim.Native.Nat.{ℕ, _+_, _<_, _≤_}
+use mathlib.Core.Path.{_≡_, refl, sym, ap, _∙_, subst}
+use mathlib.Core.List.{List, [], _∷_, _++_, append-assoc, append-nil}
+use native.Mathlib.Omega.{arith}
+use lib.ListN.{length, take}
+use Rattle.songcode.specs.Song.{Section}
+use Rattle.songcode.specs.answer.Answer.{songOf}
+use Rattle.score.specs.Sections.{sectionRow}
+use Rattle.score.specs.Fitting.{SectionsFit}
+use Rattle.score.specs.Seen.{RowFrom}
+use Rattle.score.proofs.RowLaws.{fits-append, row-start, row-grows}
+use Rattle.sections.specs.declared.blocks.Place.{Place}
+use Rattle.sections.specs.declared.values.Keys.{Keys}
+use Rattle.sections.specs.Onward.{sectionsFrom, sectionAt}
+use Rattle.sections.proofs.MeetLaws.{sections-over}
+use Rattle.laying.specs.declared.texts.Opened.{Opened}
+use Rattle.laying.specs.Scores.{Ready, Begins}
+use Rattle.laying.specs.Rows.{RoomFor, Before, Lays}
+use Rattle.laying.proofs.LaidLaws.{laid-before}
+use Rattle.laying.proofs.BulkLaws.{room-start}
+use Rattle.laying.proofs.SectionLaidLaws.{ready-kept}
+
+pub record RowIs (s ws : List ℕ) (mark at : ℕ) (p : Place) : Type 0 where
+  pub ready : Ready s ws mark
+  pub below : mark < at
+  pub room : RoomFor s p at
+  pub done : List Section
+  pub row : RowFrom (songOf s) ws (mark + 1) at done
+  pub fits : SectionsFit (songOf s) done
+  pub all : done ++ sectionsFrom s p ≡ songOf s .sections
+
+pub row-is-start : {s ws : List ℕ} {mark : ℕ} {p : Place} → Begins s p → Ready s ws mark → mark ≤ p .at → RowIs s ws mark (mark + 1) p
+unfolding SectionsFit
+row-is-start {s} {ws} {mark} {p} b r low =
+    let i = b .onward .inside in
+    let z = r .small in
+    record {
+      ready = r;
+      below = omega arith;
+      room = room-start s p mark i low;
+      done = [];
+      row = row-start (songOf s) ws (mark + 1) (omega arith);
+      fits = tt;
+      all = b .sections;
+    }
+
+-- The definitions stand before the place, and what is laid from there on has room.
+pub row-before : {s ws : List ℕ} {mark at : ℕ} {p : Place} → RowIs s ws mark at p → Before s ws at
+row-before {mark = mark} i = record { mark = mark; ready = i .ready; below = i .below }
+
+pub row-is-next : {s old new : List ℕ} {mark at : ℕ} {p : Place} {song : Keys} (r : Opened) → RowIs s old mark at p → Lays s p song at old new r
+    → length s + 16 ≤ length old → length new ≡ length old → RowIs s new mark (r .end) (r .next)
+unfolding RoomFor
+row-is-next {s} {old} {new} {mark} {at} {p} r i l big same =
+    let x = sectionAt s p in
+    let a = i .room in
+    let b = l .room in
+    let c = i .below in
+    let e = l .end in
+    let z = i .ready .small in
+    let inside : at ≤ length old = omega arith in
+    let kept : take at new ≡ take at old = ap (take at) (l .words) ∙ laid-before at (sectionRow (songOf s) x) old inside in
+    record {
+      ready = ready-kept (i .ready) c kept same;
+      below = omega arith;
+      room = b;
+      done = i .done ++ (x ∷ []);
+      row = row-grows (songOf s) old new (mark + 1) at (r .end) (i .done) x (i .row) (l .words) e inside (omega arith);
+      fits = fits-append (songOf s) (i .done) x (i .fits) (l .fits);
+      all = append-assoc (i .done) (x ∷ []) (sectionsFrom s (r .next))
+          ∙ ap (λ (xs : List Section). i .done ++ xs) (sym (l .opens .met .first)) ∙ i .all;
+    }
+
+-- Behind the last section all of them stand there.
+pub row-is-end : {s ws : List ℕ} {mark at : ℕ} {p : Place} → RowIs s ws mark at p → length s ≤ p .at
+    → RowFrom (songOf s) ws (mark + 1) at (songOf s .sections) × SectionsFit (songOf s) (songOf s .sections)
+row-is-end {s} {ws} {mark} {at} {p} i over =
+    let e : i .done ≡ songOf s .sections = sym (append-nil (i .done)) ∙ ap (λ (xs : List Section). i .done ++ xs) (sym (sections-over s p over)) ∙ i .all in
+    (
+      subst (λ (xs : List Section). RowFrom (songOf s) ws (mark + 1) at xs) e (i .row),
+      subst (SectionsFit (songOf s)) e (i .fits),
+    )

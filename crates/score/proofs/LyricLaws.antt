@@ -1,0 +1,46 @@
+-- The two words of a lyric line tell what it says.
+use Prim.Native.Nat.{ℕ, _+_, _-_, _*_, _^_, _/_, _%_}
+use mathlib.Core.Path.{_≡_}
+use mathlib.Core.Option.{Option·getD}
+use native.Mathlib.Omega.{arith}
+use lib.ListN.{length}
+use Rattle.songcode.specs.Song.{LyricLine}
+use Rattle.songcode.specs.answer.Lyrics.{Styled, wordsOf, styled, countOf}
+use Rattle.songcode.specs.answer.Tables.{offset}
+use Rattle.score.specs.LyricLines.{lyricIn}
+use Rattle.score.specs.Fitting.{LyricBounds, LyricFits}
+
+module _ (number count : ℕ) (w : Styled) (f : LyricBounds number count w) where
+  abbrev place : ℕ
+  place = offset (w .text) * 2 ^ 16 + length (w .text)
+
+  abbrev rest : ℕ
+  rest = (number - 1) * 2 ^ 16 + count * 2 ^ 2 + w .style
+
+  line-read : lyricIn place rest ≡ record { offset = offset (w .text); length = length (w .text); number = number; count = count; style = w .style }
+  unfolding lyricIn
+  line-read =
+      let short = f .short in
+      let few = f .few in
+      let style = f .style in
+      let one = f .first in
+      let a : place / 65536 ≡ offset (w .text) = omega arith in
+      let b : place % 65536 ≡ length (w .text) = omega arith in
+      let c : rest / 65536 + 1 ≡ number = omega arith in
+      let d : rest / 4 % 16384 ≡ count = omega arith in
+      let e : rest % 4 ≡ w .style = omega arith in
+      rw (a, b, c, d, e)
+
+-- What the code reads of the line whose words these are.
+pub lyric-read : (l : LyricLine) → LyricFits l → lyricIn
+    (offset (styled (wordsOf (l .text) .text) .text) * 2 ^ 16 + length (styled (wordsOf (l .text) .text) .text))
+    ((l .number - 1) * 2 ^ 16 + Option·getD (countOf l) 0 * 2 ^ 2 + styled (wordsOf (l .text) .text) .style)
+    ≡ record {
+      offset = offset (styled (wordsOf (l .text) .text) .text);
+      length = length (styled (wordsOf (l .text) .text) .text);
+      number = l .number;
+      count = Option·getD (countOf l) 0;
+      style = styled (wordsOf (l .text) .text) .style;
+    }
+unfolding LyricFits
+lyric-read l f = line-read (l .number) (Option·getD (countOf l) 0) (styled (wordsOf (l .text) .text)) f
