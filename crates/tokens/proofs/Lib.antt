@@ -1,5 +1,4 @@
 -- Laws under the proofs of this crate's functions, and those that the crates above cite.
-pub mod FitLaws
 pub mod RowLaws
 pub mod NumberLaws
 pub mod BaseLaws

@@ -1,15 +1,14 @@
--- The rows of spellings as the code keeps them, and the longest spelling of a row that fits, one spelling at a time.
+-- The rows of spellings as the code keeps them, and the base that the row of a letter holds.
 use Prim.Native.Nat.{ℕ, zero, suc, _+_, _-_, _<_, _≤_}
 use mathlib.Core.Path.{_≡_, refl, sym, ap, _∙_}
 use mathlib.Core.List.{List, [], _∷_, map}
 use mathlib.Core.Bool.{Bool, true, false, _&&_}
-use mathlib.Core.Option.{Option, none, some}
+use mathlib.Core.Option.{Option, none}
 use native.Mathlib.Omega.{arith}
 use native.Mathlib.Numerals.{add-one}
-use native.Mathlib.Nat.{add-suc}
-use borrow.Author.Tests.{leb-true, leb-false, ltb-true, lt-ltb, le-ltb, ne-eqb}
-use lib.Dec.{eqb, leb, ltb}
-use lib.ListN.{length, getD, drop, drop-of-length-le, List·getD-map, List·getD-eq-default}
+use borrow.Author.Tests.{leb-true, eqb-true, eqb-false, ne-eqb}
+use lib.Dec.{eqb, leb}
+use lib.ListN.{getD, drop, drop-of-length-le}
 use lib.Seq.{drop-cons}
 use Rattle.songcode.specs.Lists.{if_then_else_, every}
 use Rattle.songcode.specs.Bytes.{begins, ascii}
@@ -17,23 +16,13 @@ use Rattle.songcode.specs.answer.Chords.{rows, spellings, bases, endsInM, isPas
 use Rattle.songcode.specs.answer.Chords as songcode
 use Rattle.songcode.proofs.ListLaws.{by-cases, both-pass}
 use Rattle.text.proofs.TestLaws.{false-not-true}
-use Rattle.tokens.specs.declared.bases.Base.{Base}
-use Rattle.tokens.specs.Bases.{baseOf, unpadded, three, takenLength, firstOf, rowOf}
-
--- Six spellings: those of a row, and empty ones behind them.
-abbrev six : List (List ℕ) → List (List ℕ)
-six l = getD l 0 [] ∷ getD l 1 [] ∷ getD l 2 [] ∷ getD l 3 [] ∷ getD l 4 [] ∷ getD l 5 [] ∷ []
-
-six-at : (l : List (List ℕ)) (j : ℕ) → j < 6 → getD (six l) j [] ≡ getD l j []
-six-at l zero h = refl
-six-at l (suc zero) h = refl
-six-at l (suc (suc zero)) h = refl
-six-at l (suc (suc (suc zero))) h = refl
-six-at l (suc (suc (suc (suc zero)))) h = refl
-six-at l (suc (suc (suc (suc (suc zero))))) h = refl
-six-at l (suc (suc (suc (suc (suc (suc j)))))) h = let z : ⊥ = omega arith in absurd z
+use Rattle.tokens.specs.declared.bases.Behind.{Behind}
+use Rattle.tokens.specs.Bases.{baseOf, firstOf, rowOf, minorOf, behindOf, hasBehind, six, placeFrom, inRow}
 
 -- The code's table: the rows of songcode, each spelling padded to three bytes and each row to six spellings.
+abbrev three : List ℕ → List ℕ
+three n = getD n 0 0 ∷ getD n 1 0 ∷ getD n 2 0 ∷ []
+
 abbrev pub table : List (List (List ℕ))
 unfolding rows spellings ascii
 table = map (λ r. map three (six (spellings r))) rows
@@ -48,85 +37,57 @@ seven P a b c d e f g (suc (suc (suc (suc (suc zero))))) h = f
 seven P a b c d e f g (suc (suc (suc (suc (suc (suc zero)))))) h = g
 seven P a b c d e f g (suc (suc (suc (suc (suc (suc (suc r))))))) h = let z : ⊥ = omega arith in absurd z
 
-table-row : (r : ℕ) → r < 7 → map (λ n. unpadded (three n)) (getD table r []) ≡ six (rowOf r)
-unfolding rowOf unpadded if_then_else_
-table-row =
-    seven (λ r. map (λ n. unpadded (three n)) (getD table r []) ≡ six (rowOf r)) refl refl refl refl refl refl refl
+-- The `m` of a minor chord, by the bytes that stand there.
+pub minor-other : (t : List ℕ) → (getD t 0 0 ≡ 109 → ⊥) → 0 ≡ minorOf t
+unfolding minorOf begins if_then_else_ ascii
+minor-other [] m = refl
+minor-other (x ∷ t) m = rw (ne-eqb 109 x (λ z. m (sym z)))
 
-pub table-at : (r j : ℕ) → r < 7 → j < 6 → unpadded (three (getD (getD table r []) j [])) ≡ getD (rowOf r) j []
-unfolding unpadded if_then_else_
-table-at r j h l =
-    sym (List·getD-map (λ n. unpadded (three n)) (getD table r []) j [])
-    ∙ ap (λ ss. getD ss j []) (table-row r h)
-    ∙ six-at (rowOf r) j l
+pub minor-here : (t : List ℕ) → getD t 0 0 ≡ 109 → (getD t 1 0 ≡ 97 → getD t 2 0 ≡ 106 → ⊥) → 109 ≡ minorOf t
+unfolding minorOf begins if_then_else_ ascii
+minor-here [] m n = absurd (omega arith)
+minor-here (x ∷ []) m n = rw m
+minor-here (x ∷ a ∷ []) m n = rw m (by-cases (eqb 97 a) (λ e. rw e) (λ e. rw e))
+minor-here (x ∷ a ∷ j ∷ t) m n =
+    rw m
+    (by-cases
+    (eqb 97 a)
+    (λ e. rw (e, ne-eqb 106 j (λ z. n (sym (eqb-true 97 a e)) (sym z))))
+    (λ e. rw e))
 
--- No spelling is empty.
-row-spelled : (r : ℕ) → r < 7 → every (λ s. ltb 0 (length s)) (rowOf r) ≡ true
-unfolding rowOf every
-row-spelled = seven (λ r. every (λ s. ltb 0 (length s)) (rowOf r) ≡ true) refl refl refl refl refl refl refl
+pub minor-maj : (t : List ℕ) → getD t 0 0 ≡ 109 → getD t 1 0 ≡ 97 → getD t 2 0 ≡ 106 → 0 ≡ minorOf t
+unfolding minorOf begins if_then_else_ ascii
+minor-maj [] m a j = refl
+minor-maj (x ∷ []) m a j = absurd (omega arith)
+minor-maj (x ∷ y ∷ []) m a j = absurd (omega arith)
+minor-maj (x ∷ y ∷ z ∷ t) m a j = rw (m, a, j)
 
-every-getD : (p : List ℕ → Bool) (ss : List (List ℕ)) (j : ℕ) → every p ss ≡ true → j < length ss → p (getD ss j []) ≡ true
-unfolding every
-every-getD p [] j e h = absurd (omega arith)
-every-getD p (s ∷ ss) zero e h = both-pass (p s) (every p ss) e .0
-every-getD p (s ∷ ss) (suc j) e h = every-getD p ss j (both-pass (p s) (every p ss) e .1) (omega arith)
+-- The place of a spelling in its row, one spelling at a time.
+six-at : (l : List (List ℕ)) (j : ℕ) → j < 6 → getD (six l) j [] ≡ getD l j []
+six-at l zero h = refl
+six-at l (suc zero) h = refl
+six-at l (suc (suc zero)) h = refl
+six-at l (suc (suc (suc zero))) h = refl
+six-at l (suc (suc (suc (suc zero)))) h = refl
+six-at l (suc (suc (suc (suc (suc zero))))) h = refl
+six-at l (suc (suc (suc (suc (suc (suc j)))))) h = let z : ⊥ = omega arith in absurd z
 
-pub row-full : (r : ℕ) → r < 7 → length (rowOf r) ≤ 6
-unfolding rowOf
-row-full = seven (λ r. length (rowOf r) ≤ 6) (omega arith) (omega arith) (omega arith) (omega arith) (omega arith) (omega arith) (omega arith)
+module _ (l : List (List ℕ)) (x : Behind) (j : ℕ) where
+  pub place-over : 6 ≤ j → placeFrom j (drop j (six l)) x ≡ 0
+  unfolding placeFrom
+  place-over h = rw (drop-of-length-le (six l) h)
 
-pub first-fits : (r : ℕ) → r < 7 → firstOf r ≤ 28
-unfolding firstOf
-first-fits = seven (λ r. firstOf r ≤ 28) (omega arith) (omega arith) (omega arith) (omega arith) (omega arith) (omega arith) (omega arith)
+  module _ (h : j < 6) where
+    pub place-here : hasBehind (getD l j []) x ≡ true → placeFrom j (drop j (six l)) x ≡ j
+    unfolding placeFrom if_then_else_
+    place-here e = rw (drop-cons (six l) j [] h, six-at l j h, e)
 
--- The best after one more spelling, of number n, of which so many bytes fit.
-unfoldable pub better : ℕ → ℕ → Base → Base
-unfolding if_then_else_
-better n l b = if ltb (b .length) l then record { number = n; length = l } else b
-
-better-is : (n : ℕ) (s w : List ℕ) (o : Option songcode.Base) → 0 < length s
-    → better n (takenLength s w) (baseOf o) ≡ baseOf (if isTaken s w then longer o (record { number = n; length = length s }) else o)
-unfolding better takenLength baseOf longer if_then_else_
-better-is n s w none h = by-cases (isTaken s w) (λ e. rw (e, lt-ltb 0 (length s) h)) (λ e. rw e)
-better-is n s w (some b) h =
-    by-cases
-    (isTaken s w)
-    (λ e. by-cases (ltb (b .length) (length s)) (λ t. rw (e, t)) (λ t. rw (e, t)))
-    (λ e. rw (e, le-ltb (b .length) 0 (omega arith)))
-
--- Behind the spellings of a row nothing is better.
-better-past : (n : ℕ) (ss : List (List ℕ)) (j : ℕ) (w : List ℕ) (b : Base) → length ss ≤ j → better n (takenLength (getD ss j []) w) b ≡ b
-unfolding better takenLength isTaken begins isPassedOver endsInM if_then_else_
-better-past n ss j w b h = rw (List·getD-eq-default ss [] h, le-ltb (b .length) 0 (omega arith))
-
--- What is found of the rest of a row, behind the best so far.
-abbrev pub found : ℕ → ℕ → List ℕ → Option songcode.Base → Option songcode.Base
-found r j w o = longestFrom isTaken (firstOf r + j) (drop j (rowOf r)) w o
-
-pub found-more : (r j : ℕ) (w : List ℕ) (o : Option songcode.Base) → r < 7 → j < 6
-    → (p : Option songcode.Base) × (better (firstOf r + j) (takenLength (getD (rowOf r) j []) w) (baseOf o) ≡ baseOf p) × (found r (j + 1) w p ≡ found r j w o)
-unfolding longestFrom
-found-more r j w o h l =
-    let ss = rowOf r in
-    by-cases
-    (leb (length ss) j)
-    (λ t. (
-      o,
-      better-past (firstOf r + j) ss j w (baseOf o) (leb-true (length ss) j t),
-      rw (drop-of-length-le ss {i = j} (leb-true (length ss) j t), drop-of-length-le ss {i = j + 1} (omega (arith, leb-true (length ss) j t))),
-    ))
-    (λ t.
-    let i = leb-false (length ss) j t in
-    let s = getD ss j [] in
-    let f : 0 < length s = ltb-true 0 (length s) (every-getD (λ s. ltb 0 (length s)) ss j (row-spelled r h) i) in
-    (_, better-is (firstOf r + j) s w o f, rw (add-one j, drop-cons ss j [] i, add-suc)))
-
-pub found-all : (r j : ℕ) (w : List ℕ) (o : Option songcode.Base) → r < 7 → 6 ≤ j → found r j w o ≡ o
-unfolding longestFrom
-found-all r j w o h l = rw (drop-of-length-le (rowOf r) {i = j} (omega (arith, row-full r h)))
+    pub place-more : hasBehind (getD l j []) x ≡ false → placeFrom j (drop j (six l)) x ≡ placeFrom (j + 1) (drop (j + 1) (six l)) x
+    unfolding placeFrom if_then_else_
+    place-more e = rw (drop-cons (six l) j [] h, six-at l j h, e, add-one j)
 
 -- The row of a letter is enough: no spelling of another row fits.
-pub row-enough : (r : ℕ) → r < 7 → (bs : List ℕ) → longestFrom isTaken 0 bases ((65 + r) ∷ bs) none
+row-enough : (r : ℕ) → r < 7 → (bs : List ℕ) → longestFrom isTaken 0 bases ((65 + r) ∷ bs) none
     ≡ longestFrom isTaken (firstOf r) (rowOf r) ((65 + r) ∷ bs) none
 unfolding longestFrom bases rowOf firstOf isTaken begins if_then_else_
 row-enough =
@@ -166,33 +127,64 @@ pub no-row : (w : List ℕ) → (65 ≤ getD w 0 0 → getD w 0 0 ≤ 71 → ⊥
 unfolding bases every
 no-row w h = none-fits 0 bases w none h refl
 
-pub row-of : (w : List ℕ) → 65 ≤ getD w 0 0 → getD w 0 0 ≤ 71
-    → longestFrom isTaken 0 bases w none ≡ longestFrom isTaken (firstOf (getD w 0 0 - 65)) (rowOf (getD w 0 0 - 65)) w none
-row-of [] p q = absurd (omega arith)
-row-of (b ∷ w) p q =
-    let e : 65 + (b - 65) ≡ b = omega arith in
-    rw e at (row-enough (b - 65) (omega arith) w)
+-- The base that the row of a letter holds, by what stands behind the letter, is the longest of the row.
+abbrev Held : ℕ → List ℕ → Type 0
+Held r bs = inRow (getD table r []) (firstOf r) (behindOf ((65 + r) ∷ bs)) ≡ baseOf (longestFrom isTaken (firstOf r) (rowOf r) ((65 + r) ∷ bs) none)
 
--- A letter behind which no longer spelling goes on is a base by itself.
-abbrev alone : ℕ → songcode.Base
-alone r = record { number = firstOf r; length = 1 }
+held-none : (r : ℕ) → r < 7 → Held r []
+unfolding inRow placeFrom hasBehind behindOf minorOf baseOf longestFrom isTaken isPassedOver endsInM begins longer if_then_else_ rowOf firstOf ascii
+held-none = seven (λ r. Held r []) refl refl refl refl refl refl refl
 
-letter-last : (r : ℕ) → r < 7 → longestFrom isTaken (firstOf r) (rowOf r) ((65 + r) ∷ []) none ≡ some (alone r)
-unfolding longestFrom isTaken isPassedOver endsInM begins longer if_then_else_ rowOf firstOf ascii
-letter-last =
-    seven (λ r. longestFrom isTaken (firstOf r) (rowOf r) ((65 + r) ∷ []) none ≡ some (alone r)) refl refl refl refl refl refl refl
+held-sharp : (t : List ℕ) (m maj : Bool) → begins (ascii "m") t ≡ m → begins (ascii "maj") t ≡ maj → (r : ℕ) → r < 7 → Held r (35 ∷ t)
+unfolding inRow placeFrom hasBehind behindOf minorOf baseOf longestFrom isTaken isPassedOver endsInM begins longer if_then_else_ rowOf firstOf ascii
+held-sharp t false maj e f = seven (λ r. Held r (35 ∷ t)) (simp e) refl (simp e) (simp e) refl (simp e) (simp e)
+held-sharp t true false e f = seven (λ r. Held r (35 ∷ t)) (simp (e, f)) refl (simp (e, f)) (simp (e, f)) refl (simp (e, f)) (simp (e, f))
+held-sharp t true true e f = seven (λ r. Held r (35 ∷ t)) (simp (e, f)) refl (simp (e, f)) (simp (e, f)) refl (simp (e, f)) (simp (e, f))
 
-module _ (c : ℕ) (rest : List ℕ) (sharp : eqb 35 c ≡ false) (flat : eqb 98 c ≡ false) (minor : eqb 109 c ≡ false) where
-  letter-before : (r : ℕ) → r < 7 → longestFrom isTaken (firstOf r) (rowOf r) ((65 + r) ∷ c ∷ rest) none ≡ some (alone r)
-  unfolding longestFrom isTaken isPassedOver endsInM begins longer if_then_else_ rowOf firstOf ascii
-  letter-before =
-      seven (λ r. longestFrom isTaken (firstOf r) (rowOf r) ((65 + r) ∷ c ∷ rest) none ≡ some (alone r))
-      (rw (sharp, flat, minor) refl) (rw (flat, minor) refl) (rw (sharp, minor) refl) (rw (sharp, flat, minor) refl) (rw (flat, minor) refl)
-      (rw (sharp, minor) refl) (rw (sharp, flat, minor) refl)
+held-flat : (t : List ℕ) (m maj : Bool) → begins (ascii "m") t ≡ m → begins (ascii "maj") t ≡ maj → (r : ℕ) → r < 7 → Held r (98 ∷ t)
+unfolding inRow placeFrom hasBehind behindOf minorOf baseOf longestFrom isTaken isPassedOver endsInM begins longer if_then_else_ rowOf firstOf ascii
+held-flat t false maj e f = seven (λ r. Held r (98 ∷ t)) (simp e) (simp e) refl (simp e) (simp e) refl (simp e)
+held-flat t true false e f = seven (λ r. Held r (98 ∷ t)) (simp (e, f)) (simp (e, f)) refl (simp (e, f)) (simp (e, f)) refl (simp (e, f))
+held-flat t true true e f = seven (λ r. Held r (98 ∷ t)) (simp (e, f)) (simp (e, f)) refl (simp (e, f)) (simp (e, f)) refl (simp (e, f))
 
-pub letter-alone : (r : ℕ) (w : List ℕ) → r < 7 → getD w 0 0 ≡ 65 + r → (getD w 1 0 ≡ 35 → ⊥) → (getD w 1 0 ≡ 98 → ⊥) → (getD w 1 0 ≡ 109 → ⊥)
-    → longestFrom isTaken (firstOf r) (rowOf r) w none ≡ some (alone r)
-letter-alone r [] h e a b c = absurd (omega arith)
-letter-alone r (x ∷ []) h e a b c = rw e (letter-last r h)
-letter-alone r (x ∷ y ∷ rest) h e a b c =
-    rw e (letter-before y rest (ne-eqb 35 y (λ z. a (sym z))) (ne-eqb 98 y (λ z. b (sym z))) (ne-eqb 109 y (λ z. c (sym z))) r h)
+held-minor : (t : List ℕ) (aj : Bool) → begins (ascii "aj") t ≡ aj → (r : ℕ) → r < 7 → Held r (109 ∷ t)
+unfolding inRow placeFrom hasBehind behindOf minorOf baseOf longestFrom isTaken isPassedOver endsInM begins longer if_then_else_ rowOf firstOf ascii
+held-minor t false e = seven (λ r. Held r (109 ∷ t)) (simp e) (simp e) (simp e) (simp e) (simp e) (simp e) (simp e)
+held-minor t true e = seven (λ r. Held r (109 ∷ t)) (simp e) (simp e) (simp e) (simp e) (simp e) (simp e) (simp e)
+
+module _ (c : ℕ) (t : List ℕ) (sharp : eqb c 35 ≡ false) (flat : eqb c 98 ≡ false) (minor : eqb c 109 ≡ false) where
+  held-other : (r : ℕ) → r < 7 → Held r (c ∷ t)
+  unfolding inRow placeFrom hasBehind behindOf minorOf baseOf longestFrom isTaken isPassedOver endsInM begins longer if_then_else_ rowOf firstOf ascii
+  held-other =
+      let s : eqb 35 c ≡ false = ne-eqb 35 c (λ z. eqb-false c 35 sharp (sym z)) in
+      let f : eqb 98 c ≡ false = ne-eqb 98 c (λ z. eqb-false c 98 flat (sym z)) in
+      let m : eqb 109 c ≡ false = ne-eqb 109 c (λ z. eqb-false c 109 minor (sym z)) in
+      seven (λ r. Held r (c ∷ t)) (simp (sharp, flat, s, f, m)) (simp (sharp, flat, s, f, m)) (simp (sharp, flat, s, f, m))
+      (simp (sharp, flat, s, f, m)) (simp (sharp, flat, s, f, m)) (simp (sharp, flat, s, f, m)) (simp (sharp, flat, s, f, m))
+
+held : (bs : List ℕ) (r : ℕ) → r < 7 → Held r bs
+held [] = held-none
+held (c ∷ t) =
+    by-cases
+    (eqb c 35)
+    (λ e. rw (eqb-true c 35 e) (held-sharp t _ _ refl refl))
+    (λ s. by-cases
+    (eqb c 98)
+    (λ e. rw (eqb-true c 98 e) (held-flat t _ _ refl refl))
+    (λ f. by-cases
+    (eqb c 109)
+    (λ e. rw (eqb-true c 109 e) (held-minor t _ refl))
+    (λ m. held-other c t s f m)))
+
+-- A byte is one of the seven letters or none of them.
+pub no-letter : (b : ℕ) → 65 ≤ b → b ≤ 71 → (b ≡ 65 → ⊥) → (b ≡ 66 → ⊥) → (b ≡ 67 → ⊥) → (b ≡ 68 → ⊥) → (b ≡ 69 → ⊥) → (b ≡ 70 → ⊥) → (b ≡ 71 → ⊥) → ⊥
+no-letter b l h =
+    let k : b - 65 < 7 = omega arith in
+    let e : b ≡ 65 + (b - 65) = omega arith in
+    λ m n o p q r s. seven (λ k. b ≡ 65 + k → ⊥) m n o p q r s (b - 65) k e
+
+-- A word that begins with a letter has its base in the letter's row.
+pub row-found : (r : ℕ) (w : List ℕ) → r < 7 → getD w 0 0 ≡ 65 + r
+    → inRow (getD table r []) (firstOf r) (behindOf w) ≡ baseOf (longestFrom isTaken 0 bases w none)
+row-found r [] h e = absurd (omega arith)
+row-found r (b ∷ bs) h e = rw e (held bs r h ∙ ap baseOf (sym (row-enough r h bs)))

@@ -1,14 +1,17 @@
 -- Base chords as the code looks them up: by rows of spellings padded with zeros.
-use Prim.Native.Nat.{ℕ, _+_}
+use Prim.Native.Nat.{ℕ, suc, _+_}
+use Prim.Native.Char.{code}
 use mathlib.Core.List.{List, [], _∷_}
+use mathlib.Core.Bool.{Bool, _&&_, not}
 use mathlib.Core.Option.{Option, none, some}
 use lib.Dec.{eqb, ltb}
-use lib.ListN.{length, getD}
+use lib.ListN.{getD, drop}
 use Rattle.songcode.specs.Lists.{if_then_else_}
-use Rattle.songcode.specs.Bytes.{begins}
-use Rattle.songcode.specs.answer.Chords.{spellings, rows, isTaken}
+use Rattle.songcode.specs.Bytes.{begins, ascii}
+use Rattle.songcode.specs.answer.Chords.{spellings, rows}
 use Rattle.songcode.specs.answer.Chords as songcode
 use Rattle.tokens.specs.declared.bases.Base.{Base}
+use Rattle.tokens.specs.declared.bases.Behind.{Behind}
 
 -- The longest base as the code answers it: length 0 where none fits.
 unfoldable pub baseOf : Option songcode.Base → Base
@@ -21,19 +24,40 @@ unfolding if_then_else_
 unpadded [] = []
 unpadded (b ∷ bs) = if eqb b 0 then [] else b ∷ unpadded bs
 
--- The three bytes of a padded spelling.
-abbrev pub three : List ℕ → List ℕ
-three n = getD n 0 0 ∷ getD n 1 0 ∷ getD n 2 0 ∷ []
+-- The `m` of a minor chord at the front of a text, which is none of a `maj`; else 0.
+unfoldable pub minorOf : List ℕ → ℕ
+unfolding if_then_else_ begins ascii
+minorOf t = if begins (ascii "m") t && not (begins (ascii "maj") t) then code "m" else 0
 
--- The length of a spelling of which k bytes were passed, if the rest of it stands at the front of a word, else 0.
-unfoldable pub fitted : ℕ → List ℕ → List ℕ → ℕ
-unfolding if_then_else_ begins
-fitted k s w = if begins s w then k + length s else 0
+-- The two bytes that the longest spelling has behind its letter, if the letter's row holds it: a sign and an `m`, or an `m` alone.
+unfoldable pub behindOf : List ℕ → Behind
+unfolding if_then_else_ minorOf
+behindOf w =
+    if eqb (getD w 1 0) (code "#") then record { sign = code "#"; minor = minorOf (drop 2 w) }
+    else if eqb (getD w 1 0) (code "b") then record { sign = code "b"; minor = minorOf (drop 2 w) }
+    else record { sign = minorOf (drop 1 w); minor = 0 }
 
--- The length of a spelling that is taken at the front of a word, else 0.
-unfoldable pub takenLength : List ℕ → List ℕ → ℕ
-unfolding if_then_else_ isTaken
-takenLength s w = if isTaken s w then length s else 0
+-- A spelling has these bytes behind its letter.
+unfoldable pub hasBehind : List ℕ → Behind → Bool
+hasBehind s x = eqb (getD s 1 0) (x .sign) && eqb (getD s 2 0) (x .minor)
+
+-- The place of the spelling with these bytes, counted from a number on; 0 where there is none.
+unfoldable pub placeFrom : ℕ → List (List ℕ) → Behind → ℕ
+unfolding if_then_else_ hasBehind
+placeFrom n [] x = 0
+placeFrom n (s ∷ ss) x = if hasBehind s x then n else placeFrom (suc n) ss x
+
+-- The six spellings of a row.
+abbrev pub six : List (List ℕ) → List (List ℕ)
+six l = getD l 0 [] ∷ getD l 1 [] ∷ getD l 2 [] ∷ getD l 3 [] ∷ getD l 4 [] ∷ getD l 5 [] ∷ []
+
+-- The base of a row, numbered from its first, that has these bytes behind its letter; the letter itself where there is none.
+unfoldable pub inRow : List (List ℕ) → ℕ → Behind → Base
+unfolding if_then_else_ placeFrom
+inRow row first x =
+    if eqb (placeFrom 0 (six row) x) 0 then record { number = first; length = 1 }
+    else if eqb (x .minor) 0 then record { number = first + placeFrom 0 (six row) x; length = 2 }
+    else record { number = first + placeFrom 0 (six row) x; length = 3 }
 
 -- A row of spellings, and the number of its first.
 unfoldable pub rowOf : ℕ → List (List ℕ)

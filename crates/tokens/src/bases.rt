@@ -1,32 +1,35 @@
 // Base chords: seven rows of spellings, and the longest that is taken at the front of a word.
 use text::byte_at;
 ghost use mathlib.Core.Path.{_≡_};
-ghost use mathlib.Core.Bool.{false};
 ghost use mathlib.Core.Option.{none};
-ghost use Prim.Native.Nat.{_<_};
+ghost use Prim.Native.Nat.{_≤_, _<_};
+ghost use lib.ListN.{drop};
 ghost use Rattle.songcode.specs.Bytes.{placed};
 ghost use Rattle.songcode.specs.answer.Chords.{bases, spellingOf, isTaken, longestFrom, isBase};
-ghost use Rattle.tokens.specs.Bases.{baseOf, unpadded, three, fitted, takenLength, firstOf, rowOf, rowOfNumber};
+ghost use Rattle.tokens.specs.Bases.{baseOf, unpadded, rowOfNumber, minorOf, behindOf, hasBehind, six, placeFrom, inRow};
 
 // What pads a row of less than six.
 const NONE: [u8; 3] = *b"\0\0\0";
 
 // The rows by letter; a short spelling ends with zeros.
-const ROWS: [[[u8; 3]; 6]; 7] = [
-    [*b"A\0\0", *b"A#\0", *b"Ab\0", *b"Am\0", *b"A#m", *b"Abm"],
-    [*b"B\0\0", *b"Bb\0", *b"Bm\0", *b"Bbm", NONE, NONE],
-    [*b"C\0\0", *b"C#\0", *b"Cm\0", *b"C#m", NONE, NONE],
-    [*b"D\0\0", *b"Db\0", *b"D#\0", *b"Dm\0", *b"Dbm", *b"D#m"],
-    [*b"E\0\0", *b"Eb\0", *b"Em\0", *b"Ebm", NONE, NONE],
-    [*b"F\0\0", *b"F#\0", *b"Fm\0", *b"F#m", NONE, NONE],
-    [*b"G\0\0", *b"Gb\0", *b"G#\0", *b"Gm\0", *b"Gbm", *b"G#m"],
-];
+const ROW_A: [[u8; 3]; 6] = [*b"A\0\0", *b"A#\0", *b"Ab\0", *b"Am\0", *b"A#m", *b"Abm"];
+
+const ROW_B: [[u8; 3]; 6] = [*b"B\0\0", *b"Bb\0", *b"Bm\0", *b"Bbm", NONE, NONE];
+
+const ROW_C: [[u8; 3]; 6] = [*b"C\0\0", *b"C#\0", *b"Cm\0", *b"C#m", NONE, NONE];
+
+const ROW_D: [[u8; 3]; 6] = [*b"D\0\0", *b"Db\0", *b"D#\0", *b"Dm\0", *b"Dbm", *b"D#m"];
+
+const ROW_E: [[u8; 3]; 6] = [*b"E\0\0", *b"Eb\0", *b"Em\0", *b"Ebm", NONE, NONE];
+
+const ROW_F: [[u8; 3]; 6] = [*b"F\0\0", *b"F#\0", *b"Fm\0", *b"F#m", NONE, NONE];
+
+const ROW_G: [[u8; 3]; 6] = [*b"G\0\0", *b"Gb\0", *b"G#\0", *b"Gm\0", *b"Gbm", *b"G#m"];
+
+const ROWS: [[[u8; 3]; 6]; 7] = [ROW_A, ROW_B, ROW_C, ROW_D, ROW_E, ROW_F, ROW_G];
 
 // The number of the first base chord of each row.
 const FIRSTS: [usize; 7] = [0, 6, 10, 14, 20, 24, 28];
-
-// What an `m` begins that is none of a base.
-const MAJ: [u8; 3] = *b"maj";
 
 // A base chord: its number and how many bytes spell it; length 0 where there is none.
 pub struct Base {
@@ -34,103 +37,114 @@ pub struct Base {
     pub length: usize,
 }
 
-// The length of a spelling that stands at the front of a word, else 0.
-fn fit(name: [u8; 3], w: &[u8]) -> usize
-    ensures { λ r. ⌜ r ≡ fitted 0 (unpadded (three name)) (now (w .entry)) ⌝ }
-{
-    let mut k = 0;
-    while k < 3 {
-        if name[k] == 0 {
-            return k;
-        }
-        if byte_at(w, k) != name[k] {
-            return 0;
-        }
-        k += 1;
-    }
-    k
+// The two bytes behind its letter that a spelling has; zeros where it is shorter.
+pub struct Behind {
+    pub sign: u8,
+    pub minor: u8,
 }
 
-// The length of a spelling that is taken at the front of a word: it fits, and its last byte is not the `m` of a `maj`; else 0.
-fn taken(name: [u8; 3], w: &[u8]) -> usize
-    ensures { λ r. ⌜ r ≡ takenLength (unpadded (three name)) (now (w .entry)) ⌝ }
+// The `m` of a minor chord at a place of a word, which is none of a `maj`; else 0.
+fn minor_at(w: &[u8], i: usize) -> u8
+    requires { ⌜ i ≤ 2 ⌝ }
+    ensures { λ r. ⌜ r ≡ minorOf (drop i (now (w .entry))) ⌝ }
 {
-    let n = fit(name, w);
-    if n == 0 {
+    if byte_at(w, i) != b'm' {
         return 0;
     }
-    if byte_at(w, n - 1) != b'm' {
-        return n;
+    if byte_at(w, i + 1) != b'a' {
+        return b'm';
     }
-    if fit(MAJ, &w[n - 1..w.len()]) == 3 {
-        return 0;
+    if byte_at(w, i + 2) != b'j' {
+        return b'm';
     }
-    n
+    0
 }
 
-// The longest of a row that is taken.
-fn longest_in(row: usize, w: &[u8]) -> Base
-    requires { ⌜ row < 7 ⌝ }
-    ensures { λ r. ⌜ r ≡ baseOf (longestFrom isTaken (firstOf row) (rowOf row) (now (w .entry)) none) ⌝ }
+// What the longest spelling has behind its letter, if the letter's row holds it.
+fn behind_letter(w: &[u8]) -> Behind
+    ensures { λ r. ⌜ r ≡ behindOf (now (w .entry)) ⌝ }
 {
-    let names = ROWS[row];
-    let first = FIRSTS[row];
-    let mut best = Base {
-        number: 0,
-        length: 0,
-    };
+    let b = byte_at(w, 1);
+    if b == b'#' {
+        return Behind {
+            sign: b'#',
+            minor: minor_at(w, 2),
+        };
+    }
+    if b == b'b' {
+        return Behind {
+            sign: b'b',
+            minor: minor_at(w, 2),
+        };
+    }
+    Behind {
+        sign: minor_at(w, 1),
+        minor: 0,
+    }
+}
+
+// The spelling has these bytes behind its letter.
+fn has_behind(name: [u8; 3], x: Behind) -> bool
+    ensures { λ r. ⌜ r ≡ hasBehind name x ⌝ }
+{
+    name[1] == x.sign && name[2] == x.minor
+}
+
+// The place in a row of the spelling with these bytes; 0, that of the letter itself, where there is none.
+fn place_in(row: [[u8; 3]; 6], x: Behind) -> usize
+    ensures { λ r. ⌜ (r ≡ placeFrom 0 (six row) x) × (r < 6) ⌝ }
+{
     let mut j = 0;
     while j < 6 {
-        let l = taken(names[j], w);
-        if best.length < l {
-            best = Base {
-                number: first + j,
-                length: l,
-            };
+        if has_behind(row[j], x) {
+            return j;
         }
         j += 1;
     }
-    best
+    0
 }
 
-// A spelling of more than its letter goes on with one of three bytes.
-fn goes_on(b: u8) -> bool
-    ensures { λ r. ⌜ (r ≡ false → (b ≡ 35 → ⊥) × (b ≡ 98 → ⊥) × (b ≡ 109 → ⊥)) ⌝ }
+// The base of a row that has these bytes behind its letter, or the letter itself.
+fn in_row(row: [[u8; 3]; 6], first: usize, x: Behind) -> Base
+    requires { ⌜ first ≤ 28 ⌝ }
+    ensures { λ r. ⌜ r ≡ inRow row first x ⌝ }
 {
-    if b == b'#' {
-        return true;
-    }
-    if b == b'b' {
-        return true;
-    }
-    b == b'm'
-}
-
-// The longest base chord at the front of a word, looked up in the row of its letter; the letter itself where no other can fit.
-pub fn longest_base(w: &[u8]) -> Base
-    ensures { λ r. ⌜ r ≡ baseOf (longestFrom isTaken 0 bases (now (w .entry)) none) ⌝ }
-{
-    let b = byte_at(w, 0);
-    if b < 65 {
+    let place = place_in(row, x);
+    if place == 0 {
         return Base {
-            number: 0,
-            length: 0,
-        };
-    }
-    if 71 < b {
-        return Base {
-            number: 0,
-            length: 0,
-        };
-    }
-    let row = (b - 65) as usize;
-    if !goes_on(byte_at(w, 1)) {
-        return Base {
-            number: FIRSTS[row],
+            number: first,
             length: 1,
         };
     }
-    longest_in(row, w)
+    if x.minor == 0 {
+        return Base {
+            number: first + place,
+            length: 2,
+        };
+    }
+    Base {
+        number: first + place,
+        length: 3,
+    }
+}
+
+// The longest base chord at the front of a word, looked up in the row of its letter.
+pub fn longest_base(w: &[u8]) -> Base
+    ensures { λ r. ⌜ r ≡ baseOf (longestFrom isTaken 0 bases (now (w .entry)) none) ⌝ }
+{
+    match byte_at(w, 0) {
+        b'A' => in_row(ROW_A, 0, behind_letter(w)),
+        b'B' => in_row(ROW_B, 6, behind_letter(w)),
+        b'C' => in_row(ROW_C, 10, behind_letter(w)),
+        b'D' => in_row(ROW_D, 14, behind_letter(w)),
+        b'E' => in_row(ROW_E, 20, behind_letter(w)),
+        b'F' => in_row(ROW_F, 24, behind_letter(w)),
+        b'G' => in_row(ROW_G, 28, behind_letter(w)),
+        _ => Base {
+            number: 0,
+            length: 0,
+        },
+    }
 }
 
 // The word is a base chord exactly.
