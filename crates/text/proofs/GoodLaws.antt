@@ -2,16 +2,20 @@
 use Prim.Native.Nat.{ℕ, zero, suc, _+_, _<_, _≤_}
 use mathlib.Core.Path.{_≡_, refl, sym, ap, _∙_}
 use mathlib.Core.List.{List, [], _∷_}
-use mathlib.Core.Bool.{true}
+use mathlib.Core.Bool.{true, false}
 use native.Mathlib.Omega.{arith}
+use native.Mathlib.Numerals.{add-one}
 use native.Mathlib.Nat.{zero-add}
+use borrow.Author.Tests.{leb-true, leb-false}
+use lib.Dec.{leb}
 use lib.ListN.{length, getD, drop, drop-of-length-le, length-drop}
 use lib.Seq.{drop-cons, drop-drop}
 use Rattle.songcode.specs.Lists.{if_then_else_}
 use Rattle.songcode.specs.answer.Characters.{Form, forms, within, isTail, tails, tailsFollow, widthBy, goodBytes}
 use Rattle.songcode.proofs.CharactersAgree.{good-some, good-none}
 use Rattle.songcode.proofs.ListLaws.{by-cases}
-use Rattle.text.specs.Leads.{widthAt}
+use Rattle.text.specs.Leads.{widthAt, asciiLength}
+use Rattle.text.proofs.LeadLaws.{width-past}
 use Rattle.text.proofs.TestLaws.{false-not-true}
 
 -- What follows a first byte stands in the text.
@@ -58,10 +62,55 @@ good-inside zero bs h = sym (zero-add _)
 good-inside (suc k) [] h = absurd (omega arith)
 good-inside (suc k) (b ∷ bs) h = omega (arith, good-inside k bs (omega arith))
 
-module _ (s : List ℕ) (i : ℕ) (h : i < length s) where
-  pub good-stop : widthAt s i ≡ 0 → goodBytes 0 (drop i s) ≡ 0
-  good-stop e = rw (drop-cons s i 0) (good-none (getD s i 0) (drop (suc i) s) e)
+pub good-over : (s : List ℕ) (i : ℕ) → length s ≤ i → goodBytes 0 (drop i s) ≡ 0
+unfolding goodBytes
+good-over s i h = rw (drop-of-length-le s h)
 
+-- Characters of one byte, one at a time.
+module _ (t : List ℕ) (i : ℕ) where
+  pub ascii-over : length t ≤ i → asciiLength (drop i t) ≡ 0
+  unfolding asciiLength
+  ascii-over h = rw (drop-of-length-le t h)
+
+  module _ (h : i < length t) where
+    pub ascii-stop : within 0x01 0x7F (getD t i 0) ≡ false → asciiLength (drop i t) ≡ 0
+    unfolding asciiLength if_then_else_
+    ascii-stop e = rw (drop-cons t i 0 h, e)
+
+    pub ascii-more : within 0x01 0x7F (getD t i 0) ≡ true → asciiLength (drop i t) ≡ 1 + asciiLength (drop (i + 1) t)
+    unfolding asciiLength if_then_else_
+    ascii-more e = rw (drop-cons t i 0 h, e, add-one i) (omega arith)
+
+-- All of them are good.
+ascii-wide : (b : ℕ) (bs : List ℕ) → within 0x01 0x7F b ≡ true → widthBy forms b bs ≡ 1
+unfolding widthBy forms tailsFollow if_then_else_
+ascii-wide b bs e = rw e
+
+good-ascii : (t : List ℕ) → goodBytes 0 t ≡ asciiLength t + goodBytes 0 (drop (asciiLength t) t)
+unfolding asciiLength if_then_else_
+good-ascii [] = omega arith
+good-ascii (b ∷ t) =
+    by-cases
+    (within 0x01 0x7F b)
+    (λ e. let h = good-ascii t in rw e (good-some b t 0 (ascii-wide b t e) ∙ omega arith))
+    (λ e. rw e (omega arith))
+
+pub good-behind : (s : List ℕ) (i k : ℕ) → k ≡ asciiLength (drop i s) → goodBytes 0 (drop i s) ≡ k + goodBytes 0 (drop (i + k) s)
+good-behind s i k e = rw (← (drop-drop k i s), e) (good-ascii (drop i s))
+
+pub good-stop : (s : List ℕ) (i : ℕ) → widthAt s i ≡ 0 → goodBytes 0 (drop i s) ≡ 0
+good-stop s i e =
+    by-cases
+    (leb (length s) i)
+    (λ t. good-over s i (leb-true (length s) i t))
+    (λ t. let h = leb-false (length s) i t in rw (drop-cons s i 0 h) (good-none (getD s i 0) (drop (suc i) s) e))
+
+-- Where a character stands, the text goes on.
+pub width-inside : (s : List ℕ) (i : ℕ) → (widthAt s i ≡ 0 → ⊥) → i < length s
+width-inside s i n =
+    by-cases (leb (length s) i) (λ t. absurd (n (sym (width-past s i (leb-true (length s) i t))))) (λ t. leb-false (length s) i t)
+
+module _ (s : List ℕ) (i : ℕ) (h : i < length s) where
   pub good-more : (w : ℕ) → w ≡ widthAt s i → (w ≡ 0 → ⊥) → goodBytes 0 (drop i s) ≡ w + goodBytes 0 (drop (i + w) s)
   good-more zero e n = absurd (n refl)
   good-more (suc k) e n =
@@ -72,7 +121,3 @@ module _ (s : List ℕ) (i : ℕ) (h : i < length s) where
       let behind : suc i + k ≡ i + suc k = omega arith in
       let over = drop-drop k (suc i) s ∙ ap (λ (n : ℕ). drop n s) behind in
       rw (drop-cons s i 0) (here ∙ ap suc (inside ∙ ap (λ (r : List ℕ). k + goodBytes 0 r) over) ∙ omega arith)
-
-pub good-over : (s : List ℕ) (i : ℕ) → length s ≤ i → goodBytes 0 (drop i s) ≡ 0
-unfolding goodBytes
-good-over s i h = rw (drop-of-length-le s h)

@@ -13,7 +13,6 @@ use Rattle.songcode.proofs.ListLaws.{by-cases}
 use Rattle.text.specs.declared.characters.Lead.{Lead}
 use Rattle.text.specs.Leads.{leadBy, leadOf, widthFrom, widthAt}
 use Rattle.text.proofs.ListLaws.{rest-part}
-use Rattle.text.proofs.TestLaws.{within-true}
 
 -- Of a form only the range of the second byte matters behind the first.
 follows-range : (f : Form) (n : ℕ) (bs : List ℕ) → tailsFollow (form 0 0 0 (f .secondLow) (f .secondHigh)) n bs ≡ tailsFollow f n bs
@@ -90,14 +89,6 @@ tails-none n i bs h = let k : n - i ≡ 0 = omega arith in rw k
 pub width-past : (s : List ℕ) (i : ℕ) → length s ≤ i → 0 ≡ widthAt s i
 unfolding widthBy forms within if_then_else_
 width-past s i h = rw (List·getD-eq-default s 0 h)
-
-pub width-zero : (b : ℕ) (bs : List ℕ) → b < 1 → 0 ≡ widthBy forms b bs
-unfolding widthBy forms within if_then_else_
-width-zero b bs h = let k : b ≡ 0 = omega arith in rw k
-
-pub width-ascii : (b : ℕ) (bs : List ℕ) → 1 ≤ b → b < 0x80 → 1 ≡ widthBy forms b bs
-unfolding widthBy forms tailsFollow if_then_else_
-width-ascii b bs p q = rw (within-true 0x01 0x7F b p (omega arith))
 
 pub width-lead : (s : List ℕ) (i : ℕ) {l : Lead} {w : ℕ} → l ≡ leadOf (getD s i 0) → w ≡ widthFrom l (take (length s - (i + 1)) (drop (i + 1) s))
     → w ≡ widthAt s i

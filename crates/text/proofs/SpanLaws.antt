@@ -1,6 +1,6 @@
 -- One step of each definition of Spans at a place of a text: what the loops of the lines cite.
 use Prim.Native.Nat.{ℕ, zero, suc, _+_, _-_, _<_, _≤_}
-use mathlib.Core.Path.{_≡_, refl, ap, _∙_}
+use mathlib.Core.Path.{_≡_, refl, sym, ap, _∙_}
 use mathlib.Core.List.{List, [], _∷_, _++_}
 use mathlib.Core.Bool.{true, false}
 use native.Mathlib.Numerals.{add-one}
@@ -13,7 +13,8 @@ use lib.Seq.{drop-cons, getD-drop, take-suc, length-take-le}
 use Rattle.songcode.specs.Lists.{if_then_else_}
 use Rattle.songcode.specs.answer.Lines.{Ending, lf, cr, inside, ending}
 use Rattle.songcode.proofs.ListLaws.{by-cases}
-use Rattle.text.specs.Spans.{blank, end, longer, lineLength, breakWidth, breakLength, frontBlanks, grown, solidLength}
+use Rattle.text.proofs.TestLaws.{false-not-true}
+use Rattle.text.specs.Spans.{blank, end, ends, longer, lineLength, breakWidth, breakLength, frontBlanks, grown, solidLength}
 
 -- What a byte is to lines.
 end-inside : (b : ℕ) → (b ≡ 10 → ⊥) → (b ≡ 13 → ⊥) → end b ≡ inside
@@ -28,6 +29,23 @@ end-cr : (b : ℕ) → b ≡ 13 → end b ≡ cr
 unfolding ending if_then_else_
 end-cr b e = rw e
 
+-- A byte above both ends no line.
+pub ends-above : (b : ℕ) → 13 < b → false ≡ ends (end b)
+unfolding ends
+ends-above b h = rw (end-inside b (λ z. omega arith) (λ z. omega arith))
+
+pub ends-cr : (b : ℕ) → b ≡ 13 → true ≡ ends (end b)
+unfolding ends
+ends-cr b e = rw (end-cr b e)
+
+pub ends-lf : (b : ℕ) → (b ≡ 13 → ⊥) → eqb b 10 ≡ ends (end b)
+unfolding ends
+ends-lf b n =
+    by-cases
+    (eqb b 10)
+    (λ t. rw (t, end-lf b (eqb-true b 10 t)))
+    (λ t. rw (t, end-inside b (eqb-false b 10 t) n))
+
 -- The three cases of a byte, each with what it says.
 pub by-ending : {X : Type 0} (b : ℕ) → (end b ≡ inside → X) → (end b ≡ lf → X) → (end b ≡ cr → X) → X
 by-ending {X} b f g h = go (end b) refl
@@ -38,17 +56,16 @@ by-ending {X} b f g h = go (end b) refl
     go cr e = h e
 
 module _ (s : List ℕ) (i : ℕ) (h : i < length s) where
-  pub line-lf : getD s i 0 ≡ 10 → lineLength (drop i s) ≡ 0
-  unfolding lineLength longer
-  line-lf e = rw (drop-cons s i 0) (rw (end-lf (getD s i 0) e))
+  pub line-stop : ends (end (getD s i 0)) ≡ true → lineLength (drop i s) ≡ 0
+  unfolding lineLength longer ends
+  line-stop e =
+      rw (drop-cons s i 0) (by-ending (getD s i 0) (λ k. absurd (false-not-true (rw k at e))) (λ k. rw k) (λ k. rw k))
 
-  pub line-cr : getD s i 0 ≡ 13 → lineLength (drop i s) ≡ 0
-  unfolding lineLength longer
-  line-cr e = rw (drop-cons s i 0) (rw (end-cr (getD s i 0) e))
-
-  pub line-more : (getD s i 0 ≡ 10 → ⊥) → (getD s i 0 ≡ 13 → ⊥) → lineLength (drop i s) ≡ 1 + lineLength (drop (i + 1) s)
-  unfolding lineLength longer
-  line-more n m = rw (add-one i, drop-cons s i 0) (rw (end-inside (getD s i 0) n m) (omega arith))
+  pub line-more : ends (end (getD s i 0)) ≡ false → lineLength (drop i s) ≡ 1 + lineLength (drop (i + 1) s)
+  unfolding lineLength longer ends
+  line-more e =
+      rw (add-one i, drop-cons s i 0)
+      (by-ending (getD s i 0) (λ k. rw k (omega arith)) (λ k. absurd (false-not-true (sym (rw k at e)))) (λ k. absurd (false-not-true (sym (rw k at e)))))
 
   pub front-stop : blank (getD s i 0) ≡ false → frontBlanks (drop i s) ≡ 0
   unfolding frontBlanks if_then_else_

@@ -22,6 +22,12 @@ unfoldable pub widthFrom : Lead → List ℕ → ℕ
 unfolding if_then_else_ tailsFollow
 widthFrom l bs = if tailsFollow (form 0 0 0 (l .low) (l .high)) (l .width - 1) bs then l .width else 0
 
+-- How many characters of one byte stand in front.
+unfoldable pub asciiLength : List ℕ → ℕ
+unfolding if_then_else_ within
+asciiLength [] = 0
+asciiLength (b ∷ bs) = if within 0x01 0x7F b then suc (asciiLength bs) else 0
+
 -- The width of the character at a place; past the end, where no byte stands, a zero is read.
 abbrev pub widthAt : List ℕ → ℕ → ℕ
 widthAt s i = widthBy forms (getD s i 0) (drop (suc i) s)

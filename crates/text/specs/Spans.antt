@@ -20,6 +20,11 @@ blank b = isBlank (byte b)
 abbrev pub end : ℕ → Ending
 end b = ending (byte b)
 
+unfoldable pub ends : Ending → Bool
+ends inside = false
+ends lf = true
+ends cr = true
+
 -- The bytes from one place up to another.
 abbrev pub part : ℕ → ℕ → List ℕ → List ℕ
 part a e s = take (e - a) (drop a s)

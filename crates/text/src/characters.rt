@@ -3,7 +3,7 @@ ghost use mathlib.Core.Path.{_≡_};
 ghost use Prim.Native.Nat.{_≤_};
 ghost use lib.ListN.{length};
 ghost use Rattle.songcode.specs.answer.Characters.{within, isTail, tails, goodBytes};
-ghost use Rattle.text.specs.Leads.{leadOf, widthFrom, widthAt};
+ghost use Rattle.text.specs.Leads.{leadOf, widthFrom, widthAt, asciiLength};
 
 // What a first byte announces: the width of its character (0 for none), and the range of the second byte.
 pub struct Lead {
@@ -107,14 +107,21 @@ pub fn width_at(s: &[u8], i: usize) -> usize
     if s.len() <= i {
         return 0;
     }
-    let b = s[i];
-    if b < 0x01 {
-        return 0;
+    width_from(lead_of(s[i]), &s[i + 1..])
+}
+
+// How many characters of one byte stand in front.
+fn ascii_len(t: &[u8]) -> usize
+    ensures { λ r. ⌜ (r ≡ asciiLength (now (t .entry))) × (r ≤ length (now (t .entry))) ⌝ }
+{
+    let mut i = 0;
+    while i < t.len() {
+        if !is_within(0x01, 0x7F, t[i]) {
+            return i;
+        }
+        i += 1;
     }
-    if b < 0x80 {
-        return 1;
-    }
-    width_from(lead_of(b), &s[i + 1..])
+    i
 }
 
 // How many bytes stand before the first place with a zero or no whole character.
@@ -123,11 +130,12 @@ pub fn good_bytes(s: &[u8]) -> usize
 {
     let mut i = 0;
     while i < s.len() {
-        let w = width_at(s, i);
+        let a = i + ascii_len(&s[i..]);
+        let w = width_at(s, a);
         if w == 0 {
-            return i;
+            return a;
         }
-        i += w;
+        i = a + w;
     }
     i
 }

@@ -3,7 +3,7 @@ use super::byte_at;
 ghost use mathlib.Core.Path.{_≡_};
 ghost use Prim.Native.Nat.{_+_, _≤_, max};
 ghost use lib.ListN.{length, drop};
-ghost use Rattle.text.specs.Spans.{blank, lineLength, frontBlanks, solidLength, breakLength, Found};
+ghost use Rattle.text.specs.Spans.{blank, end, ends, lineLength, frontBlanks, solidLength, breakLength, Found};
 
 // A line's number, the places of its first byte and behind its last one that is no blank, and the place of the next line.
 pub struct Line {
@@ -20,16 +20,26 @@ pub fn is_blank(b: u8) -> bool
     b == 32 || b == 9
 }
 
+// An LF or a CR; most bytes are above both.
+fn is_end(b: u8) -> bool
+    ensures { λ r. ⌜ r ≡ ends (end b) ⌝ }
+{
+    if 13 < b {
+        return false;
+    }
+    if b == 13 {
+        return true;
+    }
+    b == 10
+}
+
 // The end of the line that holds a place: its CR or LF, or the end of the text.
 fn line_end(s: &[u8], at: usize) -> usize
     ensures { λ r. ⌜ (r ≡ at + lineLength (drop at (now (s .entry)))) × (at ≤ r) × (r ≤ max at (length (now (s .entry)))) ⌝ }
 {
     let mut i = at;
     while i < s.len() {
-        if s[i] == 10 {
-            return i;
-        }
-        if s[i] == 13 {
+        if is_end(s[i]) {
             return i;
         }
         i += 1;

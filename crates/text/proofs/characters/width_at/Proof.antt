@@ -1,6 +1,6 @@
--- The width at a place: past the end, of a zero, of an ASCII byte, by the lead.
+-- The width at a place: past the end, and by the lead.
 use borrow.Author.Needs.{needs}
-use Rattle.text.proofs.LeadLaws.{width-past, width-zero, width-ascii, width-lead}
+use Rattle.text.proofs.LeadLaws.{width-past, width-lead}
 use Rattle.text.proofs.characters.width_at.Statement.{statement}
 use Rattle.text.proofs.characters.width_at.Tie as tie
 
@@ -8,18 +8,12 @@ returns : tie.Need-returns
 returns c = width-past (c .before .before .args .s .now) _ (c .if1 .taken)
 
 returns-2 : tie.Need-returns-2
-returns-2 c = width-zero _ _ (c .if2 .taken)
-
-returns-3 : tie.Need-returns-3
-returns-3 c = width-ascii _ _ (c .before .if2 .left) (c .if3 .taken)
-
-returns-4 : tie.Need-returns-4
-returns-4 c =
-    let q = c .before .before .before .before .before .before .before .before in
+returns-2 c =
+    let q = c .before .before .before .before .before .before in
     width-lead (q .args .s .now) (q .args .i) (c .before .before .lead-of .ensures) (c .width-from .ensures)
 
 pub width-at-spec : {M : Type 1} → statement M
 width-at-spec =
     tie.close
-    (tie.spec returns (λ c. search needs) returns-2 returns-3 (λ c κs. search needs) (λ c. search needs) (λ c. search needs)
-    (λ c. search needs) (λ c. search needs) (λ c κs. search needs) returns-4)
+    (tie.spec returns (λ c. search needs) (λ c κs. search needs) (λ c. search needs) (λ c. search needs)
+    (λ c. search needs) (λ c. search needs) (λ c κs. search needs) returns-2)

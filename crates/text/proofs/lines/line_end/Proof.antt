@@ -1,11 +1,11 @@
 -- The bytes passed, and those of the line from here on, are the length of the line.
 use Prim.Native.Nat.{_≤_, _+_, _-_, max}
-use mathlib.Core.Path.{_≡_}
+use mathlib.Core.Path.{_≡_, sym, _∙_}
 use native.Mathlib.Omega.{arith}
 use borrow.Author.Needs.{needs}
 use lib.ListN.{length, drop}
 use Rattle.text.specs.Spans.{lineLength}
-use Rattle.text.proofs.SpanLaws.{line-lf, line-cr, line-more, line-over}
+use Rattle.text.proofs.SpanLaws.{line-stop, line-more, line-over}
 use Rattle.text.proofs.lines.line_end.Statement.{statement}
 use Rattle.text.proofs.lines.line_end.Tie as tie
 
@@ -17,34 +17,25 @@ abbrev μ-loop : tie.MeasureT-loop
 
 returns : tie.Need-returns Inv-loop μ-loop
 returns c =
-    let q = c .before .before .before in
-    (omega (arith, line-lf (q .before .args .s .now) (q .loop .i) (c .before .before .loop-test .taken) (c .if1 .taken)), omega arith, omega arith)
-
-returns-2 : tie.Need-returns-2 Inv-loop μ-loop
-returns-2 c =
-    let q = c .before .before .before .before .before in (
-      omega (arith, line-cr (q .before .args .s .now) (q .loop .i) (c .before .before .before .before .loop-test .taken) (c .if2 .taken)),
+    let q = c .before .before .before .before in (
+      omega (arith, line-stop (q .before .before .args .s .now) (q .loop .i) (omega arith) (sym (c .before .is-end .ensures) ∙ c .if1 .taken)),
       omega arith,
       omega arith,
     )
 
 loop-again : tie.Need-loop-again Inv-loop μ-loop
 loop-again c =
-    let q = c .before .before .before .before .before in (
+    let q = c .before .before .before .before in (
       omega arith,
       omega arith,
-      omega (
-        arith,
-        line-more (q .before .args .s .now) (q .loop .i) (c .before .before .before .before .loop-test .taken)
-            (c .before .before .if1 .left) (c .if2 .left),
-      ),
+      omega (arith, line-more (q .before .before .args .s .now) (q .loop .i) (omega arith) (sym (c .before .is-end .ensures) ∙ c .if1 .left)),
     )
 
-returns-3 : tie.Need-returns-3 Inv-loop μ-loop
-returns-3 c = (omega (arith, line-over (c .before .before .args .s .now) (c .before .loop .i) (c .loop-test .left)), omega arith, omega arith)
+returns-2 : tie.Need-returns-2 Inv-loop μ-loop
+returns-2 c = (omega (arith, line-over (c .before .before .before .args .s .now) (c .before .loop .i) (c .loop-test .left)), omega arith, omega arith)
 
 pub line-end-spec : {M : Type 1} → statement M
 line-end-spec =
     tie.close
-    (tie.spec Inv-loop μ-loop (λ c. search needs) (λ c. search needs) returns (λ c. search needs) returns-2 (λ c. search needs)
-    (λ c. search needs) loop-again returns-3)
+    (tie.spec Inv-loop μ-loop (λ c. search needs) (λ c. search needs) (λ c κs. search needs) returns (λ c. search needs) (λ c. search needs)
+    loop-again returns-2)
