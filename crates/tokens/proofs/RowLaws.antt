@@ -9,7 +9,7 @@ use native.Mathlib.Numerals.{add-one}
 use borrow.Author.Tests.{leb-true, eqb-true, eqb-false, ne-eqb}
 use lib.Dec.{eqb, leb}
 use lib.ListN.{getD, drop, drop-of-length-le}
-use lib.Seq.{drop-cons}
+use lib.Seq.{drop-cons, getD-drop}
 use Rattle.songcode.specs.Lists.{if_then_else_, every}
 use Rattle.songcode.specs.Bytes.{begins, ascii}
 use Rattle.songcode.specs.answer.Chords.{rows, spellings, bases, endsInM, isPassedOver, isTaken, longer, longestFrom}
@@ -188,3 +188,18 @@ pub row-found : (r : ℕ) (w : List ℕ) → r < 7 → getD w 0 0 ≡ 65 + r
     → inRow (getD table r []) (firstOf r) (behindOf w) ≡ baseOf (longestFrom isTaken 0 bases w none)
 row-found r [] h e = absurd (omega arith)
 row-found r (b ∷ bs) h e = rw e (held bs r h ∙ ap baseOf (sym (row-enough r h bs)))
+
+-- A letter behind which no longer spelling goes on is a base by itself.
+row-alone : (r : ℕ) → r < 7 → inRow (getD table r []) (firstOf r) (record { sign = 0; minor = 0 }) ≡ record { number = firstOf r; length = 1 }
+unfolding inRow placeFrom hasBehind if_then_else_ firstOf rows spellings ascii
+row-alone =
+    seven (λ r. inRow (getD table r []) (firstOf r) (record { sign = 0; minor = 0 }) ≡ record { number = firstOf r; length = 1 })
+    refl refl refl refl refl refl refl
+
+pub letter-alone : (r : ℕ) (w : List ℕ) → r < 7 → getD w 0 0 ≡ 65 + r → (getD w 1 0 ≡ 35 → ⊥) → (getD w 1 0 ≡ 98 → ⊥) → (getD w 1 0 ≡ 109 → ⊥)
+    → record { number = firstOf r; length = 1 } ≡ baseOf (longestFrom isTaken 0 bases w none)
+unfolding behindOf if_then_else_
+letter-alone r w h l a b c =
+    let m : minorOf (drop 1 w) ≡ 0 = sym (minor-other (drop 1 w) (λ z. c (sym (getD-drop 1 w 0 0) ∙ z))) in
+    let e : behindOf w ≡ record { sign = 0; minor = 0 } = rw (ne-eqb _ _ a, ne-eqb _ _ b, m) in
+    sym (row-alone r h) ∙ ap (inRow (getD table r []) (firstOf r)) (sym e) ∙ row-found r w h l

@@ -1,6 +1,7 @@
 // Base chords: seven rows of spellings, and the longest that is taken at the front of a word.
 use text::byte_at;
 ghost use mathlib.Core.Path.{_≡_};
+ghost use mathlib.Core.Bool.{false};
 ghost use mathlib.Core.Option.{none};
 ghost use Prim.Native.Nat.{_≤_, _<_};
 ghost use lib.ListN.{drop};
@@ -140,6 +141,50 @@ pub fn longest_base(w: &[u8]) -> Base
         b'E' => in_row(ROW_E, 20, behind_letter(w)),
         b'F' => in_row(ROW_F, 24, behind_letter(w)),
         b'G' => in_row(ROW_G, 28, behind_letter(w)),
+        _ => Base {
+            number: 0,
+            length: 0,
+        },
+    }
+}
+
+// A spelling of more than its letter goes on with one of three bytes.
+fn goes_on(b: u8) -> bool
+    ensures { λ r. ⌜ (r ≡ false → (b ≡ 35 → ⊥) × (b ≡ 98 → ⊥) × (b ≡ 109 → ⊥)) ⌝ }
+{
+    if b == b'#' {
+        return true;
+    }
+    if b == b'b' {
+        return true;
+    }
+    b == b'm'
+}
+
+fn alone(first: usize) -> Base
+    ensures { λ r. ⌜ r ≡ record { number = first; length = 1 } ⌝ }
+{
+    Base {
+        number: first,
+        length: 1,
+    }
+}
+
+// The same, known at once where the letter stands alone.
+pub fn base_of(w: &[u8]) -> Base
+    ensures { λ r. ⌜ r ≡ baseOf (longestFrom isTaken 0 bases (now (w .entry)) none) ⌝ }
+{
+    if goes_on(byte_at(w, 1)) {
+        return longest_base(w);
+    }
+    match byte_at(w, 0) {
+        b'A' => alone(0),
+        b'B' => alone(6),
+        b'C' => alone(10),
+        b'D' => alone(14),
+        b'E' => alone(20),
+        b'F' => alone(24),
+        b'G' => alone(28),
         _ => Base {
             number: 0,
             length: 0,

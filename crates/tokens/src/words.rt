@@ -1,5 +1,5 @@
 // The token of a run of plain bytes, and that of a bracket with its count, as words.
-use super::bases::longest_base;
+use super::bases::base_of;
 use super::numbers::Number;
 use super::numbers::number_in;
 use super::signs::AGAIN_WORD;
@@ -94,7 +94,7 @@ fn chord_token(s: &[u8], a: usize, e: usize) -> u32
     requires { ⌜ (a ≤ e) × (e ≤ length (now s)) × (e ≤ 65536) ⌝ }
     ensures { λ r. ⌜ r ≡ tokenWord (chordToken (chordIn (placed a (part a e (now (s .entry)))))) ⌝ }
 {
-    let base = longest_base(&s[a..e]);
+    let base = base_of(&s[a..e]);
     if base.length == 0 {
         return WRONG_WORD;
     }

@@ -15,17 +15,17 @@ use Rattle.tokens.proofs.words.chord_token.Tie as tie
 -- The base is one of the 34 and lies in the word.
 inside : (c : tie.After-struct-known2)
     → let a = c .before .before .before .before .before .before .args in
-    let b = c .before .before .before .longest-base .result in
+    let b = c .before .before .before .base-of .result in
     (b .number ≤ 33) × (b .length ≤ a .e - a .a)
 inside c =
     let a = c .before .before .before .before .before .before .args in
-    base-inside (a .s .now) (a .a) (a .e) (c .before .before .before .longest-base .result) (c .before .before .before .longest-base .ensures)
+    base-inside (a .s .now) (a .a) (a .e) (c .before .before .before .base-of .result) (c .before .before .before .base-of .ensures)
     (omega arith) (c .before .if1 .left)
 
 returns : tie.Need-returns
 returns c =
     let a = c .before .before .before .before .before .args in
-    chord-none (a .a) (part (a .a) (a .e) (a .s .now)) (c .before .before .longest-base .result) (c .before .before .longest-base .ensures) (c .if1 .taken)
+    chord-none (a .a) (part (a .a) (a .e) (a .s .now)) (c .before .before .base-of .result) (c .before .before .base-of .ensures) (c .if1 .taken)
 
 mul-kind : tie.Need-mul-kind
 mul-kind c = omega (arith, inside c .0)
@@ -39,7 +39,7 @@ sub-k c = omega (arith, inside (c .before) .1)
 returns-2 : tie.Need-returns-2
 returns-2 c =
     let a = c .before .before .before .before .before .before .before .before .args in
-    let b = c .before .before .before .before .before .longest-base in
+    let b = c .before .before .before .before .before .base-of in
     let l = part-length (a .s .now) (a .a) (a .e) (omega arith) in
     omega (arith, chord-long (a .a) (part (a .a) (a .e) (a .s .now)) (b .result) (b .ensures) (c .before .before .before .if1 .left) (omega arith))
 
@@ -49,14 +49,14 @@ cast-result c = omega (arith, inside (c .before .before .before) .0)
 returns-3 : tie.Need-returns-3
 returns-3 c =
     let a = c .before .before .before .before .before .before .before .before .before .args in
-    let b = c .before .before .before .before .before .before .longest-base in
+    let b = c .before .before .before .before .before .before .base-of in
     let l = part-length (a .s .now) (a .a) (a .e) (omega arith) in
     omega (arith, chord-bare (a .a) (part (a .a) (a .e) (a .s .now)) (b .result) (b .ensures) (c .before .before .before .before .if1 .left) (omega arith))
 
 returns-4 : tie.Need-returns-4
 returns-4 c =
     let a = c .before .before .before .before .before .before .before .before .before .before .before .before .args in
-    let b = c .before .before .before .before .before .before .before .before .before .longest-base in
+    let b = c .before .before .before .before .before .before .before .before .before .base-of in
     let l = part-length (a .s .now) (a .a) (a .e) (omega arith) in
     let t = ap (any isSlipByte) (part-drop (a .s .now) (a .a) (a .e) (b .result .length)) ∙ sym (c .before .has-slip .ensures) ∙ c .if4 .taken in
     chord-slip (a .a) (part (a .a) (a .e) (a .s .now)) (b .result) (b .ensures)
@@ -74,7 +74,7 @@ cast-result-2 c = let k = inside (c .before .before .before .before .before .bef
 returns-5 : tie.Need-returns-5
 returns-5 c =
     let a = c .before .before .before .before .before .before .before .before .before .before .before .before .args in
-    let b = c .before .before .before .before .before .before .before .before .before .longest-base in
+    let b = c .before .before .before .before .before .before .before .before .before .base-of in
     let l = part-length (a .s .now) (a .a) (a .e) (omega arith) in
     let t = ap (any isSlipByte) (part-drop (a .s .now) (a .a) (a .e) (b .result .length)) ∙ sym (c .before .has-slip .ensures) ∙ c .if4 .left in
     omega (
