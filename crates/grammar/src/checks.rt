@@ -2,6 +2,8 @@
 use super::Kind;
 ghost use mathlib.Core.Path.{_≡_};
 ghost use Prim.Native.Nat.{_<_};
+ghost use lib.ListN.{getD};
+ghost use Rattle.grammar.specs.declared.checks.Place.the-variants.{Fresh};
 ghost use Rattle.grammar.specs.Checks.{first, spoiled, moved, referred, opened, closed, arrived, isBad, checkStep};
 ghost use Rattle.grammar.specs.Places.{column, row, nextPlace};
 
@@ -116,39 +118,44 @@ const ENDED: Place = Place::Ended;
 const BAD: Place = Place::Bad;
 
 // Where a token leads to: a row for each place, a column for each kind, in the order in which they are declared.
-const NEXT: [[Place; 9]; 9] = [
-    // Where an item is to come: a measure, a `$n` or a loop begins. At the very beginning a `$n` may be the whole text.
-    [SOUNDS, BAD, ALONE, BAD, BAD, BAD, WANTS, BAD, BAD],
-    [SOUNDS, BAD, FULL, BAD, BAD, BAD, WANTS, BAD, BAD],
-    // Behind a `:` one line end counts with it.
-    [SOUNDS, BAD, FULL, BAD, BAD, WANTS, WANTS, BAD, BAD],
-    // Behind an item: a separator, or the end of the loop around it. In a measure, "one or more positions".
-    [SOUNDS, REMOVED, BAD, WANTS, JOINS, ENDED, BAD, FULL, BAD],
-    // The same in a measure with removers, which "stand only at the end".
-    [BAD, REMOVED, BAD, WANTS, JOINS, ENDED, BAD, FULL, BAD],
-    // Nothing may be added to a `$n`, or to a loop.
-    [BAD, BAD, BAD, WANTS, JOINS, ENDED, BAD, FULL, BAD],
-    [BAD, BAD, BAD, WANTS, JOINS, ENDED, BAD, FULL, BAD],
-    // Where an item is to come behind a line end, which counts with a `:` behind it.
-    [SOUNDS, BAD, FULL, BAD, JOINS, BAD, WANTS, BAD, BAD],
-    [BAD, BAD, BAD, BAD, BAD, BAD, BAD, BAD, BAD],
-];
+// Where an item is to come: a measure, a `$n` or a loop begins. At the very beginning a `$n` may be the whole text.
+const FROM_FRESH: [Place; 9] = [SOUNDS, BAD, ALONE, BAD, BAD, BAD, WANTS, BAD, BAD];
 
-// The number of a kind's column.
-fn column(kind: Kind) -> usize
-    ensures { λ r. ⌜ r ≡ column kind ⌝ }
-    ensures { λ r. ⌜ r < 9 ⌝ }
+const FROM_WANTS: [Place; 9] = [SOUNDS, BAD, FULL, BAD, BAD, BAD, WANTS, BAD, BAD];
+
+// Behind a `:` one line end counts with it.
+const FROM_JOINS: [Place; 9] = [SOUNDS, BAD, FULL, BAD, BAD, WANTS, WANTS, BAD, BAD];
+
+// Behind an item: a separator, or the end of the loop around it. In a measure, "one or more positions".
+const FROM_SOUNDS: [Place; 9] = [SOUNDS, REMOVED, BAD, WANTS, JOINS, ENDED, BAD, FULL, BAD];
+
+// The same in a measure with removers, which "stand only at the end".
+const FROM_REMOVED: [Place; 9] = [BAD, REMOVED, BAD, WANTS, JOINS, ENDED, BAD, FULL, BAD];
+
+// Nothing may be added to a `$n`, or to a loop.
+const FROM_ALONE: [Place; 9] = [BAD, BAD, BAD, WANTS, JOINS, ENDED, BAD, FULL, BAD];
+
+const FROM_FULL: [Place; 9] = [BAD, BAD, BAD, WANTS, JOINS, ENDED, BAD, FULL, BAD];
+
+// Where an item is to come behind a line end, which counts with a `:` behind it.
+const FROM_ENDED: [Place; 9] = [SOUNDS, BAD, FULL, BAD, JOINS, BAD, WANTS, BAD, BAD];
+
+const FROM_BAD: [Place; 9] = [BAD, BAD, BAD, BAD, BAD, BAD, BAD, BAD, BAD];
+
+// The place in a row at a kind's column.
+fn at_kind(leads: [Place; 9], kind: Kind) -> Place
+    ensures { λ r. ⌜ r ≡ getD leads (column kind) Fresh ⌝ }
 {
     match kind {
-        Kind::Sound => 0,
-        Kind::Remover => 1,
-        Kind::Reference => 2,
-        Kind::Semicolon => 3,
-        Kind::Colon => 4,
-        Kind::LineEnd => 5,
-        Kind::Opens => 6,
-        Kind::Closes => 7,
-        Kind::Wrong => 8,
+        Kind::Sound => leads[0],
+        Kind::Remover => leads[1],
+        Kind::Reference => leads[2],
+        Kind::Semicolon => leads[3],
+        Kind::Colon => leads[4],
+        Kind::LineEnd => leads[5],
+        Kind::Opens => leads[6],
+        Kind::Closes => leads[7],
+        Kind::Wrong => leads[8],
     }
 }
 
@@ -173,7 +180,17 @@ pub fn row(place: Place) -> usize
 fn next_place(place: Place, kind: Kind) -> Place
     ensures { λ r. ⌜ r ≡ nextPlace place kind ⌝ }
 {
-    NEXT[row(place)][column(kind)]
+    match place {
+        Place::Fresh => at_kind(FROM_FRESH, kind),
+        Place::Wants => at_kind(FROM_WANTS, kind),
+        Place::Joins => at_kind(FROM_JOINS, kind),
+        Place::Sounds => at_kind(FROM_SOUNDS, kind),
+        Place::Removed => at_kind(FROM_REMOVED, kind),
+        Place::Alone => at_kind(FROM_ALONE, kind),
+        Place::Full => at_kind(FROM_FULL, kind),
+        Place::Ended => at_kind(FROM_ENDED, kind),
+        Place::Bad => at_kind(FROM_BAD, kind),
+    }
 }
 
 // The last row's place.
