@@ -18,6 +18,7 @@ use Rattle.explain.specs.Causes.{Belongs, clauses, clauseOfCause}
 use Rattle.explain.specs.Explained.{Explains}
 use Rattle.explain.proofs.FirstLaws.{not-line-0, as-refused, stray-first, stray-named, uncounted-first, summed-first}
 use Rattle.explain.proofs.StrayThere.{stray-listed}
+use Rattle.explain.proofs.StoppedLaws.{text-named, first-line, stopped-first}
 use Rattle.explain.proofs.VerdictLines.{lyric-listed, header-listed}
 use native.Mathlib.Omega.{arith}
 
@@ -50,6 +51,7 @@ module _ (text : List ℕ) (a : Answer) (h : a ≡ answerOf (songAnswer text)) (
         belongs = same (e .0) (e .2);
         nowhere = λ _. (e .3, e .4, e .5);
         placed = λ n. absurd (n (e .1));
+        stopped = λ f. absurd (unlined 7 (λ w. first-line text (text-named text 0 w)) (λ y. let x : ⊥ = omega arith in x) (sym (e .0) ∙ f) z);
         stray-named = λ f. absurd (unlined 13 (λ w. stray-listed text w) (λ y. let x : ⊥ = omega arith in x) (sym (e .0) ∙ f) z);
         stray = λ f l k. absurd (not-line-0 text l (subst (λ (i : ℕ). LineOf text i l) (e .1) k));
         uncounted = λ f. absurd (unlined 16 (λ w. lyric-listed text 0 w .1) (λ y. let x : ⊥ = omega arith in x) (sym (e .0) ∙ f) z);
@@ -57,16 +59,18 @@ module _ (text : List ℕ) (a : Answer) (h : a ≡ answerOf (songAnswer text)) (
       }
 
   pub found-at : (x : Slip) → (length text ≤ 65536 → Finds text (a .refusal) (a .line) x) → (p : Place) → OnLine text p → Covers text (x .from) (x .to) p
+      → (x .from ≤ length text → p .offset ≡ x .from)
       → (a .refusal ≤ 17 → x .clause ≤ 99 → x .clause ≤ getD clauses (a .refusal) 0 → clauseOfCause cause ≡ x .clause) → (a .line ≡ 0 → ⊥)
       → (r .refusal ≡ a .refusal) × (r .line ≡ a .line) × (r .cause ≡ cause) × (r .place ≡ p)
       → Explains text r
-  found-at x finds p o covers told n e =
+  found-at x finds p o covers begins told n e =
       record {
         refusal = e .0 ∙ ap (λ (x : Answer). x .refusal) h;
         line = e .1 ∙ ap (λ (x : Answer). x .line) h;
         belongs = same (e .0) (e .2);
         nowhere = λ z. absurd (n (sym (e .1) ∙ z));
         placed = λ _. rw (e .3) o;
+        stopped = λ f. stopped-first text a h x finds p begins cause told r e (sym (e .0) ∙ f);
         stray-named = λ f. stray-named text a h x finds p o covers cause told r e (sym (e .0) ∙ f);
         stray = λ f. stray-first text a h x finds p o covers cause told r e (sym (e .0) ∙ f);
         uncounted = λ f. uncounted-first text a h x finds p o covers cause told r e (sym (e .0) ∙ f);

@@ -5,3 +5,5 @@ pub mod VerdictLines
 pub mod SoundLaws
 pub mod StrayThere
 pub mod FirstLaws
+pub mod PatternStage
+pub mod StoppedLaws

@@ -95,7 +95,7 @@ of-1 : {bs : List ℕ} {c : Complaint} → Stops1 bs c → Early c
 of-1 (over-long h) = omega arith
 of-1 (bad-bytes place w lines h k cuts) = omega arith
 
-low-1 : {bs : List ℕ} {c : Complaint} → Stops1 bs c → c .number ≤ 2
+pub low-1 : {bs : List ℕ} {c : Complaint} → Stops1 bs c → c .number ≤ 2
 low-1 (over-long h) = omega arith
 low-1 (bad-bytes place w lines h k cuts) = omega arith
 
@@ -124,7 +124,7 @@ of-5 (too-long front behind x counts k w us u h j) = omega arith
 of-5 (no-beat x n r pass i h e w g) = omega arith
 of-5 (empty-modified x i e h) = omega arith
 
-high-5 : {s : Song} {c : Complaint} → Stops5 s c → 14 ≤ c .number
+pub high-5 : {s : Song} {c : Complaint} → Stops5 s c → 14 ≤ c .number
 high-5 (too-long front behind x counts k w us u h j) = omega arith
 high-5 (no-beat x n r pass i h e w g) = omega arith
 high-5 (empty-modified x i e h) = omega arith
@@ -146,13 +146,13 @@ stray-4 (of-pattern x n r i h e t) k = let g = row-again t k in in-text x r i e 
 stray-4 (of-lead-in x n l r i h m t) k = let g = row-again t k in in-side x r i (inl (m ∙ ap (λ (j : ℕ). some (record { line = j; items = r })) (g .1))) (g .0)
 stray-4 (of-tail x n l r i h m t) k = let g = row-again t k in in-side x r i (inr (m ∙ ap (λ (j : ℕ). some (record { line = j; items = r })) (g .1))) (g .0)
 
-of-6 : {s : Song} {c : Complaint} → Stops6 s c → (c .number ≡ 16) × ((l : LyricLine) × Taken s l × (l .number ≡ c .line))
+pub of-6 : {s : Song} {c : Complaint} → Stops6 s c → (c .number ≡ 16) × ((l : LyricLine) × Taken s l × (l .number ≡ c .line))
 of-6 (uncounted l o w n v k) = (refl, (l, w, refl))
 
-of-7 : {s : Song} {c : Complaint} → Stops7 s c → (c .number ≡ 17) × ((x : Section) × List·Memᴰ x (s .sections) × (x .header ≡ c .line))
+pub of-7 : {s : Song} {c : Complaint} → Stops7 s c → (c .number ≡ 17) × ((x : Section) × List·Memᴰ x (s .sections) × (x .header ≡ c .line))
 of-7 (sums-not l w total p has sums pl differ) = (refl, (w .section, w .listed, refl))
 
-of-8 : {room : Room} {s : Song} {ps : List Parts} {c : Complaint} → Stops8 room s ps c → c .number ≡ 18
+pub of-8 : {room : Room} {s : Song} {ps : List Parts} {c : Complaint} → Stops8 room s ps c → c .number ≡ 18
 of-8 (keys-short h) = refl
 of-8 (sections-short t w h) = refl
 of-8 (measures-short t w h) = refl
@@ -160,7 +160,7 @@ of-8 (beats-short t w h) = refl
 of-8 (items-short t w h) = refl
 
 module _ (bs : List ℕ) (line : ℕ) where
-  abbrev room : Room
+  abbrev pub room : Room
   room = record { keys = 0; sections = 0; measures = 0; beats = 0; items = 0 }
 
   over-long-first : (k : Stage) (n : ℕ) → Stated room bs k (complaint n line) → NothingIn room bs (refusals.stagesBefore k) → 3 ≤ n → 65536 < length bs → ⊥

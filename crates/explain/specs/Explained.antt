@@ -14,6 +14,7 @@ use Rattle.slips.specs.MeterTold.{MeterTold}
 use Rattle.slips.specs.Finds.{LineOf, NameOn, BareOn}
 use Rattle.explain.specs.declared.Explained.{Explained}
 use Rattle.explain.specs.Causes.{Belongs, clauseOfCause}
+use Rattle.explain.specs.Stopped.{Stopped}
 
 -- The place stands on the line that the verdict names: bytes of it that pass a test, which is told the clause, the first byte and the end.
 pub record OnVerdict (text : List ℕ) (r : Explained) (test : Line → ℕ → ℕ → ℕ → Type 0) : Type 0 where
@@ -37,6 +38,9 @@ pub record Explains (text : List ℕ) (r : Explained) : Type 0 where
   -- Where the verdict names no line there is no place; where it names one, the place lies in the text and on its own line.
   pub nowhere : r .line ≡ 0 → (r .place .line ≡ 0) × (r .place .offset ≡ 0) × (r .place .length ≡ 0)
   pub placed : (r .line ≡ 0 → ⊥) → OnLine text (r .place)
+  -- "and for 7 ... the place is the first at which the definition fails": the text that the verdict names is not right, and the place is that of the token
+  -- with which no right text goes on, or its end where it is not whole.
+  pub stopped : r .refusal ≡ 7 → Stopped text r
   -- "and for ... 13 ... the place is the first at which the definition fails": in a section's pattern without references, or in the lead-in or tail on
   -- the verdict's line, the first `%` before every chord.
   pub stray-named : r .refusal ≡ 13 → StrayNamed text r

@@ -1,3 +1,4 @@
 -- What the contract of the call says.
 pub mod Causes
+pub mod Stopped
 pub mod Explained

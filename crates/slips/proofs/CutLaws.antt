@@ -1,8 +1,9 @@
 -- A text cut at a place on one of its lines: what stands before the place, and where it stops there.
-use Prim.Native.Nat.{ℕ, _≤_}
+use Prim.Native.Nat.{ℕ, _<_, _≤_}
 use mathlib.Core.Path.{_≡_, refl, sym, ap, subst, _∙_}
 use mathlib.Core.List.{List, [], _∷_, _++_, append-nil, append-assoc}
 use native.Mathlib.Omega.{arith}
+use lib.ListN.{length}
 use Rattle.songcode.specs.answer.Lines.{Line}
 use Rattle.songcode.specs.answer.Tokens.{Token, lineEnd, tokens, tokensOf}
 use Rattle.tokens.specs.Lexing.{tokensFrom}
@@ -10,6 +11,7 @@ use Rattle.tokens.proofs.LexLaws.{tokens-over}
 use Rattle.slips.specs.declared.patterns.Whose.{Whose}
 use Rattle.slips.specs.declared.patterns.Reading.{Reading}
 use Rattle.slips.specs.Rules.{Right, textTokens, upTo, piece, Cut, before, onward, Stuck, StopsAt, Told, RuledIn, Refuses}
+use Rattle.slips.proofs.ReadingLaws.{told-near}
 
 -- The tokens of lines, from one line on.
 tokens-more : (l : Line) (ls : List Line) (m : Line) (rest : List Line) → tokensOf l (ls ++ (m ∷ rest)) ≡ (tokensOf l ls ++ (lineEnd ∷ [])) ++ tokensOf m rest
@@ -81,11 +83,12 @@ module _ (s : List ℕ) (w : Whose) (passed rest : List Line) (n from to : ℕ) 
         }
 
     pub refuses-token : (ts : List Token) → ts ≡ upTo passed ++ tokensFrom from at s → (t : Token) (us : List Token) → tokensFrom at to s ≡ t ∷ us
-        → (x : Reading) → Refuses w ts t at x → RuledIn s w lines (x .clause) (x .spot)
+        → at < length s → (x : Reading) → Refuses w ts t at x → RuledIn s w lines (x .clause) (x .spot)
     unfolding textTokens
-    refuses-token ts e t us h x r =
+    refuses-token ts e t us h i x r =
         let f = first-of s n at to rest t us h in
-        record { at = at; stops = stops-token ts e t (f .0) (f .1) (r .begun) (r .never); told = r .told }
+        let k = told-near (r .told) in
+        record { at = at; stops = stops-token ts e t (f .0) (f .1) (r .begun) (r .never); told = r .told; inside = omega arith }
 
   -- At the end of the line.
   at-end : from ≤ to → tokensFrom from to s ≡ tokensFrom from to s ++ tokensFrom to to s
@@ -93,24 +96,26 @@ module _ (s : List ℕ) (w : Whose) (passed rest : List Line) (n from to : ℕ) 
 
 module _ (s : List ℕ) (w : Whose) (passed : List Line) (n from to : ℕ) (a : from ≤ to) (ts : List Token) (e : ts ≡ upTo passed ++ tokensFrom from to s) where
   -- Another line follows, and may not.
-  pub refuses-line-end : (m : Line) (ms : List Line) (x : Reading) → Refuses w ts lineEnd to x
+  pub refuses-line-end : (m : Line) (ms : List Line) → to < length s → (x : Reading) → Refuses w ts lineEnd to x
       → RuledIn s w (passed ++ (piece s n from to ∷ (m ∷ ms))) (x .clause) (x .spot)
   unfolding textTokens tokensOf
-  refuses-line-end m ms x r =
+  refuses-line-end m ms i x r =
       let o : tokensFrom to to s ++ (lineEnd ∷ tokensOf m ms) ≡ lineEnd ∷ tokensOf m ms =
       ap (λ (us : List Token). us ++ (lineEnd ∷ tokensOf m ms)) (tokens-over s to to (omega arith)) in
+      let k = told-near (r .told) in
       record {
         at = to;
         stops = stops-token s w passed (m ∷ ms) n from to to a (omega arith) (at-end s w passed (m ∷ ms) n from to a) ts e lineEnd (tokensOf m ms) o
             (r .begun) (r .never);
         told = r .told;
+        inside = omega arith;
       }
 
   -- The text ends, and is not right.
   pub refuses-end : (x : Reading) → ((more : List Token) × Right w (ts ++ more)) → (Right w (textTokens (passed ++ (piece s n from to ∷ []))) → ⊥)
-      → Told to (x .clause) (x .spot) → RuledIn s w (passed ++ (piece s n from to ∷ [])) (x .clause) (x .spot)
+      → Told to (x .clause) (x .spot) → x .spot ≤ length s → RuledIn s w (passed ++ (piece s n from to ∷ [])) (x .clause) (x .spot)
   unfolding textTokens tokensOf Stuck
-  refuses-end x y z k =
+  refuses-end x y z k i =
       let split = at-end s w passed [] n from to a in
       let c = cut s w passed [] n from to to a (omega arith) split in
       let same : ts ≡ before c = e ∙ sym (front s w passed [] n from to to a (omega arith) split) in
@@ -124,4 +129,5 @@ module _ (s : List ℕ) (w : Whose) (passed : List Line) (n from to : ℕ) (a : 
               stuck = subst (λ (os : List Token). Stuck w (before c) os) (sym (tokens-over s to to (omega arith))) z;
             };
         told = k;
+        inside = i;
       }

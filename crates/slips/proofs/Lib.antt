@@ -15,3 +15,5 @@ pub mod StrayLaws
 pub mod MarkLaws
 pub mod AgainLaws
 pub mod TextLaws
+pub mod SideLaws
+pub mod WrongTexts

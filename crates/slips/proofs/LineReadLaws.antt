@@ -4,6 +4,7 @@ use mathlib.Core.Path.{_≡_, refl, sym, ap, subst, _∙_}
 use mathlib.Core.Logic.{inl, inr}
 use mathlib.Core.List.{List, [], _∷_, _++_, append-nil, append-assoc}
 use native.Mathlib.Omega.{arith}
+use lib.ListN.{length}
 use Rattle.songcode.specs.answer.Lines.{Line}
 use Rattle.songcode.specs.answer.Tokens as songcode
 use Rattle.tokens.specs.TokenWords.{tokenWord}
@@ -55,7 +56,7 @@ module _ (s : List ℕ) (w : Whose) (from to : ℕ) (h : from ≤ to) (r : Readi
 
 module _ {s : List ℕ} {w : Whose} {from to : ℕ} {r₀ r : Reading} {at : ℕ} (i : InLine s w from to r₀ r at) where
   -- One more token.
-  module _ (tok : Token) (t : TokenAt s at to tok) (e : tok .next ≤ to) (x : Reading) (kept : (r .clause ≡ 0 → ⊥) → x ≡ r)
+  module _ (inside : to ≤ length s) (tok : Token) (t : TokenAt s at to tok) (e : tok .next ≤ to) (x : Reading) (kept : (r .clause ≡ 0 → ⊥) → x ≡ r)
       (step : (ts : List songcode.Token) (a : ℕ) (u : songcode.Token) → Fit u → tok .word ≡ tokenWord u → a ≤ tok .from → Going w ts a r
       → Steps w ts u (tok .from) (tok .next) x) where
     abbrev here : ℕ
@@ -117,7 +118,7 @@ module _ {s : List ℕ} {w : Whose} {from to : ℕ} {r₀ r : Reading} {at : ℕ
           let c = t .solid in
           inr
           (refuses-token s w passed rest n from to here (omega arith) (omega arith) split-here so-far
-          (ap (λ (ts : List songcode.Token). upTo passed ++ ts) (sym up-to-here)) (t .token) (tokensFrom next to s) token-here x f)
+          (ap (λ (ts : List songcode.Token). upTo passed ++ ts) (sym up-to-here)) (t .token) (tokensFrom next to s) token-here (omega arith) x f)
 
       read-next : Reads s w (lines s w passed rest n from to) so-far at r
           → Reads s w (lines s w passed rest n from to) (upTo passed ++ tokensFrom from next s) next x

@@ -9,7 +9,7 @@ use borrow.Author.Tests.{eqb-true}
 use Rattle.songcode.specs.Lists.{any}
 use Rattle.songcode.specs.Song.{chord, again, silence}
 use Rattle.songcode.specs.answer.Tokens.{Token, sound, remover, reference, semicolon, colon, lineEnd, opens, closes, wrong}
-use Rattle.songcode.proofs.ListLaws.{true-is-not-false, any-append}
+use Rattle.songcode.proofs.ListLaws.{by-cases, true-is-not-false, any-append}
 use Rattle.tokens.specs.TokenWords.{tokenWord}
 use Rattle.tokens.specs.Fitting.{Fit, kind}
 use Rattle.tokens.proofs.KindLaws as words
@@ -53,6 +53,16 @@ module _ {at clause from : ℕ} (n : (1 ≤ clause) × (clause ≤ 22)) where
               earlier = λ _. l;
             };
       }
+
+-- At most one byte behind.
+pub told-near : {at clause from : ℕ} → Told at clause from → from ≤ at + 1
+told-near {at} {clause} {from} t =
+    by-cases (isEarlier clause)
+    (λ e. let h = t .placed .earlier e in omega arith)
+    (λ e.
+    by-cases (isCount clause)
+    (λ c. let h = t .placed .count c in omega arith)
+    (λ c. let h = t .placed .here (rw (c, e) refl) in omega arith))
 
 pub told-as : (at : ℕ) (x : Reading) {clause from to : ℕ} → (x .clause ≡ clause) × (x .spot ≡ from) × (x .past ≡ to) → Told at clause from
     → Told at (x .clause) (x .spot)

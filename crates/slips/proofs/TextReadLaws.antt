@@ -47,6 +47,7 @@ module _ (s : List ℕ) (w : Whose) (lines : List Line) where
     pub written : lines ≡ passed ++ (piece s number start stop ∷ take left (textLines s (number + 1) at))
     pub ordered : start ≤ stop
     pub onward : stop ≤ at
+    pub inside : stop ≤ length s
     pub read : Reads s w lines (upTo passed ++ tokensFrom start stop s) stop r
 
   pub text-done : {r : Reading} {at left : ℕ} → (i : InText r at left) → take left (textLines s (i .number + 1) at) ≡ [] → ReadAll s w lines r
@@ -58,6 +59,7 @@ module _ (s : List ℕ) (w : Whose) (lines : List Line) where
         stop = i .stop;
         written = i .written ∙ ap (λ (ls : List Line). i .passed ++ (piece s (i .number) (i .start) (i .stop) ∷ ls)) e;
         ordered = i .ordered;
+        inside = i .inside;
         read = i .read;
       }
 
@@ -102,6 +104,7 @@ module _ (s : List ℕ) (w : Whose) (lines : List Line) where
         written = whole;
         ordered = f .stop;
         onward = f .next;
+        inside = let a = f .next in let b = f .over in omega arith;
         read =
             subst (λ (ls : List Line). Reads s w ls (tokensFrom (l .start) (l .stop) s) (l .stop) x) (sym whole)
             (step [] (take (k - 1) (textLines s (n + 1) (l .next))) n g);
@@ -153,9 +156,10 @@ module _ (s : List ℕ) (w : Whose) (lines : List Line) where
         subst (λ (ls : List Line). Reads s w ls (upTo passed ++ tokensFrom (l .start) (l .stop) s) (l .stop) x) (sym whole)
         (step passed rest n (later (sym (up-to-more (i .passed) now)) (omega arith) g))
     stepped (inr q) =
+        let a = i .onward in
         keeps
         (subst (λ (ls : List Line). RuledIn s w ls (y .clause) (y .spot)) (sym split)
-        (refuses-line-end s w (i .passed) (i .number) (i .start) (i .stop) (i .ordered) so-far refl this rest y q))
+        (refuses-line-end s w (i .passed) (i .number) (i .start) (i .stop) (i .ordered) so-far refl this rest (omega arith) y q))
 
     go : Reads s w lines so-far (i .stop) r → Now x
     go (inl g) = stepped (ended so-far (i .stop) g)
@@ -173,21 +177,25 @@ module _ (s : List ℕ) (w : Whose) (lines : List Line) where
           written = whole;
           ordered = f .stop;
           onward = f .next;
+          inside = let a = f .next in let b = f .over in omega arith;
           read = go (i .read);
         }
 
   -- The end.
   pub text-ends : (r x : Reading) → ReadAll s w lines r → ((r .clause ≡ 0 → ⊥) → x ≡ r)
-      → ((at : ℕ) → r .clause ≡ 0 → r .from ≤ at → r .open ≤ at → Told at (x .clause) (x .spot)) → Ruled s w lines (x .clause) (x .spot)
+      → ((at : ℕ) → r .clause ≡ 0 → r .from ≤ at → r .open ≤ at → Told at (x .clause) (x .spot) × (x .spot ≤ at)) → Ruled s w lines (x .clause) (x .spot)
   text-ends r x a kept told wrong = go (a .read)
     where
       go : Reads s w lines (upTo (a .passed) ++ tokensFrom (a .start) (a .stop) s) (a .stop) r → RuledIn s w lines (x .clause) (x .spot)
       go (inl g) =
+          let k = told (a .stop) (g .unblamed) (g .behind) (g .opened) in
+          let i = k .1 in
+          let j = a .inside in
           subst (λ (ls : List Line). RuledIn s w ls (x .clause) (x .spot)) (sym (a .written))
           (refuses-end s w (a .passed) (a .number) (a .start) (a .stop) (a .ordered) (upTo (a .passed) ++ tokensFrom (a .start) (a .stop) s) refl x
           (free-begins (upTo (a .passed) ++ tokensFrom (a .start) (a .stop) s) w (subst (λ c. isStuck w c ≡ false) (g .check) (g .free)) (g .unbarred))
           (λ q. wrong (subst (λ (ls : List Line). Right w (textTokens ls)) (sym (a .written)) q))
-          (told (a .stop) (g .unblamed) (g .behind) (g .opened)))
+          (k .0) (omega arith))
       go (inr q) =
           let same : x ≡ r = kept (λ e. let m = q .told .named .0 in let v : ⊥ = omega arith in v) in
           subst (λ (u : Reading). RuledIn s w lines (u .clause) (u .spot)) (sym same) q
@@ -213,13 +221,13 @@ module _ (s : List ℕ) (w : Whose) where
       r x (later refl (f .start) (going-from w (run .at) r g)) step)
 
   -- A text of one line from a place on.
-  pub line-read : (n q stop : ℕ) → q ≤ stop → (lines : List Line) → lines ≡ piece s n q stop ∷ [] → (r x : Reading)
+  pub line-read : (n q stop : ℕ) → q ≤ stop → stop ≤ length s → (lines : List Line) → lines ≡ piece s n q stop ∷ [] → (r x : Reading)
       → (r .check ≡ first) × (r .clause ≡ 0) × (r .from ≡ q) × (r .open ≡ 0)
       → ((passed rest : List Line) (m : ℕ) → Going w (upTo passed) q r
       → Reads s w (passed ++ (piece s m q stop ∷ rest)) (upTo passed ++ tokensFrom q stop s) stop x)
       → ReadAll s w lines x
   unfolding upTo
-  line-read n q stop h lines e r x g step =
+  line-read n q stop h i lines e r x g step =
       record {
         passed = [];
         number = n;
@@ -227,5 +235,6 @@ module _ (s : List ℕ) (w : Whose) where
         stop = stop;
         written = e;
         ordered = h;
+        inside = i;
         read = subst (λ (ls : List Line). Reads s w ls (tokensFrom q stop s) stop x) (sym e) (step [] [] n (going-from w q r g));
       }

@@ -8,3 +8,4 @@ pub mod Readings
 pub mod BlocksMet
 pub mod MeterTold
 pub mod Finds
+pub mod WrongText

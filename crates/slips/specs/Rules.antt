@@ -118,6 +118,7 @@ pub record RuledIn (s : List ℕ) (w : Whose) (lines : List Line) (clause from :
   pub at : ℕ
   pub stops : StopsAt s w lines at
   pub told : Told at clause from
+  pub inside : from ≤ length s
 
 -- The same, of a text of which it is not known.
 abbrev pub Ruled : List ℕ → Whose → List Line → ℕ → ℕ → Type 0
@@ -216,4 +217,5 @@ pub record ReadAll (s : List ℕ) (w : Whose) (lines : List Line) (r : Reading) 
   pub stop : ℕ
   pub written : lines ≡ passed ++ (piece s number start stop ∷ [])
   pub ordered : start ≤ stop
+  pub inside : stop ≤ length s
   pub read : Reads s w lines (upTo passed ++ tokensFrom start stop s) stop r

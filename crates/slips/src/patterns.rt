@@ -364,7 +364,7 @@ fn read_line_end(whose: Whose, r: Reading) -> Reading
 // The end of the text.
 fn read_end(r: Reading) -> Reading
     ensures kept { λ x. ⌜ ((r .clause ≡ 0 → ⊥) → x ≡ r) ⌝ }
-    ensures told { λ x. ⌜ ((at : ℕ) → r .clause ≡ 0 → r .from ≤ at → r .open ≤ at → Told at (x .clause) (x .spot)) ⌝ }
+    ensures told { λ x. ⌜ ((at : ℕ) → r .clause ≡ 0 → r .from ≤ at → r .open ≤ at → Told at (x .clause) (x .spot) × (x .spot ≤ at)) ⌝ }
 {
     if r.clause != 0 {
         return r;

@@ -44,7 +44,7 @@ fn within(s: &[u8], place: usize) -> usize
 
 // The bytes from one place up to another, as far as they stand on the line of the first.
 pub fn place_at(s: &[u8], from: usize, to: usize) -> Place
-    ensures { λ r. ⌜ OnLine (now (s .entry)) r × Covers (now (s .entry)) from to r ⌝ }
+    ensures { λ r. ⌜ OnLine (now (s .entry)) r × Covers (now (s .entry)) from to r × (from ≤ length (now (s .entry)) → r .offset ≡ from) ⌝ }
 {
     let offset = within(s, from);
     let end = end_on_line(s, offset, to);

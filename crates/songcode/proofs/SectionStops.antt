@@ -71,7 +71,7 @@ split-of b =
       dashed = dashed-exact (left notDashes (b .others)) .0 (left-stops notDashes (b .others));
     }
 
-split-once : {b : Block} {x y : List Line} → Split b x y → (body b ≡ x) × (fromDashes b ≡ y)
+pub split-once : {b : Block} {x y : List Line} → Split b x y → (body b ≡ x) × (fromDashes b ≡ y)
 unfolding body fromDashes
 split-once {x = x} {y = y} w = (
   rw (w .written) (taken-is notDashes x y (undashed-exact x .1 (w .undashed)) (dashed-exact y .1 (w .dashed))),
@@ -134,7 +134,7 @@ run-of ls =
       ends = run-ends-of (left isPatternLine behind) (left-stops isPatternLine behind);
     }
 
-run-once : {ls run : List Line} {l : Line} → FirstRun ls (l ∷ run) → patternRun ls ≡ l ∷ run
+pub run-once : {ls run : List Line} {l : Line} → FirstRun ls (l ∷ run) → patternRun ls ≡ l ∷ run
 unfolding patternRun Stops notPatternLine AllPattern
 run-once {run = run} {l = l} w =
     let starts : notPatternLine l ≡ false = rw (is-pattern l .1 (w .ofPattern .0)) in

@@ -51,11 +51,11 @@ unfolding BeginsWith isByte
 dollar-kind [] s = absurd s
 dollar-kind (c ∷ bs) s = begins-definition c bs (eqb-true (c .value) (code "$") s)
 
-definition-kind : (b : Block) → IsDefinition b ↔ (blockKind b ≡ definition)
+pub definition-kind : (b : Block) → IsDefinition b ↔ (blockKind b ≡ definition)
 unfolding blockKind
 definition-kind b = (dollar-kind (b .first .text), definition-begins (b .first .text))
 
-section-kind : (b : Block) → IsSection b ↔ (blockKind b ≡ section)
+pub section-kind : (b : Block) → IsSection b ↔ (blockKind b ≡ section)
 unfolding blockKind
 section-kind b = ((λ s. begins-section (b .first .text) (s .0) (s .1)), section-begins (b .first .text))
 
@@ -67,7 +67,7 @@ module _ {kind : Block → Type 0} where
   kind-once (another n h) (this-one k g) = absurd (n k)
   kind-once (another n h) (another m g) = kind-once h g
 
-  kind-member : {bs cs : List Block} {b : Block} → OfKind kind bs cs → List·Memᴰ b cs → kind b
+  pub kind-member : {bs cs : List Block} {b : Block} → OfKind kind bs cs → List·Memᴰ b cs → kind b
   kind-member no-more m = absurd (List·Memᴰ·not-nil m)
   kind-member {b = b} (this-one k h) m = ⊎-elim (λ e. subst (λ x. kind x) (sym e) k) (λ i. kind-member h i) (List·Memᴰ·cases-cons m)
   kind-member (another n h) m = kind-member h m

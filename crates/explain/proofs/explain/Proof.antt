@@ -18,7 +18,7 @@ returns-2 c =
     let p = c .before .before .place-at in
     let w = c .before .cause-of2 in
     found-at q (a .result) (a .ensures .answer) (w .result) (w .ensures .0) (c .at-place .result) (x .result) (x .ensures) (p .result)
-    (p .ensures .0) (p .ensures .1)
+    (p .ensures .0) (p .ensures .1) (p .ensures .2)
     (w .ensures .1) (c .before .before .before .before .if1 .left) (c .at-place .ensures)
 
 pub explain-spec : {M : Type 1} → statement M

@@ -33,8 +33,8 @@ loop-again c =
     let t = c .before .before .before .token-from in
     let i = t .ensures .0 .0 in
     let n = c .before .if1 .left in
-    line-more (l .inv) (t .result) (t .ensures .1 .there (omega arith)) (t .ensures .0 .1) (c .read-token .result) (c .read-token .ensures .0)
-    (c .read-token .ensures .1)
+    line-more (l .inv) (c .before .before .before .before .before .before .before .pre .1) (t .result) (t .ensures .1 .there (omega arith)) (t .ensures .0 .1)
+    (c .read-token .result) (c .read-token .ensures .0) (c .read-token .ensures .1)
 
 returns-2 : tie.Need-returns-2 Inv-loop μ-loop
 returns-2 c = let l = c .before .loop in line-over (l .inv) (c .loop-test .left)

@@ -16,7 +16,8 @@ returns c = λ h. let t = c .before .if1 .taken in let z : ⊥ = omega arith in 
 
 returns-2 : tie.Need-returns-2
 returns-2 c =
-    let a = c .before .before .before .before .before .before .before .before .before .before .before .args in
+    let start = c .before .before .before .before .before .before .before .before .before .before .before in
+    let a = start .args in
     let s = a .s .now in
     let l = a .p .line in
     let q = c .before .before .before .before .setting-start in
@@ -30,7 +31,7 @@ returns-2 c =
     λ h wrong.
     rw (e .0, e .1)
     (text-ends s Side lines (y .result) (x .result)
-    (line-read s Side (l .number) (q .result) (l .stop) (q .ensures .2) lines
+    (line-read s Side (l .number) (q .result) (l .stop) (q .ensures .2) (start .pre .1) lines
     (ap whole text) (r .result) (y .result) (r .ensures) (y .ensures .1))
     (x .ensures .0) (x .ensures .1) wrong)
 

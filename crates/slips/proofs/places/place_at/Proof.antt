@@ -17,6 +17,7 @@ returns c =
       λ h k u.
           let o = c .before .before .within .ensures .1 (omega arith) in
           (o, back ∙ c .before .end-on-line .ensures .1 (omega arith) k (λ i x y. u i (omega arith) y)),
+      c .before .before .within .ensures .1,
     )
 
 pub place-at-spec : {M : Type 1} → statement M
