@@ -194,7 +194,7 @@ fn next_place(place: Place, kind: Kind) -> Place
 }
 
 // The last row's place.
-fn is_bad(place: Place) -> bool
+pub fn is_bad(place: Place) -> bool
     ensures { λ r. ⌜ r ≡ isBad place ⌝ }
 {
     row(place) == 8

@@ -6,6 +6,8 @@ mod verdicts;
 
 pub use checks::Check;
 pub use checks::Place;
+pub use checks::is_bad;
+pub use checks::row;
 pub use checks::start;
 pub use checks::step_kind;
 pub use kinds::Kind;
@@ -14,6 +16,7 @@ pub use sides::side_fine;
 use tokens::Lexed;
 use tokens::next_token;
 pub use verdicts::definition_fine;
+pub use verdicts::is_alone;
 pub use verdicts::section_fine;
 ghost use mathlib.Core.Path.{_≡_};
 ghost use Prim.Native.Nat.{_≤_};

@@ -14,7 +14,7 @@ fn is_behind(place: Place) -> bool
 }
 
 // "`$n` as its whole text": `Alone`.
-fn is_alone(place: Place) -> bool
+pub fn is_alone(place: Place) -> bool
     ensures { λ r. ⌜ r ≡ isAlone place ⌝ }
 {
     row(place) == 5

@@ -10,7 +10,8 @@ use Rattle.tokens.specs.Lexing.{tokensFrom}
 use Rattle.tokens.proofs.LexLaws.{tokens-over}
 use Rattle.slips.specs.declared.patterns.Whose.{Whose}
 use Rattle.slips.specs.declared.patterns.Reading.{Reading}
-use Rattle.slips.specs.Rules.{Right, textTokens, upTo, piece, Cut, before, onward, Stuck, StopsAt, Told, RuledIn, Refuses}
+use Rattle.slips.specs.Rules.{Right, textTokens, piece, Cut, before, onward, Stuck, StopsAt, Told, RuledIn}
+use Rattle.slips.specs.RulesRead.{upTo, Refuses}
 use Rattle.slips.proofs.ReadingLaws.{told-near}
 
 -- The tokens of lines, from one line on.

@@ -15,7 +15,8 @@ use Rattle.slips.specs.declared.patterns.Whose.{Whose}
 use Rattle.slips.specs.declared.patterns.Reading.{Reading}
 use Rattle.slips.specs.declared.signs.Token.{Token}
 use Rattle.slips.specs.Taken.{TokenAt}
-use Rattle.slips.specs.Rules.{upTo, RuledIn, Going, Steps, Reads}
+use Rattle.slips.specs.Rules.{RuledIn}
+use Rattle.slips.specs.RulesRead.{upTo, Going, Steps, Reads}
 use Rattle.slips.proofs.CutLaws.{lines, refuses-token}
 
 -- The line up to a place: no word is cut there, and the reading has come so far, or has stopped.

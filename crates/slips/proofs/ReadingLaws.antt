@@ -21,7 +21,8 @@ use Rattle.grammar.proofs.BeginningLaws.{or-true, run-on}
 use Rattle.slips.specs.declared.patterns.Whose.{Whose}
 use Rattle.slips.specs.declared.patterns.Whose.the-variants.{Definition, Section, Side}
 use Rattle.slips.specs.declared.patterns.Reading.{Reading}
-use Rattle.slips.specs.Rules.{isColon, Right, isStuck, isSide, barredToken, isCount, isEarlier, Told, Going, Refuses, Steps}
+use Rattle.slips.specs.Rules.{isColon, Right, isCount, isEarlier, Told}
+use Rattle.slips.specs.RulesRead.{isStuck, isSide, barredToken, Going, Refuses, Steps}
 use Rattle.slips.proofs.RuleLaws.{free-begins, stuck-never, barred-never}
 
 -- The places of clauses.

@@ -8,8 +8,6 @@ use Rattle.songcode.specs.Lists.{isSome, any}
 use Rattle.songcode.specs.answer.Tokens.{Token}
 use Rattle.songcode.specs.answer.PatternText.{wholeReference, patternBy}
 use Rattle.songcode.proofs.ListLaws.{by-cases, true-is-not-false, any-append, none-passes}
-use Rattle.grammar.specs.declared.checks.Place.{Place}
-use Rattle.grammar.specs.declared.checks.Place.the-variants.{Fresh, Wants, Joins, Sounds, Removed, Alone, Full, Ended, Bad}
 use Rattle.grammar.specs.declared.checks.Check.{Check}
 use Rattle.grammar.specs.Kinds.{kindOf, kindsOf}
 use Rattle.grammar.specs.Checks.{first, isBad, checkStep, checkRun}
@@ -20,29 +18,8 @@ use Rattle.grammar.proofs.BeginningLaws.{or-true, run-on, ending, ending-plain,
 use Rattle.grammar.proofs.BeginningLaws.{isRuined, never-right, never-unnamed, never-of-section, step-late}
 use Rattle.slips.specs.declared.patterns.Whose.{Whose}
 use Rattle.slips.specs.declared.patterns.Whose.the-variants.{Definition, Section, Side}
-use Rattle.slips.specs.Rules.{isColon, Right, badPlace, alonePlace, misnamed, isStuck, barredToken}
-
-bad-is : (p : Place) → badPlace p ≡ isBad p
-bad-is Fresh = refl
-bad-is Wants = refl
-bad-is Joins = refl
-bad-is Ended = refl
-bad-is Sounds = refl
-bad-is Removed = refl
-bad-is Alone = refl
-bad-is Full = refl
-bad-is Bad = refl
-
-alone-is : (p : Place) → alonePlace p ≡ isAlone p
-alone-is Fresh = refl
-alone-is Wants = refl
-alone-is Joins = refl
-alone-is Ended = refl
-alone-is Sounds = refl
-alone-is Removed = refl
-alone-is Alone = refl
-alone-is Full = refl
-alone-is Bad = refl
+use Rattle.slips.specs.Rules.{isColon, Right}
+use Rattle.slips.specs.RulesRead.{misnamed, isStuck, barredToken}
 
 -- The check of the tokens, and what ends them rightly.
 module _ (ts : List Token) where
@@ -72,12 +49,12 @@ module _ (ts : List Token) where
   unfolding unnamedFine
   ended-side h n = let e = ended-items h in rw (e .0, e .1 ∙ n) refl
 
-  and-named : (c : Check) → (c .named && not (alonePlace (c .place))) ≡ false → isAlone (c .place) ≡ false → c .named ≡ false
+  and-named : (c : Check) → (c .named && not (isAlone (c .place))) ≡ false → isAlone (c .place) ≡ false → c .named ≡ false
   and-named c h a = go (c .named) h
     where
-      go : (b : Bool) → (b && not (alonePlace (c .place))) ≡ false → b ≡ false
+      go : (b : Bool) → (b && not (isAlone (c .place))) ≡ false → b ≡ false
       go false e = refl
-      go true e = true-is-not-false (ap not (alone-is (c .place) ∙ a)) e
+      go true e = true-is-not-false (ap not a) e
 
   and-true : (b : Bool) → (b && true) ≡ false → b ≡ false
   and-true false e = refl
@@ -86,19 +63,19 @@ module _ (ts : List Token) where
   pub free-begins : (w : Whose) → isStuck w behind ≡ false → any (barredToken w) ts ≡ false → (more : List Token) × Right w (ts ++ more)
   unfolding Right isStuck misnamed barredToken
   free-begins Definition h u =
-      let n = none-passes (badPlace (behind .place)) (behind .named && false) h in
-      (ending behind, sym (items-fine (ts ++ ending behind)) ∙ ended-items (sym (bad-is (behind .place)) ∙ n .0) .0)
+      let n = none-passes (isBad (behind .place)) (behind .named && false) h in
+      (ending behind, sym (items-fine (ts ++ ending behind)) ∙ ended-items (n .0) .0)
   free-begins Section h u =
-      let n = none-passes (badPlace (behind .place)) (behind .named && not (alonePlace (behind .place))) h in
+      let n = none-passes (isBad (behind .place)) (behind .named && not (isAlone (behind .place))) h in
       by-cases (isAlone (behind .place))
       (λ a. ([], rw (append-nil ts) (alone-right a)))
-      (λ a. (ending behind, ended-section (sym (bad-is (behind .place)) ∙ n .0) (and-named behind (n .1) a)))
+      (λ a. (ending behind, ended-section (n .0) (and-named behind (n .1) a)))
   free-begins Side h u =
-      let n = none-passes (badPlace (behind .place)) (behind .named && true) h in (
+      let n = none-passes (isBad (behind .place)) (behind .named && true) h in (
         ending behind,
         (
           any-append isColon ts (ending behind) ∙ rw (u, ending-plain isColon behind refl (λ k. refl)) refl,
-          sym (unnamed-fine (ts ++ ending behind)) ∙ ended-side (sym (bad-is (behind .place)) ∙ n .0) (and-true (behind .named) (n .1)),
+          sym (unnamed-fine (ts ++ ending behind)) ∙ ended-side (n .0) (and-true (behind .named) (n .1)),
         ),
       )
 
@@ -139,22 +116,22 @@ module _ (ts : List Token) where
     pub stuck-never : (w : Whose) → isStuck w next ≡ true → Right w (ts ++ (t ∷ more)) → ⊥
     unfolding Right isStuck misnamed
     stuck-never Definition h r =
-        or-by (badPlace (next .place)) (next .named && false) h
+        or-by (isBad (next .place)) (next .named && false) h
         (λ b. true-is-not-false (items-fine (ts ++ (t ∷ more)) ∙ r)
-        (ap definitionFine run-next ∙ never-right next (kindsOf more) (sym (bad-is (next .place)) ∙ b)))
+        (ap definitionFine run-next ∙ never-right next (kindsOf more) b))
         (λ b. true-is-not-false (and-by (next .named) false b .1) refl)
     stuck-never Section h r =
-        or-by (badPlace (next .place)) (next .named && not (alonePlace (next .place))) h
-        (λ b. true-is-not-false (pattern-fine (ts ++ (t ∷ more)) ∙ r) (ap sectionFine run-next ∙ unfinished (sym (bad-is (next .place)) ∙ b)))
+        or-by (isBad (next .place)) (next .named && not (isAlone (next .place))) h
+        (λ b. true-is-not-false (pattern-fine (ts ++ (t ∷ more)) ∙ r) (ap sectionFine run-next ∙ unfinished b))
         (λ b.
-        let m = and-by (next .named) (not (alonePlace (next .place))) b in
-        let a = sym (alone-is (next .place)) ∙ not-true (alonePlace (next .place)) (m .1) in
+        let m = and-by (next .named) (not (isAlone (next .place))) b in
+        let a = not-true (isAlone (next .place)) (m .1) in
         true-is-not-false (pattern-fine (ts ++ (t ∷ more)) ∙ r)
         (ap sectionFine run-next ∙ never-of-section next (kindsOf more) (named-ruined next (m .0)) (step-late behind (kindOf t) a)))
     stuck-never Side h r =
         let ruined : isRuined next ≡ true =
-        or-by (badPlace (next .place)) (next .named && true) h
-        (λ b. bad-ruined next (sym (bad-is (next .place)) ∙ b))
+        or-by (isBad (next .place)) (next .named && true) h
+        (λ b. bad-ruined next b)
         (λ b. named-ruined next (and-by (next .named) true b .0)) in
         true-is-not-false (unnamed-fine (ts ++ (t ∷ more)) ∙ r .1) (ap unnamedFine run-next ∙ never-unnamed next (kindsOf more) ruined)
 

@@ -27,7 +27,8 @@ use Rattle.slips.specs.declared.spots.Spot.{Spot}
 use Rattle.slips.specs.declared.slip.Slip.{Slip}
 use Rattle.slips.specs.declared.patterns.Whose.{Whose}
 use Rattle.slips.specs.declared.patterns.Whose.the-variants.{Side}
-use Rattle.slips.specs.Rules.{Ruled, RuledAt}
+use Rattle.slips.specs.Rules.{Ruled}
+use Rattle.slips.specs.RulesRead.{RuledAt}
 use Rattle.slips.specs.Finds.{LineOf, InBlock, TextOf, of-definition, of-pattern, of-side}
 use Rattle.slips.proofs.BlockLaws.{line-in-block}
 

@@ -22,7 +22,8 @@ use Rattle.sections.specs.declared.runs.Run.{Run}
 use Rattle.sections.proofs.RunLaws.{lines-next, lines-over}
 use Rattle.slips.specs.declared.patterns.Whose.{Whose}
 use Rattle.slips.specs.declared.patterns.Reading.{Reading}
-use Rattle.slips.specs.Rules.{Right, textTokens, upTo, piece, isStuck, misnamed, Told, RuledIn, Ruled, Going, Steps, Reads, ReadAll}
+use Rattle.slips.specs.Rules.{Right, textTokens, piece, Told, RuledIn, Ruled}
+use Rattle.slips.specs.RulesRead.{upTo, isStuck, misnamed, Going, Steps, Reads, ReadAll}
 use Rattle.slips.proofs.RuleLaws.{free-begins}
 use Rattle.slips.proofs.CutLaws.{up-to-more, refuses-line-end, refuses-end}
 use Rattle.slips.proofs.LineReadLaws.{later}

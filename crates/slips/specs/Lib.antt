@@ -2,6 +2,7 @@
 pub mod Places
 pub mod Taken
 pub mod Rules
+pub mod RulesRead
 pub mod Marks
 pub mod Strays
 pub mod Readings

@@ -7,14 +7,15 @@ use super::signs::SEMICOLON;
 use super::signs::WRONG;
 use super::signs::is_sound;
 use grammar::Check;
-use grammar::Place;
+use grammar::is_alone;
+use grammar::row;
 use tokens::has_slip;
 use tokens::longest_base;
 ghost use mathlib.Core.Path.{_≡_};
 ghost use mathlib.Core.Bool.{true};
 ghost use Prim.Native.Nat.{_≤_};
 ghost use lib.ListN.{length};
-ghost use Rattle.slips.specs.Rules.{alonePlace, isEarlier};
+ghost use Rattle.slips.specs.Rules.{isEarlier};
 
 pub const NO_CHORD: usize = 1;
 
@@ -60,49 +61,21 @@ pub const SIDE_EMPTY: usize = 21;
 
 pub const EXTENSION_SIGN: usize = 22;
 
-// The places of the grammar as numbers: an item is to come at the first four.
+// The places of the grammar by their rows: an item is to come in the first three, and behind a line end.
 const FRESH: usize = 0;
 
-const ENDED: usize = 3;
+const JOINS: usize = 2;
 
-const REMOVED: usize = 5;
+const REMOVED: usize = 4;
 
-fn place_number(p: Place) -> usize {
-    match p {
-        Place::Fresh => FRESH,
-        Place::Wants => 1,
-        Place::Joins => 2,
-        Place::Ended => ENDED,
-        Place::Sounds => 4,
-        Place::Removed => REMOVED,
-        Place::Alone => 6,
-        Place::Full => 7,
-        Place::Bad => 8,
-    }
-}
+const ENDED: usize = 7;
 
 // Whether an item is to come.
 fn wants(place: usize) -> bool {
-    place <= ENDED
+    place <= JOINS || place == ENDED
 }
 
 // Whether a `$n` is all that was read.
-pub fn is_alone(p: Place) -> bool
-    ensures { λ r. ⌜ r ≡ alonePlace p ⌝ }
-{
-    match p {
-        Place::Fresh => false,
-        Place::Wants => false,
-        Place::Joins => false,
-        Place::Ended => false,
-        Place::Sounds => false,
-        Place::Removed => false,
-        Place::Alone => true,
-        Place::Full => false,
-        Place::Bad => false,
-    }
-}
-
 pub fn stands_alone(c: Check) -> bool {
     let place = c.place;
     is_alone(place)
@@ -172,7 +145,7 @@ pub fn token_clause(c: Check, last: u32, sign: u32, w: &[u8]) -> usize
     ensures { λ r. ⌜ (1 ≤ r) × (r ≤ 22) ⌝ }
 {
     let at = c.place;
-    let place = place_number(at);
+    let place = row(at);
     if sign == WRONG {
         return wrong_clause(w);
     }
@@ -211,7 +184,7 @@ pub fn end_clause(c: Check) -> usize
     ensures { λ r. ⌜ (1 ≤ r) × (r ≤ 22) × (isEarlier r ≡ true) ⌝ }
 {
     let at = c.place;
-    let place = place_number(at);
+    let place = row(at);
     if place == FRESH {
         return SIDE_EMPTY;
     }

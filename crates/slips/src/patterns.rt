@@ -9,7 +9,6 @@ use super::faults::REFERENCE_NOT_HERE;
 use super::faults::REMOVER_INSIDE;
 use super::faults::SEPARATOR_LAST;
 use super::faults::end_clause;
-use super::faults::is_alone;
 use super::faults::line_end_clause;
 use super::faults::stands_alone;
 use super::faults::token_clause;
@@ -30,6 +29,8 @@ use super::slip::counted;
 use super::spots::Spot;
 use grammar::Check;
 use grammar::Place;
+use grammar::is_alone;
+use grammar::is_bad;
 use grammar::line_between;
 use grammar::start;
 use grammar::step_check;
@@ -55,8 +56,10 @@ ghost use Rattle.grammar.specs.Checks.{first};
 ghost use Rattle.tokens.specs.TokenWords.{tokenWord};
 ghost use Rattle.tokens.specs.Fitting.{Fit};
 ghost use Rattle.tokens.specs.Lexing.{tokensFrom};
-ghost use Rattle.slips.specs.Rules.{badPlace, amiss, misnamed, isStuck, isSide, isEarlier, Told, Going, Steps, Reads, upTo, piece};
-ghost use Rattle.slips.specs.Rules.{ReadAll, Ruled, RuledAt, sideLine};
+ghost use Rattle.slips.specs.Rules.{isEarlier, Told, piece};
+ghost use Rattle.slips.specs.RulesRead.{amiss, misnamed, isStuck, isSide, Going, Steps, Reads, upTo};
+ghost use Rattle.slips.specs.Rules.{Ruled};
+ghost use Rattle.slips.specs.RulesRead.{ReadAll, RuledAt, sideLine};
 ghost use Rattle.slips.specs.declared.patterns.Whose.the-variants.{Definition, Section, Side};
 ghost use Rattle.sections.specs.Runs.{linesOf};
 ghost use Rattle.sections.specs.BlockParts.{blockAt};
@@ -114,22 +117,6 @@ fn blamed(r: Reading, clause: usize, from: usize, to: usize, stop: usize) -> Rea
         spot: from,
         past: to,
         stop,
-    }
-}
-
-fn is_bad(p: Place) -> bool
-    ensures { λ r. ⌜ r ≡ badPlace p ⌝ }
-{
-    match p {
-        Place::Fresh => false,
-        Place::Wants => false,
-        Place::Joins => false,
-        Place::Ended => false,
-        Place::Sounds => false,
-        Place::Removed => false,
-        Place::Alone => false,
-        Place::Full => false,
-        Place::Bad => true,
     }
 }
 

@@ -1,6 +1,6 @@
 use mathlib.Core.Path.{refl}
 use Rattle.grammar.proofs.TestLaws.{and-fails, and-passes}
-use Rattle.slips.specs.Rules.{amiss, misnamed}
+use Rattle.slips.specs.RulesRead.{amiss, misnamed}
 use borrow.Author.Needs.{needs}
 use Rattle.slips.proofs.patterns.is_misnamed.Statement.{statement}
 use Rattle.slips.proofs.patterns.is_misnamed.Tie as tie

@@ -1,6 +1,6 @@
 use mathlib.Core.Path.{_∙_}
 use Rattle.grammar.proofs.TestLaws.{or-passes, or-fails}
-use Rattle.slips.specs.Rules.{isStuck}
+use Rattle.slips.specs.RulesRead.{isStuck}
 use borrow.Author.Needs.{needs}
 use Rattle.slips.proofs.patterns.is_stuck.Statement.{statement}
 use Rattle.slips.proofs.patterns.is_stuck.Tie as tie

@@ -5,7 +5,7 @@ use Rattle.songcode.specs.Bytes.{Byte}
 use Rattle.songcode.specs.answer.Lines.{Line}
 use Rattle.settings.proofs.OfLineLaws.{setting-of-line}
 use Rattle.slips.specs.declared.patterns.Whose.the-variants.{Side}
-use Rattle.slips.specs.Rules.{sideLine}
+use Rattle.slips.specs.RulesRead.{sideLine}
 use Rattle.slips.proofs.TextReadLaws.{line-read, text-ends}
 use borrow.Author.Needs.{needs}
 use Rattle.slips.proofs.patterns.side_slip.Statement.{statement}
