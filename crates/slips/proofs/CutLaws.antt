@@ -10,7 +10,7 @@ use Rattle.tokens.specs.Lexing.{tokensFrom}
 use Rattle.tokens.proofs.LexLaws.{tokens-over}
 use Rattle.slips.specs.declared.patterns.Whose.{Whose}
 use Rattle.slips.specs.declared.patterns.Reading.{Reading}
-use Rattle.slips.specs.Rules.{Right, textTokens, piece, Cut, before, onward, Stuck, StopsAt, Told, RuledIn}
+use Rattle.slips.specs.Rules.{Right, textTokens, piece, Cut, before, onward, Latest, Stuck, StopsAt, Told, RuledIn}
 use Rattle.slips.specs.RulesRead.{upTo, Refuses}
 use Rattle.slips.proofs.ReadingLaws.{told-near}
 
@@ -53,10 +53,10 @@ module _ (s : List ℕ) (w : Whose) (passed rest : List Line) (n from to : ℕ) 
   lines = passed ++ (piece s n from to ∷ rest)
 
   module _ (at : ℕ) (a : from ≤ at) (b : at ≤ to) (split : tokensFrom from to s ≡ tokensFrom from at s ++ tokensFrom at to s) where
-    abbrev cut : Cut s lines at
+    abbrev pub cut : Cut s lines at
     cut = record { passed = passed; rest = rest; number = n; start = from; stop = to; written = refl; begins = a; ends = b }
 
-    front : before cut ≡ upTo passed ++ tokensFrom from at s
+    pub front : before cut ≡ upTo passed ++ tokensFrom from at s
     unfolding textTokens tokensOf
     front = text-more passed (piece s n from at) []
 
@@ -70,9 +70,10 @@ module _ (s : List ℕ) (w : Whose) (passed rest : List Line) (n from to : ℕ) 
 
     -- It stops in front of a token.
     stops-token : (ts : List Token) → ts ≡ upTo passed ++ tokensFrom from at s → (t : Token) (vs : List Token) → onward cut ≡ t ∷ vs
-        → ((more : List Token) × Right w (ts ++ more)) → ((more : List Token) → Right w (ts ++ (t ∷ more)) → ⊥) → StopsAt s w lines at
+        → ((more : List Token) × Right w (ts ++ more)) → ((more : List Token) → Right w (ts ++ (t ∷ more)) → ⊥)
+        → {last : ℕ} → Latest s lines ts last → StopsAt s w lines at last
     unfolding Stuck
-    stops-token ts e t vs o y z =
+    stops-token ts e t vs o y z {last} l =
         let same : ts ≡ before cut = e ∙ sym front in
         record {
           cut = cut;
@@ -81,15 +82,16 @@ module _ (s : List ℕ) (w : Whose) (passed rest : List Line) (n from to : ℕ) 
           stuck =
               subst (λ (os : List Token). Stuck w (before cut) os) (sym o)
               (subst (λ (us : List Token). (more : List Token) → Right w (us ++ (t ∷ more)) → ⊥) same z);
+          latest = subst (λ (us : List Token). Latest s lines us last) same l;
         }
 
     pub refuses-token : (ts : List Token) → ts ≡ upTo passed ++ tokensFrom from at s → (t : Token) (us : List Token) → tokensFrom at to s ≡ t ∷ us
-        → at < length s → (x : Reading) → Refuses w ts t at x → RuledIn s w lines (x .clause) (x .spot)
+        → at < length s → (x : Reading) (last : ℕ) → Latest s lines ts last → Refuses w ts t at last x → RuledIn s w lines (x .clause) (x .spot)
     unfolding textTokens
-    refuses-token ts e t us h i x r =
+    refuses-token ts e t us h i x last l r =
         let f = first-of s n at to rest t us h in
         let k = told-near (r .told) in
-        record { at = at; stops = stops-token ts e t (f .0) (f .1) (r .begun) (r .never); told = r .told; inside = omega arith }
+        record { at = at; last = last; stops = stops-token ts e t (f .0) (f .1) (r .begun) (r .never) l; told = r .told; inside = omega arith }
 
   -- At the end of the line.
   at-end : from ≤ to → tokensFrom from to s ≡ tokensFrom from to s ++ tokensFrom to to s
@@ -97,37 +99,42 @@ module _ (s : List ℕ) (w : Whose) (passed rest : List Line) (n from to : ℕ) 
 
 module _ (s : List ℕ) (w : Whose) (passed : List Line) (n from to : ℕ) (a : from ≤ to) (ts : List Token) (e : ts ≡ upTo passed ++ tokensFrom from to s) where
   -- Another line follows, and may not.
-  pub refuses-line-end : (m : Line) (ms : List Line) → to < length s → (x : Reading) → Refuses w ts lineEnd to x
+  pub refuses-line-end : (m : Line) (ms : List Line) → to < length s → (x : Reading) (last : ℕ)
+      → Latest s (passed ++ (piece s n from to ∷ (m ∷ ms))) ts last → Refuses w ts lineEnd to last x
       → RuledIn s w (passed ++ (piece s n from to ∷ (m ∷ ms))) (x .clause) (x .spot)
   unfolding textTokens tokensOf
-  refuses-line-end m ms i x r =
+  refuses-line-end m ms i x last l r =
       let o : tokensFrom to to s ++ (lineEnd ∷ tokensOf m ms) ≡ lineEnd ∷ tokensOf m ms =
       ap (λ (us : List Token). us ++ (lineEnd ∷ tokensOf m ms)) (tokens-over s to to (omega arith)) in
       let k = told-near (r .told) in
       record {
         at = to;
+        last = last;
         stops = stops-token s w passed (m ∷ ms) n from to to a (omega arith) (at-end s w passed (m ∷ ms) n from to a) ts e lineEnd (tokensOf m ms) o
-            (r .begun) (r .never);
+            (r .begun) (r .never) l;
         told = r .told;
         inside = omega arith;
       }
 
   -- The text ends, and is not right.
   pub refuses-end : (x : Reading) → ((more : List Token) × Right w (ts ++ more)) → (Right w (textTokens (passed ++ (piece s n from to ∷ []))) → ⊥)
-      → Told to (x .clause) (x .spot) → x .spot ≤ length s → RuledIn s w (passed ++ (piece s n from to ∷ [])) (x .clause) (x .spot)
+      → (last : ℕ) → Latest s (passed ++ (piece s n from to ∷ [])) ts last → Told to last (x .clause) (x .spot) → x .spot ≤ length s
+      → RuledIn s w (passed ++ (piece s n from to ∷ [])) (x .clause) (x .spot)
   unfolding textTokens tokensOf Stuck
-  refuses-end x y z k i =
+  refuses-end x y z last l k i =
       let split = at-end s w passed [] n from to a in
       let c = cut s w passed [] n from to to a (omega arith) split in
       let same : ts ≡ before c = e ∙ sym (front s w passed [] n from to to a (omega arith) split) in
       record {
         at = to;
+        last = last;
         stops =
             record {
               cut = c;
               apart = apart s w passed [] n from to to a (omega arith) split;
               begun = (y .0, subst (λ (us : List Token). Right w (us ++ y .0)) same (y .1));
               stuck = subst (λ (os : List Token). Stuck w (before c) os) (sym (tokens-over s to to (omega arith))) z;
+              latest = subst (λ (us : List Token). Latest s (passed ++ (piece s n from to ∷ [])) us last) same l;
             };
         told = k;
         inside = i;

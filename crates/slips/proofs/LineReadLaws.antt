@@ -15,9 +15,9 @@ use Rattle.slips.specs.declared.patterns.Whose.{Whose}
 use Rattle.slips.specs.declared.patterns.Reading.{Reading}
 use Rattle.slips.specs.declared.signs.Token.{Token}
 use Rattle.slips.specs.Taken.{TokenAt}
-use Rattle.slips.specs.Rules.{RuledIn}
+use Rattle.slips.specs.Rules.{before, OnlyEnds, LastAt, Latest, RuledIn}
 use Rattle.slips.specs.RulesRead.{upTo, Going, Steps, Reads}
-use Rattle.slips.proofs.CutLaws.{lines, refuses-token}
+use Rattle.slips.proofs.CutLaws.{lines, cut, front, refuses-token}
 
 -- The line up to a place: no word is cut there, and the reading has come so far, or has stopped.
 pub record InLine (s : List ℕ) (w : Whose) (from to : ℕ) (r₀ r : Reading) (at : ℕ) : Type 0 where
@@ -26,6 +26,7 @@ pub record InLine (s : List ℕ) (w : Whose) (from to : ℕ) (r₀ r : Reading) 
   pub split : (k : ℕ) → at ≤ k → k ≤ to → tokensFrom from k s ≡ tokensFrom from at s ++ tokensFrom at k s
   pub kept : (r₀ .clause ≡ 0 → ⊥) → r ≡ r₀
   pub read : (passed rest : List Line) (n : ℕ) → Going w (upTo passed) from r₀
+      → Latest s (lines s w passed rest n from to) (upTo passed) (r₀ .from)
       → Reads s w (lines s w passed rest n from to) (upTo passed ++ tokensFrom from at s) at r
 
 -- A reading that goes on does so at every later place, and with the same tokens told otherwise.
@@ -51,15 +52,17 @@ module _ (s : List ℕ) (w : Whose) (from to : ℕ) (h : from ≤ to) (r : Readi
         split = λ k i j. sym (ap (λ (ts : List songcode.Token). ts ++ tokensFrom from k s) none);
         kept = λ n. refl;
         read =
-            λ passed rest n g.
-            inl (later (sym (append-nil (upTo passed)) ∙ ap (λ (ts : List songcode.Token). upTo passed ++ ts) (sym none)) (omega arith) g);
+            λ passed rest n g l.
+            let e : upTo passed ≡ upTo passed ++ tokensFrom from from s =
+            sym (append-nil (upTo passed)) ∙ ap (λ (ts : List songcode.Token). upTo passed ++ ts) (sym none) in
+            inl (later e (omega arith) g, subst (λ (ts : List songcode.Token). Latest s (lines s w passed rest n from to) ts (r .from)) e l);
       }
 
 module _ {s : List ℕ} {w : Whose} {from to : ℕ} {r₀ r : Reading} {at : ℕ} (i : InLine s w from to r₀ r at) where
   -- One more token.
   module _ (inside : to ≤ length s) (tok : Token) (t : TokenAt s at to tok) (e : tok .next ≤ to) (x : Reading) (kept : (r .clause ≡ 0 → ⊥) → x ≡ r)
       (step : (ts : List songcode.Token) (a : ℕ) (u : songcode.Token) → Fit u → tok .word ≡ tokenWord u → a ≤ tok .from → Going w ts a r
-      → Steps w ts u (tok .from) (tok .next) x) where
+      → Steps w ts u (tok .from) (tok .next) (r .from) (tok .from) x) where
     abbrev here : ℕ
     here = tok .from
 
@@ -106,24 +109,45 @@ module _ {s : List ℕ} {w : Whose} {from to : ℕ} {r₀ r : Reading} {at : ℕ
       abbrev so-far : List songcode.Token
       so-far = upTo passed ++ tokensFrom from at s
 
-      stepped : Steps w so-far (t .token) here next x
-          → Reads s w (lines s w passed rest n from to) (upTo passed ++ tokensFrom from next s) next x
-      stepped (inl g) =
-          inl
-          (later
-          (append-assoc (upTo passed) (tokensFrom from at s) (t .token ∷ []) ∙ ap (λ (ts : List songcode.Token). upTo passed ++ ts) (sym up-to-next))
-          (omega arith) g)
-      stepped (inr f) =
+      abbrev whole : List Line
+      whole = lines s w passed rest n from to
+
+      more : so-far ++ (t .token ∷ []) ≡ upTo passed ++ tokensFrom from next s
+      more = append-assoc (upTo passed) (tokensFrom from at s) (t .token ∷ []) ∙ ap (λ (ts : List songcode.Token). upTo passed ++ ts) (sym up-to-next)
+
+      -- This token is the last one then.
+      last-here : LastAt s whole (upTo passed ++ tokensFrom from next s) here
+      unfolding OnlyEnds
+      last-here =
+          let a = i .begins in
+          let b = t .begins in
+          let c = t .solid in
+          let up = front s w passed rest n from to here (omega arith) (omega arith) split-here in
+          let same : so-far ≡ before (cut s w passed rest n from to here (omega arith) (omega arith) split-here) =
+          ap (λ (ts : List songcode.Token). upTo passed ++ ts) (sym up-to-here) ∙ sym up in
+          record {
+            cut = cut s w passed rest n from to here (omega arith) (omega arith) split-here;
+            token = t .token;
+            ends = [];
+            read = sym more ∙ ap (λ (ts : List songcode.Token). ts ++ (t .token ∷ [])) same;
+            only = tt;
+          }
+
+      stepped : Latest s whole so-far (r .from) → Steps w so-far (t .token) here next (r .from) here x
+          → Reads s w whole (upTo passed ++ tokensFrom from next s) next x
+      stepped l (inl g) =
+          inl (later more (omega arith) (g .0), inr (subst (λ (k : ℕ). LastAt s whole (upTo passed ++ tokensFrom from next s) k) (sym (g .1)) last-here))
+      stepped l (inr f) =
           let a = i .begins in
           let b = t .begins in
           let c = t .solid in
           inr
           (refuses-token s w passed rest n from to here (omega arith) (omega arith) split-here so-far
-          (ap (λ (ts : List songcode.Token). upTo passed ++ ts) (sym up-to-here)) (t .token) (tokensFrom next to s) token-here (omega arith) x f)
+          (ap (λ (ts : List songcode.Token). upTo passed ++ ts) (sym up-to-here)) (t .token) (tokensFrom next to s) token-here (omega arith) x (r .from) l f)
 
       read-next : Reads s w (lines s w passed rest n from to) so-far at r
           → Reads s w (lines s w passed rest n from to) (upTo passed ++ tokensFrom from next s) next x
-      read-next (inl g) = let a = t .begins in stepped (step so-far at (t .token) (t .fits) (t .word) (omega arith) g)
+      read-next (inl g) = let a = t .begins in stepped (g .1) (step so-far at (t .token) (t .fits) (t .word) (omega arith) (g .0))
       read-next (inr f) =
           let same : x ≡ r = kept (λ z. let m = f .told .named .0 in let y : ⊥ = omega arith in y) in
           inr (subst (λ (y : Reading). RuledIn s w (lines s w passed rest n from to) (y .clause) (y .spot)) (sym same) f)
@@ -138,24 +162,27 @@ module _ {s : List ℕ} {w : Whose} {from to : ℕ} {r₀ r : Reading} {at : ℕ
           ends = e;
           split = split-next;
           kept = λ z. kept (subst (λ (y : Reading). y .clause ≡ 0 → ⊥) (sym (i .kept z)) z) ∙ i .kept z;
-          read = λ passed rest n g. read-next passed rest n (i .read passed rest n g);
+          read = λ passed rest n g l. read-next passed rest n (i .read passed rest n g l);
         }
 
   -- No token is left.
   abbrev pub Done : Type 0
   Done = ((r₀ .clause ≡ 0 → ⊥) → r ≡ r₀)
       × ((passed rest : List Line) (n : ℕ) → Going w (upTo passed) from r₀
+      → Latest s (lines s w passed rest n from to) (upTo passed) (r₀ .from)
       → Reads s w (lines s w passed rest n from to) (upTo passed ++ tokensFrom from to s) to r)
 
   pub line-done : tokensFrom at to s ≡ [] → Done
-  line-done e = (i .kept, λ passed rest n g. go passed rest n (i .read passed rest n g))
+  line-done e = (i .kept, λ passed rest n g l. go passed rest n (i .read passed rest n g l))
     where
       whole : tokensFrom from to s ≡ tokensFrom from at s
       whole = i .split to (i .ends) (omega arith) ∙ (ap (λ (ts : List songcode.Token). tokensFrom from at s ++ ts) e ∙ append-nil (tokensFrom from at s))
 
       go : (passed rest : List Line) (n : ℕ) → Reads s w (lines s w passed rest n from to) (upTo passed ++ tokensFrom from at s) at r
           → Reads s w (lines s w passed rest n from to) (upTo passed ++ tokensFrom from to s) to r
-      go passed rest n (inl g) = inl (later (ap (λ (ts : List songcode.Token). upTo passed ++ ts) (sym whole)) (i .ends) g)
+      go passed rest n (inl g) =
+          let e = ap (λ (ts : List songcode.Token). upTo passed ++ ts) (sym whole) in
+          inl (later e (i .ends) (g .0), subst (λ (ts : List songcode.Token). Latest s (lines s w passed rest n from to) ts (r .from)) e (g .1))
       go passed rest n (inr f) = inr f
 
   pub line-over : to ≤ at → Done

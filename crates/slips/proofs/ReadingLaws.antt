@@ -21,17 +21,17 @@ use Rattle.grammar.proofs.BeginningLaws.{or-true, run-on}
 use Rattle.slips.specs.declared.patterns.Whose.{Whose}
 use Rattle.slips.specs.declared.patterns.Whose.the-variants.{Definition, Section, Side}
 use Rattle.slips.specs.declared.patterns.Reading.{Reading}
-use Rattle.slips.specs.Rules.{isColon, Right, isCount, isEarlier, Told}
+use Rattle.slips.specs.Rules.{isColon, Right, isCount, isEarlier, isOpen, Told}
 use Rattle.slips.specs.RulesRead.{isStuck, isSide, barredToken, Going, Refuses, Steps}
 use Rattle.slips.proofs.RuleLaws.{free-begins, stuck-never, barred-never}
 
 -- The places of clauses.
-module _ {at clause from : ℕ} (n : (1 ≤ clause) × (clause ≤ 22)) where
-  pub told-here : isCount clause ≡ false → from ≡ at → Told at clause from
+module _ {at last clause from : ℕ} (n : (1 ≤ clause) × (clause ≤ 22)) where
+  pub told-here : isCount clause ≡ false → from ≡ at → Told at last clause from
   told-here c e =
-      record { named = n; placed = record { here = λ _. e; count = λ d. true-is-not-false d c; earlier = λ _. omega arith } }
+      record { named = n; placed = record { here = λ _. e; count = λ d. true-is-not-false d c; earlier = λ _. (omega arith, inr (inl e)) } }
 
-  pub told-count : clause ≡ 13 → from ≡ at + 1 → Told at clause from
+  pub told-count : clause ≡ 13 → from ≡ at + 1 → Told at last clause from
   told-count c e =
       record {
         named = n;
@@ -43,31 +43,31 @@ module _ {at clause from : ℕ} (n : (1 ≤ clause) × (clause ≤ 22)) where
             };
       }
 
-  pub told-earlier : isEarlier clause ≡ true → from ≤ at → Told at clause from
-  told-earlier y l =
+  pub told-earlier : isEarlier clause ≡ true → from ≤ at → (isOpen clause ≡ true) ⊎ ((from ≡ at) ⊎ (from ≡ last)) → Told at last clause from
+  told-earlier y l o =
       record {
         named = n;
         placed =
             record {
               here = λ h. true-is-not-false (rw y (or-true (isCount clause))) h;
               count = λ d. let e = eqb-true clause 13 d in let z : isEarlier 13 ≡ true = rw e at y in true-is-not-false z refl;
-              earlier = λ _. l;
+              earlier = λ _. (l, o);
             };
       }
 
 -- At most one byte behind.
-pub told-near : {at clause from : ℕ} → Told at clause from → from ≤ at + 1
-told-near {at} {clause} {from} t =
+pub told-near : {at last clause from : ℕ} → Told at last clause from → from ≤ at + 1
+told-near {at} {last} {clause} {from} t =
     by-cases (isEarlier clause)
-    (λ e. let h = t .placed .earlier e in omega arith)
+    (λ e. let h = t .placed .earlier e .0 in omega arith)
     (λ e.
     by-cases (isCount clause)
     (λ c. let h = t .placed .count c in omega arith)
     (λ c. let h = t .placed .here (rw (c, e) refl) in omega arith))
 
-pub told-as : (at : ℕ) (x : Reading) {clause from to : ℕ} → (x .clause ≡ clause) × (x .spot ≡ from) × (x .past ≡ to) → Told at clause from
-    → Told at (x .clause) (x .spot)
-told-as at x e t = rw (e .0, e .1) t
+pub told-as : (at last : ℕ) (x : Reading) {clause from to : ℕ} → (x .clause ≡ clause) × (x .spot ≡ from) × (x .past ≡ to) → Told at last clause from
+    → Told at last (x .clause) (x .spot)
+told-as at last x e t = rw (e .0, e .1) t
 
 -- The sign of a word tells a `:`.
 sign-colon : (t : Token) → Fit t → kind t ≡ 59 → isColon t ≡ true
@@ -121,11 +121,11 @@ module _ (w : Whose) (ts : List Token) (at : ℕ) (r : Reading) (g : Going w ts 
   begins : (more : List Token) × Right w (ts ++ more)
   begins = free-begins ts w (subst (λ (c : Check). isStuck w c ≡ false) (g .check) (g .free)) (g .unbarred)
 
-  pub stops-before : (x : Reading) (from : ℕ) → isStuck w d ≡ true → Told from (x .clause) (x .spot) → Refuses w ts t from x
+  pub stops-before : (x : Reading) (from : ℕ) → isStuck w d ≡ true → Told from (r .from) (x .clause) (x .spot) → Refuses w ts t from (r .from) x
   stops-before x from h k =
       record { begun = begins; never = λ more. stuck-never ts t more w (subst (λ (c : Check). isStuck w c ≡ true) same-step h); told = k }
 
-  pub barred-before : (x : Reading) (from : ℕ) → barredToken w t ≡ true → Told from (x .clause) (x .spot) → Refuses w ts t from x
+  pub barred-before : (x : Reading) (from : ℕ) → barredToken w t ≡ true → Told from (r .from) (x .clause) (x .spot) → Refuses w ts t from (r .from) x
   barred-before x from h k = record { begun = begins; never = λ more. barred-never ts t more w h; told = k }
 
   run-one : checkRun first (kindsOf (ts ++ (t ∷ []))) ≡ checkStep (checkRun first (kindsOf ts)) (kindOf t)
@@ -154,15 +154,15 @@ module _ (w : Whose) (ts : List Token) (at : ℕ) (r : Reading) (g : Going w ts 
   sign-is : word / 2 ^ 26 ≡ kind t
   sign-is = rw v (words.word-kind t fit)
 
-  pub token-stuck : isStuck w d ≡ true → Told from (x .clause) (x .spot) → Steps w ts t from to x
+  pub token-stuck : isStuck w d ≡ true → Told from (r .from) (x .clause) (x .spot) → Steps w ts t from to (r .from) from x
   token-stuck h k = inr (stops-before w ts at r g t d by-kind x from h k)
 
-  pub token-colon : isSide w ≡ true → word / 2 ^ 26 ≡ 59 → Told from (x .clause) (x .spot) → Steps w ts t from to x
+  pub token-colon : isSide w ≡ true → word / 2 ^ 26 ≡ 59 → Told from (r .from) (x .clause) (x .spot) → Steps w ts t from to (r .from) from x
   token-colon s h k = inr (barred-before w ts at r g t d by-kind x from (side-barred w t s (sign-colon t fit (sym sign-is ∙ h))) k)
 
-  pub token-passed : isStuck w d ≡ false → (isSide w ≡ false) ⊎ (word / 2 ^ 26 ≡ 59 → ⊥) → x .check ≡ d → x .clause ≡ 0 → x .from ≤ to → x .open ≤ to
-      → Steps w ts t from to x
-  token-passed h b c z f o = inl (goes-on w ts at r g t d by-kind x to h (unbarred b) c z f o)
+  pub token-passed : isStuck w d ≡ false → (isSide w ≡ false) ⊎ (word / 2 ^ 26 ≡ 59 → ⊥) → x .check ≡ d → x .clause ≡ 0 → x .from ≡ from → x .from ≤ to
+      → x .open ≤ to → Steps w ts t from to (r .from) from x
+  token-passed h b c z k f o = inl (goes-on w ts at r g t d by-kind x to h (unbarred b) c z f o, k)
     where
       unbarred : (isSide w ≡ false) ⊎ (word / 2 ^ 26 ≡ 59 → ⊥) → barredToken w t ≡ false
       unbarred (inl s) = no-side w t s

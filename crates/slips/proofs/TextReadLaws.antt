@@ -22,7 +22,7 @@ use Rattle.sections.specs.declared.runs.Run.{Run}
 use Rattle.sections.proofs.RunLaws.{lines-next, lines-over}
 use Rattle.slips.specs.declared.patterns.Whose.{Whose}
 use Rattle.slips.specs.declared.patterns.Reading.{Reading}
-use Rattle.slips.specs.Rules.{Right, textTokens, piece, Told, RuledIn, Ruled}
+use Rattle.slips.specs.Rules.{Right, textTokens, piece, before, OnlyEnds, Latest, Told, RuledIn, Ruled}
 use Rattle.slips.specs.RulesRead.{upTo, isStuck, misnamed, Going, Steps, Reads, ReadAll}
 use Rattle.slips.proofs.RuleLaws.{free-begins}
 use Rattle.slips.proofs.CutLaws.{up-to-more, refuses-line-end, refuses-end}
@@ -33,6 +33,24 @@ pub going-from : (w : Whose) (at : ℕ) (r : Reading) → (r .check ≡ first) �
 unfolding checkRun kindsOf isStuck misnamed any
 going-from w at r e =
     record { unblamed = e .1; check = e .0; free = rw (e .0) refl; unbarred = refl; behind = rw (e .2) (omega arith); opened = rw (e .3) (omega arith) }
+
+-- A line end behind them: the last token is the same.
+ends-ended : (ts : List Token) → OnlyEnds ts → OnlyEnds (ts ++ (lineEnd ∷ []))
+unfolding OnlyEnds
+ends-ended [] o = (refl, tt)
+ends-ended (t ∷ ts) o = (o .0, ends-ended ts (o .1))
+
+latest-ended : {s : List ℕ} {lines : List Line} {ts : List Token} {from : ℕ} → Latest s lines ts from → Latest s lines (ts ++ (lineEnd ∷ [])) from
+latest-ended {ts = ts} (inl o) = inl (ends-ended ts o)
+latest-ended (inr l) =
+    inr
+    (record {
+      cut = l .cut;
+      token = l .token;
+      ends = l .ends ++ (lineEnd ∷ []);
+      read = ap (λ (us : List Token). us ++ (lineEnd ∷ [])) (l .read) ∙ append-assoc (before (l .cut)) (l .token ∷ l .ends) (lineEnd ∷ []);
+      only = ends-ended (l .ends) (l .only);
+    })
 
 take-none : (k : ℕ) → take {A = Line} k [] ≡ []
 take-none zero = refl
@@ -92,9 +110,10 @@ module _ (s : List ℕ) (w : Whose) (lines : List Line) where
   pub text-begun : (n at k : ℕ) {l : text.Line} (f : Found s 0 at l) → lines ≡ take k (textLines s n at) → at < length s → (k ≡ 0 → ⊥)
       → (r x : Reading) → Going w [] (l .start) r
       → ((passed rest : List Line) (m : ℕ) → Going w (upTo passed) (l .start) r
+      → Latest s (passed ++ (piece s m (l .start) (l .stop) ∷ rest)) (upTo passed) (r .from)
       → Reads s w (passed ++ (piece s m (l .start) (l .stop) ∷ rest)) (upTo passed ++ tokensFrom (l .start) (l .stop) s) (l .stop) x)
       → InText x (l .next) (k - 1)
-  unfolding upTo
+  unfolding upTo OnlyEnds
   text-begun n at k {l} f e h z r x g step =
       let whole : lines ≡ piece s n (l .start) (l .stop) ∷ take (k - 1) (textLines s (n + 1) (l .next)) = e ∙ ahead n at k f h z in
       record {
@@ -108,15 +127,16 @@ module _ (s : List ℕ) (w : Whose) (lines : List Line) where
         inside = let a = f .next in let b = f .over in omega arith;
         read =
             subst (λ (ls : List Line). Reads s w ls (tokensFrom (l .start) (l .stop) s) (l .stop) x) (sym whole)
-            (step [] (take (k - 1) (textLines s (n + 1) (l .next))) n g);
+            (step [] (take (k - 1) (textLines s (n + 1) (l .next))) n g (inl tt));
       }
 
   -- One more line.
   module _ {r : Reading} {at left : ℕ} (i : InText r at left) {l : text.Line} (f : Found s 0 at l) (h : at < length s) (z : left ≡ 0 → ⊥)
       (y : Reading) (kept : (r .clause ≡ 0 → ⊥) → y ≡ r)
-      (ended : (ts : List Token) (a : ℕ) → Going w ts a r → Steps w ts lineEnd a a y)
+      (ended : (ts : List Token) (a : ℕ) → Going w ts a r → Steps w ts lineEnd a a (r .from) (r .from) y)
       (x : Reading) (held : (y .clause ≡ 0 → ⊥) → x ≡ y)
       (step : (passed rest : List Line) (n : ℕ) → Going w (upTo passed) (l .start) y
+      → Latest s (passed ++ (piece s n (l .start) (l .stop) ∷ rest)) (upTo passed) (y .from)
       → Reads s w (passed ++ (piece s n (l .start) (l .stop) ∷ rest)) (upTo passed ++ tokensFrom (l .start) (l .stop) s) (l .stop) x) where
     abbrev now : Line
     now = piece s (i .number) (i .start) (i .stop)
@@ -150,20 +170,27 @@ module _ (s : List ℕ) (w : Whose) (lines : List Line) where
     abbrev so-far : List Token
     so-far = upTo (i .passed) ++ tokensFrom (i .start) (i .stop) s
 
-    stepped : Steps w so-far lineEnd (i .stop) (i .stop) y → Now x
-    stepped (inl g) =
+    ended-as : so-far ++ (lineEnd ∷ []) ≡ upTo passed
+    ended-as = sym (up-to-more (i .passed) now)
+
+    stepped : Latest s lines so-far (r .from) → Steps w so-far lineEnd (i .stop) (i .stop) (r .from) (r .from) y → Now x
+    stepped k (inl g) =
         let a = i .onward in
         let b = f .start in
         subst (λ (ls : List Line). Reads s w ls (upTo passed ++ tokensFrom (l .start) (l .stop) s) (l .stop) x) (sym whole)
-        (step passed rest n (later (sym (up-to-more (i .passed) now)) (omega arith) g))
-    stepped (inr q) =
+        (step passed rest n (later ended-as (omega arith) (g .0))
+        (subst (λ (ls : List Line). Latest s ls (upTo passed) (y .from)) whole
+        (subst (λ (ts : List Token). Latest s lines ts (y .from)) ended-as
+        (subst (λ (m : ℕ). Latest s lines (so-far ++ (lineEnd ∷ [])) m) (sym (g .1)) (latest-ended k)))))
+    stepped k (inr q) =
         let a = i .onward in
         keeps
         (subst (λ (ls : List Line). RuledIn s w ls (y .clause) (y .spot)) (sym split)
-        (refuses-line-end s w (i .passed) (i .number) (i .start) (i .stop) (i .ordered) so-far refl this rest (omega arith) y q))
+        (refuses-line-end s w (i .passed) (i .number) (i .start) (i .stop) (i .ordered) so-far refl this rest (omega arith) y (r .from)
+        (subst (λ (ls : List Line). Latest s ls so-far (r .from)) split k) q))
 
     go : Reads s w lines so-far (i .stop) r → Now x
-    go (inl g) = stepped (ended so-far (i .stop) g)
+    go (inl g) = stepped (g .1) (ended so-far (i .stop) (g .0))
     go (inr q) =
         let same : y ≡ r = kept (λ e. let m = q .told .named .0 in let v : ⊥ = omega arith in v) in
         keeps (subst (λ (u : Reading). RuledIn s w lines (u .clause) (u .spot)) (sym same) q)
@@ -184,11 +211,13 @@ module _ (s : List ℕ) (w : Whose) (lines : List Line) where
 
   -- The end.
   pub text-ends : (r x : Reading) → ReadAll s w lines r → ((r .clause ≡ 0 → ⊥) → x ≡ r)
-      → ((at : ℕ) → r .clause ≡ 0 → r .from ≤ at → r .open ≤ at → Told at (x .clause) (x .spot) × (x .spot ≤ at)) → Ruled s w lines (x .clause) (x .spot)
+      → ((at : ℕ) → r .clause ≡ 0 → r .from ≤ at → r .open ≤ at → Told at (r .from) (x .clause) (x .spot) × (x .spot ≤ at))
+      → Ruled s w lines (x .clause) (x .spot)
   text-ends r x a kept told wrong = go (a .read)
     where
       go : Reads s w lines (upTo (a .passed) ++ tokensFrom (a .start) (a .stop) s) (a .stop) r → RuledIn s w lines (x .clause) (x .spot)
-      go (inl g) =
+      go (inl q) =
+          let g = q .0 in
           let k = told (a .stop) (g .unblamed) (g .behind) (g .opened) in
           let i = k .1 in
           let j = a .inside in
@@ -196,6 +225,7 @@ module _ (s : List ℕ) (w : Whose) (lines : List Line) where
           (refuses-end s w (a .passed) (a .number) (a .start) (a .stop) (a .ordered) (upTo (a .passed) ++ tokensFrom (a .start) (a .stop) s) refl x
           (free-begins (upTo (a .passed) ++ tokensFrom (a .start) (a .stop) s) w (subst (λ c. isStuck w c ≡ false) (g .check) (g .free)) (g .unbarred))
           (λ q. wrong (subst (λ (ls : List Line). Right w (textTokens ls)) (sym (a .written)) q))
+          (r .from) (subst (λ (ls : List Line). Latest s ls (upTo (a .passed) ++ tokensFrom (a .start) (a .stop) s) (r .from)) (a .written) (q .1))
           (k .0) (omega arith))
       go (inr q) =
           let same : x ≡ r = kept (λ e. let m = q .told .named .0 in let v : ⊥ = omega arith in v) in
@@ -209,6 +239,7 @@ module _ (s : List ℕ) (w : Whose) where
   pub text-start : (run : Run) (l : text.Line) → Found s 0 (run .at) l → (m : Line) (ms : List Line) → linesOf s run ≡ m ∷ ms
       → (r x : Reading) → (r .check ≡ first) × (r .clause ≡ 0) × (r .from ≡ run .at) × (r .open ≡ 0)
       → ((passed rest : List Line) (n : ℕ) → Going w (upTo passed) (l .start) r
+      → Latest s (passed ++ (piece s n (l .start) (l .stop) ∷ rest)) (upTo passed) (r .from)
       → Reads s w (passed ++ (piece s n (l .start) (l .stop) ∷ rest)) (upTo passed ++ tokensFrom (l .start) (l .stop) s) (l .stop) x)
       → (left : ℕ) → left ≡ run .lines - 1 → InText s w (linesOf s run) x (l .next) left
   unfolding linesOf
@@ -225,9 +256,10 @@ module _ (s : List ℕ) (w : Whose) where
   pub line-read : (n q stop : ℕ) → q ≤ stop → stop ≤ length s → (lines : List Line) → lines ≡ piece s n q stop ∷ [] → (r x : Reading)
       → (r .check ≡ first) × (r .clause ≡ 0) × (r .from ≡ q) × (r .open ≡ 0)
       → ((passed rest : List Line) (m : ℕ) → Going w (upTo passed) q r
+      → Latest s (passed ++ (piece s m q stop ∷ rest)) (upTo passed) (r .from)
       → Reads s w (passed ++ (piece s m q stop ∷ rest)) (upTo passed ++ tokensFrom q stop s) stop x)
       → ReadAll s w lines x
-  unfolding upTo
+  unfolding upTo OnlyEnds
   line-read n q stop h i lines e r x g step =
       record {
         passed = [];
@@ -237,5 +269,5 @@ module _ (s : List ℕ) (w : Whose) where
         written = e;
         ordered = h;
         inside = i;
-        read = subst (λ (ls : List Line). Reads s w ls (tokensFrom q stop s) stop x) (sym e) (step [] [] n (going-from w q r g));
+        read = subst (λ (ls : List Line). Reads s w ls (tokensFrom q stop s) stop x) (sym e) (step [] [] n (going-from w q r g) (inl tt));
       }

@@ -6,10 +6,11 @@ use lib.ListN.{length}
 use mathlib.Core.Path.{_≡_}
 use mathlib.Core.List.{List, [], _∷_, _++_}
 use mathlib.Core.Bool.{Bool, true, false, _||_}
+use mathlib.Core.Logic.{_⊎_}
 use Rattle.songcode.specs.Lists.{isSome, any}
 use Rattle.songcode.specs.Bytes.{placed}
 use Rattle.songcode.specs.answer.Lines.{Line}
-use Rattle.songcode.specs.answer.Tokens.{Token, tokensOf}
+use Rattle.songcode.specs.answer.Tokens.{Token, lineEnd, tokensOf}
 use Rattle.songcode.specs.answer.PatternText.{itemsIn, kept, noReference, wholeReference, patternBy}
 use Rattle.text.specs.Spans.{part}
 use Rattle.grammar.specs.declared.kinds.Kind.the-variants.{Colon}
@@ -57,6 +58,22 @@ before {s} {lines} {at} c = textTokens (c .passed ++ (piece s (c .number) (c .st
 abbrev pub onward : {s : List ℕ} {lines : List Line} {at : ℕ} → Cut s lines at → List Token
 onward {s} {lines} {at} c = textTokens (piece s (c .number) at (c .stop) ∷ c .rest)
 
+-- The last token of some is at a place: nothing but line ends stands behind it.
+unfoldable pub OnlyEnds : List Token → Type 0
+OnlyEnds [] = Unit {0}
+OnlyEnds (t ∷ ts) = (t ≡ lineEnd) × OnlyEnds ts
+
+pub record LastAt (s : List ℕ) (lines : List Line) (ts : List Token) (from : ℕ) : Type 0 where
+  pub cut : Cut s lines from
+  pub token : Token
+  pub ends : List Token
+  pub read : ts ≡ before cut ++ (token ∷ ends)
+  pub only : OnlyEnds ends
+
+-- The same, if there is one.
+abbrev pub Latest : List ℕ → List Line → List Token → ℕ → Type 0
+Latest s lines ts from = OnlyEnds ts ⊎ LastAt s lines ts from
+
 -- No right text begins with these tokens and the one that follows; where none follows, they are no right text.
 unfoldable pub Stuck : Whose → List Token → List Token → Type 0
 unfolding Right
@@ -64,36 +81,41 @@ Stuck w ts [] = Right w ts → ⊥
 Stuck w ts (t ∷ us) = (more : List Token) → Right w (ts ++ (t ∷ more)) → ⊥
 
 -- The place at which a text stops being right: what stands before it is the beginning of a right text, and with the token at the place no longer; at
--- the end of the text, it is not whole.
-pub record StopsAt (s : List ℕ) (w : Whose) (lines : List Line) (at : ℕ) : Type 0 where
+-- the end of the text, it is not whole. The token before it begins at another.
+pub record StopsAt (s : List ℕ) (w : Whose) (lines : List Line) (at last : ℕ) : Type 0 where
   pub cut : Cut s lines at
   pub apart : textTokens lines ≡ before cut ++ onward cut
   pub begun : (more : List Token) × Right w (before cut ++ more)
   pub stuck : Stuck w (before cut) (onward cut)
+  pub latest : Latest s lines (before cut) last
 
--- The place that is told is this place, but for these clauses: what stands behind the `]` there (13); and before it, the separator, the `=`, the `[` or
--- the `$n` that may not stand so (6, 7, 10, 15, 17, 19), or where a text should stand (21).
+-- The place that is told is this place, but for these clauses: what stands behind the `]` there (13); and this token or the one before it, the separator,
+-- the `=`, the `[` or the `$n` that may not stand so (6, 7, 10, 17, 19), or where a text should stand (21); and before it, a `[` that is open (15).
 abbrev pub isCount : ℕ → Bool
 isCount clause = eqb clause 13
 
 abbrev pub isEarlier : ℕ → Bool
 isEarlier clause = eqb clause 6 || eqb clause 7 || eqb clause 10 || eqb clause 15 || eqb clause 17 || eqb clause 19 || eqb clause 21
 
-pub record PlacedBy (clause at from : ℕ) : Type 0 where
+abbrev pub isOpen : ℕ → Bool
+isOpen clause = eqb clause 15
+
+pub record PlacedBy (clause at last from : ℕ) : Type 0 where
   pub here : (isCount clause || isEarlier clause) ≡ false → from ≡ at
   pub count : isCount clause ≡ true → from ≡ at + 1
-  pub earlier : isEarlier clause ≡ true → from ≤ at
+  pub earlier : isEarlier clause ≡ true → (from ≤ at) × ((isOpen clause ≡ true) ⊎ ((from ≡ at) ⊎ (from ≡ last)))
 
 -- A clause of refusal 7, and its place.
-pub record Told (at clause from : ℕ) : Type 0 where
+pub record Told (at last clause from : ℕ) : Type 0 where
   pub named : (1 ≤ clause) × (clause ≤ 22)
-  pub placed : PlacedBy clause at from
+  pub placed : PlacedBy clause at last from
 
 -- What is promised of a slip in a text that is not right.
 pub record RuledIn (s : List ℕ) (w : Whose) (lines : List Line) (clause from : ℕ) : Type 0 where
   pub at : ℕ
-  pub stops : StopsAt s w lines at
-  pub told : Told at clause from
+  pub last : ℕ
+  pub stops : StopsAt s w lines at last
+  pub told : Told at last clause from
   pub inside : from ≤ length s
 
 -- The same, of a text of which it is not known.

@@ -24,7 +24,7 @@ use Rattle.slips.specs.declared.slip.Slip.{Slip}
 use Rattle.slips.specs.declared.patterns.Reading.{Reading}
 use Rattle.slips.specs.declared.patterns.Whose.{Whose}
 use Rattle.slips.specs.declared.patterns.Whose.the-variants.{Definition, Section, Side}
-use Rattle.slips.specs.Rules.{isColon, Right, piece, Told, RuledIn, Ruled}
+use Rattle.slips.specs.Rules.{isColon, Right, piece, Latest, Told, RuledIn, Ruled}
 
 -- The tokens in front of a line behind others.
 unfoldable pub upTo : List Line → List Token
@@ -81,18 +81,18 @@ pub record Going (w : Whose) (ts : List Token) (at : ℕ) (r : Reading) : Type 0
   pub opened : r .open ≤ at
 
 -- One that has stopped in front of a token.
-pub record Refuses (w : Whose) (ts : List Token) (t : Token) (at : ℕ) (r : Reading) : Type 0 where
+pub record Refuses (w : Whose) (ts : List Token) (t : Token) (at last : ℕ) (r : Reading) : Type 0 where
   pub begun : (more : List Token) × Right w (ts ++ more)
   pub never : (more : List Token) → Right w (ts ++ (t ∷ more)) → ⊥
-  pub told : Told at (r .clause) (r .spot)
+  pub told : Told at last (r .clause) (r .spot)
 
--- A token is read, or a line end: the reading goes on behind it, or has stopped in front of it.
-abbrev pub Steps : Whose → List Token → Token → ℕ → ℕ → Reading → Type 0
-Steps w ts t at next r = Going w (ts ++ (t ∷ [])) next r ⊎ Refuses w ts t at r
+-- A token is read, or a line end: the reading goes on behind it, its last token at a place, or has stopped in front of it.
+abbrev pub Steps : Whose → List Token → Token → ℕ → ℕ → ℕ → ℕ → Reading → Type 0
+Steps w ts t at next last from r = (Going w (ts ++ (t ∷ [])) next r × (r .from ≡ from)) ⊎ Refuses w ts t at last r
 
 -- A reading of a text, up to a place on a line of it or stopped before.
 abbrev pub Reads : List ℕ → Whose → List Line → List Token → ℕ → Reading → Type 0
-Reads s w lines ts at r = Going w ts at r ⊎ RuledIn s w lines (r .clause) (r .spot)
+Reads s w lines ts at r = (Going w ts at r × Latest s lines ts (r .from)) ⊎ RuledIn s w lines (r .clause) (r .spot)
 
 -- All lines are read: the last one is known.
 pub record ReadAll (s : List ℕ) (w : Whose) (lines : List Line) (r : Reading) : Type 0 where

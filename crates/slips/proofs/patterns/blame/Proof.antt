@@ -12,7 +12,7 @@ returns c =
     let i = b .0 in
     let j = b .1 in
     λ l.
-    told-as (c .before .before .before .before .before .before .before .before .before .before .args .from) (c .blamed .result) (c .blamed .ensures)
+    told-as (c .before .before .before .before .before .before .before .before .before .before .args .from) _ (c .blamed .result) (c .blamed .ensures)
     (told-here (omega arith, omega arith) (ne-eqb (c .before .barred-clause .result) 13
     (λ (e : c .before .barred-clause .result ≡ 13). let z : ⊥ = omega arith in z)) refl)
 

@@ -22,7 +22,7 @@ returns-2 c =
           inr
           (stops-before (q .whose) ts at (q .r) g lineEnd (d .result) (d .ensures) (c .blamed .result) at
           (sym (c .before .before .before .is-stuck .ensures) ∙ c .before .before .if2 .taken)
-          (told-as at (c .blamed .result) (c .blamed .ensures) (told-earlier (k .0, k .1) (k .2) (g .behind)))),
+          (told-as at (q .r .from) (c .blamed .result) (c .blamed .ensures) (told-earlier (k .0, k .1) (k .2) (g .behind) (inr (inr refl))))),
     )
 
 returns-3 : tie.Need-returns-3
@@ -32,9 +32,11 @@ returns-3 c =
     let d = c .before .before .line-between in (
       λ n. absurd (n (c .before .before .before .if1 .left)),
       λ ts at g.
-          inl
-          (goes-on (q .whose) ts at (q .r) g lineEnd (d .result) (d .ensures) _ at (sym (c .before .is-stuck .ensures) ∙ c .if2 .left)
-          (not-barred (q .whose) lineEnd refl) refl refl (g .behind) (g .opened)),
+          inl (
+            goes-on (q .whose) ts at (q .r) g lineEnd (d .result) (d .ensures) _ at (sym (c .before .is-stuck .ensures) ∙ c .if2 .left)
+                (not-barred (q .whose) lineEnd refl) refl refl (g .behind) (g .opened),
+            refl,
+          ),
     )
 
 pub read-line-end-spec : {M : Type 1} → statement M

@@ -47,7 +47,7 @@ returns-4 c =
           token-passed (q .whose) ts at (q .r) g t f (q .word) v (d .result) (d .ensures) (q .from) (q .to) (c .passed .result)
           (sym (c .before .before .before .before .before .is-stuck .ensures) ∙ c .before .before .before .before .if2 .left)
           (inr (λ y. c .before .if4 .left (c .before .before .before .before .before .before .before .sign-of .ensures ∙ y)))
-          (x .0) (x .1) (rw (x .2) i) (let p = x .3 (omega arith) in omega arith),
+          (x .0) (x .1) (x .2) (rw (x .2) i) (let p = x .3 (omega arith) in omega arith),
     )
 
 returns-5 : tie.Need-returns-5
@@ -63,7 +63,7 @@ returns-5 c =
           token-passed (q .whose) ts at (q .r) g t f (q .word) v (d .result) (d .ensures) (q .from) (q .to) (c .passed2 .result)
           (sym (c .before .before .before .before .is-stuck .ensures) ∙ c .before .before .before .if2 .left)
           (inl (sym (c .before .before .is-side .ensures) ∙ c .before .if3 .left))
-          (x .0) (x .1) (rw (x .2) i) (let p = x .3 (omega arith) in omega arith),
+          (x .0) (x .1) (x .2) (rw (x .2) i) (let p = x .3 (omega arith) in omega arith),
     )
 
 pub read-token-spec : {M : Type 1} → statement M
