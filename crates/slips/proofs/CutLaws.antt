@@ -10,7 +10,7 @@ use Rattle.tokens.specs.Lexing.{tokensFrom}
 use Rattle.tokens.proofs.LexLaws.{tokens-over}
 use Rattle.slips.specs.declared.patterns.Whose.{Whose}
 use Rattle.slips.specs.declared.patterns.Reading.{Reading}
-use Rattle.slips.specs.Rules.{Right, textTokens, piece, Cut, before, onward, Latest, Stuck, StopsAt, Told, RuledIn}
+use Rattle.slips.specs.Rules.{Right, textTokens, piece, Cut, before, onward, Back, Latest, Stuck, StopsAt, Told, RuledIn}
 use Rattle.slips.specs.RulesRead.{upTo, Refuses}
 use Rattle.slips.proofs.ReadingLaws.{told-near}
 
@@ -71,9 +71,9 @@ module _ (s : List ℕ) (w : Whose) (passed rest : List Line) (n from to : ℕ) 
     -- It stops in front of a token.
     stops-token : (ts : List Token) → ts ≡ upTo passed ++ tokensFrom from at s → (t : Token) (vs : List Token) → onward cut ≡ t ∷ vs
         → ((more : List Token) × Right w (ts ++ more)) → ((more : List Token) → Right w (ts ++ (t ∷ more)) → ⊥)
-        → {last : ℕ} → Latest s lines ts last → StopsAt s w lines at last
+        → {b : Back} → Latest s lines ts b → StopsAt s w lines at b
     unfolding Stuck
-    stops-token ts e t vs o y z {last} l =
+    stops-token ts e t vs o y z {b} l =
         let same : ts ≡ before cut = e ∙ sym front in
         record {
           cut = cut;
@@ -82,16 +82,16 @@ module _ (s : List ℕ) (w : Whose) (passed rest : List Line) (n from to : ℕ) 
           stuck =
               subst (λ (os : List Token). Stuck w (before cut) os) (sym o)
               (subst (λ (us : List Token). (more : List Token) → Right w (us ++ (t ∷ more)) → ⊥) same z);
-          latest = subst (λ (us : List Token). Latest s lines us last) same l;
+          latest = subst (λ (us : List Token). Latest s lines us b) same l;
         }
 
     pub refuses-token : (ts : List Token) → ts ≡ upTo passed ++ tokensFrom from at s → (t : Token) (us : List Token) → tokensFrom at to s ≡ t ∷ us
-        → at < length s → (x : Reading) (last : ℕ) → Latest s lines ts last → Refuses w ts t at last x → RuledIn s w lines (x .clause) (x .spot)
+        → at < length s → (x : Reading) (back : Back) → Latest s lines ts back → Refuses w ts t at back x → RuledIn s w lines (x .clause) (x .spot)
     unfolding textTokens
-    refuses-token ts e t us h i x last l r =
+    refuses-token ts e t us h i x back l r =
         let f = first-of s n at to rest t us h in
         let k = told-near (r .told) in
-        record { at = at; last = last; stops = stops-token ts e t (f .0) (f .1) (r .begun) (r .never) l; told = r .told; inside = omega arith }
+        record { at = at; back = back; stops = stops-token ts e t (f .0) (f .1) (r .begun) (r .never) l; told = r .told; inside = omega arith }
 
   -- At the end of the line.
   at-end : from ≤ to → tokensFrom from to s ≡ tokensFrom from to s ++ tokensFrom to to s
@@ -99,17 +99,17 @@ module _ (s : List ℕ) (w : Whose) (passed rest : List Line) (n from to : ℕ) 
 
 module _ (s : List ℕ) (w : Whose) (passed : List Line) (n from to : ℕ) (a : from ≤ to) (ts : List Token) (e : ts ≡ upTo passed ++ tokensFrom from to s) where
   -- Another line follows, and may not.
-  pub refuses-line-end : (m : Line) (ms : List Line) → to < length s → (x : Reading) (last : ℕ)
-      → Latest s (passed ++ (piece s n from to ∷ (m ∷ ms))) ts last → Refuses w ts lineEnd to last x
+  pub refuses-line-end : (m : Line) (ms : List Line) → to < length s → (x : Reading) (back : Back)
+      → Latest s (passed ++ (piece s n from to ∷ (m ∷ ms))) ts back → Refuses w ts lineEnd to back x
       → RuledIn s w (passed ++ (piece s n from to ∷ (m ∷ ms))) (x .clause) (x .spot)
   unfolding textTokens tokensOf
-  refuses-line-end m ms i x last l r =
+  refuses-line-end m ms i x back l r =
       let o : tokensFrom to to s ++ (lineEnd ∷ tokensOf m ms) ≡ lineEnd ∷ tokensOf m ms =
       ap (λ (us : List Token). us ++ (lineEnd ∷ tokensOf m ms)) (tokens-over s to to (omega arith)) in
       let k = told-near (r .told) in
       record {
         at = to;
-        last = last;
+        back = back;
         stops = stops-token s w passed (m ∷ ms) n from to to a (omega arith) (at-end s w passed (m ∷ ms) n from to a) ts e lineEnd (tokensOf m ms) o
             (r .begun) (r .never) l;
         told = r .told;
@@ -118,23 +118,23 @@ module _ (s : List ℕ) (w : Whose) (passed : List Line) (n from to : ℕ) (a : 
 
   -- The text ends, and is not right.
   pub refuses-end : (x : Reading) → ((more : List Token) × Right w (ts ++ more)) → (Right w (textTokens (passed ++ (piece s n from to ∷ []))) → ⊥)
-      → (last : ℕ) → Latest s (passed ++ (piece s n from to ∷ [])) ts last → Told to last (x .clause) (x .spot) → x .spot ≤ length s
+      → (back : Back) → Latest s (passed ++ (piece s n from to ∷ [])) ts back → Told to back (x .clause) (x .spot) → x .spot ≤ length s
       → RuledIn s w (passed ++ (piece s n from to ∷ [])) (x .clause) (x .spot)
   unfolding textTokens tokensOf Stuck
-  refuses-end x y z last l k i =
+  refuses-end x y z back l k i =
       let split = at-end s w passed [] n from to a in
       let c = cut s w passed [] n from to to a (omega arith) split in
       let same : ts ≡ before c = e ∙ sym (front s w passed [] n from to to a (omega arith) split) in
       record {
         at = to;
-        last = last;
+        back = back;
         stops =
             record {
               cut = c;
               apart = apart s w passed [] n from to to a (omega arith) split;
               begun = (y .0, subst (λ (us : List Token). Right w (us ++ y .0)) same (y .1));
               stuck = subst (λ (os : List Token). Stuck w (before c) os) (sym (tokens-over s to to (omega arith))) z;
-              latest = subst (λ (us : List Token). Latest s (passed ++ (piece s n from to ∷ [])) us last) same l;
+              latest = subst (λ (us : List Token). Latest s (passed ++ (piece s n from to ∷ [])) us back) same l;
             };
         told = k;
         inside = i;

@@ -1,12 +1,13 @@
 -- A line of pattern text, read token by token.
-use Prim.Native.Nat.{ℕ, _≤_}
+use Prim.Native.Nat.{ℕ, _<_, _≤_}
 use mathlib.Core.Path.{_≡_, refl, sym, ap, subst, _∙_}
 use mathlib.Core.Logic.{inl, inr}
-use mathlib.Core.List.{List, [], _∷_, _++_, append-nil, append-assoc}
+use mathlib.Core.List.{List, [], _∷_, _++_, append-nil, append-assoc, List·Memᴰ·not-nil}
 use native.Mathlib.Omega.{arith}
 use lib.ListN.{length}
 use Rattle.songcode.specs.answer.Lines.{Line}
 use Rattle.songcode.specs.answer.Tokens as songcode
+use Rattle.songcode.proofs.MemberLaws.{either, only-one}
 use Rattle.tokens.specs.TokenWords.{tokenWord}
 use Rattle.tokens.specs.Fitting.{Fit}
 use Rattle.tokens.specs.Lexing.{tokensFrom}
@@ -15,8 +16,8 @@ use Rattle.slips.specs.declared.patterns.Whose.{Whose}
 use Rattle.slips.specs.declared.patterns.Reading.{Reading}
 use Rattle.slips.specs.declared.signs.Token.{Token}
 use Rattle.slips.specs.Taken.{TokenAt}
-use Rattle.slips.specs.Rules.{before, OnlyEnds, LastAt, Latest, RuledIn}
-use Rattle.slips.specs.RulesRead.{upTo, Going, Steps, Reads}
+use Rattle.slips.specs.Rules.{Cut, before, OnlyEnds, LastAt, OpenAt, Latest, RuledIn}
+use Rattle.slips.specs.RulesRead.{upTo, backOf, Opened, Going, Steps, Reads}
 use Rattle.slips.proofs.CutLaws.{lines, cut, front, refuses-token}
 
 -- The line up to a place: no word is cut there, and the reading has come so far, or has stopped.
@@ -26,7 +27,7 @@ pub record InLine (s : List ℕ) (w : Whose) (from to : ℕ) (r₀ r : Reading) 
   pub split : (k : ℕ) → at ≤ k → k ≤ to → tokensFrom from k s ≡ tokensFrom from at s ++ tokensFrom at k s
   pub kept : (r₀ .clause ≡ 0 → ⊥) → r ≡ r₀
   pub read : (passed rest : List Line) (n : ℕ) → Going w (upTo passed) from r₀
-      → Latest s (lines s w passed rest n from to) (upTo passed) (r₀ .from)
+      → Latest s (lines s w passed rest n from to) (upTo passed) (backOf r₀)
       → Reads s w (lines s w passed rest n from to) (upTo passed ++ tokensFrom from at s) at r
 
 -- A reading that goes on does so at every later place, and with the same tokens told otherwise.
@@ -55,14 +56,14 @@ module _ (s : List ℕ) (w : Whose) (from to : ℕ) (h : from ≤ to) (r : Readi
             λ passed rest n g l.
             let e : upTo passed ≡ upTo passed ++ tokensFrom from from s =
             sym (append-nil (upTo passed)) ∙ ap (λ (ts : List songcode.Token). upTo passed ++ ts) (sym none) in
-            inl (later e (omega arith) g, subst (λ (ts : List songcode.Token). Latest s (lines s w passed rest n from to) ts (r .from)) e l);
+            inl (later e (omega arith) g, subst (λ (ts : List songcode.Token). Latest s (lines s w passed rest n from to) ts (backOf r)) e l);
       }
 
 module _ {s : List ℕ} {w : Whose} {from to : ℕ} {r₀ r : Reading} {at : ℕ} (i : InLine s w from to r₀ r at) where
   -- One more token.
   module _ (inside : to ≤ length s) (tok : Token) (t : TokenAt s at to tok) (e : tok .next ≤ to) (x : Reading) (kept : (r .clause ≡ 0 → ⊥) → x ≡ r)
       (step : (ts : List songcode.Token) (a : ℕ) (u : songcode.Token) → Fit u → tok .word ≡ tokenWord u → a ≤ tok .from → Going w ts a r
-      → Steps w ts u (tok .from) (tok .next) (r .from) (tok .from) x) where
+      → Steps w ts u (tok .from) (tok .next) (backOf r) (tok .from) x) where
     abbrev here : ℕ
     here = tok .from
 
@@ -116,34 +117,67 @@ module _ {s : List ℕ} {w : Whose} {from to : ℕ} {r₀ r : Reading} {at : ℕ
       more = append-assoc (upTo passed) (tokensFrom from at s) (t .token ∷ []) ∙ ap (λ (ts : List songcode.Token). upTo passed ++ ts) (sym up-to-next)
 
       -- This token is the last one then.
-      last-here : LastAt s whole (upTo passed ++ tokensFrom from next s) here
-      unfolding OnlyEnds
-      last-here =
+      abbrev cut-here : Cut s whole here
+      cut-here =
           let a = i .begins in
           let b = t .begins in
           let c = t .solid in
-          let up = front s w passed rest n from to here (omega arith) (omega arith) split-here in
-          let same : so-far ≡ before (cut s w passed rest n from to here (omega arith) (omega arith) split-here) =
-          ap (λ (ts : List songcode.Token). upTo passed ++ ts) (sym up-to-here) ∙ sym up in
-          record {
-            cut = cut s w passed rest n from to here (omega arith) (omega arith) split-here;
-            token = t .token;
-            ends = [];
-            read = sym more ∙ ap (λ (ts : List songcode.Token). ts ++ (t .token ∷ [])) same;
-            only = tt;
-          }
+          cut s w passed rest n from to here (omega arith) (omega arith) split-here
 
-      stepped : Latest s whole so-far (r .from) → Steps w so-far (t .token) here next (r .from) here x
+      read-here : upTo passed ++ tokensFrom from next s ≡ before cut-here ++ (t .token ∷ [])
+      read-here =
+          let a = i .begins in
+          let b = t .begins in
+          let c = t .solid in
+          sym more
+          ∙ ap (λ (ts : List songcode.Token). ts ++ (t .token ∷ []))
+          (ap (λ (ts : List songcode.Token). upTo passed ++ ts) (sym up-to-here)
+          ∙ sym (front s w passed rest n from to here (omega arith) (omega arith) split-here))
+
+      last-here : LastAt s whole (upTo passed ++ tokensFrom from next s) here
+      unfolding OnlyEnds
+      last-here = record { cut = cut-here; token = t .token; ends = []; read = read-here; only = tt }
+
+      -- The last `[` is this token, or the one of before.
+      open-here : Latest s whole so-far (backOf r) → Opened (t .token) here (r .open) (x .open) → 0 < x .open
+          → OpenAt s whole (upTo passed ++ tokensFrom from next s) (x .open)
+      open-here l (inl o) z =
+          subst (λ (k : ℕ). OpenAt s whole (upTo passed ++ tokensFrom from next s) k) (sym (o .1))
+          (record {
+            cut = cut-here;
+            behind = [];
+            read = read-here ∙ ap (λ (u : songcode.Token). before cut-here ++ (u ∷ [])) (o .0);
+            none = λ m. List·Memᴰ·not-nil m;
+          })
+      open-here l (inr o) z =
+          let k = o .1 in
+          let p = l .loop (omega arith) in
+          subst (λ (k : ℕ). OpenAt s whole (upTo passed ++ tokensFrom from next s) k) (sym (o .1))
+          (record {
+            cut = p .cut;
+            behind = p .behind ++ (t .token ∷ []);
+            read = sym more ∙ ap (λ (ts : List songcode.Token). ts ++ (t .token ∷ [])) (p .read)
+                ∙ append-assoc (before (p .cut)) (songcode.opens ∷ p .behind) (t .token ∷ []);
+            none = λ m. either (p .behind) (p .none) (λ q. o .0 (sym (only-one q))) m;
+          })
+
+      stepped : Latest s whole so-far (backOf r) → Steps w so-far (t .token) here next (backOf r) here x
           → Reads s w whole (upTo passed ++ tokensFrom from next s) next x
       stepped l (inl g) =
-          inl (later more (omega arith) (g .0), inr (subst (λ (k : ℕ). LastAt s whole (upTo passed ++ tokensFrom from next s) k) (sym (g .1)) last-here))
+          inl (
+            later more (omega arith) (g .0),
+            record {
+              token = inr (subst (λ (k : ℕ). LastAt s whole (upTo passed ++ tokensFrom from next s) k) (sym (g .1)) last-here);
+              loop = open-here l (g .2);
+            },
+          )
       stepped l (inr f) =
           let a = i .begins in
           let b = t .begins in
           let c = t .solid in
           inr
           (refuses-token s w passed rest n from to here (omega arith) (omega arith) split-here so-far
-          (ap (λ (ts : List songcode.Token). upTo passed ++ ts) (sym up-to-here)) (t .token) (tokensFrom next to s) token-here (omega arith) x (r .from) l f)
+          (ap (λ (ts : List songcode.Token). upTo passed ++ ts) (sym up-to-here)) (t .token) (tokensFrom next to s) token-here (omega arith) x (backOf r) l f)
 
       read-next : Reads s w (lines s w passed rest n from to) so-far at r
           → Reads s w (lines s w passed rest n from to) (upTo passed ++ tokensFrom from next s) next x
@@ -169,7 +203,7 @@ module _ {s : List ℕ} {w : Whose} {from to : ℕ} {r₀ r : Reading} {at : ℕ
   abbrev pub Done : Type 0
   Done = ((r₀ .clause ≡ 0 → ⊥) → r ≡ r₀)
       × ((passed rest : List Line) (n : ℕ) → Going w (upTo passed) from r₀
-      → Latest s (lines s w passed rest n from to) (upTo passed) (r₀ .from)
+      → Latest s (lines s w passed rest n from to) (upTo passed) (backOf r₀)
       → Reads s w (lines s w passed rest n from to) (upTo passed ++ tokensFrom from to s) to r)
 
   pub line-done : tokensFrom at to s ≡ [] → Done
@@ -182,7 +216,7 @@ module _ {s : List ℕ} {w : Whose} {from to : ℕ} {r₀ r : Reading} {at : ℕ
           → Reads s w (lines s w passed rest n from to) (upTo passed ++ tokensFrom from to s) to r
       go passed rest n (inl g) =
           let e = ap (λ (ts : List songcode.Token). upTo passed ++ ts) (sym whole) in
-          inl (later e (i .ends) (g .0), subst (λ (ts : List songcode.Token). Latest s (lines s w passed rest n from to) ts (r .from)) e (g .1))
+          inl (later e (i .ends) (g .0), subst (λ (ts : List songcode.Token). Latest s (lines s w passed rest n from to) ts (backOf r)) e (g .1))
       go passed rest n (inr f) = inr f
 
   pub line-over : to ≤ at → Done

@@ -1,16 +1,16 @@
 -- Where pattern text stops being right: refusal 7.
 use mathlib.Core.Option.{bind}
-use Prim.Native.Nat.{ℕ, _+_, _≤_}
+use Prim.Native.Nat.{ℕ, _+_, _<_, _≤_}
 use lib.Dec.{eqb}
 use lib.ListN.{length}
 use mathlib.Core.Path.{_≡_}
-use mathlib.Core.List.{List, [], _∷_, _++_}
+use mathlib.Core.List.{List, [], _∷_, _++_, List·Memᴰ}
 use mathlib.Core.Bool.{Bool, true, false, _||_}
 use mathlib.Core.Logic.{_⊎_}
 use Rattle.songcode.specs.Lists.{isSome, any}
 use Rattle.songcode.specs.Bytes.{placed}
 use Rattle.songcode.specs.answer.Lines.{Line}
-use Rattle.songcode.specs.answer.Tokens.{Token, lineEnd, tokensOf}
+use Rattle.songcode.specs.answer.Tokens.{Token, lineEnd, opens, tokensOf}
 use Rattle.songcode.specs.answer.PatternText.{itemsIn, kept, noReference, wholeReference, patternBy}
 use Rattle.text.specs.Spans.{part}
 use Rattle.grammar.specs.declared.kinds.Kind.the-variants.{Colon}
@@ -70,9 +70,21 @@ pub record LastAt (s : List ℕ) (lines : List Line) (ts : List Token) (from : �
   pub read : ts ≡ before cut ++ (token ∷ ends)
   pub only : OnlyEnds ends
 
--- The same, if there is one.
-abbrev pub Latest : List ℕ → List Line → List Token → ℕ → Type 0
-Latest s lines ts from = OnlyEnds ts ⊎ LastAt s lines ts from
+-- So is the last `[`: none stands behind it.
+pub record OpenAt (s : List ℕ) (lines : List Line) (ts : List Token) (from : ℕ) : Type 0 where
+  pub cut : Cut s lines from
+  pub behind : List Token
+  pub read : ts ≡ before cut ++ (opens ∷ behind)
+  pub none : List·Memᴰ opens behind → ⊥
+
+-- Where both begin: the last token, if there is one; the last `[`, or 0.
+pub record Back : Type 0 where
+  pub last : ℕ
+  pub bracket : ℕ
+
+pub record Latest (s : List ℕ) (lines : List Line) (ts : List Token) (b : Back) : Type 0 where
+  pub token : OnlyEnds ts ⊎ LastAt s lines ts (b .last)
+  pub loop : 0 < b .bracket → OpenAt s lines ts (b .bracket)
 
 -- No right text begins with these tokens and the one that follows; where none follows, they are no right text.
 unfoldable pub Stuck : Whose → List Token → List Token → Type 0
@@ -81,16 +93,16 @@ Stuck w ts [] = Right w ts → ⊥
 Stuck w ts (t ∷ us) = (more : List Token) → Right w (ts ++ (t ∷ more)) → ⊥
 
 -- The place at which a text stops being right: what stands before it is the beginning of a right text, and with the token at the place no longer; at
--- the end of the text, it is not whole. The token before it begins at another.
-pub record StopsAt (s : List ℕ) (w : Whose) (lines : List Line) (at last : ℕ) : Type 0 where
+-- the end of the text, it is not whole. Before it the last token and the last `[` are known.
+pub record StopsAt (s : List ℕ) (w : Whose) (lines : List Line) (at : ℕ) (b : Back) : Type 0 where
   pub cut : Cut s lines at
   pub apart : textTokens lines ≡ before cut ++ onward cut
   pub begun : (more : List Token) × Right w (before cut ++ more)
   pub stuck : Stuck w (before cut) (onward cut)
-  pub latest : Latest s lines (before cut) last
+  pub latest : Latest s lines (before cut) b
 
 -- The place that is told is this place, but for these clauses: what stands behind the `]` there (13); and this token or the one before it, the separator,
--- the `=`, the `[` or the `$n` that may not stand so (6, 7, 10, 17, 19), or where a text should stand (21); and before it, a `[` that is open (15).
+-- the `=`, the `[` or the `$n` that may not stand so (6, 7, 10, 17, 19), or where a text should stand (21); and the last `[` before it, which is open (15).
 abbrev pub isCount : ℕ → Bool
 isCount clause = eqb clause 13
 
@@ -100,22 +112,26 @@ isEarlier clause = eqb clause 6 || eqb clause 7 || eqb clause 10 || eqb clause 1
 abbrev pub isOpen : ℕ → Bool
 isOpen clause = eqb clause 15
 
-pub record PlacedBy (clause at last from : ℕ) : Type 0 where
+-- Before the place: the last `[`, or this token or the last.
+abbrev pub Earlier : ℕ → ℕ → Back → ℕ → Type 0
+Earlier clause at b from = ((isOpen clause ≡ true) × (0 < from) × (from ≡ b .bracket)) ⊎ ((from ≡ at) ⊎ (from ≡ b .last))
+
+pub record PlacedBy (clause at : ℕ) (b : Back) (from : ℕ) : Type 0 where
   pub here : (isCount clause || isEarlier clause) ≡ false → from ≡ at
   pub count : isCount clause ≡ true → from ≡ at + 1
-  pub earlier : isEarlier clause ≡ true → (from ≤ at) × ((isOpen clause ≡ true) ⊎ ((from ≡ at) ⊎ (from ≡ last)))
+  pub earlier : isEarlier clause ≡ true → (from ≤ at) × Earlier clause at b from
 
 -- A clause of refusal 7, and its place.
-pub record Told (at last clause from : ℕ) : Type 0 where
+pub record Told (at : ℕ) (b : Back) (clause from : ℕ) : Type 0 where
   pub named : (1 ≤ clause) × (clause ≤ 22)
-  pub placed : PlacedBy clause at last from
+  pub placed : PlacedBy clause at b from
 
 -- What is promised of a slip in a text that is not right.
 pub record RuledIn (s : List ℕ) (w : Whose) (lines : List Line) (clause from : ℕ) : Type 0 where
   pub at : ℕ
-  pub last : ℕ
-  pub stops : StopsAt s w lines at last
-  pub told : Told at last clause from
+  pub back : Back
+  pub stops : StopsAt s w lines at back
+  pub told : Told at back clause from
   pub inside : from ≤ length s
 
 -- The same, of a text of which it is not known.

@@ -7,7 +7,7 @@ use mathlib.Core.Bool.{Bool, true, false, _||_, _&&_, not}
 use mathlib.Core.Logic.{_⊎_}
 use Rattle.songcode.specs.Lists.{any}
 use Rattle.songcode.specs.answer.Lines.{Line}
-use Rattle.songcode.specs.answer.Tokens.{Token, lineEnd, tokensOf}
+use Rattle.songcode.specs.answer.Tokens.{Token, lineEnd, opens, tokensOf}
 use Rattle.songcode.specs.answer.Sections.{kindOfLine, modifierLine, patternLine, settingOf, patternRun, body}
 use Rattle.songcode.specs.answer.SongText.{definition, section, blockKind}
 use Rattle.text.specs.declared.lines.Line as text
@@ -24,7 +24,7 @@ use Rattle.slips.specs.declared.slip.Slip.{Slip}
 use Rattle.slips.specs.declared.patterns.Reading.{Reading}
 use Rattle.slips.specs.declared.patterns.Whose.{Whose}
 use Rattle.slips.specs.declared.patterns.Whose.the-variants.{Definition, Section, Side}
-use Rattle.slips.specs.Rules.{isColon, Right, piece, Latest, Told, RuledIn, Ruled}
+use Rattle.slips.specs.Rules.{isColon, Right, piece, Back, Latest, Told, RuledIn, Ruled}
 
 -- The tokens in front of a line behind others.
 unfoldable pub upTo : List Line → List Token
@@ -80,19 +80,27 @@ pub record Going (w : Whose) (ts : List Token) (at : ℕ) (r : Reading) : Type 0
   pub behind : r .from ≤ at
   pub opened : r .open ≤ at
 
+-- Where its last token and its last `[` begin.
+abbrev pub backOf : Reading → Back
+backOf r = record { last = r .from; bracket = r .open }
+
 -- One that has stopped in front of a token.
-pub record Refuses (w : Whose) (ts : List Token) (t : Token) (at last : ℕ) (r : Reading) : Type 0 where
+pub record Refuses (w : Whose) (ts : List Token) (t : Token) (at : ℕ) (b : Back) (r : Reading) : Type 0 where
   pub begun : (more : List Token) × Right w (ts ++ more)
   pub never : (more : List Token) → Right w (ts ++ (t ∷ more)) → ⊥
-  pub told : Told at last (r .clause) (r .spot)
+  pub told : Told at b (r .clause) (r .spot)
+
+-- The last `[` behind one more token.
+abbrev pub Opened : Token → ℕ → ℕ → ℕ → Type 0
+Opened t at old new = ((t ≡ opens) × (new ≡ at)) ⊎ ((t ≡ opens → ⊥) × (new ≡ old))
 
 -- A token is read, or a line end: the reading goes on behind it, its last token at a place, or has stopped in front of it.
-abbrev pub Steps : Whose → List Token → Token → ℕ → ℕ → ℕ → ℕ → Reading → Type 0
-Steps w ts t at next last from r = (Going w (ts ++ (t ∷ [])) next r × (r .from ≡ from)) ⊎ Refuses w ts t at last r
+abbrev pub Steps : Whose → List Token → Token → ℕ → ℕ → Back → ℕ → Reading → Type 0
+Steps w ts t at next b from r = (Going w (ts ++ (t ∷ [])) next r × (r .from ≡ from) × Opened t at (b .bracket) (r .open)) ⊎ Refuses w ts t at b r
 
 -- A reading of a text, up to a place on a line of it or stopped before.
 abbrev pub Reads : List ℕ → Whose → List Line → List Token → ℕ → Reading → Type 0
-Reads s w lines ts at r = (Going w ts at r × Latest s lines ts (r .from)) ⊎ RuledIn s w lines (r .clause) (r .spot)
+Reads s w lines ts at r = (Going w ts at r × Latest s lines ts (backOf r)) ⊎ RuledIn s w lines (r .clause) (r .spot)
 
 -- All lines are read: the last one is known.
 pub record ReadAll (s : List ℕ) (w : Whose) (lines : List Line) (r : Reading) : Type 0 where

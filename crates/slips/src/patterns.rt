@@ -57,7 +57,7 @@ ghost use Rattle.tokens.specs.TokenWords.{tokenWord};
 ghost use Rattle.tokens.specs.Fitting.{Fit};
 ghost use Rattle.tokens.specs.Lexing.{tokensFrom};
 ghost use Rattle.slips.specs.Rules.{isEarlier, Latest, Told, piece};
-ghost use Rattle.slips.specs.RulesRead.{amiss, misnamed, isStuck, isSide, Going, Steps, Reads, upTo};
+ghost use Rattle.slips.specs.RulesRead.{amiss, misnamed, isStuck, isSide, backOf, Going, Steps, Reads, upTo};
 ghost use Rattle.slips.specs.Rules.{Ruled};
 ghost use Rattle.slips.specs.RulesRead.{ReadAll, RuledAt, sideLine};
 ghost use Rattle.slips.specs.declared.patterns.Whose.the-variants.{Definition, Section, Side};
@@ -211,7 +211,7 @@ fn barred_clause(sign: u32) -> usize
 
 // The place that is to change where a token is behind a right beginning: the token, what stands in it behind its `]`, or the token before it.
 fn blame_token(r: Reading, clause: usize, from: usize, to: usize, stop: usize) -> Reading
-    ensures { λ x. ⌜ ((1 ≤ clause) × (clause ≤ 22) → r .from ≤ from → from ≤ 65536 → Told from (r .from) (x .clause) (x .spot)) ⌝ }
+    ensures { λ x. ⌜ ((1 ≤ clause) × (clause ≤ 22) → r .from ≤ from → from ≤ 65536 → Told from (backOf r) (x .clause) (x .spot)) ⌝ }
 {
     if clause == REMOVER_INSIDE {
         return blamed(r, clause, r.from, r.to, stop);
@@ -227,7 +227,7 @@ fn blame_token(r: Reading, clause: usize, from: usize, to: usize, stop: usize) -
 
 // A `$n` where it may not stand: this token, or the one before it.
 fn blame_reference(r: Reading, sign: u32, from: usize, to: usize) -> Reading
-    ensures { λ x. ⌜ (r .from ≤ from → Told from (r .from) (x .clause) (x .spot)) ⌝ }
+    ensures { λ x. ⌜ (r .from ≤ from → Told from (backOf r) (x .clause) (x .spot)) ⌝ }
 {
     if sign == REFERENCE {
         return blamed(r, REFERENCE_NOT_HERE, from, to, from);
@@ -235,10 +235,21 @@ fn blame_reference(r: Reading, sign: u32, from: usize, to: usize) -> Reading
     blamed(r, REFERENCE_NOT_HERE, r.from, r.to, from)
 }
 
-fn passed(r: Reading, check: Check, sign: u32, from: usize, to: usize) -> Reading
-    ensures { λ x. ⌜ (x .check ≡ check) × (x .clause ≡ 0) × (x .from ≡ from) × (r .open ≤ from → x .open ≤ from) ⌝ }
+// The place of the last `[` behind one more token.
+fn opened(before: usize, sign: u32, from: usize) -> usize
+    ensures { λ r. ⌜ (before ≤ from → r ≤ from) × (sign ≡ 57 → r ≡ from) × ((sign ≡ 57 → ⊥) → r ≡ before) ⌝ }
 {
-    let open = if sign == OPENS { from } else { r.open };
+    if sign == OPENS {
+        return from;
+    }
+    before
+}
+
+fn passed(r: Reading, check: Check, sign: u32, from: usize, to: usize) -> Reading
+    ensures { λ x. ⌜ (x .check ≡ check) × (x .clause ≡ 0) × (x .from ≡ from) × (r .open ≤ from → x .open ≤ from) × (sign ≡ 57 → x .open ≡ from)
+        × ((sign ≡ 57 → ⊥) → x .open ≡ r .open) ⌝ }
+{
+    let open = opened(r.open, sign, from);
     Reading {
         check,
         last: sign,
@@ -255,7 +266,7 @@ fn passed(r: Reading, check: Check, sign: u32, from: usize, to: usize) -> Readin
 // A token with which no right text goes on.
 fn blame(s: &[u8], whose: Whose, r: Reading, word: u32, from: usize, to: usize) -> Reading
     requires { ⌜ (from ≤ to) × (to ≤ length (now s)) × (to ≤ 65536) ⌝ }
-    ensures { λ x. ⌜ (r .from ≤ from → Told from (r .from) (x .clause) (x .spot)) ⌝ }
+    ensures { λ x. ⌜ (r .from ≤ from → Told from (backOf r) (x .clause) (x .spot)) ⌝ }
 {
     let sign = sign_of(word);
     let before = r.check;
@@ -278,7 +289,7 @@ fn read_token(s: &[u8], whose: Whose, r: Reading, word: u32, from: usize, to: us
     requires { ⌜ (from ≤ to) × (to ≤ length (now s)) × (to ≤ 65536) ⌝ }
     ensures kept { λ x. ⌜ ((r .clause ≡ 0 → ⊥) → x ≡ r) ⌝ }
     ensures step { λ x. ⌜ ((ts : List Token) (at : ℕ) (t : Token) → Fit t → word ≡ tokenWord t → at ≤ from → Going whose ts at r
-        → Steps whose ts t from to (r .from) from x) ⌝ }
+        → Steps whose ts t from to (backOf r) from x) ⌝ }
 {
     if r.clause != 0 {
         return r;
@@ -320,7 +331,7 @@ fn end_of_line_clause(whose: Whose, c: Check, last: u32) -> usize
 // A line end between two lines.
 fn read_line_end(whose: Whose, r: Reading) -> Reading
     ensures kept { λ x. ⌜ ((r .clause ≡ 0 → ⊥) → x ≡ r) ⌝ }
-    ensures step { λ x. ⌜ ((ts : List Token) (at : ℕ) → Going whose ts at r → Steps whose ts lineEnd at at (r .from) (r .from) x) ⌝ }
+    ensures step { λ x. ⌜ ((ts : List Token) (at : ℕ) → Going whose ts at r → Steps whose ts lineEnd at at (backOf r) (r .from) x) ⌝ }
 {
     if r.clause != 0 {
         return r;
@@ -351,7 +362,7 @@ fn read_line_end(whose: Whose, r: Reading) -> Reading
 // The end of the text.
 fn read_end(r: Reading) -> Reading
     ensures kept { λ x. ⌜ ((r .clause ≡ 0 → ⊥) → x ≡ r) ⌝ }
-    ensures told { λ x. ⌜ ((at : ℕ) → r .clause ≡ 0 → r .from ≤ at → r .open ≤ at → Told at (r .from) (x .clause) (x .spot) × (x .spot ≤ at)) ⌝ }
+    ensures told { λ x. ⌜ ((at : ℕ) → r .clause ≡ 0 → r .from ≤ at → r .open ≤ at → Told at (backOf r) (x .clause) (x .spot) × (x .spot ≤ at)) ⌝ }
 {
     if r.clause != 0 {
         return r;
@@ -373,7 +384,7 @@ fn read_line(s: &[u8], whose: Whose, r: Reading, from: usize, to: usize) -> Read
     requires { ⌜ (from ≤ to) × (to ≤ length (now s)) × (to ≤ 65536) ⌝ }
     ensures kept { λ x. ⌜ ((r .clause ≡ 0 → ⊥) → x ≡ r) ⌝ }
     ensures step { λ x. ⌜ ((passed rest : List Line) (n : ℕ) → Going whose (upTo passed) from r
-        → Latest (now (s .entry)) (passed ++ (piece (now (s .entry)) n from to ∷ rest)) (upTo passed) (r .from)
+        → Latest (now (s .entry)) (passed ++ (piece (now (s .entry)) n from to ∷ rest)) (upTo passed) (backOf r)
         → Reads (now (s .entry)) whose (passed ++ (piece (now (s .entry)) n from to ∷ rest)) (upTo passed ++ tokensFrom from to (now (s .entry))) to x) ⌝ }
 {
     let mut reading = r;

@@ -16,7 +16,7 @@ returns-2 c =
       λ n. absurd (n (c .before .before .before .before .before .before .if1 .left)),
       λ at z f o. (
         told-as at _ (c .blamed .result) (c .blamed .ensures)
-            (told-earlier (k .0, k .1) (k .2) o (inl (ap isOpen (c .before .before .before .before .if2 .taken)))),
+            (told-earlier (k .0, k .1) (k .2) o (inl (ap isOpen (c .before .before .before .before .if2 .taken), c .before .before .if3 .taken, refl))),
         rw (c .blamed .ensures .1) o,
       ),
     )

@@ -3,7 +3,7 @@ use mathlib.Core.Logic.{inl, inr}
 use Rattle.songcode.specs.answer.Tokens.{lineEnd}
 use Rattle.grammar.specs.Kinds.{kindOf}
 use Rattle.slips.specs.Rules.{isColon}
-use Rattle.slips.proofs.ReadingLaws.{told-earlier, told-as, stops-before, goes-on, not-barred}
+use Rattle.slips.proofs.ReadingLaws.{told-earlier, told-as, stops-before, goes-on, not-barred, no-opens}
 use borrow.Author.Needs.{needs}
 use Rattle.slips.proofs.patterns.read_line_end.Statement.{statement}
 use Rattle.slips.proofs.patterns.read_line_end.Tie as tie
@@ -22,7 +22,7 @@ returns-2 c =
           inr
           (stops-before (q .whose) ts at (q .r) g lineEnd (d .result) (d .ensures) (c .blamed .result) at
           (sym (c .before .before .before .is-stuck .ensures) ∙ c .before .before .if2 .taken)
-          (told-as at (q .r .from) (c .blamed .result) (c .blamed .ensures) (told-earlier (k .0, k .1) (k .2) (g .behind) (inr (inr refl))))),
+          (told-as at _ (c .blamed .result) (c .blamed .ensures) (told-earlier (k .0, k .1) (k .2) (g .behind) (inr (inr refl))))),
     )
 
 returns-3 : tie.Need-returns-3
@@ -36,6 +36,7 @@ returns-3 c =
             goes-on (q .whose) ts at (q .r) g lineEnd (d .result) (d .ensures) _ at (sym (c .before .is-stuck .ensures) ∙ c .if2 .left)
                 (not-barred (q .whose) lineEnd refl) refl refl (g .behind) (g .opened),
             refl,
+            inr (λ e. no-opens (sym e), refl),
           ),
     )
 

@@ -40,14 +40,15 @@ returns-4 c =
     let q = e .args in
     let i = e .pre .0 in
     let d = c .before .before .before .before .before .before .step-check in
+    let sign = c .before .before .before .before .before .before .before .sign-of .ensures in
     let x = c .passed .ensures in (
       λ n. absurd (n (c .before .before .before .before .before .before .before .before .if1 .left)),
       λ ts at t f v l g.
           let o = g .opened in
           token-passed (q .whose) ts at (q .r) g t f (q .word) v (d .result) (d .ensures) (q .from) (q .to) (c .passed .result)
           (sym (c .before .before .before .before .before .is-stuck .ensures) ∙ c .before .before .before .before .if2 .left)
-          (inr (λ y. c .before .if4 .left (c .before .before .before .before .before .before .before .sign-of .ensures ∙ y)))
-          (x .0) (x .1) (x .2) (rw (x .2) i) (let p = x .3 (omega arith) in omega arith),
+          (inr (λ y. c .before .if4 .left (sign ∙ y)))
+          (x .0) (x .1) (x .2) (rw (x .2) i) (let p = x .3 (omega arith) in omega arith) (λ y. x .4 (sign ∙ y)) (λ n. x .5 (λ y. n (sym sign ∙ y))),
     )
 
 returns-5 : tie.Need-returns-5
@@ -56,6 +57,7 @@ returns-5 c =
     let q = e .args in
     let i = e .pre .0 in
     let d = c .before .before .before .before .before .step-check in
+    let sign = c .before .before .before .before .before .before .sign-of .ensures in
     let x = c .passed2 .ensures in (
       λ n. absurd (n (c .before .before .before .before .before .before .before .if1 .left)),
       λ ts at t f v l g.
@@ -63,7 +65,7 @@ returns-5 c =
           token-passed (q .whose) ts at (q .r) g t f (q .word) v (d .result) (d .ensures) (q .from) (q .to) (c .passed2 .result)
           (sym (c .before .before .before .before .is-stuck .ensures) ∙ c .before .before .before .if2 .left)
           (inl (sym (c .before .before .is-side .ensures) ∙ c .before .if3 .left))
-          (x .0) (x .1) (x .2) (rw (x .2) i) (let p = x .3 (omega arith) in omega arith),
+          (x .0) (x .1) (x .2) (rw (x .2) i) (let p = x .3 (omega arith) in omega arith) (λ y. x .4 (sign ∙ y)) (λ n. x .5 (λ y. n (sym sign ∙ y))),
     )
 
 pub read-token-spec : {M : Type 1} → statement M
