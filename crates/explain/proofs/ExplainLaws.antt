@@ -70,7 +70,7 @@ module _ (text : List ℕ) (a : Answer) (h : a ≡ answerOf (songAnswer text)) (
         belongs = same (e .0) (e .2);
         nowhere = λ z. absurd (n (sym (e .1) ∙ z));
         placed = λ _. rw (e .3) o;
-        stopped = λ f. stopped-first text a h x finds p begins cause told r e (sym (e .0) ∙ f);
+        stopped = λ f. stopped-first text a h x (λ s. finds s .ruled) p begins cause told r (e .1) (e .2) (e .3) (sym (e .0) ∙ f);
         stray-named = λ f. stray-named text a h x finds p o covers cause told r e (sym (e .0) ∙ f);
         stray = λ f. stray-first text a h x finds p o covers cause told r e (sym (e .0) ∙ f);
         uncounted = λ f. uncounted-first text a h x finds p o covers cause told r e (sym (e .0) ∙ f);

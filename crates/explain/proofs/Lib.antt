@@ -1,9 +1,9 @@
 -- The laws that the proof of the call cites.
 pub mod ExplainLaws
+pub mod PatternStage
+pub mod StoppedLaws
 pub mod StageLaws
 pub mod VerdictLines
 pub mod SoundLaws
 pub mod StrayThere
 pub mod FirstLaws
-pub mod PatternStage
-pub mod StoppedLaws

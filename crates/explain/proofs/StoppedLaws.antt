@@ -12,7 +12,8 @@ use Rattle.reader.specs.Answers.{answerOf}
 use Rattle.slips.specs.declared.places.Place.{Place}
 use Rattle.slips.specs.declared.slip.Slip.{Slip}
 use Rattle.slips.specs.declared.patterns.Whose.{Whose}
-use Rattle.slips.specs.Finds.{LineOf, TextOf, of-definition, of-pattern, of-side, Finds}
+use Rattle.slips.specs.Rules.{Ruled}
+use Rattle.slips.specs.Finds.{LineOf, TextOf, of-definition, of-pattern, of-side}
 use Rattle.slips.specs.WrongText.{WrongText}
 use Rattle.slips.proofs.BlockLaws.{line-in-block}
 use Rattle.slips.proofs.WrongTexts.{wrong-text}
@@ -35,25 +36,26 @@ first-line text {line} w = go (w .named)
     go (of-pattern {b} {m} i k q o) = let v = line-in-block text line b m i in (v .0, v .1)
     go (of-side {b} {m} i k q) = let v = line-in-block text line b m i in (v .0, v .1)
 
-module _ (text : List ℕ) (a : Answer) (h : a ≡ answerOf (songAnswer text)) (x : Slip) (finds : length text ≤ 65536 → Finds text (a .refusal) (a .line) x)
+module _ (text : List ℕ) (a : Answer) (h : a ≡ answerOf (songAnswer text)) (x : Slip)
+    (finds : length text ≤ 65536 → a .refusal ≡ 7 → (w : Whose) (ls : List songcode.Line) → TextOf text (a .line) w ls → Ruled text w ls (x .clause) (x .from))
     (p : Place) (begins : x .from ≤ length text → p .offset ≡ x .from) (cause : ℕ)
     (told : a .refusal ≤ 17 → x .clause ≤ 99 → x .clause ≤ getD clauses (a .refusal) 0 → clauseOfCause cause ≡ x .clause)
-    (r : Explained) (e : (r .refusal ≡ a .refusal) × (r .line ≡ a .line) × (r .cause ≡ cause) × (r .place ≡ p)) where
+    (r : Explained) (line : r .line ≡ a .line) (caused : r .cause ≡ cause) (placed : r .place ≡ p) where
   pub stopped-first : a .refusal ≡ 7 → Stopped text r
   stopped-first f =
       let n = as-refused text a h 7 f (λ z. let y : ⊥ = omega arith in y) in
       let w = text-named text (a .line) n in
-      let m = finds (short-text text (a .line) 7 n (omega arith)) .ruled f (w .whose) (w .lines) (w .named) (w .wrong) in
+      let m = finds (short-text text (a .line) 7 n (omega arith)) f (w .whose) (w .lines) (w .named) (w .wrong) in
       let most = m .told .named .1 in
       let few : x .clause ≤ getD clauses (a .refusal) 0 = rw f most in
-      let c : clauseOfCause (r .cause) ≡ x .clause = rw (e .2) (told (rw f (omega arith)) (omega arith) few) in
-      let o : r .place .offset ≡ x .from = ap (λ (q : Place). q .offset) (e .3) ∙ begins (m .inside) in
+      let c : clauseOfCause (r .cause) ≡ x .clause = rw caused (told (rw f (omega arith)) (omega arith) few) in
+      let o : r .place .offset ≡ x .from = ap (λ (q : Place). q .offset) placed ∙ begins (m .inside) in
       record {
         about =
             record {
               whose = w .whose;
               lines = w .lines;
-              named = subst (λ (i : ℕ). TextOf text i (w .whose) (w .lines)) (sym (e .1)) (w .named);
+              named = subst (λ (i : ℕ). TextOf text i (w .whose) (w .lines)) (sym line) (w .named);
               wrong = w .wrong;
             };
         ruled = rw (c, o) m;

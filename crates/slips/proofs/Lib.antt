@@ -9,11 +9,11 @@ pub mod TextReadLaws
 pub mod LineLaws
 pub mod BlockLaws
 pub mod RuledLaws
+pub mod SideLaws
+pub mod WrongTexts
 pub mod FindLaws
 pub mod StartLaws
 pub mod StrayLaws
 pub mod MarkLaws
 pub mod AgainLaws
 pub mod TextLaws
-pub mod SideLaws
-pub mod WrongTexts
