@@ -8,8 +8,7 @@ use native.Mathlib.Omega.{arith}
 use lib.ListN.{length, length-append}
 use borrow.Author.Tests.{eq-eqb, le-leb}
 use Rattle.songcode.specs.Lists.{every}
-use Rattle.songcode.specs.Song.{bpm, Key, Section, Song}
-use Rattle.songcode.specs.answer.Playing.{Beat}
+use Rattle.songcode.specs.Song.{bpm, Key, Section, Song, Beat}
 use Rattle.songcode.specs.answer.Tables.{Tables}
 use Rattle.songcode.specs.description.Layout.{sectionsRow, measuresRow, laid}
 use Rattle.songcode.specs.answer.Answer.{Room, answer, accepted}

@@ -9,7 +9,7 @@ use Rattle.songcode.specs.answer.Chords.{Chord}
 use Rattle.songcode.specs.Song.{Sound, chord, again, silence, Sounds, only, also, nothing, aLineEnd, Separator, bySemicolon, byLineEnd, byColon}
 use Rattle.songcode.specs.Song.{Item, measure, loop, refer, Items, one, next}
 use Rattle.songcode.specs.answer.Tokens.{Token, sound, remover, reference, semicolon, colon, lineEnd, opens, closes, wrong, tokens, tokensOf}
-use Rattle.songcode.specs.description.WrittenPattern.{writeSounds, writeRemovers, writeMeasure, writeBeside, writeSeparator, writeItem, writeItems}
+use Rattle.songcode.proofs.WrittenBefore.{writeSounds, writeRemovers, writeMeasure, writeBeside, writeSeparator, writeItem, writeItems}
 use Rattle.songcode.specs.description.StoppedSong.{soundsWritten, itemWritten, itemsWritten, NoChord}
 use Rattle.text.specs.declared.lines.Line as text
 use Rattle.text.specs.Spans.{part, lineText}

@@ -19,7 +19,8 @@ use Rattle.songcode.specs.answer.Tokens.{Token, reference, lineEnd, tokens}
 use Rattle.songcode.specs.answer.Answer.{blocksOf, refused, songAnswer}
 use Rattle.songcode.specs.description.WrittenPattern.{Word, spells-again, spells-silence, spells-remover, spells-reference, spells-chord, Text, t-end, t-blank}
 use Rattle.songcode.specs.description.WrittenPattern.{t-semicolon, t-colon, t-open, t-close, t-word, TextLines, one-line, more-lines}
-use Rattle.songcode.specs.description.WrittenPattern.{WrittenPattern, WrittenSide, writeItems}
+use Rattle.songcode.specs.description.WrittenPattern.{WrittenPattern, WrittenSide}
+use Rattle.songcode.proofs.WrittenBefore.{writeItems, appended}
 use Rattle.songcode.specs.description.WrittenSong.{WrittenSong}
 use Rattle.songcode.specs.description.WrittenSection.{modifierSpelling, ModifierSetting, ModifierLine, Signed, WrittenSection}
 use Rattle.songcode.specs.description.StoppedSong.{AgainFirst, itemsWritten}
@@ -75,7 +76,7 @@ module _ (l : Line) (r : Items) {spelling : List ℕ} {setting : List Byte} (u :
   side-stray a s k e clause from to x =
       let q = x .text in
       let told : tokens (placed (q .from) (part (q .from) (k .stop) s)) ≡ writeItems r [] =
-      ap tokens (sym (q .setting) ∙ ap (λ (m : Line). settingIn (m .text)) e ∙ setting-is) ∙ text-complete (t .text) in
+      ap tokens (sym (q .setting) ∙ ap (λ (m : Line). settingIn (m .text)) e ∙ setting-is) ∙ text-complete (t .text) ∙ sym (appended r) in
       let sounds : sounding (tokensIn (x .marks)) ≡ itemsWritten r =
       ap (λ (ms : List Mark). sounding (tokensIn ms)) (q .all) ∙ before-end (q .marks) (k .stop) []
       ∙ append-nil (sounding (tokensIn (q .marks)))
@@ -170,7 +171,7 @@ module _ {b : Block} {x : Section} (w : WrittenSection b x) (ds : List Definitio
           of-marked-lines s (m .lines) (y .marks) (m .marked)
           ∙ ap soundingLines (m .same ∙ lines-are)
           ∙ sym (of-lines (w .firstPattern) (w .morePattern))
-          ∙ ap sounding (text-lines-complete (t .0))
+          ∙ ap sounding (text-lines-complete (t .0) ∙ sym (appended q))
           ∙ of-items q [] ∙ append-nil (itemsWritten q) ∙ ap itemsWritten i in
           told-there s _ y (items-stray r a (y .marks) sounds)
 

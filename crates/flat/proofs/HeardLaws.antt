@@ -12,7 +12,7 @@ use Rattle.songcode.specs.Bytes.{ascii, placed}
 use Rattle.songcode.specs.answer.Chords.{Chord, bases, spellingOf}
 use Rattle.songcode.specs.answer.Tables.{offset, headBit, beatBy, beatWord}
 use Rattle.songcode.specs.description.Layout.{field}
-use Rattle.songcode.specs.answer.Playing.{Beat}
+use Rattle.songcode.specs.Song.{Beat}
 use Rattle.songcode.specs.answer.Flat.{letters, lettersOf, endLine, flatMeasure, flatPattern}
 use Rattle.songcode.specs.description.WrittenFlat.{stretchAt}
 use Rattle.songcode.proofs.Stretches.{stretch-of}

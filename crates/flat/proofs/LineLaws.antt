@@ -10,9 +10,9 @@ use borrow.Author.Tests.{eqb-true}
 use Rattle.songcode.specs.Lists.{if_then_else_, isEmpty, taken, left}
 use Rattle.songcode.specs.Bytes.{Byte, placed, values, ascii, same, is, isByte}
 use Rattle.songcode.specs.answer.Lines as songcode
-use Rattle.songcode.specs.answer.Sections.{Kind, keyLine, modifierLine, patternLine, kindOf, kindOfLine, notDashes, body, fromDashes}
+use Rattle.songcode.specs.answer.Sections.{isKeyLine, Kind, keyLine, modifierLine, patternLine, kindOf, kindOfLine, notDashes, body, fromDashes}
 use Rattle.songcode.specs.description.WrittenSong.{BeginsWith}
-use Rattle.songcode.specs.answer.Flat.{textOf, endLine, isKeyLine}
+use Rattle.songcode.specs.answer.Flat.{textOf, endLine}
 use Rattle.songcode.proofs.ListLaws.{by-cases, true-is-not-false}
 use Rattle.songcode.proofs.ByteLaws.{values-placed}
 use Rattle.songcode.proofs.LineAgree.{key-at}

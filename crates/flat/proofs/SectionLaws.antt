@@ -5,10 +5,10 @@ use mathlib.Core.List.{List, _∷_, _++_, map, flatMap}
 use lib.ListN.{length}
 use Rattle.songcode.specs.Lists.{taken, left}
 use Rattle.songcode.specs.answer.Lines.{Block, blocks}
-use Rattle.songcode.specs.answer.Sections.{body, fromDashes, sectionIn}
+use Rattle.songcode.specs.answer.Sections.{isKeyLine, body, fromDashes, sectionIn}
 use Rattle.songcode.specs.answer.Playing.{timeOf, played}
 use Rattle.songcode.specs.answer.Answer.{songOf}
-use Rattle.songcode.specs.answer.Flat.{textOf, endLine, isKeyLine, flatPattern, sectionRows, flatSection}
+use Rattle.songcode.specs.answer.Flat.{textOf, endLine, flatPattern, sectionRows, flatSection}
 use Rattle.songcode.proofs.ListLaws.{gather-append}
 use Rattle.text.specs.declared.lines.Line.{Line}
 use Rattle.text.specs.Spans.{part, Found}

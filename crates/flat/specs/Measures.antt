@@ -8,7 +8,7 @@ use Rattle.songcode.specs.Lists.{if_then_else_}
 use Rattle.songcode.specs.Bytes.{ascii}
 use Rattle.songcode.specs.answer.Chords.{spellingOf}
 use Rattle.songcode.specs.description.Layout.{field}
-use Rattle.songcode.specs.answer.Playing.{Beat}
+use Rattle.songcode.specs.Song.{Beat}
 use Rattle.songcode.specs.answer.Flat.{lettersOf, parted, spaced, endLine}
 use Rattle.songcode.specs.description.WrittenFlat.{stretchAt}
 use Rattle.player.specs.Texts.{rowWords}

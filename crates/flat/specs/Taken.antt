@@ -3,7 +3,8 @@ use Prim.Native.Nat.{ℕ}
 use mathlib.Core.List.{List, map, flatMap}
 use Rattle.songcode.specs.Lists.{taken, left}
 use Rattle.songcode.specs.answer.Lines.{Line}
-use Rattle.songcode.specs.answer.Flat.{textOf, endLine, isKeyLine}
+use Rattle.songcode.specs.answer.Sections.{isKeyLine}
+use Rattle.songcode.specs.answer.Flat.{textOf, endLine}
 use Rattle.sections.specs.declared.runs.Test.the-variants.{Full, Body}
 use Rattle.sections.specs.Runs.{textLines, passing}
 

@@ -11,9 +11,9 @@ use lib.ListN.{length}
 use borrow.Author.Tests.{eq-eqb, ne-eqb, eqb-true, eqb-false}
 use Rattle.songcode.specs.Lists.{if_then_else_, isEmpty, times}
 use Rattle.songcode.specs.Complaints.{complainIf}
-use Rattle.songcode.specs.Song.{Cut, Items}
+use Rattle.songcode.specs.Song.{Cut, Items, Beat}
 use Rattle.songcode.specs.Song as song
-use Rattle.songcode.specs.answer.Playing.{Beat, applied, cutRow, repeats, measuresOf, keptMeasures}
+use Rattle.songcode.specs.answer.Playing.{applied, cutRow, repeats, measuresOf, keptMeasures}
 use Rattle.songcode.specs.description.Performance.{total}
 use Rattle.songcode.specs.answer.Meter.{allFit, count, anySaid, cutFaults}
 use Rattle.songcode.proofs.ListLaws.{by-cases, true-is-not-false, none-passes, isEmpty-true, times-length}

@@ -9,9 +9,9 @@ use lib.Dec.{eqb, ltb}
 use lib.ListN.{length, length-map, length-append, length-take}
 use borrow.Author.Tests.{ne-eqb}
 use Rattle.songcode.specs.Lists.{if_then_else_, isEmpty, isSome, every}
-use Rattle.songcode.specs.Song.{Items, LyricLine, Section, Song}
+use Rattle.songcode.specs.Song.{Items, LyricLine, Section, Song, Beat}
 use Rattle.songcode.specs.answer.References.{patternItems}
-use Rattle.songcode.specs.answer.Playing.{Beat, played}
+use Rattle.songcode.specs.answer.Playing.{played}
 use Rattle.songcode.specs.description.Performance.{total}
 use Rattle.songcode.specs.answer.Lyrics.{isCounted, isPlayed, linesTaken, counted, hasItems, prompts}
 use Rattle.songcode.specs.answer.Tables.{sectionWords, allMeasures, measureWords, beatWord, itemWord, tables}

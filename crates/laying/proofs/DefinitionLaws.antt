@@ -19,7 +19,7 @@ use Rattle.songcode.specs.answer.SongText.{headIn, headsFaults, firstLine, defi
 use Rattle.songcode.specs.answer.PatternText.{depth, definitionText}
 use Rattle.songcode.specs.answer.Tokens.{tokensOf}
 use Rattle.songcode.specs.answer.References.{definitionOf}
-use Rattle.songcode.specs.description.WrittenPattern.{writeItems}
+use Rattle.songcode.proofs.WrittenBefore.{writeItems}
 use Rattle.songcode.specs.description.WrittenSong.{idOf}
 use Rattle.songcode.proofs.ListLaws.{true-is-not-false, none-passes, append-is-nil, complainIf-nil}
 use Rattle.songcode.proofs.ChoiceLaws.{isSome-some}

@@ -19,7 +19,7 @@ use Rattle.songcode.specs.Song.{byLineEnd, byColon, Item, measure, loop, refer,
 use Rattle.songcode.specs.answer.Tokens.{Token, sound, remover, reference, semicolon, colon, lineEnd, opens, closes, wrong, Class, blank, semi}
 use Rattle.songcode.specs.answer.Tokens.{double, bracket, closing, plain, class, chordToken, referenceToken, closingToken, dollarOr, wordToken}
 use Rattle.songcode.specs.answer.Tokens.{Lexed, word, lexedBy, lexed, tokens, tokensOf}
-use Rattle.songcode.specs.description.WrittenPattern.{writeSounds, writeRemovers, writeMeasure, writeBeside, writeSeparator, writeItem, writeItems}
+use Rattle.songcode.proofs.WrittenBefore.{writeSounds, writeRemovers, writeMeasure, writeBeside, writeSeparator, writeItem, writeItems}
 use Rattle.songcode.proofs.NumbersAgree.{count-exact, repeat-exact}
 use Rattle.songcode.proofs.ListLaws.{by-cases, Each, each-append}
 use Rattle.text.specs.declared.lines.Line as text

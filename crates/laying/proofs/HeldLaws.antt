@@ -21,6 +21,7 @@ use Rattle.tokens.specs.Lexing.{laid}
 use Rattle.score.specs.declared.stretches.Stretch.{Stretch}
 use Rattle.score.specs.Places.{stretchOf}
 use Rattle.score.specs.Standing.{ItemsFit, Stands}
+use Rattle.score.proofs.StandingLaws.{written-stands}
 use Rattle.songcode.proofs.GlueLaws.{putIn-same}
 use Rattle.player.proofs.Meaning.{row-meaning}
 use Rattle.player.proofs.Walkables as walkables
@@ -152,8 +153,8 @@ module _ (ds earlier : List Definition) (ws : List ℕ) (fill : ℕ)
       (there : drop (at .from) (take (at .to) vs) ≡ tokenWords (runTokens ls))
       (size : at .to ≡ at .from + length (tokenWords (runTokens ls))) (head : ℕ) where
     stands : (r : Items) → definitions.Says ls (some r) → Stands vs at r
-    unfolding Stands definitions.Says
-    stands r w = there ∙ ap tokenWords (w .0)
+    unfolding definitions.Says
+    stands r w = written-stands vs at r (there ∙ ap tokenWords (w .0))
 
     fits : (r : Items) → definitions.Says ls (some r) → ItemsFit r
     unfolding definitions.Says

@@ -16,7 +16,8 @@ use Rattle.songcode.specs.answer.Tokens.{Token, sound, remover, reference, semi
 use Rattle.songcode.specs.answer.PatternText.{depth, loopsDeep, references}
 use Rattle.songcode.specs.answer.References.{patternItems}
 use Rattle.songcode.specs.answer.Sections.{patternIn}
-use Rattle.songcode.specs.description.WrittenPattern.{writeItems, WrittenPattern}
+use Rattle.songcode.specs.description.WrittenPattern.{WrittenPattern}
+use Rattle.songcode.proofs.WrittenBefore.{writeItems, appended}
 use Rattle.songcode.proofs.ListLaws.{by-cases, Each, nil-is-not-cons}
 use Rattle.songcode.proofs.PatternLaws.{none-some}
 use Rattle.songcode.proofs.PatternAgree.{pattern-sound}
@@ -46,7 +47,7 @@ Shape ts (named n) = ts ≡ reference n ∷ []
 pub pattern-shape : (ls : List Line) (p : Pattern) → patternIn ls ≡ some p → Shape (runTokens ls) p
 unfolding patternIn Shape WrittenPattern loopsDeep runTokens
 pattern-shape [] p e = none-some refl e
-pattern-shape (l ∷ ls) (items r) e = let w = pattern-sound l ls (items r) e in (text-lines-complete (w .0), w .1, w .2)
+pattern-shape (l ∷ ls) (items r) e = let w = pattern-sound l ls (items r) e in (text-lines-complete (w .0) ∙ sym (appended r), w .1, w .2)
 pattern-shape (l ∷ ls) (named n) e = text-lines-complete (pattern-sound l ls (named n) e)
 
 refers : (t : Token) → Fit t → kind t ≡ 55 → t ≡ reference (amount t)

@@ -8,7 +8,7 @@ use lib.Dec.{eqb}
 use Rattle.songcode.specs.answer.Lines.{Line}
 use Rattle.songcode.specs.Song.{Modifier}
 use Rattle.songcode.specs.answer.Modifiers.{ModifierName, modifierPlace, saidBy}
-use Rattle.songcode.specs.answer.Sections.{modifierOn, amongKeys, order, faults}
+use Rattle.songcode.specs.answer.Sections.{modifierOn, order, faults}
 use Rattle.songcode.proofs.PatternLaws.{none-some}
 use Rattle.sections.specs.Slots.{Setting, settingAmong}
 use Rattle.sections.specs.BlockParts.{lateLines}
@@ -40,7 +40,7 @@ module _ {B : Type 0} (m : ModifierName) (g : Modifier → Option B) (said : Set
   tells-there j n bs y e = told-there (eqb (modifierPlace j) (modifierPlace m)) (g y) (said (record { line = n; text = bs })) (tells j n bs y e)
 
   -- What is said without fault says something.
-  pub nothing-there : (ls : List Line) → order amongKeys ls ≡ [] → flatMap faults ls ≡ []
+  pub nothing-there : (ls : List Line) → order [] ls ≡ [] → flatMap faults ls ≡ []
       → bind (settingAmong (8 + modifierPlace m) (lateLines ls)) said ≡ none → settingAmong (8 + modifierPlace m) (lateLines ls) ≡ none
   unfolding bind
   nothing-there ls ordered clean e =

@@ -10,14 +10,14 @@ use Rattle.songcode.specs.answer.Tokens.{Token, tokens}
 use Rattle.songcode.specs.answer.PatternText.{depth, loopsDeep, references, sideText}
 use Rattle.songcode.specs.answer.References.{patternItems}
 use Rattle.songcode.specs.answer.Playing.{measuresOf}
-use Rattle.songcode.specs.description.WrittenPattern.{writeItems}
+use Rattle.songcode.proofs.WrittenBefore.{writeItems}
 use Rattle.songcode.proofs.ListLaws.{Each}
 use Rattle.songcode.proofs.PatternLaws.{none-some}
 use Rattle.songcode.proofs.SideAgree.{side-references, side-sound}
 use Rattle.songcode.proofs.TokensAgree.{text-complete}
 use Rattle.tokens.specs.TokenWords.{tokenWords}
 use Rattle.score.specs.declared.stretches.Stretch.{Stretch}
-use Rattle.score.specs.Standing.{Stands}
+use Rattle.score.proofs.StandingLaws.{written-stands}
 use Rattle.player.specs.Texts.{rowWords}
 use Rattle.player.proofs.Meaning.{row-meaning}
 use Rattle.songcode.proofs.GlueLaws.{putIn-same}
@@ -42,11 +42,11 @@ module _ (ws : List ℕ) (find : ℕ → Outline) (t : Stretch) where
   -- Items without a reference.
   pub plain-carries : (r : Items) (ts : List Token) → ts ≡ writeItems r [] → Each Good ts → depth r ≤ 1 → references r ≡ []
       → drop (t .from) (take (t .to) ws) ≡ tokenWords ts → Carries ws (readText find ws t) (some r)
-  unfolding Carries Stands KnowsItems
+  unfolding Carries KnowsItems
   plain-carries r ts e good deep plain stands =
       let f : ℕ → Option Items = λ n. none in
       let fit = items-fit r ts e good in
-      let there : Stands ws t r = stands ∙ ap tokenWords e in
+      let there = written-stands ws t r (stands ∙ ap tokenWords e) in
       let known : KnowsItems (some r) (outlined find (drop (t .from) (take (t .to) ws))) = items-known find ws t r there fit deep in
       let walkable = plain-walkable ws f r fit plain (omega arith) in (
         known .0 .filled,

@@ -13,11 +13,12 @@ use Rattle.songcode.specs.Complaints.{Complaint, earliest}
 use Rattle.songcode.specs.Song.{Items, one, refer, Definition}
 use Rattle.songcode.specs.answer.PatternText.{depth, depthI, loopsDeep, references}
 use Rattle.songcode.specs.answer.References.{definitionOf, itemsOf, putInItem, putIn, referenceFault, depthFault, definitionReferences}
-use Rattle.songcode.specs.description.WrittenPattern.{writeItems}
+use Rattle.songcode.proofs.WrittenBefore.{writeItems}
 use Rattle.songcode.proofs.ListLaws.{by-cases, none-passes, Each, each-append}
 use Rattle.tokens.specs.TokenWords.{tokenWords}
 use Rattle.score.specs.declared.stretches.Stretch.{Stretch}
 use Rattle.score.specs.Standing.{ItemsFit, Stands}
+use Rattle.score.proofs.StandingLaws.{stands-written}
 use Rattle.outlines.specs.declared.readings.Outline.{Outline}
 use Rattle.outlines.specs.Words.{vacant}
 use Rattle.outlines.specs.Faults.{allFaults, faultless, faultNumber, faultIn}
@@ -127,5 +128,5 @@ module _ (ds : List Definition) (missing : ℕ → Bool) (find : ℕ → Outline
 
   pub fault-given : (ws : List ℕ) (s : Stretch) (r : Items) → Stands ws s r → ItemsFit r → depth r ≤ 1
       → refusal (faultIn missing find (drop (s .from) (take (s .to) ws))) head ≡ earliest (definitionReferences ds (some r) head)
-  unfolding faultIn Stands
-  fault-given ws s r p h d = rw (p, read-faults missing find r h) (items-given r d)
+  unfolding faultIn
+  fault-given ws s r p h d = rw (stands-written ws s r p, read-faults missing find r h) (items-given r d)

@@ -10,7 +10,7 @@ use Rattle.songcode.specs.Song.{Sound, chord, again, silence, Sounds, only, als
 use Rattle.songcode.specs.Song.{byColon, Item, measure, loop, refer, Items, one, next}
 use Rattle.songcode.specs.answer.Tokens.{Token, sound, remover, reference, opens, closes}
 use Rattle.songcode.specs.answer.PatternText.{referencesI, references}
-use Rattle.songcode.specs.description.WrittenPattern.{writeSounds, writeRemovers, writeMeasure, writeBeside, writeSeparator, writeItem, writeItems}
+use Rattle.songcode.proofs.WrittenBefore.{writeSounds, writeRemovers, writeMeasure, writeBeside, writeSeparator, writeItem, writeItems}
 use Rattle.songcode.proofs.ListLaws.{any-append}
 use Rattle.tokens.specs.TokenWords.{chordWord, tokenWord, tokenWords}
 use Rattle.tokens.specs.Signs.{kindOf}

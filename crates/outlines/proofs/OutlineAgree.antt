@@ -11,13 +11,14 @@ use lib.ListN.{take, drop}
 use Rattle.songcode.specs.Lists.{isEmpty}
 use Rattle.songcode.specs.Song.{Items}
 use Rattle.songcode.specs.answer.PatternText.{depth, references}
-use Rattle.songcode.specs.description.WrittenPattern.{writeItems}
+use Rattle.songcode.proofs.WrittenBefore.{writeItems}
 use Rattle.songcode.specs.answer.References.{putIn}
 use Rattle.songcode.specs.answer.Meter.{allFit, stray}
 use Rattle.songcode.proofs.ListLaws.{Each}
 use Rattle.tokens.specs.TokenWords.{tokenWords}
 use Rattle.score.specs.declared.stretches.Stretch.{Stretch}
 use Rattle.score.specs.Standing.{ItemsFit, Stands}
+use Rattle.score.proofs.StandingLaws.{stands-written}
 use Rattle.outlines.specs.declared.readings.Outline.{Outline}
 use Rattle.outlines.specs.Sizes.{divides}
 use Rattle.outlines.specs.Readings.{started, closed, wordsRead, summed, outlined}
@@ -51,6 +52,6 @@ read-whole find r h = items-read find r started [] h
 pub outline-tells : (find : ℕ → Outline) (f : ℕ → Option Items) (ws : List ℕ) (s : Stretch) (r : Items) → Stands ws s r → ItemsFit r → depth r ≤ 1
     → Each (Told find f) (references r)
     → Tells (outlined find (drop (s .from) (take (s .to) ws))) (putIn f r)
-unfolding outlined Stands
+unfolding outlined
 outline-tells find f ws s r p h d t =
-    rw (p, read-whole find r h) (sum-tells find f (isEmpty (tokenWords (writeItems r []))) r h d t)
+    rw (stands-written ws s r p, read-whole find r h) (sum-tells find f (isEmpty (tokenWords (writeItems r []))) r h d t)

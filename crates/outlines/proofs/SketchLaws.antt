@@ -11,11 +11,12 @@ use Rattle.songcode.specs.Lists.{if_then_else_, isEmpty}
 use Rattle.songcode.specs.Song.{Sounds, only, also, Item, measure, loop, refer, Items, one, next}
 use Rattle.songcode.specs.answer.Tokens.{Token, sound}
 use Rattle.songcode.specs.answer.PatternText.{depthI, depth, referencesI, references}
-use Rattle.songcode.specs.description.WrittenPattern.{writeSounds, writeMeasure, writeItem, writeItems}
+use Rattle.songcode.proofs.WrittenBefore.{writeSounds, writeMeasure, writeItem, writeItems}
 use Rattle.songcode.proofs.ListLaws.{by-cases}
 use Rattle.tokens.specs.TokenWords.{tokenWords}
 use Rattle.score.specs.declared.stretches.Stretch.{Stretch}
 use Rattle.score.specs.Standing.{ItemsFit, Stands}
+use Rattle.score.proofs.StandingLaws.{stands-written}
 use Rattle.outlines.specs.declared.readings.Outline.{Outline}
 use Rattle.outlines.specs.declared.readings.Reading.{Reading}
 use Rattle.outlines.specs.Readings.{started, sounded, measured, closed, opened, shut, referred, summed, outlined}
@@ -132,5 +133,6 @@ sum-sketches find e r h =
 
 pub outline-sketches : (find : ℕ → Outline) (ws : List ℕ) (s : Stretch) (r : Items) → Stands ws s r → ItemsFit r
     → Sketches (outlined find (drop (s .from) (take (s .to) ws))) r
-unfolding outlined Stands
-outline-sketches find ws s r p h = rw (p, read-whole find r h) (sum-sketches find (isEmpty (tokenWords (writeItems r []))) r (items-some r []))
+unfolding outlined
+outline-sketches find ws s r p h =
+    rw (stands-written ws s r p, read-whole find r h) (sum-sketches find (isEmpty (tokenWords (writeItems r []))) r (items-some r []))

@@ -9,7 +9,7 @@ use Rattle.songcode.specs.Lists.{if_then_else_}
 use Rattle.songcode.specs.Song.{Sound, chord, again, silence, Sounds, only, also, nothing, aLineEnd, Separator, bySemicolon}
 use Rattle.songcode.specs.Song.{byLineEnd, byColon, Item, measure, loop, refer, Items, one, next}
 use Rattle.songcode.specs.answer.Tokens.{Token, sound, remover, reference, opens, closes}
-use Rattle.songcode.specs.description.WrittenPattern.{writeSounds, writeRemovers, writeMeasure, writeBeside, writeSeparator, writeItem, writeItems}
+use Rattle.songcode.proofs.WrittenBefore.{writeSounds, writeRemovers, writeMeasure, writeBeside, writeSeparator, writeItem, writeItems}
 use Rattle.songcode.proofs.ListLaws.{by-cases}
 use Rattle.tokens.specs.TokenWords.{chordWord, tokenWord, tokenWords}
 use Rattle.tokens.specs.Signs.{kindOf, isPosition}

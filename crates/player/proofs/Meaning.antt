@@ -7,17 +7,18 @@ use mathlib.Core.Option.{Option, none}
 use native.Mathlib.Omega.{arith}
 use lib.ListN.{take, drop}
 use Rattle.songcode.specs.answer.Chords.{Chord}
-use Rattle.songcode.specs.Song.{Item, measure, loop, refer, Items, one, next}
+use Rattle.songcode.specs.Song.{Item, measure, loop, refer, Items, one, next, Beat}
 use Rattle.songcode.specs.answer.Tokens.{Token, opens, closes}
 use Rattle.songcode.specs.answer.References.{putInItem, putIn}
-use Rattle.songcode.specs.description.WrittenPattern.{writeSeparator, writeItem, writeItems}
-use Rattle.songcode.specs.answer.Playing.{Beat, lastItem, lastItems, measuresItem, measuresOf}
+use Rattle.songcode.proofs.WrittenBefore.{writeSeparator, writeItem, writeItems}
+use Rattle.songcode.specs.answer.Playing.{lastItem, lastItems, measuresItem, measuresOf}
 use Rattle.tokens.specs.TokenWords.{tokenWord, tokenWords}
 use Rattle.score.specs.declared.stretches.Stretch.{Stretch}
 use Rattle.score.specs.Places.{stretchOf, wordOf}
 use Rattle.tokens.specs.Signs.{kindOf, isStop}
 use Rattle.player.specs.Walks.{Read, stop, and-then, itemOf, rowsBy, level, rowOf}
 use Rattle.score.specs.Standing.{Stands}
+use Rattle.score.proofs.StandingLaws.{stands-written}
 use Rattle.player.specs.Texts.{voiceWord, rowWords, WalkableItem, WalkableBy, Walkable}
 use Rattle.player.proofs.WalkLaws.{rows-stop, rows-more, item-onward, level-onward}
 use Rattle.songcode.proofs.GlueLaws.{last-glue, measures-glue, putIn-same}
@@ -41,7 +42,7 @@ module _ (ws : List ℕ) (f : ℕ → Option Items) (n : ℕ) where
   item-passed : (k : ℕ) → Inside k → (i : Item) → WalkableItem ws f (Walkable ws f k) i
       → (to at : ℕ) (last : Option Chord) (t : List Token) → Apart t → drop at (take to ws) ≡ tokenWords (writeItem i t)
       → Passed ws n (level k n ws) to at last (measuresOf n last (putInItem f i)) (lastItems last (putInItem f i)) t
-  unfolding Inside WalkableItem writeItem tokenWords putInItem measuresOf lastItems measuresItem lastItem Stands
+  unfolding Inside WalkableItem writeItem tokenWords putInItem measuresOf lastItems measuresItem lastItem
   item-passed k ih (measure m) h to at last t a e = measure-passed ws n (level k n ws) to at last m t h a e
   item-passed k ih (loop r j) h to at last t a e =
       loop-passed ws n (level k n ws) to at last j (measuresOf n last (putIn f r)) (lastItems last (putIn f r))
@@ -51,7 +52,7 @@ module _ (ws : List ℕ) (f : ℕ → Option Items) (n : ℕ) where
   item-passed k ih (refer j) h to at last t a e =
       let q = h .1 in
       let y = h .2 in
-      let w = ih q (h .3) (stretchOf ws j .to) (stretchOf ws j .from) last [] nothing-ends (y .stands) in
+      let w = ih q (h .3) (stretchOf ws j .to) (stretchOf ws j .from) last [] nothing-ends (stands-written ws (stretchOf ws j) q (y .stands)) in
       let same : putIn f q ≡ q = putIn-same f q (y .plain) in
       rw (y .said) (refer-passed ws n (level k n ws) to at last j (measuresOf n last q) (lastItems last q) t [] (h .0) e (rw same at w))
 
@@ -134,5 +135,5 @@ module _ (ws : List ℕ) (f : ℕ → Option Items) (n : ℕ) where
 
   -- The row of a stretch where written items stand is what they play, references put in.
   pub row-meaning : (r : Items) (s : Stretch) → Walkable ws f 8 r → Stands ws s r → rowOf n ws s ≡ rowWords (measuresOf n none (putIn f r))
-  unfolding rowOf Stands Inside voiceWord
-  row-meaning r s h e = every-level 8 r h (s .to) (s .from) none [] nothing-ends e .row-is
+  unfolding rowOf Inside voiceWord
+  row-meaning r s h e = every-level 8 r h (s .to) (s .from) none [] nothing-ends (stands-written ws s r e) .row-is

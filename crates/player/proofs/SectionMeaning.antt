@@ -6,8 +6,8 @@ use mathlib.Core.Option.{Option, none, some}
 use native.Mathlib.Omega.{arith}
 use lib.ListN.{length, take, drop}
 use Rattle.songcode.specs.Lists.{times}
-use Rattle.songcode.specs.Song.{Cut, Modifiers}
-use Rattle.songcode.specs.answer.Playing.{Beat, keep, cutFront, cutBack, applied, cutRow, repeats}
+use Rattle.songcode.specs.Song.{Cut, Modifiers, Beat}
+use Rattle.songcode.specs.answer.Playing.{keep, cutFront, cutBack, applied, cutRow, repeats}
 use Rattle.songcode.specs.description.Performance.{total}
 use Rattle.songcode.specs.answer.Tables.{beatWord, measureWords}
 use Rattle.songcode.specs.EitherOrder.{Filled}

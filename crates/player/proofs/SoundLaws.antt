@@ -10,10 +10,10 @@ use lib.ListN.{length, drop, replicate}
 use lib.Seq.{drop-drop}
 use Rattle.songcode.specs.Lists.{if_then_else_}
 use Rattle.songcode.specs.answer.Chords.{Chord}
-use Rattle.songcode.specs.Song.{Sound, chord, again, silence, Sounds, only, also, Measure}
+use Rattle.songcode.specs.Song.{Sound, chord, again, silence, Sounds, only, also, Measure, beat}
 use Rattle.songcode.specs.answer.Tokens.{Token, sound, remover}
-use Rattle.songcode.specs.description.WrittenPattern.{writeSounds, writeRemovers, writeMeasure}
-use Rattle.songcode.specs.answer.Playing.{beat, chordAfter, heard, lastSounds, voices, lasting, soundCount, positions, beatsOf}
+use Rattle.songcode.proofs.WrittenBefore.{writeSounds, writeRemovers, writeMeasure}
+use Rattle.songcode.specs.answer.Playing.{chordAfter, heard, lastSounds, voices, lasting, soundCount, positions, beatsOf}
 use Rattle.songcode.specs.answer.Tables.{headBit, beatBy, beatWord}
 use Rattle.songcode.proofs.ListLaws.{gather-append}
 use Rattle.tokens.specs.TokenWords.{chordWord, tokenWord, tokenWords}

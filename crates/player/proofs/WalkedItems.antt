@@ -10,10 +10,10 @@ use lib.ListN.{length, take, drop}
 use lib.Seq.{drop-drop}
 use Rattle.songcode.specs.Lists.{if_then_else_, times}
 use Rattle.songcode.specs.answer.Chords.{Chord}
-use Rattle.songcode.specs.Song.{Measure, Beside, nothing, aLineEnd, Separator, bySemicolon, byLineEnd, byColon}
+use Rattle.songcode.specs.Song.{Measure, Beside, nothing, aLineEnd, Separator, bySemicolon, byLineEnd, byColon, Beat}
 use Rattle.songcode.specs.answer.Tokens.{Token, reference, semicolon, colon, lineEnd, opens, closes}
-use Rattle.songcode.specs.description.WrittenPattern.{writeMeasure, writeBeside, writeSeparator}
-use Rattle.songcode.specs.answer.Playing.{Beat, lastSounds, beatsOf, positions}
+use Rattle.songcode.proofs.WrittenBefore.{writeMeasure, writeBeside, writeSeparator}
+use Rattle.songcode.specs.answer.Playing.{lastSounds, beatsOf, positions}
 use Rattle.tokens.specs.TokenWords.{tokenWord, tokenWords}
 use Rattle.score.specs.Places.{stretchOf, wordOf}
 use Rattle.tokens.specs.Signs.{kindOf, isPosition, isSeparator, isStop}

@@ -11,7 +11,7 @@ use lib.Seq.{getD-drop, drop-drop}
 use Rattle.songcode.specs.Lists.{if_then_else_, times}
 use Rattle.songcode.specs.Song.{nothing, aLineEnd, Separator, bySemicolon, byLineEnd, byColon}
 use Rattle.songcode.specs.answer.Tokens.{Token, reference, closes}
-use Rattle.songcode.specs.description.WrittenPattern.{writeBeside, writeSeparator}
+use Rattle.songcode.proofs.WrittenBefore.{writeBeside, writeSeparator}
 use Rattle.tokens.specs.TokenWords.{tokenWord, tokenWords}
 use Rattle.score.specs.Places.{wordOf}
 use Rattle.tokens.specs.Signs.{kindOf, numberOf, isPosition, isSeparator, isStop}

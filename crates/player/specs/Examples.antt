@@ -5,7 +5,7 @@ use mathlib.Core.Option.{Option, none, some}
 use mathlib.Core.Path.{_≡_, refl}
 use lib.ListN.{length}
 use Rattle.songcode.specs.Song.{Sound, chord, again, silence, only, also, bySemicolon, byLineEnd, Item, measure, loop, refer, Items, one, next}
-use Rattle.songcode.specs.description.WrittenPattern.{writeItems}
+use Rattle.songcode.specs.description.WrittenPattern.{itemsTokens}
 use Rattle.songcode.specs.answer.Playing.{measuresOf}
 use Rattle.songcode.specs.answer.Tables.{beatWord}
 use Rattle.songcode.specs.answer.References.{putIn}
@@ -32,13 +32,13 @@ abbrev definition : Items
 definition = next (one (alone again)) bySemicolon (alone (plain 24))
 
 abbrev words : List ℕ
-words = (5 * 32768 + 7 * 2) ∷ 0 ∷ (tokenWords (writeItems definition []) ++ (0 ∷ tokenWords (writeItems pattern [])))
+words = (5 * 32768 + 7 * 2) ∷ 0 ∷ (tokenWords (itemsTokens definition) ++ (0 ∷ tokenWords (itemsTokens pattern)))
 
 abbrev put : ℕ → Option Items
 put n = some definition
 
 walked : rowOf 4 words (record { from = 6; to = length words }) ≡ map (map beatWord) (measuresOf 4 none (putIn put pattern))
-unfolding rowOf stretchOf placeOf placeBy tokenWords writeItems measuresOf beatWord putIn
+unfolding rowOf stretchOf placeOf placeBy tokenWords itemsTokens measuresOf beatWord putIn
 walked = refl
 
 -- `A;G` cut at the front by 1-2, at the back by -7 and by -8.

@@ -4,9 +4,8 @@ use mathlib.Core.Path.{_≡_}
 use mathlib.Core.List.{List, [], map}
 use mathlib.Core.Option.{Option, none, some}
 use Rattle.songcode.specs.answer.Chords.{Chord}
-use Rattle.songcode.specs.Song.{Item, measure, loop, refer, Items, one, next}
+use Rattle.songcode.specs.Song.{Item, measure, loop, refer, Items, one, next, Beat}
 use Rattle.songcode.specs.answer.PatternText.{references}
-use Rattle.songcode.specs.answer.Playing.{Beat}
 use Rattle.songcode.specs.answer.Tables.{beatWord}
 use Rattle.tokens.specs.TokenWords.{chordWord}
 use Rattle.score.specs.Places.{stretchOf}

@@ -5,3 +5,4 @@ pub mod ViewLaws
 pub mod RowLaws
 pub mod PlayedLaws
 pub mod LyricLaws
+pub mod StandingLaws

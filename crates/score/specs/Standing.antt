@@ -1,16 +1,16 @@
 -- When a stretch of the row holds the words of written items, and when every chord and every number of items fits its word.
 use Prim.Native.Nat.{ℕ, _<_, _≤_}
 use mathlib.Core.Path.{_≡_}
-use mathlib.Core.List.{List, []}
+use mathlib.Core.List.{List}
 use lib.ListN.{take, drop}
 use Rattle.songcode.specs.Song.{Sound, chord, again, silence, Sounds, only, also, Item, measure, loop, refer, Items, one, next}
-use Rattle.songcode.specs.description.WrittenPattern.{writeItems}
+use Rattle.songcode.specs.description.WrittenPattern.{itemsTokens}
 use Rattle.tokens.specs.TokenWords.{chordWord, tokenWords}
 use Rattle.score.specs.declared.stretches.Stretch.{Stretch}
 
 -- The words of the items stand in the stretch.
 unfoldable pub Stands : List ℕ → Stretch → Items → Type 0
-Stands ws s r = drop (s .from) (take (s .to) ws) ≡ tokenWords (writeItems r [])
+Stands ws s r = drop (s .from) (take (s .to) ws) ≡ tokenWords (itemsTokens r)
 
 -- The word of every chord is of a kind below 34.
 unfoldable pub ChordFits : Sound → Type 0

@@ -10,7 +10,7 @@ use Rattle.songcode.specs.answer.Keys.{keyPlace, timeIn, bpmIn}
 use Rattle.songcode.specs.answer.Numbers.{repeatIn}
 use Rattle.songcode.specs.answer.Modifiers.{ModifierName, ofRepeat, ofCutStart, ofCutEnd, ofBefore, ofAfter, modifierPlace, cutIn}
 use Rattle.songcode.specs.answer.Modifiers.{saidBy, repeatSaid, cutStartSaid, cutEndSaid, beforeSaid, afterSaid}
-use Rattle.songcode.specs.answer.Sections.{keyIn, modifierOn, body, fromDashes, headerFaults, amongKeys, order, twice, keySaid, modifierSaid, faults}
+use Rattle.songcode.specs.answer.Sections.{keyIn, modifierOn, body, fromDashes, headerFaults, order, twice, keySaid, modifierSaid, faults}
 use Rattle.songcode.specs.answer.Sections.{patternRun}
 use Rattle.songcode.specs.answer.Sections.{patternFaults, lyricFaults, sectionFaults, patternIn, lyricLine, lyricsIn, sectionIn}
 use Rattle.songcode.specs.answer.SongText.{definitionItems, definitionIn}
@@ -33,7 +33,7 @@ use Rattle.sections.proofs.TellLaws.{repeat-tells, cut-start-tells, cut
 use Rattle.sections.proofs.OrderLaws.{keys-early, modifiers-late}
 
 -- A block without fault: its lines stand in order, and none of them is faulted.
-pub clean-order : (b : Block) → sectionFaults b ≡ [] → (order amongKeys (body b) ≡ []) × (flatMap faults (body b) ≡ [])
+pub clean-order : (b : Block) → sectionFaults b ≡ [] → (order [] (body b) ≡ []) × (flatMap faults (body b) ≡ [])
     × (patternFaults (b .first .number) (patternRun (body b)) ≡ [])
 unfolding sectionFaults
 clean-order b h =
@@ -42,9 +42,9 @@ clean-order b h =
     let g = append-is-nil _ (flatMap faults (body b)) (p .0) in
     let m = append-is-nil _ (twice 8 modifierSaid [] (body b)) (g .0) .0 in
     let k = append-is-nil _ (twice 4 keySaid [] (body b)) m .0 in
-    (append-is-nil (headerFaults (b .first)) (order amongKeys (body b)) k .1, g .1, p .1)
+    (append-is-nil (headerFaults (b .first)) (order [] (body b)) k .1, g .1, p .1)
 
-module _ (ls : List Line) (ordered : order amongKeys ls ≡ []) (clean : flatMap faults ls ≡ []) where
+module _ (ls : List Line) (ordered : order [] ls ≡ []) (clean : flatMap faults ls ≡ []) where
   key-said : (f : List Byte → Option ℕ) (k : song.KeyName) → bind (settingAmong (keyPlace k) (earlyLines ls)) (λ x. f (x .text)) ≡ bind
       (playing.settingNamed k (filterMap keyIn ls)) f
   key-said f k = ap (λ (o : Option Setting). bind o (λ x. f (x .text))) (keys-early k ls ordered) ∙ sym (key-among f k ls)

@@ -9,21 +9,21 @@ use lib.ListN.{length, take, drop, length-append}
 use lib.Seq.{drop-at, take-append-seam}
 use Rattle.songcode.specs.Lists.{times, sum}
 use Rattle.songcode.specs.answer.Chords.{Chord}
-use Rattle.songcode.specs.Song.{Sounds, only, also, Measure, Item, measure, loop, refer, Items, one, next, Cut, Section, Song, Side, Modifiers}
+use Rattle.songcode.specs.Song.{Measure, Item, measure, loop, refer, Items, one, next, Cut, Section, Song, Side, Modifiers, Beat}
 use Rattle.songcode.specs.Song.{unmodified}
 use Rattle.songcode.specs.answer.References.{patternItems}
-use Rattle.songcode.specs.answer.Playing.{Beat, lasting, soundCount, positions, repeats}
+use Rattle.songcode.specs.answer.Playing.{lasting, soundCount, positions}
 use Rattle.songcode.specs.answer.Tables.{Tables}
 use Rattle.songcode.specs.answer.Answer.{Room}
 use Rattle.songcode.specs.description.WrittenSection.{Each}
-use Rattle.songcode.specs.description.Performance.{total, HearsAll, PlaysMeasure, PlaysItem, PlaysItems, CutsFront, CutsBack, CutIf, Parts, PlaysAlone}
-use Rattle.songcode.specs.description.Performance.{PlaysSide, PlaysPattern, PlaysSection, joined}
+use Rattle.songcode.specs.description.Performance.{total, PlaysMeasure, PlaysItem, PlaysItems, CutsFront, CutsBack, CutIf, Parts, PlaysAlone}
+use Rattle.songcode.specs.description.Performance.{PlaysSide, asOften, PlaysPattern, PlaysSection, joined}
 use Rattle.songcode.specs.description.Described.{Described}
 use Rattle.songcode.specs.EitherOrder.{measureBeats, itemBeats, textBeats, itemWidths, textWidths, namedFront, namedBack, sideBeats}
 use Rattle.songcode.specs.EitherOrder.{patternBeats, repeatedWidths, beatsWritten, beatsNamed, BeatsCounted}
 use Rattle.songcode.proofs.ListLaws.{sum-append, sum-times}
 use Rattle.songcode.proofs.EachLaws.{each-also}
-use Rattle.songcode.proofs.PlayingAgree.{positions-some}
+use Rattle.songcode.proofs.PlayingAgree.{positions-some, heard-length, plays-divides, plays-lasting}
 use Rattle.songcode.proofs.RowLaws.{lasting-length}
 use Rattle.songcode.proofs.TurnedRows.{total-append}
 
@@ -54,13 +54,6 @@ module _ {A : Type 0} where
   sum-lengths (m ∷ row) = ap (λ k. length m + k) (sum-lengths row)
 
 -- What is played has the widths that the text counts.
-pub heard-length : (last : Option Chord) (ss : Sounds) (heard : List (Option Chord)) (later : Option Chord)
-    → HearsAll last ss heard later → length heard ≡ soundCount ss
-unfolding HearsAll soundCount
-heard-length last (only s) heard later (h, p, e) = rw e
-heard-length last (also ss s) heard later (before, mid, h, p, q, e) =
-    let k = heard-length last ss before mid p in rw (e, length-append) (omega arith)
-
 pub lasting-all : (k : ℕ) (heard : List (Option Chord)) → length (flatMap (lasting k) heard) ≡ length heard * k
 unfolding flatMap
 lasting-all k [] = omega arith
@@ -79,7 +72,7 @@ unfolding measureBeats positions
 measure-width n last m beats later p =
     let a = heard-length last (m .sounds) (p .heard) later (p .hears) in
     let b = lasting-all (p .share) (p .heard) in
-    rw (p .lasts) (b ∙ ap (λ k. k * p .share) a ∙ sym (shared (soundCount (m .sounds)) (m .removers) (p .share) n (positions-some m) (p .divides)))
+    rw (plays-lasting p) (b ∙ ap (λ k. k * p .share) a ∙ sym (shared (soundCount (m .sounds)) (m .removers) (p .share) n (positions-some m) (plays-divides p)))
 
 mutual
   unfolding PlaysItem PlaysItems itemWidths textWidths lengths
@@ -183,18 +176,18 @@ module _ {A : Type 0} where
       rw (t, sum-lengths g) (omega arith)
 
 pattern-total : (n : ℕ) (ms : Modifiers) (o : Option Items) (pass middle : List (List Beat)) → PlaysPattern n ms o pass middle
-    → total middle + (namedFront (ms .cutStart) (repeatedWidths n (repeats ms) o)
-    + namedBack (ms .cutEnd) (repeatedWidths n (repeats ms) o)) ≡ repeats ms * patternBeats n o
-unfolding PlaysPattern repeatedWidths patternBeats total namedFront namedBack repeats unmodified
+    → total middle + (namedFront (ms .cutStart) (repeatedWidths n (asOften ms) o)
+    + namedBack (ms .cutEnd) (repeatedWidths n (asOften ms) o)) ≡ asOften ms * patternBeats n o
+unfolding PlaysPattern repeatedWidths patternBeats total namedFront namedBack asOften unmodified
 pattern-total n ms none pass middle (e, p, m) = rw (e, m) nothing
   where
-    nothing : 0 + (namedFront (unmodified .cutStart) [] + namedBack (unmodified .cutEnd) []) ≡ repeats unmodified * 0
+    nothing : 0 + (namedFront (unmodified .cutStart) [] + namedBack (unmodified .cutEnd) []) ≡ asOften unmodified * 0
     nothing = refl
 pattern-total n ms (some r) pass middle (shorter, alone, front, back, some-left) =
-    let w : lengths (times (repeats ms) pass) ≡ times (repeats ms) (textWidths n r) = rw (lengths-times (repeats ms) pass, alone-widths n r pass alone) refl in
-    let f = front-named (ms .cutStart) (times (repeats ms) pass) shorter front in
-    let b = back-named (ms .cutStart) (ms .cutEnd) (times (repeats ms) pass) shorter middle front back in
-    let t : total (times (repeats ms) pass) ≡ repeats ms * textBeats n r = rw (← (sum-lengths (times (repeats ms) pass)), w, sum-times, sum-text) refl in
+    let w : lengths (times (asOften ms) pass) ≡ times (asOften ms) (textWidths n r) = rw (lengths-times (asOften ms) pass, alone-widths n r pass alone) refl in
+    let f = front-named (ms .cutStart) (times (asOften ms) pass) shorter front in
+    let b = back-named (ms .cutStart) (ms .cutEnd) (times (asOften ms) pass) shorter middle front back in
+    let t : total (times (asOften ms) pass) ≡ asOften ms * textBeats n r = rw (← (sum-lengths (times (asOften ms) pass)), w, sum-times, sum-text) refl in
     rw (← w, ← t) (omega arith)
 
 section-counted : (s : Song) (x : Section) (p : Parts) → PlaysSection s x p → BeatsCounted s x p

@@ -1,19 +1,20 @@
 -- What holds of every chord of a text holds of every chord that is heard: through references, loops, `%`, repeats and cuts.
 use Prim.Native.Nat.{ℕ, zero, suc, _/_}
-use mathlib.Core.Path.{_≡_, refl, subst}
+use mathlib.Core.Path.{_≡_, refl, sym, subst}
 use mathlib.Core.List.{List, [], _∷_, _++_, flatMap}
 use mathlib.Core.Bool.{false}
 use mathlib.Core.Option.{Option, none, some, Option·getD}
 use lib.ListN.{replicate}
 use Rattle.songcode.specs.Lists.{times}
 use Rattle.songcode.specs.answer.Chords.{Chord}
-use Rattle.songcode.specs.Song.{Sound, chord, again, silence, Sounds, only, also, nothing, aLineEnd, Separator}
+use Rattle.songcode.specs.Song.{Sound, chord, again, silence, Sounds, only, also, nothing, aLineEnd, Separator, Beat, beat}
 use Rattle.songcode.specs.Song.{bySemicolon, byLineEnd, byColon, Item, measure, loop, refer, Items, one, next, Cut}
 use Rattle.songcode.specs.answer.Tokens.{Token, sound, remover, reference, semicolon, colon, lineEnd, opens, closes, wrong}
 use Rattle.songcode.specs.answer.References.{glue, putInItem, putIn}
-use Rattle.songcode.specs.answer.Playing.{Beat, beat, chordAfter, heard, lastSounds, lastItem}
+use Rattle.songcode.specs.answer.Playing.{chordAfter, heard, lastSounds, lastItem}
 use Rattle.songcode.specs.answer.Playing.{lastItems, voices, lasting, positions, beatsOf, measuresItem, measuresOf}
-use Rattle.songcode.specs.description.WrittenPattern.{writeSounds, writeRemovers, writeMeasure, writeBeside, writeSeparator, writeItem, writeItems}
+use Rattle.songcode.specs.description.WrittenPattern.{itemsTokens}
+use Rattle.songcode.proofs.WrittenBefore.{writeSounds, writeRemovers, writeMeasure, writeBeside, writeSeparator, writeItem, writeItems, appended}
 use Rattle.songcode.specs.description.Performance.{CutsFront, CutsBack, CutIf}
 
 module _ (Q : Chord → Type 0) where
@@ -103,12 +104,15 @@ module _ (Q : Chord → Type 0) where
     item-written (loop r n) k h = let p = items-written r (closes n ∷ k) (h .1) in (p .0, p .1 .1)
     item-written (refer n) k h = (tt, h .1)
 
-    pub items-written : (r : Items) (k : List Token) → OfTokens (writeItems r k) → OfItems r × OfTokens k
+    items-written : (r : Items) (k : List Token) → OfTokens (writeItems r k) → OfItems r × OfTokens k
     items-written (one i) k h = item-written i k h
     items-written (next r s i) k h =
         let p = items-written r (writeSeparator s (writeItem i k)) h in
         let q = item-written i k (separator-written s (writeItem i k) (p .1)) in
         ((p .0, q .0), q .1)
+
+  pub items-of-tokens : (r : Items) → OfTokens (itemsTokens r) → OfItems r
+  items-of-tokens r h = items-written r [] (subst (λ ts. OfTokens ts) (sym (appended r)) h) .0
 
   -- References put in.
   glue-of : (r : Items) (s : Separator) (q : Items) → OfItems r → OfItems q → OfItems (glue r s q)

@@ -9,10 +9,10 @@ use native.Mathlib.Omega.{arith}
 use Rattle.songcode.specs.Lists.{taken, any}
 use Rattle.songcode.specs.answer.Lines.{Line, Block, lines, blocks}
 use Rattle.songcode.specs.Complaints.{Complaint, verdict}
-use Rattle.songcode.specs.Song.{Key, Section, Song}
-use Rattle.songcode.specs.answer.Sections.{keyLine, patternLine, kindOfLine, body}
+use Rattle.songcode.specs.Song.{Key, Section, Song, Beat}
+use Rattle.songcode.specs.answer.Sections.{isKeyLine, keyLine, patternLine, kindOfLine, body}
 use Rattle.songcode.specs.answer.SongText.{sectionBlocks}
-use Rattle.songcode.specs.answer.Playing.{Beat, timeOf, played}
+use Rattle.songcode.specs.answer.Playing.{timeOf, played}
 use Rattle.songcode.specs.answer.Tables.{Tables, tables}
 use Rattle.songcode.specs.answer.Answer.{songStages, blocksOf, songOf, Room, stages, answer, accepted, answerBy, roomFaults}
 use Rattle.songcode.specs.description.WrittenText.{All, Stops}
@@ -21,7 +21,7 @@ use Rattle.songcode.specs.description.WrittenSong.{SectionBlock, Written
 use Rattle.songcode.specs.description.Performance.{Parts}
 use Rattle.songcode.specs.description.Fits.{Fits}
 use Rattle.songcode.specs.description.Described.{Described}
-use Rattle.songcode.specs.answer.Flat.{textOf, sectionRows, isKeyLine, flatSection, playsNothing, flatBlocks, flatCopy, copyBytes, copyBy, copyOf}
+use Rattle.songcode.specs.answer.Flat.{textOf, sectionRows, flatSection, playsNothing, flatBlocks, flatCopy, copyBytes, copyBy, copyOf}
 use Rattle.songcode.specs.description.WrittenFlat.{rowsOf, rowsOfAll, silentPart, blocksCopied, Copied}
 use Rattle.songcode.proofs.ListLaws.{taken-is}
 use Rattle.songcode.proofs.LinesAgree.{lines-complete}

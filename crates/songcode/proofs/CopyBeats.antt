@@ -8,7 +8,7 @@ use native.Mathlib.Omega.{arith}
 use lib.ListN.{length, replicate}
 use Rattle.songcode.specs.Bytes.{Byte, placed, values}
 use Rattle.songcode.specs.answer.Chords.{Chord}
-use Rattle.songcode.specs.answer.Playing.{Beat}
+use Rattle.songcode.specs.Song.{Beat}
 use Rattle.songcode.specs.answer.Tables.{offset, measureWords, headBit, beatBy, beatWord}
 use Rattle.songcode.specs.description.WrittenSection.{Each, none-each, and-each}
 use Rattle.songcode.specs.answer.Flat.{lettersOf, flatMeasure}

@@ -10,19 +10,20 @@ use lib.Dec.{eqb}
 use lib.ListN.{length, length-append}
 use Rattle.songcode.specs.Lists.{if_then_else_, isEmpty, any, when, times}
 use Rattle.songcode.specs.Bytes.{Byte, values}
-use Rattle.songcode.specs.Song.{KeyName, bpm, time, Key, Items, items, named, Cut, LyricLine, Definition, Section, Song, Modifiers, unmodified}
+use Rattle.songcode.specs.Song.{KeyName, bpm, time, Key, Items, items, named, Cut, LyricLine, Definition, Section, Song, Modifiers, unmodified, Beat}
 use Rattle.songcode.specs.answer.Keys.{keyPlace}
 use Rattle.songcode.specs.answer.References.{definitionOf, itemsOf, patternItems}
-use Rattle.songcode.specs.answer.Playing.{Beat, settingNamed, repeats}
+use Rattle.songcode.specs.answer.Playing.{settingNamed}
 use Rattle.songcode.specs.description.WrittenPattern.{Number}
 use Rattle.songcode.specs.description.WrittenSection.{Each, none-each, and-each, TimeText}
-use Rattle.songcode.specs.description.Performance.{total, CutsFront, CutsBack, CutIf, Says, Inherits}
-use Rattle.songcode.specs.description.Performance.{Parts, PlaysAlone, PlaysSide, PlaysPattern, PlaysSection, joined, uncut}
+use Rattle.songcode.specs.description.Performance.{total, CutsFront, CutsBack, CutIf, Said, Says, Inherits}
+use Rattle.songcode.specs.description.Performance.{asOften, Parts, PlaysAlone, PlaysSide, PlaysPattern, PlaysSection, joined, uncut}
 use Rattle.songcode.specs.description.Fits.{DefinitionRefers, DefinitionsRefer, PatternRefers, SectionsRefer, uncutLength, Counted, none-counted}
 use Rattle.songcode.specs.description.Fits.{and-counted, Uncounted, SumsBy, AllSum, UncountedBy, NoneCounted, Fits}
 use Rattle.songcode.specs.FlatDemands.{Within}
 use Rattle.songcode.specs.description.WrittenFlat.{silentPart}
 use Rattle.songcode.specs.description.WrittenLyrics.{CountedLine}
+use Rattle.songcode.proofs.InheritsAgree.{said-exact, unsaid-exact}
 use Rattle.songcode.proofs.ListLaws.{by-cases, nil-is-not-cons}
 use Rattle.songcode.proofs.MeterAgree.{plays-section}
 use Rattle.songcode.proofs.CopyMeasure.{measureHeads}
@@ -57,17 +58,19 @@ setting-of k (and-each {x = j} {y = i} a more) =
 module _ (k : KeyName) (meaning : List Byte → ℕ → Type 0) (moves : (a b : List Byte) (n : ℕ) → values a ≡ values b → meaning b n → meaning a n) where
   says-alike : {js ks : List Key} → Each AlikeKey js ks → (o : Option ℕ) → Says k meaning ks o → Says k meaning js o
   unfolding Says OptAlike
-  says-alike {js} {ks} a none h = go (settingNamed k js) (setting-of k a)
+  says-alike {js} {ks} a none h = unsaid-exact k js .0 (go (settingNamed k js) (setting-of k a))
     where
       go : (q : Option (List Byte)) → OptAlike q (settingNamed k ks) → q ≡ none
       go none r = refl
-      go (some b) r = absurd (subst (λ x. OptAlike (some b) x) h r)
+      go (some b) r = absurd (subst (λ x. OptAlike (some b) x) (unsaid-exact k ks .1 h) r)
   says-alike {js} {ks} a (some n) h = go (settingNamed k js) refl (setting-of k a)
     where
-      go : (q : Option (List Byte)) → settingNamed k js ≡ q → OptAlike q (settingNamed k ks)
-          → (setting : List Byte) × (settingNamed k js ≡ some setting) × meaning setting n
-      go none e r = absurd (subst (λ x. OptAlike none x) (h .1) r)
-      go (some b) e r = (b, e, moves b (h .0) n (subst (λ x. OptAlike (some b) x) (h .1) r) (h .2))
+      named : settingNamed k ks ≡ some (h .0)
+      named = said-exact k ks (h .0) .1 (h .1)
+
+      go : (q : Option (List Byte)) → settingNamed k js ≡ q → OptAlike q (settingNamed k ks) → (setting : List Byte) × Said k setting js × meaning setting n
+      go none e r = absurd (subst (λ x. OptAlike none x) named r)
+      go (some b) e r = (b, said-exact k js b .0 e, moves b (h .0) n (subst (λ x. OptAlike (some b) x) named r) (h .2))
 
   inherits-alike : {default : ℕ} {s t : Song} {x y : Section} {n : ℕ} → Each AlikeKey (t .keys) (s .keys) → Each AlikeKey (y .keys) (x .keys)
       → Inherits k meaning default s x n → Inherits k meaning default t y n
@@ -90,7 +93,7 @@ some-beat k at b m ms = omega arith
 
 alone-plays : (k : ℕ) (r : Items) (ds : List Definition) (pass : List (List Beat)) → PlaysAlone k r pass → 1 ≤ total pass
     → PlaysPattern k unmodified (patternItems ds (items r)) pass pass
-unfolding PlaysPattern patternItems repeats unmodified times CutIf
+unfolding PlaysPattern patternItems asOften unmodified times CutIf
 alone-plays k r ds pass p t = (pass, p, sym (append-nil pass), refl, t)
 
 pattern-again : (k at : ℕ) (row : List (List Beat)) (needed : Bool) (head : ℕ) → Within k row → (isEmpty row ≡ true → needed ≡ true)
@@ -179,15 +182,15 @@ back-shorter none row kept p = rw p (omega arith)
 back-shorter (some c) row kept p = rw (p .keeps, p .written, length-append, length-append, length-append) (omega arith)
 
 pub middle-shorter : (n : ℕ) (ms : Modifiers) (o : Option Items) (pass middle : List (List Beat)) → PlaysPattern n ms o pass middle
-    → length middle ≤ length (times (repeats ms) pass)
+    → length middle ≤ length (times (asOften ms) pass)
 unfolding PlaysPattern
 middle-shorter n ms none pass middle p = rw (p .2) (omega arith)
 middle-shorter n ms (some r) pass middle (shorter, alone, front, back, some-left) =
-    let a = front-shorter (ms .cutStart) (times (repeats ms) pass) shorter front in
+    let a = front-shorter (ms .cutStart) (times (asOften ms) pass) shorter front in
     let b = back-shorter (ms .cutEnd) shorter middle back in omega arith
 
-one-pass : (ms : Modifiers) (row : List (List Beat)) → ms ≡ unmodified → length (times (repeats ms) row ++ []) ≡ length row
-unfolding repeats unmodified times
+one-pass : (ms : Modifiers) (row : List (List Beat)) → ms ≡ unmodified → length (times (asOften ms) row ++ []) ≡ length row
+unfolding asOften unmodified times
 one-pass ms row e = rw (e, append-nil (row ++ []), append-nil row) refl
 
 pub uncut-longer : (k : ℕ) (p : Parts) → length (p .middle) ≤ length (times k (p .pass)) → length (joined p) ≤ length (uncut k p)
@@ -206,7 +209,7 @@ short-again s no-flat r none-each = omega arith
 short-again s (a-flat {x} {y} {p} at f fs) r (and-each h hs) =
     let more = short-again s fs (r .1) hs in
     let l = heads-length (p .meter) at (joined p) (r .0 .0) in
-    let m = uncut-longer (repeats (x .modifiers)) p (middle-shorter (p .meter) (x .modifiers) _ (p .pass) (p .middle) (h .pattern)) in
+    let m = uncut-longer (asOften (x .modifiers)) p (middle-shorter (p .meter) (x .modifiers) _ (p .pass) (p .middle) (h .pattern)) in
     let o = one-pass (y .modifiers) (rowHeads (p .meter) at (joined p)) (f .modifiers) in
     omega arith
 

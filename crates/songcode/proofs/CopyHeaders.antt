@@ -8,7 +8,6 @@ use lib.ListN.{length, length-append}
 use Rattle.songcode.specs.Bytes.{Byte}
 use Rattle.songcode.specs.answer.Lines.{Line, Block}
 use Rattle.songcode.specs.Song.{KeyName, bpm, time, Section, Song}
-use Rattle.songcode.specs.answer.Playing.{repeats}
 use Rattle.songcode.specs.answer.Tables.{sectionWord}
 use Rattle.songcode.specs.description.WrittenText.{Cuts, last-line, ends-lf, ends-cr, ends-crlf, Counts, no-line, a-line, WrittenBlocks, no-block}
 use Rattle.songcode.specs.description.WrittenText.{a-blank, a-block}
@@ -16,7 +15,7 @@ use Rattle.songcode.specs.description.WrittenPattern.{Number}
 use Rattle.songcode.specs.description.WrittenSection.{none-each, and-each, TimeText}
 use Rattle.songcode.specs.description.WrittenSection as Written
 use Rattle.songcode.specs.description.WrittenSong.{SectionBlock, WrittenChart}
-use Rattle.songcode.specs.description.Performance.{Says, Inherits, Parts, PlaysSection, joined}
+use Rattle.songcode.specs.description.Performance.{Says, Inherits, asOften, Parts, PlaysSection, joined}
 use Rattle.songcode.specs.description.Fits.{uncutLength, Fits}
 use Rattle.songcode.specs.description.WrittenTables.{partsWords}
 use Rattle.songcode.specs.description.Layout.{sectionsRow, laid, without}
@@ -97,7 +96,7 @@ unfolding allLength uncutLength
 parts-few s none-each = omega arith
 parts-few s (and-each {x} {y = p} h hs) =
     let more = parts-few s hs in
-    let m = uncut-longer (repeats (x .modifiers)) p (middle-shorter (p .meter) (x .modifiers) _ (p .pass) (p .middle) (h .pattern)) in
+    let m = uncut-longer (asOften (x .modifiers)) p (middle-shorter (p .meter) (x .modifiers) _ (p .pass) (p .middle) (h .pattern)) in
     omega arith
 
 pub measures-few : {s : Song} {ps : List Parts} → Fits s ps → allLength ps ≤ 65535

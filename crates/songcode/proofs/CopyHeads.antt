@@ -7,7 +7,7 @@ use native.Mathlib.Omega.{arith}
 use lib.ListN.{length}
 use Rattle.songcode.specs.Lists.{isEmpty}
 use Rattle.songcode.specs.answer.Chords.{Chord}
-use Rattle.songcode.specs.answer.Playing.{Beat}
+use Rattle.songcode.specs.Song.{Beat}
 use Rattle.songcode.specs.answer.Flat.{letters, lettersOf, flatMeasure, flatPattern}
 use Rattle.songcode.specs.FlatDemands.{Within}
 use Rattle.songcode.proofs.ByteLaws.{values-placed}

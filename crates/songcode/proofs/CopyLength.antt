@@ -6,7 +6,7 @@ use native.Mathlib.Omega.{arith}
 use lib.ListN.{length, replicate, length-append}
 use Rattle.songcode.specs.Lists.{times}
 use Rattle.songcode.specs.Bytes.{ascii}
-use Rattle.songcode.specs.answer.Playing.{Beat}
+use Rattle.songcode.specs.Song.{Beat}
 use Rattle.songcode.specs.description.Performance.{total}
 use Rattle.songcode.specs.answer.Flat.{lettersOf, parted, spaced, flatMeasure, flatPattern, endLine}
 use Rattle.songcode.specs.FlatDemands.{Within}

@@ -9,18 +9,16 @@ use lib.ListN.{length, getD, getElem?, replicate}
 use Rattle.songcode.specs.Lists.{if_then_else_}
 use Rattle.songcode.specs.Bytes.{Byte, placed, values, ascii, isBlank, isByte}
 use Rattle.songcode.specs.answer.Chords.{Chord, bases}
-use Rattle.songcode.specs.Song.{Sound, chord, silence, Sounds, only, also, Measure}
+use Rattle.songcode.specs.Song.{Sound, chord, silence, Sounds, only, also, Measure, Beat, beat}
 use Rattle.songcode.specs.answer.Tokens.{Token, sound, remover, class}
-use Rattle.songcode.specs.answer.Playing.{Beat, beat, lasting, soundCount, positions}
 use Rattle.songcode.specs.description.WrittenPattern.{Begins, PassedOver, SpelledChord, Word, spells-silence, spells-remover, spells-chord}
-use Rattle.songcode.specs.description.WrittenPattern.{Plain, NoPlain, Text, t-end, t-blank, t-word, writeMeasure}
+use Rattle.songcode.specs.description.WrittenPattern.{Plain, NoPlain, Text, t-end, t-blank, t-word}
 use Rattle.songcode.specs.description.WrittenText.{Inside, Characters}
-use Rattle.songcode.specs.description.Performance.{Hears, HearsAll, PlaysMeasure}
+use Rattle.songcode.specs.description.Performance.{Hears, HearsAll, heldFor, PlaysMeasure}
 use Rattle.songcode.specs.answer.Flat.{letters, lettersOf, parted, spaced, flatMeasure}
-use Rattle.songcode.specs.description.PatternAppended.{soundsTokens, measureTokens}
+use Rattle.songcode.specs.description.WrittenPattern.{soundsTokens, measureTokens}
 use Rattle.songcode.proofs.ByteLaws.{values-placed, values-append, length-placed, length-values, placed-append}
 use Rattle.songcode.proofs.PatternLaws.{none-some}
-use Rattle.songcode.proofs.AppendedAgree.{measure-appended}
 
 -- A chord whose letters stand at a place; what is heard there.
 unfoldable pub chordAt : ℕ → Chord → Chord
@@ -210,7 +208,7 @@ sounds-from ss [] = sym (append-nil (soundsTokens ss))
 sounds-from ss (x ∷ xs) = sounds-from (also ss x) xs ∙ append-assoc (soundsTokens ss) (sound x ∷ []) (map sound xs)
 
 -- The line of a measure, read.
-pub measure-text : (n at : ℕ) (b : Beat) (m : List Beat) → SpeltAll (b ∷ m) → Text (placed at (flatMeasure n (b ∷ m))) (writeMeasure (measureAt n at b m) [])
+pub measure-text : (n at : ℕ) (b : Beat) (m : List Beat) → SpeltAll (b ∷ m) → Text (placed at (flatMeasure n (b ∷ m))) (measureTokens (measureAt n at b m))
 unfolding flatMeasure SpeltAll measureAt measureTokens soundsTokens lettersOf wordOf saidSound
 measure-text n at b m s =
     let k = n - length (b ∷ m) in
@@ -218,11 +216,10 @@ measure-text n at b m s =
     let t = spaced-text at x (saidsOf m (s .1) ++ replicate k removerSaid) in
     let ws : map wordOf (x ∷ (saidsOf m (s .1) ++ replicate k removerSaid)) ≡ lettersOf b ∷ (map lettersOf m ++ replicate k (ascii "=")) =
     rw (words-of m (s .1) k) (ap (λ w. w ∷ (map lettersOf m ++ replicate k (ascii "="))) (said-word (b .sounds) (s .0))) in
-    let ts : x .token at ∷ saidTokens (at + length (x .word)) (saidsOf m (s .1) ++ replicate k removerSaid) ≡ writeMeasure (measureAt n at b m) [] =
+    let ts : x .token at ∷ saidTokens (at + length (x .word)) (saidsOf m (s .1) ++ replicate k removerSaid) ≡ measureTokens (measureAt n at b m) =
     rw (said-token (b .sounds) (s .0) at, said-word (b .sounds) (s .0), tokens-of (at + length (letters (b .sounds))) m (s .1) k)
-    (sym (measure-appended (measureAt n at b m) [] ∙ append-nil (measureTokens (measureAt n at b m))
-    ∙ rw (sounds-from (only (soundAt at (b .sounds))) (soundsAt (at + length (letters (b .sounds))) m)) refl)) in
-    subst (λ y. Text y (writeMeasure (measureAt n at b m) [])) (ap (λ y. placed at (spaced y)) ws)
+    (rw (sounds-from (only (soundAt at (b .sounds))) (soundsAt (at + length (letters (b .sounds))) m)) refl) in
+    subst (λ y. Text y (measureTokens (measureAt n at b m))) (ap (λ y. placed at (spaced y)) ws)
     (subst (λ y. Text (placed at (spaced (map wordOf (x ∷ (saidsOf m (s .1) ++ replicate k removerSaid))))) y) ts t)
 
 -- What is heard there, and the measure played again: every beat has its head.
@@ -243,8 +240,8 @@ measureHeads at b m = beat (heardAt at (b .sounds)) true ∷ headsAt (at + lengt
 unfoldable soundOf : Beat → Option Chord
 soundOf b = b .sounds
 
-one-beat : (at : ℕ) (m : List Beat) → headsAt at m ≡ flatMap (lasting 1) (map soundOf (headsAt at m))
-unfolding flatMap lasting soundOf headsAt
+one-beat : (at : ℕ) (m : List Beat) → headsAt at m ≡ flatMap (heldFor 1) (map soundOf (headsAt at m))
+unfolding flatMap heldFor soundOf headsAt
 one-beat at [] = refl
 one-beat at (b ∷ m) = ap (λ r. beat (heardAt (suc at) (b .sounds)) true ∷ r) (one-beat (suc at + length (lettersOf b)) m)
 
@@ -265,33 +262,27 @@ hears-more at last ss before mid (b ∷ m) h =
     hears-more (suc at + length (lettersOf b)) last (also ss (soundAt (suc at) (b .sounds))) (before ++ (heardAt (suc at) (b .sounds) ∷ [])) (o .0) m w in
     (r .0, rw append-assoc at (r .1))
 
-count-from : (ss : Sounds) (xs : List Sound) → soundCount (soundsFrom ss xs) ≡ soundCount ss + length xs
-unfolding soundCount soundsFrom
-count-from ss [] = omega arith
-count-from ss (x ∷ xs) = let h = count-from (also ss x) xs in omega arith
-
-length-soundsAt : (at : ℕ) (m : List Beat) → length (soundsAt at m) ≡ length m
-unfolding soundsAt
-length-soundsAt at [] = refl
-length-soundsAt at (b ∷ m) = ap suc (length-soundsAt (suc at + length (lettersOf b)) m)
+length-headsAt : (at : ℕ) (m : List Beat) → length (map soundOf (headsAt at m)) ≡ length m
+unfolding headsAt
+length-headsAt at [] = refl
+length-headsAt at (b ∷ m) = ap suc (length-headsAt (suc at + length (lettersOf b)) m)
 
 -- "each as N positions, one a beat": it plays in N what it was made of.
 pub measure-plays : (n at : ℕ) (last : Option Chord) (b : Beat) (m : List Beat) → length (b ∷ m) ≤ n
     → (later : Option Chord) × PlaysMeasure n last (measureAt n at b m) (measureHeads at b m) later
-unfolding measureAt measureHeads soundCount positions HearsAll flatMap lasting
+unfolding measureAt measureHeads HearsAll flatMap heldFor
 measure-plays n at last b m h =
     let next = at + length (lettersOf b) in
     let o = hears-one at last (b .sounds) in
     let w : HearsAll last (only (soundAt at (b .sounds))) (heardAt at (b .sounds) ∷ []) (o .0) = (heardAt at (b .sounds), o .1, refl) in
     let r = hears-more next last (only (soundAt at (b .sounds))) (heardAt at (b .sounds) ∷ []) (o .0) m w in
-    let c = count-from (only (soundAt at (b .sounds))) (soundsAt next m) in
-    let l = length-soundsAt next m in (
+    let l = length-headsAt next m in (
       r .0,
       record {
-        share = 1;
-        divides = omega arith;
         heard = heardAt at (b .sounds) ∷ map soundOf (headsAt next m);
         hears = r .1;
+        share = 1;
+        divides = omega arith;
         lasts = ap (λ r. beat (heardAt at (b .sounds)) true ∷ r) (one-beat next m);
       },
     )

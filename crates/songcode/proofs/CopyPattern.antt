@@ -1,22 +1,20 @@
 -- Request 1: the measure lines of a section's copy are its pattern, and play its measures again.
 use Prim.Native.Nat.{ℕ, suc, _≤_}
-use mathlib.Core.Path.{_≡_, refl, ap, sym, subst, _∙_}
+use mathlib.Core.Path.{_≡_, refl, sym, subst, _∙_}
 use mathlib.Core.List.{List, [], _∷_, _++_, map, append-assoc, append-nil}
 use mathlib.Core.Option.{Option, none}
 use native.Mathlib.Omega.{arith}
 use Rattle.songcode.specs.Bytes.{placed}
 use Rattle.songcode.specs.answer.Chords.{Chord}
 use Rattle.songcode.specs.answer.Lines.{Line}
-use Rattle.songcode.specs.Song.{byLineEnd, measure, Items, one, next, items}
+use Rattle.songcode.specs.Song.{byLineEnd, measure, Items, one, next, items, Beat}
 use Rattle.songcode.specs.answer.Tokens.{Token, lineEnd}
 use Rattle.songcode.specs.answer.PatternText.{depthI, depth, loopsDeep, referencesI, references}
-use Rattle.songcode.specs.description.PatternAppended.{measureTokens, separatorTokens, itemTokens, itemsTokens}
-use Rattle.songcode.specs.answer.Playing.{Beat}
-use Rattle.songcode.specs.description.WrittenPattern.{Text, TextLines, one-line, more-lines, writeMeasure, writeItems, WrittenPattern}
+use Rattle.songcode.specs.description.WrittenPattern.{measureTokens, separatorTokens, itemTokens, itemsTokens}
+use Rattle.songcode.specs.description.WrittenPattern.{Text, TextLines, one-line, more-lines, WrittenPattern}
 use Rattle.songcode.specs.description.Performance.{PlaysItem, PlaysItems, PlaysAlone}
 use Rattle.songcode.specs.answer.Flat.{flatMeasure}
 use Rattle.songcode.specs.FlatDemands.{Within}
-use Rattle.songcode.proofs.AppendedAgree.{measure-appended, appended}
 use Rattle.songcode.proofs.CopyLines.{behind, rowLines}
 use Rattle.songcode.proofs.CopyMeasure.{SpeltAll, measureAt, measureHeads, measure-text, measure-plays}
 
@@ -41,7 +39,7 @@ rowHeads n at ((b ∷ m) ∷ ms) = measureHeads at b m ∷ rowHeads n (behind at
 rowTokens : ℕ → ℕ → List (List Beat) → List Token
 rowTokens n at [] = []
 rowTokens n at ([] ∷ ms) = rowTokens n at ms
-rowTokens n at ((b ∷ m) ∷ ms) = lineEnd ∷ (writeMeasure (measureAt n at b m) [] ++ rowTokens n (behind at (flatMeasure n (b ∷ m))) ms)
+rowTokens n at ((b ∷ m) ∷ ms) = lineEnd ∷ (measureTokens (measureAt n at b m) ++ rowTokens n (behind at (flatMeasure n (b ∷ m))) ms)
 
 lines-text : (n line at : ℕ) (l : Line) (ts : List Token) (ms : List (List Beat)) → Within n ms → SpeltRow ms → Text (l .text) ts
     → TextLines l (rowLines line at (map (flatMeasure n) ms)) (ts ++ rowTokens n at ms)
@@ -51,7 +49,7 @@ lines-text n line at l ts ([] ∷ ms) w s t = absurd (let h = w .0 in omega arit
 lines-text n line at l ts ((b ∷ m) ∷ ms) w s t =
     let l : Line = record { number = line; text = placed at (flatMeasure n (b ∷ m)) } in
     let c = measure-text n at b m (s .0) in
-    let k = lines-text n (suc line) (behind at (flatMeasure n (b ∷ m))) l (writeMeasure (measureAt n at b m) []) ms (w .2) (s .1) c in
+    let k = lines-text n (suc line) (behind at (flatMeasure n (b ∷ m))) l (measureTokens (measureAt n at b m)) ms (w .2) (s .1) c in
     more-lines t k refl
 
 tokens-from : (n at : ℕ) (r : Items) (ms : List (List Beat)) → itemsTokens (itemsFrom n at r ms) ≡ itemsTokens r ++ rowTokens n at ms
@@ -60,8 +58,7 @@ tokens-from n at r [] = sym (append-nil (itemsTokens r))
 tokens-from n at r ([] ∷ ms) = tokens-from n at r ms
 tokens-from n at r ((b ∷ m) ∷ ms) =
     tokens-from n (behind at (flatMeasure n (b ∷ m))) (next r byLineEnd (measure (measureAt n at b m))) ms
-    ∙ rw (measure-appended (measureAt n at b m) [], append-nil (measureTokens (measureAt n at b m)))
-    (append-assoc (itemsTokens r) (lineEnd ∷ measureTokens (measureAt n at b m)) (rowTokens n (behind at (flatMeasure n (b ∷ m))) ms))
+    ∙ append-assoc (itemsTokens r) (lineEnd ∷ measureTokens (measureAt n at b m)) (rowTokens n (behind at (flatMeasure n (b ∷ m))) ms)
 
 plays-from : (n at : ℕ) (r : Items) (ms : List (List Beat)) (front : List (List Beat)) (mid : Option Chord) → Within n ms
     → PlaysItems n none r front mid → (later : Option Chord) × PlaysItems n none (itemsFrom n at r ms) (front ++ rowHeads n at ms) later
@@ -102,11 +99,10 @@ pattern-written n line at b m ms w s =
     let first = one (measure (measureAt n at b m)) in
     let next-at = behind at (flatMeasure n (b ∷ m)) in
     let t =
-    lines-text n (suc line) next-at (record { number = line; text = placed at (flatMeasure n (b ∷ m)) }) (writeMeasure (measureAt n at b m) []) ms
+    lines-text n (suc line) next-at (record { number = line; text = placed at (flatMeasure n (b ∷ m)) }) (measureTokens (measureAt n at b m)) ms
     (w .2) (s .1) (measure-text n at b m (s .0)) in
-    let e : writeMeasure (measureAt n at b m) [] ++ rowTokens n next-at ms ≡ writeItems (itemsFrom n next-at first ms) [] =
-    sym (appended (itemsFrom n next-at first ms) ∙ tokens-from n next-at first ms
-    ∙ ap (λ x. x ++ rowTokens n next-at ms) (sym (measure-appended (measureAt n at b m) [] ∙ append-nil (measureTokens (measureAt n at b m))))) in
+    let e : measureTokens (measureAt n at b m) ++ rowTokens n next-at ms ≡ itemsTokens (itemsFrom n next-at first ms) =
+    sym (tokens-from n next-at first ms) in
     let d = depth-from n next-at first ms (omega arith) in
     let l : Line = record { number = line; text = placed at (flatMeasure n (b ∷ m)) } in
     (subst (λ x. TextLines l (rowLines (suc line) next-at (map (flatMeasure n) ms)) x) e t, omega arith, plain-from n next-at first ms refl)

@@ -14,18 +14,18 @@ use Rattle.songcode.specs.Lists.{if_then_else_, times}
 use Rattle.songcode.specs.Bytes.{Byte, placed, values, isBlank}
 use Rattle.songcode.specs.answer.Chords.{Chord}
 use Rattle.songcode.specs.answer.Lines.{Line, Block}
-use Rattle.songcode.specs.Song.{Sounds, only, also, Measure, Item, measure, loop, refer, Items, one, next, Pattern}
+use Rattle.songcode.specs.Song.{Sounds, only, also, Measure, Item, measure, loop, refer, Items, one, next, Pattern, Beat}
 use Rattle.songcode.specs.Song.{items, named, Cut, Modifier, before, after, Definition, Section, Song, Side, Modifiers}
 use Rattle.songcode.specs.answer.References.{definitionOf, itemsOf, putIn, patternItems}
-use Rattle.songcode.specs.answer.Playing.{Beat, voices, soundCount, positions, beatsOf, lastItems}
-use Rattle.songcode.specs.answer.Playing.{measuresItem, measuresOf, repeats}
+use Rattle.songcode.specs.answer.Playing.{voices, soundCount, positions, beatsOf, lastItems}
+use Rattle.songcode.specs.answer.Playing.{measuresItem, measuresOf}
 use Rattle.songcode.specs.answer.Meter.{fits, allFitItem, allFit}
 use Rattle.songcode.specs.description.WrittenText.{All, Inside, Characters}
 use Rattle.songcode.specs.description.WrittenPattern.{WrittenPattern, WrittenSide}
 use Rattle.songcode.specs.description.WrittenSection.{none-each, and-each, Signed, modifierSpelling, ModifierSetting, ModifierLine, WrittenSection}
 use Rattle.songcode.specs.description.WrittenSection as Written
 use Rattle.songcode.specs.description.WrittenSong.{DefinitionLines, WrittenDefinition, SectionBlock, WrittenSong, WrittenChart}
-use Rattle.songcode.specs.description.Performance.{CutsFront, CutsBack, CutIf, Parts, PlaysAlone, PlaysSide, PlaysPattern, PlaysSection, joined}
+use Rattle.songcode.specs.description.Performance.{CutsFront, CutsBack, CutIf, asOften, Parts, PlaysAlone, PlaysSide, PlaysPattern, PlaysSection, joined}
 use Rattle.songcode.specs.description.Fits.{Fits}
 use Rattle.songcode.specs.FlatDemands.{Within}
 use Rattle.songcode.proofs.ListLaws.{by-cases, Each, each-at, append-each, both-pass}
@@ -38,7 +38,7 @@ use Rattle.songcode.proofs.MeterAgree.{plays-section, parts-of}
 use Rattle.songcode.proofs.BeatsCounted.{lasting-all}
 use Rattle.songcode.proofs.FineLines.{Fine, blank-ascii, FineLine, BlockLine, BlockFine, lines-fine, blocks-fine, inside-append, blanks-off, cut-at}
 use Rattle.songcode.proofs.Stretches.{Stands, stands-parts}
-use Rattle.songcode.proofs.ChordsPlayed.{OfIf, OfItems, OfRow, items-written, putIn-of, measures-of, row-append, row-times, front-of, back-of}
+use Rattle.songcode.proofs.ChordsPlayed.{OfIf, OfItems, OfRow, items-of-tokens, putIn-of, measures-of, row-append, row-times, front-of, back-of}
 use Rattle.songcode.proofs.SpeltChords.{Known, text-known, lines-known, row-spelt}
 use Rattle.songcode.proofs.CopySong.{Ready}
 
@@ -138,11 +138,11 @@ module _ (file : List Byte) where
   pattern-good n ms none pass middle h s p = rw (p .2) (tt, tt)
   pattern-good n ms (some r) pass middle h s (shorter, alone, front, back, some-left) =
       let g = alone-good n r pass h (s r refl) alone in
-      let row = times (repeats ms) pass in (
+      let row = times (asOften ms) pass in (
         back-within n (ms .cutEnd) shorter middle back
-            (front-within n (ms .cutStart) row shorter front (within-times n (repeats ms) pass (g .0))),
+            (front-within n (ms .cutStart) row shorter front (within-times n (asOften ms) pass (g .0))),
         back-of (Known file) (ms .cutEnd) shorter middle back
-            (front-of (Known file) (ms .cutStart) row shorter front (row-times (Known file) (repeats ms) pass (g .1))),
+            (front-of (Known file) (ms .cutStart) row shorter front (row-times (Known file) (asOften ms) pass (g .1))),
       )
 
   -- A section whose texts are spelled.
@@ -177,7 +177,7 @@ module _ (file : List Byte) where
       go (l ∷ ls) none q t g = none-some refl q
       go (l ∷ ls) (some x) q t g =
           let z : x ≡ r = cc in
-          subst (λ y. OfItems (Known file) y) z (items-written (Known file) x [] (lines-known file (t .text) (g .0 .0) (fine-each ls (g .1))) .0)
+          subst (λ y. OfItems (Known file) y) z (items-of-tokens (Known file) x (lines-known file (t .text) (g .0 .0) (fine-each ls (g .1))))
 
   definitions-spelt : {bs : List Block} {ds : List Definition} → Written.Each WrittenDefinition bs ds → Each (BlockFine file) bs → Each SpeltDefinition ds
   unfolding Each
@@ -193,7 +193,7 @@ module _ (file : List Byte) where
       → Each (FineLine file) ls → WrittenPattern l ls p → (r : Items) → patternItems ds p ≡ some r → OfItems (Known file) r
   unfolding WrittenPattern patternItems bind
   pattern-spelt ds l ls (items q) d f fs w r e =
-      let z : q ≡ r = cc in subst (λ y. OfItems (Known file) y) z (items-written (Known file) q [] (lines-known file (w .0) f fs) .0)
+      let z : q ≡ r = cc in subst (λ y. OfItems (Known file) y) z (items-of-tokens (Known file) q (lines-known file (w .0) f fs))
   pattern-spelt ds l ls (named n) d f fs w r e = go (itemsOf ds n) refl e
     where
       go : (o : Option Items) → itemsOf ds n ≡ o → bind o (λ q. some (putIn (itemsOf ds) q)) ≡ some r → OfItems (Known file) r
@@ -223,7 +223,7 @@ module _ (file : List Byte) where
   unfolding FineLine
   side-spelt l setting m r f s w =
       let h = setting-fine (code "_") (modifierSpelling m) (l .text) setting s (f .within) (f .whole) in
-      items-written (Known file) r [] (text-known file (w .text) (h .0) (h .1) (setting-stands s (f .stands))) .0
+      items-of-tokens (Known file) r (text-known file (w .text) (h .0) (h .1) (setting-stands s (f .stands)))
 
   lead-spelt : (l : Line) (k : ℕ) (r : Items) → FineLine file l → ModifierLine l (before k r) → OfItems (Known file) r
   unfolding ModifierSetting

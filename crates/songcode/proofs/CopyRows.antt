@@ -11,9 +11,8 @@ use Rattle.songcode.specs.Bytes.{Byte, placed, values, ascii, isBlank}
 use Rattle.songcode.specs.answer.Chords.{Chord}
 use Rattle.songcode.specs.answer.Characters.{forms, form, within}
 use Rattle.songcode.specs.answer.Lines.{Line, Block, ending, inside}
-use Rattle.songcode.specs.Song.{Section, Song}
+use Rattle.songcode.specs.Song.{Section, Song, Beat}
 use Rattle.songcode.specs.answer.Tokens.{class, blank, plain}
-use Rattle.songcode.specs.answer.Playing.{Beat}
 use Rattle.songcode.specs.description.WrittenText.{Follows, Solid, lastOf, Inside, Characters, no-character, a-character, isBlankLine}
 use Rattle.songcode.specs.description.WrittenPattern.{Plain}
 use Rattle.songcode.specs.description.WrittenSection as Written

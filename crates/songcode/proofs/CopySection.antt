@@ -13,10 +13,9 @@ use Rattle.songcode.specs.Bytes.{placed, values, ascii, isByte, isLetter
 use Rattle.songcode.specs.answer.Chords.{Chord, bases}
 use Rattle.songcode.specs.answer.Numbers.{isDigit, digits, isDecimal, valueFrom}
 use Rattle.songcode.specs.answer.Lines.{Line, Block}
-use Rattle.songcode.specs.Song.{Key, Pattern, items, named, LyricLine, Section, unmodified}
+use Rattle.songcode.specs.Song.{Key, Pattern, items, named, LyricLine, Section, unmodified, Beat}
 use Rattle.songcode.specs.answer.Modifiers.{modifiersSaid}
 use Rattle.songcode.specs.answer.Tokens.{reference, class}
-use Rattle.songcode.specs.answer.Playing.{Beat}
 use Rattle.songcode.specs.description.WrittenPattern.{Number, Plain, NoPlain, spells-reference, Text, t-end, t-word, one-line, WrittenPattern}
 use Rattle.songcode.specs.description.WrittenSection.{Each, none-each, and-each, Distinct, SectionKey, OfSection, Together}
 use Rattle.songcode.specs.description.WrittenSection.{PatternBytes, PatternLine, PatternLines, LyricLines, no-lyrics, with-lyrics, WrittenSection}

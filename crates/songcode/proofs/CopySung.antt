@@ -10,9 +10,8 @@ use lib.ListN.{length}
 use Rattle.songcode.specs.Lists.{isEmpty}
 use Rattle.songcode.specs.Bytes.{Byte, placed}
 use Rattle.songcode.specs.answer.Lines.{Line, Block}
-use Rattle.songcode.specs.Song.{Items, named, LyricLine, Section, Song}
+use Rattle.songcode.specs.Song.{Items, named, LyricLine, Section, Song, Beat}
 use Rattle.songcode.specs.answer.References.{patternItems}
-use Rattle.songcode.specs.answer.Playing.{Beat}
 use Rattle.songcode.specs.description.WrittenSection.{none-each, and-each, LyricLines, no-lyrics, with-lyrics}
 use Rattle.songcode.specs.description.WrittenSection as Written
 use Rattle.songcode.specs.description.WrittenSong.{SectionBlock, WrittenChart}

@@ -5,8 +5,7 @@ use mathlib.Core.List.{List, [], _∷_, _++_, map, flatMap}
 use native.Mathlib.Nat.{zero-add, add-zero, add-assoc}
 use native.Mathlib.Omega.{arith}
 use lib.ListN.{length, length-append}
-use Rattle.songcode.specs.Song.{Section, Song}
-use Rattle.songcode.specs.answer.Playing.{Beat}
+use Rattle.songcode.specs.Song.{Section, Song, Beat}
 use Rattle.songcode.specs.answer.Tables.{Tables}
 use Rattle.songcode.specs.answer.Answer.{Room, accepted, answer}
 use Rattle.songcode.specs.description.WrittenSection.{Each, none-each, and-each}

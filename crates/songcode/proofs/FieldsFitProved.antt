@@ -8,8 +8,8 @@ use native.Mathlib.Omega.{arith}
 use lib.ListN.{length, getElem?, length-append}
 use Rattle.songcode.specs.Bytes.{Byte, placed}
 use Rattle.songcode.specs.answer.Chords.{Chord, bases}
-use Rattle.songcode.specs.Song.{KeyName, Key, Section, Song}
-use Rattle.songcode.specs.answer.Playing.{settingNamed, Beat}
+use Rattle.songcode.specs.Song.{KeyName, Key, Section, Song, Beat}
+use Rattle.songcode.specs.answer.Playing.{settingNamed}
 use Rattle.songcode.specs.answer.Lyrics.{Prompt}
 use Rattle.songcode.specs.answer.Tables.{Tables, keyOrder}
 use Rattle.songcode.specs.answer.Answer.{Room, accepted, answer}

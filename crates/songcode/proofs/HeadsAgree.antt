@@ -2,7 +2,7 @@
 use Prim.Native.Nat.{ℕ, zero, suc, _+_, _*_, _<_, _≤_}
 use mathlib.Core.Path.{_≡_, refl, ap, sym, subst, _∙_}
 use mathlib.Core.Logic.{_↔_, inl, inr}
-use mathlib.Core.List.{List, [], _∷_, _++_, append-assoc, head-eq-of-cons-eq, tail-eq-of-cons-eq, List·Memᴰ, flatMap}
+use mathlib.Core.List.{List, [], _∷_, _++_, append-assoc, head-eq-of-cons-eq, tail-eq-of-cons-eq, flatMap}
 use mathlib.Core.Bool.{true, false}
 use mathlib.Core.Option.{Option, none, some}
 use native.Mathlib.Nat.{suc-mul}
@@ -10,16 +10,19 @@ use native.Mathlib.Omega.{arith}
 use lib.ListN.{length, replicate, length-append}
 use Rattle.songcode.specs.Lists.{times}
 use Rattle.songcode.specs.answer.Chords.{Chord}
-use Rattle.songcode.specs.Song.{Measure, Item, measure, loop, refer, Items, one, next, Cut, Modifiers, Side, Section, Song}
+use Rattle.songcode.specs.Song.{Measure, Item, measure, loop, refer, Items, one, next, Cut, Modifiers, Side, Section, Song, Beat, beat}
 use Rattle.songcode.specs.answer.References.{patternItems}
-use Rattle.songcode.specs.answer.Playing.{Beat, beat, lasting, soundCount, repeats}
+use Rattle.songcode.specs.answer.Playing.{lasting}
 use Rattle.songcode.specs.description.Performance.{PlaysMeasure, PlaysItem, PlaysItems, PlaysSide, CutsFront, CutsBack, CutIf, Parts, PlaysPattern}
-use Rattle.songcode.specs.description.Performance.{PlaysSection, joined}
-use Rattle.songcode.specs.description.StoppedSong.{MeasureOf, MeasureIn}
-use Rattle.songcode.specs.Apart.{FirstBeats, TextOf, its-lead-in, its-pattern, its-tail}
-use Rattle.songcode.proofs.ListLaws.{Each, each-append, append-each, each-at, each-map, append-cases, nil-is-not-cons, true-is-not-false}
+use Rattle.songcode.specs.description.Performance.{asOften, PlaysSection}
+use Rattle.songcode.specs.description.StoppedSong.{MeasureOf, MeasureIn, soundsWritten}
+use Rattle.songcode.specs.Apart.{FirstBeats, HeadsOf, TakenOf, Heads}
+use Rattle.songcode.proofs.ListLaws.{Each, each-append, append-each, append-cases, nil-is-not-cons, true-is-not-false}
 use Rattle.songcode.proofs.RowLaws.{lasting-length}
-use Rattle.songcode.proofs.BeatsCounted.{heard-length, lasting-all}
+use Rattle.songcode.proofs.BeatsCounted.{lasting-all}
+use Rattle.songcode.proofs.PatternLaws.{none-some}
+use Rattle.songcode.proofs.PlayingAgree.{heard-length, plays-divides, plays-lasting}
+use Rattle.songcode.proofs.MeterStops.{sounds-counted, places-are}
 
 -- One position: its first beat alone is a head.
 one-again : {A : Type 0} (n : ℕ) (x y : A) (front behind : List A) → replicate n x ≡ front ++ (y ∷ behind) → y ≡ x
@@ -82,13 +85,14 @@ begins-all (suc share) heard b front behind e =
 
 measure-begins : (n : ℕ) (last later : Option Chord) (m : Measure) (beats : List Beat) → PlaysMeasure n last m beats later → FirstBeats n m 0 beats
 measure-begins n last later m beats p =
-    let long : length beats ≡ soundCount (m .sounds) * p .share =
-    ap length (p .lasts) ∙ lasting-all (p .share) (p .heard) ∙ ap (λ k. k * p .share) (heard-length last (m .sounds) (p .heard) later (p .hears)) in
+    let long : length beats ≡ length (soundsWritten (m .sounds)) * p .share =
+    ap length (plays-lasting p) ∙ lasting-all (p .share) (p .heard)
+    ∙ ap (λ k. k * p .share) (heard-length last (m .sounds) (p .heard) later (p .hears) ∙ sym (sounds-counted (m .sounds))) in
     record {
       share = p .share;
-      divides = p .divides;
+      divides = ap (λ k. p .share * k) (places-are m) ∙ plays-divides p;
       within = omega arith;
-      heads = λ front behind b e. begins-all (p .share) (p .heard) b front behind (sym (p .lasts) ∙ e);
+      heads = λ front behind b e. begins-all (p .share) (p .heard) b front behind (sym (plays-lasting p) ∙ e);
     }
 
 -- What is left of a measure, at its back or at its front.
@@ -104,6 +108,9 @@ back-left n m lost begun stays f =
           ((λ t. let i = whole .0 t in (i .0, omega arith)), (λ i. whole .1 (i .0, omega arith)));
     }
 
+first-left : (n : ℕ) (m : Measure) (begun stays : List Beat) → FirstBeats n m 0 (begun ++ stays) → FirstBeats n m (length begun) stays
+first-left n m begun stays f = subst (λ k. FirstBeats n m k stays) (omega arith) (back-left n m 0 begun stays f)
+
 front-left : (n : ℕ) (m : Measure) (lost : ℕ) (stays ended : List Beat) → FirstBeats n m lost (stays ++ ended) → FirstBeats n m lost stays
 front-left n m lost stays ended f =
     record {
@@ -113,9 +120,9 @@ front-left n m lost stays ended f =
       heads = λ front behind b e. f .heads front (behind ++ ended) b (ap (λ z. z ++ ended) e ∙ append-assoc front (b ∷ behind) ended);
     }
 
--- The measures of a text, and what is left of them.
+-- The whole measures of a text.
 unfoldable Headed : ℕ → Items → List Beat → Type 0
-Headed n r beats = (m : Measure) × (lost : ℕ) × MeasureIn m r × FirstBeats n m lost beats
+Headed n r beats = (m : Measure) × MeasureIn m r × FirstBeats n m 0 beats
 
 each-times : {A : Type 0} (P : A → Type 0) (k : ℕ) (xs : List A) → Each P xs → Each P (times k xs)
 unfolding times Each
@@ -128,7 +135,7 @@ module _ (n : ℕ) (whole : Items) where
 
     item-headed : (i : Item) (last later : Option Chord) (row : List (List Beat)) → ((m : Measure) → MeasureOf m i → MeasureIn m whole)
         → PlaysItem n last i row later → Each (Headed n whole) row
-    item-headed (measure m) last later row inside (beats, p, e) = rw e ((m, 0, inside m refl, measure-begins n last later m beats p), tt)
+    item-headed (measure m) last later row inside (beats, p, e) = rw e ((m, inside m refl, measure-begins n last later m beats p), tt)
     item-headed (loop r k) last later row inside (pass, p, e) =
         rw e (each-times (Headed n whole) k pass (items-headed r last later pass inside p))
     item-headed (refer k) last later row inside p = absurd p
@@ -141,56 +148,61 @@ module _ (n : ℕ) (whole : Items) where
         (each-append (Headed n whole) front more (items-headed r last mid front (λ m h. inside m (inl h)) p)
         (item-headed i mid later more (λ m h. inside m (inr h)) q))
 
-  front-headed : (o : Option Cut) (row kept : List (List Beat)) → CutIf CutsFront o row kept → Each (Headed n whole) row → Each (Headed n whole) kept
-  unfolding CutIf Each Headed
-  front-headed none row kept p h = rw p h
-  front-headed (some c) row kept p h =
+  whole-heads : (row : List (List Beat)) → Each (Headed n whole) row → HeadsOf n whole 0 row
+  unfolding Each Headed HeadsOf
+  whole-heads [] h = tt
+  whole-heads (beats ∷ row) h = (h .0, whole-heads row (h .1))
+
+  -- What the front cut leaves: the first measure has lost what it took of it.
+  front-heads : (o : Option Cut) (row kept : List (List Beat)) → CutIf CutsFront o row kept → Each (Headed n whole) row
+      → (lost : ℕ) × TakenOf o row lost × HeadsOf n whole lost kept
+  unfolding CutIf Each Headed TakenOf HeadsOf
+  front-heads none row kept p h = (0, refl, rw p (whole-heads row h))
+  front-heads (some c) row kept p h =
       let a = append-each (Headed n whole) (p .gone) (p .lost ++ ((p .begun ++ p .stays) ∷ p .rest)) (subst (λ r. Each (Headed n whole) r) (p .written) h) in
-      let (m, lost, inside, f) = append-each (Headed n whole) (p .lost) ((p .begun ++ p .stays) ∷ p .rest) (a .1) .1 .0 in
-      rw (p .keeps) (
-        (m, lost + length (p .begun), inside, back-left n m lost (p .begun) (p .stays) f),
-        append-each (Headed n whole) (p .lost) ((p .begun ++ p .stays) ∷ p .rest) (a .1) .1 .1,
+      let b = append-each (Headed n whole) (p .lost) ((p .begun ++ p .stays) ∷ p .rest) (a .1) .1 in
+      let (m, inside, f) = b .0 in (
+        length (p .begun),
+        (kept, p, refl),
+        rw (p .keeps) ((m, inside, first-left n m (p .begun) (p .stays) f), whole-heads (p .rest) (b .1)),
       )
 
-  back-headed : (o : Option Cut) (row kept : List (List Beat)) → CutIf CutsBack o row kept → Each (Headed n whole) row → Each (Headed n whole) kept
-  unfolding CutIf Each Headed
-  back-headed none row kept p h = rw p h
-  back-headed (some c) row kept p h =
-      let a = append-each (Headed n whole) (p .rest) (((p .stays ++ p .ended) ∷ p .lost) ++ p .gone) (subst (λ r. Each (Headed n whole) r) (p .written) h) in
-      let (m, lost, inside, f) = a .1 .0 in
-      rw (p .keeps) (each-append (Headed n whole) (p .rest) (p .stays ∷ []) (a .0) ((m, lost, inside, front-left n m lost (p .stays) (p .ended) f), tt))
+  -- The back cut takes no head from what it leaves.
+  last-heads : (rest : List (List Beat)) (lost : ℕ) (stays ended : List Beat) (more : List (List Beat))
+      → HeadsOf n whole lost (rest ++ ((stays ++ ended) ∷ more)) → HeadsOf n whole lost (rest ++ (stays ∷ []))
+  unfolding HeadsOf
+  last-heads [] lost stays ended more h = let (m, inside, f) = h .0 in ((m, inside, front-left n m lost stays ended f), tt)
+  last-heads (beats ∷ rest) lost stays ended more h = (h .0, last-heads rest 0 stays ended more (h .1))
+
+  back-heads : (o : Option Cut) (row kept : List (List Beat)) (lost : ℕ) → CutIf CutsBack o row kept → HeadsOf n whole lost row → HeadsOf n whole lost kept
+  unfolding CutIf
+  back-heads none row kept lost p h = rw p h
+  back-heads (some c) row kept lost p h =
+      rw (p .keeps) (last-heads (p .rest) lost (p .stays) (p .ended) (p .lost ++ p .gone) (subst (λ r. HeadsOf n whole lost r) (p .written) h))
 
 -- The measures of a section.
-module _ (s : Song) (x : Section) (n : ℕ) where
-  unfoldable Written : List Beat → Type 0
-  Written beats = (r : Items) × (m : Measure) × (lost : ℕ) × TextOf s x r × MeasureIn m r × FirstBeats n m lost beats
+side-heads : (n : ℕ) (y : Side) (o : Option Side) (row : List (List Beat)) → PlaysSide n o row → o ≡ some y → HeadsOf n (y .items) 0 row
+unfolding PlaysSide
+side-heads n y none row p e = none-some refl e
+side-heads n y (some z) row p e =
+    let same : z ≡ y = cc in
+    subst (λ w. HeadsOf n (w .items) 0 row) same
+    (whole-heads n (z .items) row (items-headed n (z .items) (z .items) none (p .later) row (λ m h. h) (p .plays)))
 
-  of-text : (r : Items) (row : List (List Beat)) → TextOf s x r → Each (Headed n r) row → Each Written row
-  unfolding Headed Written
-  of-text r row t h = each-map (λ beats (m, lost, inside, f). (r, m, lost, t, inside, f)) row h
+pattern-heads : (n : ℕ) (ms : Modifiers) (r : Items) (o : Option Items) (pass middle : List (List Beat)) → PlaysPattern n ms o pass middle → o ≡ some r
+    → (lost : ℕ) × TakenOf (ms .cutStart) (times (asOften ms) pass) lost × HeadsOf n r lost middle
+unfolding PlaysPattern
+pattern-heads n ms r none pass middle p e = none-some refl e
+pattern-heads n ms r (some q) pass middle (shorter, alone, front, back, some-left) e =
+    let same : q ≡ r = cc in
+    let row = each-times (Headed n q) (asOften ms) pass (items-headed n q q none (alone .later) pass (λ m h. h) (alone .plays)) in
+    let (lost, taken, heads) = front-heads n q (ms .cutStart) (times (asOften ms) pass) shorter front row in
+    (lost, taken, subst (λ w. HeadsOf n w lost middle) same (back-heads n q (ms .cutEnd) shorter middle lost back heads))
 
-  of-side : (o : Option Side) (row : List (List Beat)) → ((y : Side) → o ≡ some y → TextOf s x (y .items)) → PlaysSide n o row → Each Written row
-  unfolding PlaysSide Each
-  of-side none row t p = rw p tt
-  of-side (some y) row t p =
-      of-text (y .items) row (t y refl) (items-headed n (y .items) (y .items) none (p .later) row (λ m h. h) (p .plays))
-
-  of-pattern : (ms : Modifiers) (o : Option Items) (pass middle : List (List Beat)) → ((r : Items) → o ≡ some r → TextOf s x r)
-      → PlaysPattern n ms o pass middle → Each Written middle
-  unfolding PlaysPattern Each
-  of-pattern ms none pass middle t (e, p, q) = rw q tt
-  of-pattern ms (some r) pass middle t (shorter, alone, front, back, some-left) =
-      let row = each-times (Headed n r) (repeats ms) pass (items-headed n r r none (alone .later) pass (λ m h. h) (alone .plays)) in
-      of-text r middle (t r refl)
-      (back-headed n r (ms .cutEnd) shorter middle back (front-headed n r (ms .cutStart) (times (repeats ms) pass) shorter front row))
-
-pub heads-stand : (s : Song) (x : Section) (p : Parts) → PlaysSection s x p → (beats : List Beat) → List·Memᴰ beats (joined p)
-    → (r : Items) × (m : Measure) × (lost : ℕ) × TextOf s x r × MeasureIn m r × FirstBeats (p .meter) m lost beats
-unfolding joined Written
-heads-stand s x p w beats i =
-    let n = p .meter in
-    let lead = of-side s x n (x .modifiers .before) (p .leadIn) (λ y e. its-lead-in y e) (w .leadIn) in
-    let middle = of-pattern s x n (x .modifiers) (patternItems (s .definitions) (x .pattern)) (p .pass) (p .middle) (λ r e. its-pattern r e) (w .pattern) in
-    let tail = of-side s x n (x .modifiers .after) (p .tail) (λ y e. its-tail y e) (w .tail) in
-    let rest = each-append (Written s x n) (p .middle) (p .tail) middle tail in
-    each-at (Written s x n) (each-append (Written s x n) (p .leadIn) (p .middle ++ p .tail) lead rest) i
+pub heads-stand : (s : Song) (x : Section) (p : Parts) → PlaysSection s x p → Heads s x p
+heads-stand s x p w =
+    record {
+      leadIn = λ y e. side-heads (p .meter) y (x .modifiers .before) (p .leadIn) (w .leadIn) e;
+      pattern = λ r e. pattern-heads (p .meter) (x .modifiers) r (patternItems (s .definitions) (x .pattern)) (p .pass) (p .middle) (w .pattern) e;
+      tail = λ y e. side-heads (p .meter) y (x .modifiers .after) (p .tail) (w .tail) e;
+    }

@@ -12,7 +12,7 @@ use Rattle.songcode.specs.Bytes.{Byte}
 use Rattle.songcode.specs.answer.Chords.{Chord}
 use Rattle.songcode.specs.answer.Lyrics.{Prompt}
 use Rattle.songcode.specs.answer.Tables.{keyWord, sectionWord, measureWord, beatBy, itemWord, headBit, offset}
-use Rattle.songcode.specs.description.Joined.{firstBeat, beatCount}
+use Rattle.songcode.specs.description.Joined.{firstBeat, beatCount, firstMeasure, measureCount, sectionBpm}
 use Rattle.songcode.specs.description.Layout.{keysRow, sectionsRow, measuresRow, beatsRow, itemsRow, spare, packed, laid, field, unpacked, fieldsOf, Fit}
 use Rattle.songcode.specs.description.Layout.{Laid}
 use Rattle.songcode.specs.description.Layout.{keyFields, beatFields, itemFields}
@@ -122,7 +122,7 @@ unfolding itemWord laid itemsRow itemFields
 item-laid p = omega arith
 
 pub words-laid : Laid
-unfolding fieldsOf laid measuresRow headBit offset firstBeat beatCount
+unfolding fieldsOf laid sectionsRow measuresRow headBit offset firstBeat beatCount firstMeasure measureCount sectionBpm
 words-laid =
     record {
       read-back = λ r vs low f h. unpacked-packed (spare r) (r .fields) vs low f h;
@@ -136,7 +136,12 @@ words-laid =
       nowhere = refl;
       somewhere = λ b bs. refl;
       sought = λ word h. ap (λ x. x ∷ word / 2 ^ 5 % 2 ^ 6 ∷ []) (sym (mod-eq-of-lt (first-fits word h)));
+      covered = λ word.
+          ap (λ x. field 47 17 word ∷ word / 2 ^ 31 % 2 ^ 16 ∷ word / 2 ^ 15 % 2 ^ 16 ∷ field 9 6 word ∷ x % 2 ^ 9 ∷ []) (whole word);
     }
   where
+    whole : (word : ℕ) → word ≡ word / 2 ^ 0
+    whole word = omega arith
+
     first-fits : (word : ℕ) → word < 2 ^ 32 → word / 2 ^ 11 < 2 ^ 21
     first-fits word h = omega arith

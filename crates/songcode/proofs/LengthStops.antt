@@ -11,14 +11,14 @@ use lib.ListN.{length}
 use borrow.Author.Tests.{leb-true, le-leb, ltb-true, lt-ltb}
 use Rattle.songcode.specs.Lists.{sum, isEmpty}
 use Rattle.songcode.specs.Complaints.{Complaint, complaint, complainIf}
-use Rattle.songcode.specs.Song.{Items, Section, Song}
+use Rattle.songcode.specs.Song.{Items, Section, Song, Beat}
 use Rattle.songcode.specs.answer.PatternText.{references}
 use Rattle.songcode.specs.answer.References.{patternItems}
-use Rattle.songcode.specs.answer.Playing.{Beat, timeOf, measuresOf, sideMeasures, keptMeasures}
+use Rattle.songcode.specs.answer.Playing.{timeOf, repeats, measuresOf, sideMeasures, keptMeasures}
 use Rattle.songcode.specs.answer.Meter.{playedFaults, sideFaults, sectionMeter, meterFaults, measuresIn, sideCount, sectionCount, mostMeasures, cutFaults}
 use Rattle.songcode.specs.answer.Meter.{lengthFaults, anySaid}
 use Rattle.songcode.specs.description.WrittenSection.{Each, none-each, and-each}
-use Rattle.songcode.specs.description.Performance.{PlaysAlone, PlaysPattern}
+use Rattle.songcode.specs.description.Performance.{asOften, PlaysAlone, PlaysPattern}
 use Rattle.songcode.specs.description.StoppedSong.{PlaysPass, Uncut, Stops5, too-long, no-beat, empty-modified}
 use Rattle.songcode.proofs.ListLaws.{by-cases, true-is-not-false, both-pass, pass-both, append-is-nil, complainIf-nil, nil-complainIf}
 use Rattle.songcode.proofs.MemberLaws.{either, in-complaint, complaint-in}
@@ -62,7 +62,7 @@ pass-once n none pass h = h
 pass-once n (some r) pass h = plays-row n 0 r pass h .1
 
 uncut-of : (s : Song) (x : Section) → PlainSection s x → sectionMeter s x ≡ [] → Uncut s x (sectionCount s x)
-unfolding sectionCount
+unfolding sectionCount repeats asOften
 uncut-of s x p e =
     let f = fine-of s x e in
     let a = length-side (timeOf s x) (x .modifiers .before) in
@@ -81,7 +81,7 @@ uncut-of s x p e =
     }
 
 uncut-once : (s : Song) (x : Section) (k : ℕ) → Uncut s x k → k ≡ sectionCount s x
-unfolding sectionCount
+unfolding sectionCount repeats asOften
 uncut-once s x k u =
     let n = u .meter in
     let a : length (u .leadIn) ≡ sideCount (x .modifiers .before) = ap length (plays-side n _ (u .leadIn) (u .leads) .1) ∙ length-side n _ in

@@ -30,11 +30,11 @@ pub mod LongestBase
 pub mod ChordsAgree
 pub mod WordsAgree
 pub mod TokensAgree
+pub mod WrittenBefore
 pub mod ItemsAgree
 pub mod WrittenTokens
 pub mod PatternAgree
 pub mod SideAgree
-pub mod AppendedAgree
 -- Lines, sections, definitions, metadata and songs.
 pub mod SettingAgree
 pub mod SignedAgree
@@ -42,6 +42,7 @@ pub mod LineAgree
 pub mod KeyAgree
 pub mod ModifierAgree
 pub mod SaidOnce
+pub mod StandLaws
 pub mod LineStops
 pub mod LineOrder
 pub mod OrderStops
@@ -129,6 +130,7 @@ pub mod EitherOrderProved
 pub mod EachSectionProved
 pub mod ShownProved
 pub mod ClausesProved
+pub mod SeamsHold
 pub mod WholeCharactersProved
 pub mod FieldsFitProved
 pub mod Demanded

@@ -2,11 +2,11 @@
 use mathlib.Core.Path.{_≡_, refl, ap, sym, subst, _∙_}
 use mathlib.Core.Logic.{_↔_}
 use mathlib.Core.List.{List, [], _∷_, List·Memᴰ, List·Memᴰ·head, List·Memᴰ·tail, List·Memᴰ·not-nil, flatMap}
-use mathlib.Core.Bool.{Bool, true, _&&_, not}
+use mathlib.Core.Bool.{true, _&&_, not}
 use lib.Dec.{eqb}
 use lib.ListN.{length}
 use borrow.Author.Tests.{eqb-true, eq-eqb, not-true, not-false}
-use Rattle.songcode.specs.Lists.{if_then_else_, isEmpty, any, isSome}
+use Rattle.songcode.specs.Lists.{if_then_else_, isEmpty, isSome}
 use Rattle.songcode.specs.Complaints.{Complaint, complainIf}
 use Rattle.songcode.specs.Song.{LyricLine, Section, Song}
 use Rattle.songcode.specs.answer.References.{patternItems}
@@ -16,7 +16,7 @@ use Rattle.songcode.specs.description.Performance.{PlaysSection, joined}
 use Rattle.songcode.specs.description.StoppedSong.{Taken, HasCount, Stops6, uncounted, Stops7, sums-not}
 use Rattle.songcode.proofs.ListLaws.{by-cases, true-is-not-false, both-pass, pass-both, complainIf-nil}
 use Rattle.songcode.proofs.ChoiceLaws.{isSome-some, some-isSome}
-use Rattle.songcode.proofs.MemberLaws.{in-gather, gather-in, in-complaint, complaint-in}
+use Rattle.songcode.proofs.MemberLaws.{in-gather, gather-in, any-found, found-any, in-complaint, complaint-in}
 use Rattle.songcode.proofs.MeterAgree.{plays-section, joined-played, parts-of}
 use Rattle.songcode.proofs.LyricsAgree.{counted-line, line-counted, bare, all-counted, counted-all}
 use Rattle.songcode.proofs.LengthStops.{gather-silent}
@@ -27,17 +27,6 @@ count-exact l = (
   (λ e. let h = counted-line l e in (h .1, h .0, h .3)),
   (λ h. ap isSome (line-counted l (h .2))),
 )
-
-any-found : {A : Type 0} (p : A → Bool) (xs : List A) → any p xs ≡ true → (x : A) × List·Memᴰ x xs × (p x ≡ true)
-unfolding any
-any-found p [] e = true-is-not-false e refl
-any-found p (x ∷ xs) e =
-    by-cases (p x) (λ t. (x, List·Memᴰ·head refl, t)) (λ f. let r = any-found p xs (rw f at e) in (r .0, List·Memᴰ·tail (r .1), r .2))
-
-found-any : {A : Type 0} (p : A → Bool) {xs : List A} {x : A} → List·Memᴰ x xs → p x ≡ true → any p xs ≡ true
-unfolding any
-found-any p {xs = y ∷ xs} (List·Memᴰ·head e) t = rw (sym (ap p e) ∙ t)
-found-any p {xs = y ∷ xs} (List·Memᴰ·tail m) t = by-cases (p y) (λ u. rw u) (λ f. rw (f, found-any p m t))
 
 module _ (s : Song) where
   abbrev taken-of : Section → List LyricLine

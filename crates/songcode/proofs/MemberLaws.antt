@@ -1,14 +1,15 @@
 -- What stands in a list of complaints: in one part or the other, in what some element gives, where a test passes.
 use Prim.Native.Nat.{ℕ}
-use mathlib.Core.Path.{_≡_, refl, ap, sym, subst}
+use mathlib.Core.Path.{_≡_, refl, ap, sym, subst, _∙_}
 use mathlib.Core.Logic.{_⊎_, inl, inr, ⊎-elim}
 use mathlib.Core.List.{List, [], _∷_, _++_, flatMap, filterMap}
 use mathlib.Core.List.{List·Memᴰ, List·Memᴰ·head, List·Memᴰ·tail, List·Memᴰ·not-nil, List·Memᴰ·cases-cons, List·Memᴰ·append-cases}
 use mathlib.Core.List.{map, Memᴰ·append-left, Memᴰ·append-right}
 use mathlib.Core.Bool.{Bool, true, false, _||_}
 use mathlib.Core.Option.{Option}
-use Rattle.songcode.specs.Lists.{when}
+use Rattle.songcode.specs.Lists.{any, when}
 use Rattle.songcode.specs.Complaints.{Complaint, complaint, complainIf}
+use Rattle.songcode.proofs.ListLaws.{by-cases, true-is-not-false}
 
 module _ {A : Type 0} where
   -- Some element, with what stands before and behind it.
@@ -77,6 +78,18 @@ pass-right true e = refl
 pass-right false e = e
 
 -- Complained of exactly where the test passes.
+-- Some element passes.
+pub any-found : {A : Type 0} (p : A → Bool) (xs : List A) → any p xs ≡ true → (x : A) × List·Memᴰ x xs × (p x ≡ true)
+unfolding any
+any-found p [] e = true-is-not-false e refl
+any-found p (x ∷ xs) e =
+    by-cases (p x) (λ t. (x, List·Memᴰ·head refl, t)) (λ f. let r = any-found p xs (rw f at e) in (r .0, List·Memᴰ·tail (r .1), r .2))
+
+pub found-any : {A : Type 0} (p : A → Bool) {xs : List A} {x : A} → List·Memᴰ x xs → p x ≡ true → any p xs ≡ true
+unfolding any
+found-any p {xs = y ∷ xs} (List·Memᴰ·head e) t = rw (sym (ap p e) ∙ t)
+found-any p {xs = y ∷ xs} (List·Memᴰ·tail m) t = by-cases (p y) (λ u. rw u) (λ f. rw (f, found-any p m t))
+
 pub in-complaint : (b : Bool) (number line : ℕ) {c : Complaint} → List·Memᴰ c (complainIf b number line) → (b ≡ true) × (c ≡ complaint number line)
 unfolding complainIf when
 in-complaint true number line m = (refl, only-one m)

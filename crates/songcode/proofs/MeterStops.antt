@@ -1,5 +1,5 @@
 -- What stops a song in stage 4 is stated exactly where the answer complains of it.
-use Prim.Native.Nat.{ℕ, _*_, _/_, _%_}
+use Prim.Native.Nat.{ℕ, _+_, _*_, _/_, _%_}
 use mathlib.Core.Path.{_≡_, refl, ap, sym, subst, _∙_}
 use mathlib.Core.Logic.{_↔_, _⊎_, inl, inr, ⊎-elim}
 use mathlib.Core.List.{List, [], _∷_, _++_, List·Memᴰ, List·Memᴰ·not-nil, List·Memᴰ·cases-cons, Memᴰ·append-left}
@@ -7,6 +7,7 @@ use mathlib.Core.List.{Memᴰ·append-right}
 use mathlib.Core.Bool.{Bool, true, false, _||_, _&&_, not}
 use mathlib.Core.Option.{Option, none, some}
 use native.Mathlib.Nat.{div-add-mod'}
+use lib.ListN.{length, length-append}
 use native.Mathlib.Omega.{arith}
 use borrow.Author.Tests.{eqb-true, eq-eqb, not-true}
 use Rattle.songcode.specs.Lists.{isSome}
@@ -16,15 +17,15 @@ use Rattle.songcode.specs.answer.Chords.{Chord}
 use Rattle.songcode.specs.Song.{Sound, chord, again, silence, Sounds, only, also, Measure, Item, measure, loop, refer, Items, one, next}
 use Rattle.songcode.specs.Song.{Section, Song, Side}
 use Rattle.songcode.specs.answer.References.{patternItems}
-use Rattle.songcode.specs.answer.Playing.{timeOf, positions, chordAfter, lastSounds, lastItem, lastItems}
+use Rattle.songcode.specs.answer.Playing.{timeOf, soundCount, positions, chordAfter, lastSounds, lastItem, lastItems}
 use Rattle.songcode.specs.answer.Meter.{fits, allFitItem, allFit, strays, strayAmong, strayItem, stray, rowFaults, playedFaults, sideFaults, sectionMeter}
 use Rattle.songcode.specs.answer.Meter.{meterFaults}
 use Rattle.songcode.specs.description.WrittenSong.{WrittenSong}
 use Rattle.songcode.specs.description.Fits.{DefinitionsRefer}
 use Rattle.songcode.specs.description.StoppedSong.{MeasureOf, MeasureIn, soundsWritten, itemWritten, itemsWritten, NoChord, RowStops, undivided}
-use Rattle.songcode.specs.description.StoppedSong.{again-first}
+use Rattle.songcode.specs.description.StoppedSong.{places, again-first}
 use Rattle.songcode.specs.description.StoppedSong.{Stops4, of-pattern, of-lead-in, of-tail}
-use Rattle.songcode.proofs.ListLaws.{by-cases, true-is-not-false}
+use Rattle.songcode.proofs.ListLaws.{by-cases, true-is-not-false, or-false}
 use Rattle.songcode.proofs.MemberLaws.{either, in-gather, gather-in, in-complaint, complaint-in}
 use Rattle.songcode.proofs.PlayingAgree.{positions-some, share-is}
 use Rattle.songcode.proofs.InheritsAgree.{says-meter}
@@ -32,13 +33,23 @@ use Rattle.songcode.proofs.MeterAgree.{PlainSection, PlainSections}
 use Rattle.songcode.proofs.PlainAgree.{song-plain}
 
 -- "A measure of p positions needs p to divide N".
-divides : (n : ℕ) (m : Measure) → fits n m ≡ true → (k : ℕ) × (k * positions m ≡ n)
-unfolding fits
-divides n m e = (n / positions m, let r = eqb-true (n % positions m) 0 e in let d = div-add-mod' n (positions m) in omega arith)
+pub sounds-counted : (ss : Sounds) → length (soundsWritten ss) ≡ soundCount ss
+unfolding soundsWritten soundCount
+sounds-counted (only s) = refl
+sounds-counted (also ss s) = let k = sounds-counted ss in rw length-append (omega arith)
 
-undivides : (n k : ℕ) (m : Measure) → k * positions m ≡ n → fits n m ≡ true
+pub places-are : (m : Measure) → places m ≡ positions m
+unfolding places positions
+places-are m = ap (λ k. k + m .removers) (sounds-counted (m .sounds))
+
+divides : (n : ℕ) (m : Measure) → fits n m ≡ true → (k : ℕ) × (k * places m ≡ n)
 unfolding fits
-undivides n k m e = eq-eqb (n % positions m) 0 (share-is n (positions m) k (positions-some m) e .1)
+divides n m e =
+    rw (places-are m) (n / positions m, let r = eqb-true (n % positions m) 0 e in let d = div-add-mod' n (positions m) in omega arith)
+
+undivides : (n k : ℕ) (m : Measure) → k * places m ≡ n → fits n m ≡ true
+unfolding fits
+undivides n k m e = eq-eqb (n % positions m) 0 (share-is n (positions m) k (positions-some m) (rw (places-are m) at e) .1)
 
 both-fail : (a b : Bool) → a && b ≡ false → (a ≡ false) ⊎ (b ≡ false)
 both-fail true b e = inr e
@@ -104,10 +115,6 @@ unfolding last-list
 last-append last [] ys = refl
 last-append last (x ∷ xs) ys = last-append (chordAfter last x) xs ys
 
-or-none : (a : Bool) → a || false ≡ a
-or-none true = refl
-or-none false = refl
-
 sounds-last : (last : Option Chord) (ss : Sounds) → lastSounds last ss ≡ last-list last (soundsWritten ss)
 unfolding lastSounds soundsWritten last-list
 sounds-last last (only s) = refl
@@ -115,9 +122,9 @@ sounds-last last (also ss s) = ap (λ x. chordAfter x s) (sounds-last last ss) �
 
 sounds-stray : (last : Option Chord) (ss : Sounds) → strayAmong last ss ≡ stray-list last (soundsWritten ss)
 unfolding strayAmong soundsWritten stray-list
-sounds-stray last (only s) = sym (or-none (strays last s))
+sounds-stray last (only s) = sym (or-false (strays last s))
 sounds-stray last (also ss s) =
-    rw (sounds-stray last ss, sounds-last last ss, stray-append last (soundsWritten ss) (s ∷ []), or-none (strays (last-list last (soundsWritten ss)) s))
+    rw (sounds-stray last ss, sounds-last last ss, stray-append last (soundsWritten ss) (s ∷ []), or-false (strays (last-list last (soundsWritten ss)) s))
 
 mutual
   unfolding lastItem lastItems itemWritten itemsWritten last-list

@@ -1,140 +1,107 @@
 -- Lines out of place, keys and modifiers said twice: stated exactly where the answer complains of them.
 use Prim.Native.Nat.{ℕ}
 use mathlib.Core.Path.{_≡_, refl, ap, sym, subst, _∙_}
-use mathlib.Core.Logic.{_⊎_, inl, inr, ⊎-elim}
-use mathlib.Core.List.{List, [], _∷_, _++_, map, append-nil, append-assoc, List·Memᴰ, List·Memᴰ·head, List·Memᴰ·tail, List·Memᴰ·not-nil, List·Memᴰ·cases-cons}
+use mathlib.Core.Logic.{_↔_, _⊎_, inl, inr, ⊎-elim}
+use mathlib.Core.List.{List, [], _∷_, _++_, append-nil, append-assoc, List·Memᴰ, List·Memᴰ·head, List·Memᴰ·tail, List·Memᴰ·not-nil, List·Memᴰ·cases-cons}
 use mathlib.Core.List.{Memᴰ·append-left, Memᴰ·append-right}
-use mathlib.Core.Bool.{true}
+use mathlib.Core.Bool.{true, false, not}
 use mathlib.Core.Option.{Option, none, some}
 use lib.Dec.{eqb}
 use borrow.Author.Tests.{eqb-true, eq-eqb}
-use Rattle.songcode.specs.Lists.{any, prepend}
+use Rattle.songcode.specs.Lists.{if_then_else_, left, isEmpty, any, prepend}
 use Rattle.songcode.specs.answer.Lines.{Line}
 use Rattle.songcode.specs.Complaints.{Complaint, complaint}
-use Rattle.songcode.specs.answer.Sections.{Kind, keyLine, modifierLine, patternLine, kindOfLine, twiceBy, twice, Place, amongKeys, early, inPattern}
-use Rattle.songcode.specs.answer.Sections.{behind}
-use Rattle.songcode.specs.answer.Sections.{misplaced, placeAfter, order}
-use Rattle.songcode.specs.description.StoppedText.{IsKey, IsModifier, IsPattern, Past, PlaceStops, key-after, modifier-before, pattern-past}
-use Rattle.songcode.proofs.ListLaws.{by-cases}
+use Rattle.songcode.specs.answer.Sections.{Kind, keyLine, modifierLine, patternLine, kindOfLine, isPatternLine, notKeyLine, twiceBy}
+use Rattle.songcode.specs.answer.Sections.{twice, pastRun, misplaced, order}
+use Rattle.songcode.specs.description.StoppedText.{IsKey, IsPattern, Past, PlaceStops, key-after, modifier-before, pattern-past}
+use Rattle.songcode.proofs.ListLaws.{by-cases, true-is-not-false}
 use Rattle.songcode.proofs.ChoiceLaws.{zero-is-not-one}
-use Rattle.songcode.proofs.MemberLaws.{either, only-one, in-complaint, complaint-in}
+use Rattle.songcode.proofs.MemberLaws.{either, any-found, found-any, in-complaint, complaint-in}
+use Rattle.songcode.proofs.LineAgree.{by-kind}
+use Rattle.songcode.proofs.StandLaws.{pattern-passes, key-stops, modifier-stops, key-passes, modifier-passes, other-passes, past-from, past-before}
 use Rattle.songcode.proofs.LineStops.{key-exact, modifier-exact, pattern-exact}
 
--- The last of a list, or one before it.
-last-or : {A X : Type 0} {x l : A} (before : List A) → (List·Memᴰ x before → X) → (x ≡ l → X) → List·Memᴰ x (before ++ (l ∷ [])) → X
-last-or before f g m = either before f (λ i. g (only-one i)) m
+-- What the tests say of a line.
+pub pattern-test : (l : Line) → (isPatternLine l ≡ true) ↔ IsPattern l
+pattern-test l = (
+  (λ e. by-kind (kindOfLine l) (λ k. true-is-not-false e (key-stops l k)) (λ k. true-is-not-false e (modifier-stops l k)) (λ k. pattern-exact l .1 k)),
+  (λ i. pattern-passes l (pattern-exact l .0 i)),
+)
 
-is-last : {A : Type 0} (l : A) (before : List A) → List·Memᴰ l (before ++ (l ∷ []))
-is-last l before = Memᴰ·append-right before (List·Memᴰ·head refl)
+no-pattern : (l : Line) → (IsPattern l → ⊥) → isPatternLine l ≡ false
+no-pattern l n = by-cases (isPatternLine l) (λ t. absurd (n (pattern-test l .0 t))) (λ f. f)
 
--- A line of one kind is of no other.
-key-no-pattern : (l : Line) → IsKey l → IsPattern l → ⊥
-key-no-pattern l k p = p .0 k
+other-test : (l : Line) → (notKeyLine l ≡ true) ↔ (IsKey l → ⊥)
+other-test l = (
+  (λ e k. true-is-not-false e (key-passes l (key-exact l .0 k))),
+  (λ n. by-kind (kindOfLine l) (λ k. absurd (n (key-exact l .1 k))) (λ k. modifier-passes l k) (λ k. other-passes l k)),
+)
 
-modifier-no-pattern : (l : Line) → IsModifier l → IsPattern l → ⊥
-modifier-no-pattern l m p = p .1 m
+-- The first run has ended: some line behind it is no pattern line.
+ends-run : (ls : List Line) → isEmpty (left isPatternLine ls) ≡ false → (q : Line) × List·Memᴰ q ls × (isPatternLine q ≡ false)
+unfolding left if_then_else_ isEmpty
+ends-run [] e = true-is-not-false refl e
+ends-run (l ∷ ls) e =
+    by-cases (isPatternLine l) (λ t. let r = ends-run ls (rw t at e) in (r .0, List·Memᴰ·tail (r .1), r .2)) (λ f. (l, List·Memᴰ·head refl, f))
 
-modifier-no-key : (l : Line) → IsModifier l → IsKey l → ⊥
-modifier-no-key l m k = let a = modifier-exact l .0 m in let b = key-exact l .0 k in zero-is-not-one (cc)
+run-ends : {q : Line} {ls : List Line} → List·Memᴰ q ls → isPatternLine q ≡ false → isEmpty (left isPatternLine ls) ≡ false
+unfolding left if_then_else_ isEmpty
+run-ends {ls = l ∷ ls} (List·Memᴰ·head e) f = rw (sym (ap isPatternLine e) ∙ f)
+run-ends {ls = l ∷ ls} (List·Memᴰ·tail m) f = by-cases (isPatternLine l) (λ t. rw t (run-ends m f)) (λ g. rw g)
 
--- The first run has ended.
-past-pattern : (ls : List Line) → Past ls → (e : Line) × List·Memᴰ e ls × IsPattern e
+past-other : (ls : List Line) → Past ls → (q : Line) × List·Memᴰ q ls × (IsPattern q → ⊥)
 unfolding Past
-past-pattern [] h = absurd h
-past-pattern (p ∷ ls) h =
-    ⊎-elim (λ a. (p, List·Memᴰ·head refl, a .0)) (λ a. let r = past-pattern ls a in (r .0, List·Memᴰ·tail (r .1), r .2)) h
+past-other [] h = absurd h
+past-other (p ∷ ls) h =
+    ⊎-elim (λ a. (a .1 .0, List·Memᴰ·tail (a .1 .1), a .1 .2)) (λ a. let r = past-other ls a in (r .0, List·Memᴰ·tail (r .1), r .2)) h
 
-past-more : (ls more : List Line) → Past ls → Past (ls ++ more)
+past-stated : (ls : List Line) → isEmpty (pastRun ls) ≡ false → Past ls
+unfolding pastRun left isEmpty Past
+past-stated [] e = true-is-not-false refl e
+past-stated (l ∷ ls) e =
+    by-cases
+    (isPatternLine l)
+    (λ t.
+    let r = ends-run ls (sym (ap isEmpty (past-from l ls t)) ∙ e) in
+    inl (pattern-test l .0 t, (r .0, r .1, λ i. true-is-not-false (pattern-test (r .0) .1 i) (r .2))))
+    (λ f. inr (past-stated ls (sym (ap isEmpty (past-before l ls f)) ∙ e)))
+
+stated-past : (ls : List Line) → Past ls → isEmpty (pastRun ls) ≡ false
 unfolding Past
-past-more [] more h = absurd h
-past-more (p ∷ ls) more h =
-    ⊎-elim (λ a. inl (a .0, (a .1 .0, Memᴰ·append-left more (a .1 .1), a .1 .2))) (λ a. inr (past-more ls more a)) h
-
-past-ends : {p : Line} {ls : List Line} (l : Line) → List·Memᴰ p ls → IsPattern p → (IsPattern l → ⊥) → Past (ls ++ (l ∷ []))
-unfolding Past
-past-ends {ls = x ∷ xs} l (List·Memᴰ·head e) h n = inl (subst (λ y. IsPattern y) e h, (l, is-last l xs, n))
-past-ends {ls = x ∷ xs} l (List·Memᴰ·tail m) h n = inr (past-ends l m h n)
-
-past-shorter : (ls : List Line) (l : Line) → IsPattern l → Past (ls ++ (l ∷ [])) → Past ls
-unfolding Past
-past-shorter [] l i h = ⊎-elim (λ a. absurd (List·Memᴰ·not-nil (a .1 .1))) (λ a. absurd a) h
-past-shorter (p ∷ ls) l i h =
-    ⊎-elim
-    (λ a. last-or ls (λ m. inl (a .0, (a .1 .0, m, a .1 .2))) (λ e. absurd (a .1 .2 (subst (λ y. IsPattern y) (sym e) i))) (a .1 .1))
-    (λ a. inr (past-shorter ls l i a))
-    h
-
--- Where a line stands, by the lines before it.
-At : Place → List Line → Type 0
-At amongKeys before = (e : Line) → List·Memᴰ e before → IsKey e
-At early before = ((e : Line) → List·Memᴰ e before → IsPattern e → ⊥) × ((e : Line) × List·Memᴰ e before × (IsKey e → ⊥))
-At inPattern before = ((e : Line) × List·Memᴰ e before × IsPattern e) × (Past before → ⊥)
-At behind before = Past before
+stated-past [] h = absurd h
+stated-past (l ∷ ls) h =
+    by-cases
+    (isPatternLine l)
+    (λ t. ap isEmpty (past-from l ls t)
+    ∙ ⊎-elim (λ a. run-ends (a .1 .1) (no-pattern (a .1 .0) (a .1 .2))) (λ a. let q = past-other ls a in run-ends (q .1) (no-pattern (q .0) (q .2))) h)
+    (λ f. ap isEmpty (past-before l ls f) ∙ ⊎-elim (λ a. true-is-not-false (pattern-test l .1 (a .0)) f) (λ a. stated-past ls a) h)
 
 module _ (l : Line) (before : List Line) where
-  in-place : (p : Place) (k : Kind) → kindOfLine l ≡ k → At p before → {c : Complaint} → List·Memᴰ c (map (λ n. complaint n (l .number)) (misplaced p k))
-      → PlaceStops before l c
-  unfolding misplaced At
-  in-place amongKeys keyLine e a m = absurd (List·Memᴰ·not-nil m)
-  in-place amongKeys modifierLine e a m =
-      subst (λ x. PlaceStops before l x) (sym (only-one m)) (modifier-before (modifier-exact l .1 e) (λ x i p. p .0 (a x i)))
-  in-place amongKeys patternLine e a m = absurd (List·Memᴰ·not-nil m)
-  in-place early keyLine e a m = subst (λ x. PlaceStops before l x) (sym (only-one m)) (key-after (a .1 .0) (key-exact l .1 e) (a .1 .1) (a .1 .2))
-  in-place early modifierLine e a m = subst (λ x. PlaceStops before l x) (sym (only-one m)) (modifier-before (modifier-exact l .1 e) (a .0))
-  in-place early patternLine e a m = absurd (List·Memᴰ·not-nil m)
-  in-place inPattern keyLine e a m = subst (λ x. PlaceStops before l x) (sym (only-one m)) (key-after (a .0 .0) (key-exact l .1 e) (a .0 .1) (a .0 .2 .0))
-  in-place inPattern modifierLine e a m = absurd (List·Memᴰ·not-nil m)
-  in-place inPattern patternLine e a m = absurd (List·Memᴰ·not-nil m)
-  in-place behind keyLine e a m =
-      let p = past-pattern before a in subst (λ x. PlaceStops before l x) (sym (only-one m)) (key-after (p .0) (key-exact l .1 e) (p .1) (p .2 .0))
-  in-place behind modifierLine e a m = absurd (List·Memᴰ·not-nil m)
-  in-place behind patternLine e a m = subst (λ x. PlaceStops before l x) (sym (only-one m)) (pattern-past (pattern-exact l .1 e) a)
+  in-place : (k : Kind) → kindOfLine l ≡ k → {c : Complaint} → List·Memᴰ c (misplaced k before l) → PlaceStops before l c
+  unfolding misplaced
+  in-place keyLine e m =
+      let h = in-complaint (any notKeyLine before) 4 (l .number) m in
+      let r = any-found notKeyLine before (h .0) in
+      subst (λ x. PlaceStops before l x) (sym (h .1)) (key-after (r .0) (key-exact l .1 e) (r .1) (other-test (r .0) .0 (r .2)))
+  in-place modifierLine e m =
+      let h = in-complaint (not (any isPatternLine before)) 8 (l .number) m in
+      subst (λ x. PlaceStops before l x) (sym (h .1))
+      (modifier-before (modifier-exact l .1 e) (λ x i p. true-is-not-false (h .0) (ap not (found-any isPatternLine i (pattern-test x .1 p)))))
+  in-place patternLine e m =
+      let h = in-complaint (not (isEmpty (pastRun before))) 8 (l .number) m in
+      let past = by-cases (isEmpty (pastRun before)) (λ t. true-is-not-false (h .0) (ap not t)) (λ f. f) in
+      subst (λ x. PlaceStops before l x) (sym (h .1)) (pattern-past (pattern-exact l .1 e) (past-stated before past))
 
-  place-in : (p : Place) → At p before → {c : Complaint} → PlaceStops before l c → List·Memᴰ c (map (λ n. complaint n (l .number)) (misplaced p (kindOfLine l)))
-  unfolding misplaced At
-  place-in amongKeys a (key-after e s m n) = absurd (n (a e m))
-  place-in early a (key-after e s m n) = rw (key-exact l .0 s) (List·Memᴰ·head refl)
-  place-in inPattern a (key-after e s m n) = rw (key-exact l .0 s) (List·Memᴰ·head refl)
-  place-in behind a (key-after e s m n) = rw (key-exact l .0 s) (List·Memᴰ·head refl)
-  place-in amongKeys a (modifier-before s h) = rw (modifier-exact l .0 s) (List·Memᴰ·head refl)
-  place-in early a (modifier-before s h) = rw (modifier-exact l .0 s) (List·Memᴰ·head refl)
-  place-in inPattern a (modifier-before s h) = absurd (h (a .0 .0) (a .0 .1) (a .0 .2))
-  place-in behind a (modifier-before s h) = let p = past-pattern before a in absurd (h (p .0) (p .1) (p .2))
-  place-in amongKeys a (pattern-past s h) = let p = past-pattern before h in absurd (p .2 .0 (a (p .0) (p .1)))
-  place-in early a (pattern-past s h) = let p = past-pattern before h in absurd (a .0 (p .0) (p .1) (p .2))
-  place-in inPattern a (pattern-past s h) = absurd (a .1 h)
-  place-in behind a (pattern-past s h) = rw (pattern-exact l .0 s) (List·Memᴰ·head refl)
-
-  -- Where the next line stands.
-  still-keys : ((e : Line) → List·Memᴰ e before → IsKey e) → IsKey l → (e : Line) → List·Memᴰ e (before ++ (l ∷ [])) → IsKey e
-  still-keys a k e m = last-or before (λ i. a e i) (λ p. subst (λ y. IsKey y) (sym p) k) m
-
-  still-none : ((e : Line) → List·Memᴰ e before → IsPattern e → ⊥) → (IsPattern l → ⊥) → (e : Line) → List·Memᴰ e (before ++ (l ∷ [])) → IsPattern e → ⊥
-  still-none a n e m i = last-or before (λ j. a e j i) (λ p. n (subst (λ y. IsPattern y) p i)) m
-
-  begins-run : ((e : Line) → List·Memᴰ e before → IsPattern e → ⊥) → IsPattern l → At inPattern (before ++ (l ∷ []))
-  unfolding At
-  begins-run a i = ((l, is-last l before, i), λ h. let p = past-pattern before (past-shorter before l i h) in a (p .0) (p .1) (p .2))
-
-  next-place : (p : Place) (k : Kind) → kindOfLine l ≡ k → At p before → At (placeAfter p k) (before ++ (l ∷ []))
-  unfolding placeAfter At
-  next-place amongKeys keyLine e a = still-keys a (key-exact l .1 e)
-  next-place amongKeys modifierLine e a =
-      let m = modifier-exact l .1 e in
-      (still-none (λ x i p. p .0 (a x i)) (modifier-no-pattern l m), (l, is-last l before, modifier-no-key l m))
-  next-place amongKeys patternLine e a = begins-run (λ x i p. p .0 (a x i)) (pattern-exact l .1 e)
-  next-place early keyLine e a =
-      (still-none (a .0) (key-no-pattern l (key-exact l .1 e)), (a .1 .0, Memᴰ·append-left (l ∷ []) (a .1 .1), a .1 .2))
-  next-place early modifierLine e a =
-      (still-none (a .0) (modifier-no-pattern l (modifier-exact l .1 e)), (a .1 .0, Memᴰ·append-left (l ∷ []) (a .1 .1), a .1 .2))
-  next-place early patternLine e a = begins-run (a .0) (pattern-exact l .1 e)
-  next-place inPattern keyLine e a = past-ends l (a .0 .1) (a .0 .2) (key-no-pattern l (key-exact l .1 e))
-  next-place inPattern modifierLine e a = past-ends l (a .0 .1) (a .0 .2) (modifier-no-pattern l (modifier-exact l .1 e))
-  next-place inPattern patternLine e a =
-      let i = pattern-exact l .1 e in ((l, is-last l before, i), λ h. a .1 (past-shorter before l i h))
-  next-place behind keyLine e a = past-more before (l ∷ []) a
-  next-place behind modifierLine e a = past-more before (l ∷ []) a
-  next-place behind patternLine e a = past-more before (l ∷ []) a
+  place-in : {c : Complaint} → PlaceStops before l c → List·Memᴰ c (misplaced (kindOfLine l) before l)
+  unfolding misplaced
+  place-in (key-after e s m n) = rw (key-exact l .0 s) (complaint-in 4 (l .number) (found-any notKeyLine m (other-test e .1 n)))
+  place-in (modifier-before s h) =
+      rw (modifier-exact l .0 s)
+      (complaint-in 8 (l .number)
+      (by-cases (any isPatternLine before)
+      (λ t. let r = any-found isPatternLine before t in absurd (h (r .0) (r .1) (pattern-test (r .0) .0 (r .2))))
+      (λ f. ap not f)))
+  place-in (pattern-past s h) = rw (pattern-exact l .0 s) (complaint-in 8 (l .number) (ap not (stated-past before h)))
 
 -- A line among others, of which something is stated behind those before it.
 pub record Among (ls : List Line) (P : List Line → Line → Type 0) : Type 0 where
@@ -144,21 +111,20 @@ pub record Among (ls : List Line) (P : List Line → Line → Type 0) : Type 0 w
   pub written : ls ≡ before ++ (line ∷ behind)
   pub holds : P before line
 
-order-in : (p : Place) (before ls : List Line) → At p before → {c : Complaint} → List·Memᴰ c (order p ls) → Among ls (λ xs l. PlaceStops (before ++ xs) l c)
+order-in : (before ls : List Line) {c : Complaint} → List·Memᴰ c (order before ls) → Among ls (λ xs l. PlaceStops (before ++ xs) l c)
 unfolding order
-order-in p before [] a m = absurd (List·Memᴰ·not-nil m)
-order-in p before (l ∷ ls) a {c} m =
-    either (map (λ n. complaint n (l .number)) (misplaced p (kindOfLine l)))
+order-in before [] m = absurd (List·Memᴰ·not-nil m)
+order-in before (l ∷ ls) {c} m =
+    either (misplaced (kindOfLine l) before l)
     (λ i. record {
       before = [];
       line = l;
       behind = ls;
       written = refl;
-      holds = subst (λ x. PlaceStops x l c) (sym (append-nil before))
-          (in-place l before p (kindOfLine l) refl a i);
+      holds = subst (λ x. PlaceStops x l c) (sym (append-nil before)) (in-place l before (kindOfLine l) refl i);
     })
     (λ i.
-    let r = order-in (placeAfter p (kindOfLine l)) (before ++ (l ∷ [])) ls (next-place l before p (kindOfLine l) refl a) i in
+    let r = order-in (before ++ (l ∷ [])) ls i in
     record {
       before = l ∷ r .before;
       line = r .line;
@@ -168,25 +134,19 @@ order-in p before (l ∷ ls) a {c} m =
     })
     m
 
-in-order : (p : Place) (before xs : List Line) (l : Line) (ys : List Line) → At p before → {c : Complaint} → PlaceStops (before ++ xs) l c
-    → List·Memᴰ c (order p (xs ++ (l ∷ ys)))
+in-order : (before xs : List Line) (l : Line) (ys : List Line) {c : Complaint} → PlaceStops (before ++ xs) l c → List·Memᴰ c (order before (xs ++ (l ∷ ys)))
 unfolding order
-in-order p before [] l ys a {c} h = Memᴰ·append-left _ (place-in l before p a (subst (λ x. PlaceStops x l c) (append-nil before) h))
-in-order p before (x ∷ xs) l ys a {c} h =
-    Memᴰ·append-right (map (λ n. complaint n (x .number)) (misplaced p (kindOfLine x)))
-    (in-order (placeAfter p (kindOfLine x)) (before ++ (x ∷ [])) xs l ys (next-place x before p (kindOfLine x) refl a)
-    (subst (λ z. PlaceStops z l c) (sym (append-assoc before (x ∷ []) xs)) h))
+in-order before [] l ys {c} h = Memᴰ·append-left _ (place-in l before (subst (λ x. PlaceStops x l c) (append-nil before) h))
+in-order before (x ∷ xs) l ys {c} h =
+    Memᴰ·append-right (misplaced (kindOfLine x) before x)
+    (in-order (before ++ (x ∷ [])) xs l ys (subst (λ z. PlaceStops z l c) (sym (append-assoc before (x ∷ []) xs)) h))
 
-at-start : At amongKeys []
-unfolding At
-at-start e m = absurd (List·Memᴰ·not-nil m)
-
-pub order-stated : (ls : List Line) {c : Complaint} → List·Memᴰ c (order amongKeys ls) → Among ls (λ xs l. PlaceStops xs l c)
-order-stated ls m = order-in amongKeys [] ls at-start m
+pub order-stated : (ls : List Line) {c : Complaint} → List·Memᴰ c (order [] ls) → Among ls (λ xs l. PlaceStops xs l c)
+order-stated ls m = order-in [] ls m
 
 pub stated-order : (before : List Line) (l : Line) (behind : List Line) {c : Complaint} → PlaceStops before l c
-    → List·Memᴰ c (order amongKeys (before ++ (l ∷ behind)))
-stated-order before l rest h = in-order amongKeys [] before l rest at-start h
+    → List·Memᴰ c (order [] (before ++ (l ∷ behind)))
+stated-order before l rest h = in-order [] before l rest h
 
 -- What is said a second time.
 any-member : (k : ℕ) (seen : List ℕ) → any (λ x. eqb x k) seen ≡ true → List·Memᴰ k seen

@@ -11,14 +11,13 @@ use Rattle.songcode.specs.Song.{Items, one, next, Pattern, items, named,
 use Rattle.songcode.specs.answer.Tokens.{Token, sound, remover, reference, semicolon, colon, lineEnd, opens, closes}
 use Rattle.songcode.specs.answer.PatternText.{referencesI, references, itemsIn}
 use Rattle.songcode.specs.answer.References.{definitionOf, itemsOf, glue, putInItem, putIn, patternItems}
-use Rattle.songcode.specs.description.WrittenPattern.{writeItems}
-use Rattle.songcode.specs.description.PatternAppended.{soundsTokens, measureTokens, separatorTokens, itemTokens, itemsTokens}
+use Rattle.songcode.specs.description.WrittenPattern.{soundsTokens, measureTokens, separatorTokens, itemTokens, itemsTokens}
 use Rattle.songcode.specs.description.Fits.{PatternRefers}
 use Rattle.songcode.specs.Apart.{InPlace, its-items, as-it-is, PutIn, all-put, and-put, PatternSays, own-items, names-items, names-nothing}
 use Rattle.songcode.proofs.PatternLaws.{andThen-some}
 use Rattle.songcode.proofs.ChoiceLaws.{zero-is-not-one}
 use Rattle.songcode.proofs.ItemsAgree.{items-complete}
-use Rattle.songcode.proofs.AppendedAgree.{appended}
+use Rattle.songcode.proofs.WrittenBefore.{appended}
 use Rattle.songcode.proofs.ReferenceStops.{One, there, a-definition}
 
 -- Rows joined are written one behind the other.
@@ -76,7 +75,7 @@ module _ (ds : List Definition) where
       let a = andThen-some (definitionOf n ds) (λ d. d .items) e in
       let b = a-definition n ds (a .0) (a .1) in
       let put : PutIn ds (reference (a .0 .id) ∷ []) (itemsTokens q) =
-      and-put (its-items (a .0) q (b .0) (a .2)) all-put (sym (append-nil (writeItems q []) ∙ appended q)) in
+      and-put (its-items (a .0) q (b .0) (a .2)) all-put (sym (append-nil (itemsTokens q))) in
       subst (λ k. PutIn ds (reference k ∷ []) (itemsTokens q)) (b .1) put
 
   mutual
@@ -102,7 +101,7 @@ module _ (ds : List Definition) where
       go t e (its-items d q m h) (its-items b p n g) =
           let same : d ≡ b = o d b m n (cc) in
           let r : some q ≡ some p = sym h ∙ ap (λ z. z .items) same ∙ g in
-          let s : q ≡ p = cc in ap (λ z. writeItems z []) s
+          let s : q ≡ p = cc in ap itemsTokens s
       go t e (its-items d q m h) (as-it-is k n) = absurd (n (d .id) (sym e))
       go t e (as-it-is k n) (its-items d q m h) = absurd (n (d .id) e)
       go t e (as-it-is k n) (as-it-is j p) = ap (λ z. z ∷ []) e
@@ -112,17 +111,15 @@ module _ (ds : List Definition) where
   put-once o (and-put {us = a} {vs = b} i p e) (and-put {us = c} {vs = d} j q f) =
       e ∙ ap (λ z. z ++ b) (place-once o i j) ∙ ap (λ z. c ++ z) (put-once o p q) ∙ sym f
 
-  written-once : (r q : Items) → writeItems r [] ≡ writeItems q [] → r ≡ q
+  written-once : (r q : Items) → itemsTokens r ≡ itemsTokens q → r ≡ q
   written-once r q e =
-      let a = items-complete r in let b = items-complete q in let c : itemsIn (writeItems r []) ≡ itemsIn (writeItems q []) = ap (λ z. itemsIn z) e in cc
+      let a = ap itemsIn (sym (appended r)) ∙ items-complete r in
+      let b = ap itemsIn (sym (appended q)) ∙ items-complete q in
+      let c : itemsIn (itemsTokens r) ≡ itemsIn (itemsTokens q) = ap itemsIn e in
+      cc
 
   -- What a pattern says.
   module _ (o : One ds) (known : (d : Definition) (q : Items) → List·Memᴰ d ds → d .items ≡ some q → Known (references q)) where
-    put : (q : Items) → Known (references q) → PutIn ds (writeItems q []) (writeItems (putIn (itemsOf ds) q) [])
-    put q k =
-        subst (λ z. PutIn ds z (writeItems (putIn (itemsOf ds) q) [])) (sym (appended q))
-        (subst (λ z. PutIn ds (itemsTokens q) z) (sym (appended (putIn (itemsOf ds) q))) (items-put q k))
-
     says : (p : Pattern) (x : Option Items) → PatternRefers ds p → patternItems ds p ≡ x → PatternSays ds p x
     unfolding patternItems PatternRefers itemsOf bind
     says (items r) x h e = subst (λ z. PatternSays ds (items r) z) e own-items
@@ -142,13 +139,13 @@ module _ (ds : List Definition) where
             let y : x ≡ some (putIn (itemsOf ds) q) = sym e ∙ rw (h .1, g) in
             subst (λ z. PatternSays ds (named n) z) (sym y)
             (subst (λ k. PatternSays ds (named k) (some (putIn (itemsOf ds) q))) (found .1)
-            (names-items (h .0) q (found .0) g (put q (known (h .0) q (found .0) g))))
+            (names-items (h .0) q (found .0) g (items-put q (known (h .0) q (found .0) g))))
 
     said : {p : Pattern} {x : Option Items} → PatternSays ds p x → patternItems ds p ≡ x
     unfolding patternItems itemsOf bind
     said own-items = refl
     said (names-items {r = r} d q m h w) =
-        rw (there ds o d m, h) (ap (λ z. some z) (written-once (putIn (itemsOf ds) q) r (put-once o (put q (known d q m h)) w)))
+        rw (there ds o d m, h) (ap (λ z. some z) (written-once (putIn (itemsOf ds) q) r (put-once o (items-put q (known d q m h)) w)))
     said (names-nothing d m h) = rw (there ds o d m, h)
 
     pub says-exact : (p : Pattern) (x : Option Items) → PatternRefers ds p → (patternItems ds p ≡ x) ↔ PatternSays ds p x

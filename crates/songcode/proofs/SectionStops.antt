@@ -18,7 +18,7 @@ use Rattle.songcode.specs.answer.Keys.{keyPlace, ofSection}
 use Rattle.songcode.specs.answer.Modifiers.{ModifierName, ofRepeat, ofCutStart, ofCutEnd, ofBefore, ofAfter, modifierPlace}
 use Rattle.songcode.specs.answer.PatternText.{sectionText}
 use Rattle.songcode.specs.answer.Sections.{kindOfLine, isPatternLine, notPatternLine, settingOf, keyNameOf, modifierNameOf, twice, keySaid, modifierSaid}
-use Rattle.songcode.specs.answer.Sections.{faults, amongKeys, order, patternRun, patternFaults, headerFaults, notDashes, lyricFaults, body, fromDashes}
+use Rattle.songcode.specs.answer.Sections.{faults, order, patternRun, patternFaults, headerFaults, notDashes, lyricFaults, body, fromDashes}
 use Rattle.songcode.specs.answer.Sections.{sectionFaults}
 use Rattle.songcode.specs.description.WrittenText.{All, Stops}
 use Rattle.songcode.specs.description.WrittenSection.{OfSection, Header}
@@ -38,9 +38,9 @@ use Rattle.songcode.proofs.MemberLaws.{either, only-one, in-gather, gat
 use Rattle.songcode.proofs.PatternAgree.{pattern-exact as text-exact}
 use Rattle.songcode.proofs.LineAgree.{by-kind, notDashes-exact, dashes-notDashes, notDashes-dashes}
 use Rattle.songcode.proofs.KeyAgree.{of-section-exact}
-use Rattle.songcode.proofs.LineStops.{key-exact, modifier-exact, pattern-exact, calls-key, key-called, calls-modifier, modifier-called, fails-exact}
+use Rattle.songcode.proofs.LineStops.{key-exact, modifier-exact, calls-key, key-called, calls-modifier, modifier-called, fails-exact}
 use Rattle.songcode.proofs.LineStops.{key-stops-exact, modifier-stops-exact}
-use Rattle.songcode.proofs.OrderStops.{order-stated, stated-order, Again, twice-in, in-twice}
+use Rattle.songcode.proofs.OrderStops.{pattern-test, order-stated, stated-order, Again, twice-in, in-twice}
 use Rattle.songcode.proofs.HeaderAgree.{header-exact}
 use Rattle.songcode.proofs.InheritsAgree.{same-key}
 
@@ -79,17 +79,9 @@ split-once {x = x} {y = y} w = (
 )
 
 -- The first run of pattern lines.
-is-pattern : (l : Line) → (isPatternLine l ≡ true) ↔ IsPattern l
-unfolding isPatternLine
-is-pattern l = (
-  (λ e. by-kind (kindOfLine l) (λ k. true-is-not-false e (rw (k, isPatternLine))) (λ k. true-is-not-false e (rw (k, isPatternLine)))
-      (λ k. pattern-exact l .1 k)),
-  (λ p. rw (pattern-exact l .0 p, isPatternLine)),
-)
-
 none-exact : (l : Line) → (notPatternLine l ≡ true) ↔ (IsPattern l → ⊥)
 unfolding notPatternLine
-none-exact l = fails-exact (isPatternLine l) (is-pattern l)
+none-exact l = fails-exact (isPatternLine l) (pattern-test l)
 
 no-pattern-of : (ls : List Line) → All notPatternLine ls → NoPattern ls
 unfolding All NoPattern
@@ -104,22 +96,22 @@ of-no-pattern (l ∷ ls) h = (none-exact l .1 (h .0), of-no-pattern ls (h .1))
 all-pattern-of : (ls : List Line) → All isPatternLine ls → AllPattern ls
 unfolding All AllPattern
 all-pattern-of [] h = tt
-all-pattern-of (l ∷ ls) h = (is-pattern l .0 (h .0), all-pattern-of ls (h .1))
+all-pattern-of (l ∷ ls) h = (pattern-test l .0 (h .0), all-pattern-of ls (h .1))
 
 of-all-pattern : (ls : List Line) → AllPattern ls → All isPatternLine ls
 unfolding All AllPattern
 of-all-pattern [] h = tt
-of-all-pattern (l ∷ ls) h = (is-pattern l .1 (h .0), of-all-pattern ls (h .1))
+of-all-pattern (l ∷ ls) h = (pattern-test l .1 (h .0), of-all-pattern ls (h .1))
 
 run-ends-of : (ls : List Line) → Stops isPatternLine ls → RunEnds ls
 unfolding Stops RunEnds
 run-ends-of [] h = tt
-run-ends-of (l ∷ ls) h = λ p. true-is-not-false (is-pattern l .1 p) h
+run-ends-of (l ∷ ls) h = λ p. true-is-not-false (pattern-test l .1 p) h
 
 of-run-ends : (ls : List Line) → RunEnds ls → Stops isPatternLine ls
 unfolding Stops RunEnds
 of-run-ends [] h = tt
-of-run-ends (l ∷ ls) h = by-cases (isPatternLine l) (λ t. absurd (h (is-pattern l .0 t))) (λ f. f)
+of-run-ends (l ∷ ls) h = by-cases (isPatternLine l) (λ t. absurd (h (pattern-test l .0 t))) (λ f. f)
 
 run-of : (ls : List Line) → FirstRun ls (patternRun ls)
 unfolding patternRun
@@ -137,7 +129,7 @@ run-of ls =
 pub run-once : {ls run : List Line} {l : Line} → FirstRun ls (l ∷ run) → patternRun ls ≡ l ∷ run
 unfolding patternRun Stops notPatternLine AllPattern
 run-once {run = run} {l = l} w =
-    let starts : notPatternLine l ≡ false = rw (is-pattern l .1 (w .ofPattern .0)) in
+    let starts : notPatternLine l ≡ false = rw (pattern-test l .1 (w .ofPattern .0)) in
     let behind = left-is notPatternLine (w .front) ((l ∷ run) ++ w .rest) (of-no-pattern (w .front) (w .noneBefore)) starts in
     rw (w .written, behind) (taken-is isPatternLine (l ∷ run) (w .rest) (of-all-pattern (l ∷ run) (w .ofPattern)) (of-run-ends (w .rest) (w .ends)))
 
@@ -152,7 +144,7 @@ left-none [] e = tt
 left-none (l ∷ ls) e =
     by-cases (isPatternLine l)
     (λ t. nil-is-not-cons (sym (rw (t, left, taken, t) at e)))
-    (λ f. ((λ p. true-is-not-false (is-pattern l .1 p) f), left-none ls (rw (f, left) at e)))
+    (λ f. ((λ p. true-is-not-false (pattern-test l .1 p) f), left-none ls (rw (f, left) at e)))
 
 -- A key or modifier said twice.
 key-says : (l : Line) (n : ℕ) → keySaid l ≡ some n → (k : KeyName) × CallsKey l k (settingOf l) × (keyPlace k ≡ n)
@@ -331,7 +323,7 @@ module _ (b : Block) where
 
   -- Back: where it is stated, the answer complains.
   abbrev first-two : List Complaint
-  first-two = headerFaults (b .first) ++ order amongKeys (body b)
+  first-two = headerFaults (b .first) ++ order [] (body b)
 
   abbrev first-four : List Complaint
   first-four = first-two ++ twice 4 keySaid [] (body b) ++ twice 8 modifierSaid [] (body b)
@@ -355,10 +347,10 @@ module _ (b : Block) where
 
   stated-section : {c : Complaint} → SectionStops b c → List·Memᴰ c (sectionFaults b)
   unfolding sectionFaults patternFaults lyricFaults isEmpty
-  stated-section (name-wrong n) = of-two (Memᴰ·append-left (order amongKeys (body b)) (stated-header n))
+  stated-section (name-wrong n) = of-two (Memᴰ·append-left (order [] (body b)) (stated-header n))
   stated-section {c} (out-of-place x y before rest l w e h) =
       of-two
-      (Memᴰ·append-right (headerFaults (b .first)) (subst (λ z. List·Memᴰ c (order amongKeys z)) (sym (split-once w .0 ∙ e)) (stated-order before l rest h)))
+      (Memᴰ·append-right (headerFaults (b .first)) (subst (λ z. List·Memᴰ c (order [] z)) (sym (split-once w .0 ∙ e)) (stated-order before l rest h)))
   stated-section {c} (key-doubled x y before rest l w e h) =
       of-four
       (Memᴰ·append-left (twice 8 modifierSaid [] (body b))

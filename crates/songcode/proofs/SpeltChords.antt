@@ -14,7 +14,7 @@ use Rattle.songcode.specs.Bytes.{Byte, values, isBlank, isByte}
 use Rattle.songcode.specs.answer.Chords.{Chord}
 use Rattle.songcode.specs.answer.Lines.{Line}
 use Rattle.songcode.specs.answer.Tokens.{Token, lineEnd, Class, blank, semi, double, bracket, closing, plain, class}
-use Rattle.songcode.specs.answer.Playing.{Beat}
+use Rattle.songcode.specs.Song.{Beat}
 use Rattle.songcode.specs.description.WrittenPattern.{Word, spells-again, spells-silence, spells-remover, spells-reference, spells-chord, Plain, NoPlain}
 use Rattle.songcode.specs.description.WrittenPattern.{Text}
 use Rattle.songcode.specs.description.WrittenPattern.{t-end, t-blank, t-semicolon, t-colon, t-open, t-close, t-word, TextLines, one-line, more-lines}

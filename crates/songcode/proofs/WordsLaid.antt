@@ -3,8 +3,8 @@ use Prim.Native.Nat.{ℕ, _+_}
 use mathlib.Core.Path.{_≡_, refl}
 use mathlib.Core.List.{List, [], _∷_, map, flatMap}
 use lib.ListN.{length}
-use Rattle.songcode.specs.Song.{Song}
-use Rattle.songcode.specs.answer.Playing.{Beat, settingNamed}
+use Rattle.songcode.specs.Song.{Song, Beat}
+use Rattle.songcode.specs.answer.Playing.{settingNamed}
 use Rattle.songcode.specs.answer.Lyrics.{Prompt}
 use Rattle.songcode.specs.answer.Tables.{keyWord, keyOrder, keyWords, measureWords, beatWord, itemWord}
 use Rattle.songcode.specs.description.Layout.{keysRow, laid, keyFields}

@@ -7,23 +7,24 @@ use mathlib.Core.List.{List, [], _∷_, _++_, List·Memᴰ}
 use mathlib.Core.Bool.{true}
 use mathlib.Core.Option.{Option, none, some}
 use lib.ListN.{length}
+use Rattle.songcode.specs.Lists.{times}
 use Rattle.songcode.specs.Bytes.{Byte}
 use Rattle.songcode.specs.answer.Numbers.{isDecimal, valueFrom}
-use Rattle.songcode.specs.Song.{Measure, Item, measure, loop, refer, Items, one, next, Pattern, items, named}
-use Rattle.songcode.specs.Song.{Side, Modifiers, Definition, Section, Song}
+use Rattle.songcode.specs.Song.{Measure, Item, measure, loop, refer, Items, one, next, Pattern, items, named, Beat}
+use Rattle.songcode.specs.Song.{Cut, Side, Modifiers, Definition, Section, Song}
 use Rattle.songcode.specs.answer.Tokens.{Token, reference}
 use Rattle.songcode.specs.answer.PatternText.{depth, loopsDeep}
 use Rattle.songcode.specs.answer.References.{patternItems}
-use Rattle.songcode.specs.answer.Playing.{Beat, soundCount, positions, repeats}
-use Rattle.songcode.specs.description.WrittenPattern.{writeItems}
+use Rattle.songcode.specs.answer.Playing.{repeats}
+use Rattle.songcode.specs.description.WrittenPattern.{itemsTokens}
 use Rattle.songcode.specs.description.WrittenSong.{WrittenChart}
-use Rattle.songcode.specs.description.Performance.{Parts, PlaysSection, joined}
+use Rattle.songcode.specs.description.Performance.{CutsFront, asOften, Parts, PlaysSection}
 use Rattle.songcode.specs.description.Fits.{DefinitionsRefer, PatternRefers}
-use Rattle.songcode.specs.description.StoppedSong.{HoldsLoop, MeasureIn}
+use Rattle.songcode.specs.description.StoppedSong.{HoldsLoop, MeasureIn, soundsWritten, places}
 
 -- "`$n` means an earlier definition's items, put in its place": in the written text each `$n` gives way to what that definition is written as.
 pub data InPlace (ds : List Definition) : Token → List Token → Type 0 where
-  its-items : (d : Definition) (q : Items) → List·Memᴰ d ds → d .items ≡ some q → InPlace ds (reference (d .id)) (writeItems q [])
+  its-items : (d : Definition) (q : Items) → List·Memᴰ d ds → d .items ≡ some q → InPlace ds (reference (d .id)) (itemsTokens q)
   as-it-is : (t : Token) → ((n : ℕ) → t ≡ reference n → ⊥) → InPlace ds t (t ∷ [])
 
 pub data PutIn (ds : List Definition) : List Token → List Token → Type 0 where
@@ -34,7 +35,7 @@ pub data PutIn (ds : List Definition) : List Token → List Token → Type 0 whe
 -- "By 000 a definition that holds a reference can't itself be referred to by a definition ... A section may name it."
 pub data PatternSays (ds : List Definition) : Pattern → Option Items → Type 0 where
   own-items : {r : Items} → PatternSays ds (items r) (some r)
-  names-items : {r : Items} (d : Definition) (q : Items) → List·Memᴰ d ds → d .items ≡ some q → PutIn ds (writeItems q []) (writeItems r [])
+  names-items : {r : Items} (d : Definition) (q : Items) → List·Memᴰ d ds → d .items ≡ some q → PutIn ds (itemsTokens q) (itemsTokens r)
       → PatternSays ds (named (d .id)) (some r)
   names-nothing : (d : Definition) → List·Memᴰ d ds → d .items ≡ none → PatternSays ds (named (d .id)) none
 
@@ -63,15 +64,26 @@ Repeats ms n = (ms .repeat ≡ some n) ⊎ ((ms .repeat ≡ none) × (n ≡ 1))
 -- is a head exactly where the beats before it, those lost among them, are a multiple of N/p. It has no more beats than its positions that sound.
 pub record FirstBeats (n : ℕ) (m : Measure) (lost : ℕ) (beats : List Beat) : Type 0 where
   pub share : ℕ
-  pub divides : share * positions m ≡ n
-  pub within : lost + length beats ≤ soundCount (m .sounds) * share
+  pub divides : share * places m ≡ n
+  pub within : lost + length beats ≤ length (soundsWritten (m .sounds)) * share
   pub heads : (front behind : List Beat) (b : Beat) → beats ≡ front ++ (b ∷ behind) → (b .head ≡ true) ↔ ((i : ℕ) × (lost + length front ≡ i * share))
 
--- The texts that a section plays: its lead-in, its pattern, its tail.
-pub data TextOf (s : Song) (x : Section) : Items → Type 0 where
-  its-lead-in : (y : Side) → x .modifiers .before ≡ some y → TextOf s x (y .items)
-  its-pattern : (r : Items) → patternItems (s .definitions) (x .pattern) ≡ some r → TextOf s x r
-  its-tail : (y : Side) → x .modifiers .after ≡ some y → TextOf s x (y .items)
+-- Measures of a text: the first of them has lost so many beats at its front, the others none.
+unfoldable pub HeadsOf : ℕ → Items → ℕ → List (List Beat) → Type 0
+HeadsOf n r lost [] = Unit {0}
+HeadsOf n r lost (beats ∷ row) = ((m : Measure) × MeasureIn m r × FirstBeats n m lost beats) × HeadsOf n r 0 row
+
+-- "A cut that takes it leaves 0": how many beats the front cut took of the first measure that it left, when its measures and the beats before it were gone.
+unfoldable pub TakenOf : Option Cut → List (List Beat) → ℕ → Type 0
+TakenOf none row lost = lost ≡ 0
+TakenOf (some c) row lost = (kept : List (List Beat)) × (cut : CutsFront c row kept) × (lost ≡ length (cut .begun))
+
+-- The heads of a section: of its lead-in, of what the cuts leave of its pattern, of its tail.
+pub record Heads (s : Song) (x : Section) (p : Parts) : Type 0 where
+  pub leadIn : (y : Side) → x .modifiers .before ≡ some y → HeadsOf (p .meter) (y .items) 0 (p .leadIn)
+  pub pattern : (r : Items) → patternItems (s .definitions) (x .pattern) ≡ some r
+      → (lost : ℕ) × TakenOf (x .modifiers .cutStart) (times (asOften (x .modifiers)) (p .pass)) lost × HeadsOf (p .meter) r lost (p .middle)
+  pub tail : (y : Side) → x .modifiers .after ≡ some y → HeadsOf (p .meter) (y .items) 0 (p .tail)
 
 -- Both ways of saying it agree.
 pub record Apart : Type 0 where
@@ -80,6 +92,4 @@ pub record Apart : Type 0 where
   pub decimals : (bs : List Byte) (n : ℕ) → ((isDecimal bs ≡ true) × (valueFrom 0 bs ≡ n)) ↔ Decimal bs n
   pub simple : (r : Items) → (depth r ≤ loopsDeep) ↔ Simple r
   pub repeats-said : (ms : Modifiers) (n : ℕ) → (repeats ms ≡ n) ↔ Repeats ms n
-  -- Every measure of a section is one that stands in its texts, or what the cuts have left of it.
-  pub heads : (s : Song) (x : Section) (p : Parts) → PlaysSection s x p → (beats : List Beat) → List·Memᴰ beats (joined p)
-      → (r : Items) × (m : Measure) × (lost : ℕ) × TextOf s x r × MeasureIn m r × FirstBeats (p .meter) m lost beats
+  pub heads : (s : Song) (x : Section) (p : Parts) → PlaysSection s x p → Heads s x p

@@ -12,11 +12,11 @@ use Rattle.songcode.specs.Bytes.{ascii}
 use Rattle.songcode.specs.Song.{Measure, Item, measure, loop, refer, Items, one, next, Cut, Section, Song, Side}
 use Rattle.songcode.specs.answer.Modifiers.{cut}
 use Rattle.songcode.specs.answer.References.{patternItems}
-use Rattle.songcode.specs.answer.Playing.{timeOf, positions, cutFront, cutBack, repeats}
+use Rattle.songcode.specs.answer.Playing.{timeOf, positions, cutFront, cutBack}
 use Rattle.songcode.specs.answer.Tables.{Tables}
 use Rattle.songcode.specs.answer.Answer.{Room, songOf}
 use Rattle.songcode.specs.description.WrittenSection.{Each}
-use Rattle.songcode.specs.description.Performance.{total, CutsFront, CutsBack, Parts, joined}
+use Rattle.songcode.specs.description.Performance.{asOften, total, CutsFront, CutsBack, Parts, joined}
 use Rattle.songcode.specs.description.Described.{Described}
 use Rattle.songcode.specs.Starred.{plays, Claim}
 
@@ -93,18 +93,18 @@ repeatedWidths n k (some r) = times k (textWidths n r)
 
 -- "repeat times the pattern's beats, plus lead-in and tail"
 unfoldable pub beatsWritten : Song → Section → ℕ → ℕ
-unfolding patternBeats sideBeats repeats patternItems
+unfolding patternBeats sideBeats asOften patternItems
 beatsWritten s x n =
-    repeats (x .modifiers) * patternBeats n (patternItems (s .definitions) (x .pattern))
+    asOften (x .modifiers) * patternBeats n (patternItems (s .definitions) (x .pattern))
     + sideBeats n (x .modifiers .before)
     + sideBeats n (x .modifiers .after)
 
 -- "the beats the cuts name"
 unfoldable pub beatsNamed : Song → Section → ℕ → ℕ
-unfolding namedFront namedBack repeatedWidths repeats patternItems
+unfolding namedFront namedBack repeatedWidths asOften patternItems
 beatsNamed s x n =
-    namedFront (x .modifiers .cutStart) (repeatedWidths n (repeats (x .modifiers)) (patternItems (s .definitions) (x .pattern)))
-    + namedBack (x .modifiers .cutEnd) (repeatedWidths n (repeats (x .modifiers)) (patternItems (s .definitions) (x .pattern)))
+    namedFront (x .modifiers .cutStart) (repeatedWidths n (asOften (x .modifiers)) (patternItems (s .definitions) (x .pattern)))
+    + namedBack (x .modifiers .cutEnd) (repeatedWidths n (asOften (x .modifiers)) (patternItems (s .definitions) (x .pattern)))
 
 -- What a section plays and what its cuts name are together what is written. (The cuts stand beside the beats played, so that "less" never stops at 0.)
 unfoldable pub BeatsCounted : Song → Section → Parts → Type 0

@@ -8,7 +8,7 @@ use lib.ListN.{length}
 use Rattle.songcode.specs.Lists.{times}
 use Rattle.songcode.specs.Bytes.{ascii}
 use Rattle.songcode.specs.Complaints.{complaint}
-use Rattle.songcode.specs.answer.Playing.{Beat}
+use Rattle.songcode.specs.Song.{Beat}
 use Rattle.songcode.specs.answer.Tables.{Tables}
 use Rattle.songcode.specs.answer.Answer.{songStages, mostBytes, Room, answer, accepted}
 use Rattle.songcode.specs.answer.Answer as Reading

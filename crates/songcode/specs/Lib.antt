@@ -17,6 +17,7 @@ pub mod EitherOrder
 pub mod EachSection
 pub mod Apart
 pub mod AsBefore
+pub mod Seams
 pub mod WholeCharacters
 pub mod FieldsFit
 pub mod Shown

@@ -1,7 +1,6 @@
 -- The description, which calls no reader: how a song is written, what it plays, which tables it has, what stops a chart.
 pub mod WrittenText
 pub mod WrittenPattern
-pub mod PatternAppended
 pub mod WrittenSection
 pub mod WrittenSong
 pub mod Performance

@@ -4,68 +4,29 @@ use mathlib.Core.Path.{_≡_, refl, _∙_}
 use mathlib.Core.List.{List}
 use mathlib.Core.Bool.{Bool}
 use native.Mathlib.Omega.{arith}
-use Rattle.songcode.specs.Lists.{if_then_else_, when}
+use Rattle.songcode.specs.Lists.{if_then_else_}
 use Rattle.songcode.specs.answer.Lines.{Line}
 use Rattle.songcode.specs.Complaints.{Complaint, complainIf}
-use Rattle.songcode.specs.answer.Sections.{keyLine, modifierLine, patternLine, kindOfLine, keyNameOf, modifierNameOf, misplaced, placeAfter}
+use Rattle.songcode.specs.answer.Sections.{Kind, keyLine, modifierLine, patternLine, kindOfLine, keyNameOf, modifierNameOf}
 use Rattle.settings.specs.Names.{keyIs, modifierIs}
 use Rattle.stage2.specs.declared.states.Part.{Part}
-use Rattle.stage2.specs.declared.states.Part.the-variants.{Keys, Early, Pattern, Behind}
 use Rattle.stage2.specs.declared.states.State.{State}
 use Rattle.stage2.specs.declared.states.Judged.{Judged}
 use Rattle.stage2.specs.Ranks.{none, least}
+use Rattle.stage2.specs.Places.{pastKeys, beforePattern, pastPattern, partAfter, misplacedAt}
 use Rattle.stage2.specs.Walk.{orderNote, pendingAfter}
-use Rattle.stage2.specs.States.{partOf, partIs, again, marked, judged, bodyJudged, bodyState}
+use Rattle.stage2.specs.States.{again, marked, judged, bodyJudged, bodyState}
 use Rattle.stage2.specs.LineNotes.{keyNumber, modifierNumber}
-use Rattle.stage2.specs.BodyLines.{pastKeys, beforePattern, pastPattern, afterKey, afterModifier, afterPattern, onKey, onModifier, onPattern}
+use Rattle.stage2.specs.BodyLines.{onKey, onModifier, onPattern}
 use Rattle.stage2.proofs.RankLaws.{least-le}
 use Rattle.stage2.proofs.LineReturns.{key-of, modifier-of, modifier-no-key, pattern-no-key, key-no-modifier, pattern-no-modifier}
 use Rattle.stage2.proofs.LineReturns.{key-in-section, modifier-in-section, pattern-in-section}
 
 module _ (l : Line) where
   -- Out of place.
-  order-key : kindOfLine l ≡ keyLine → (p : Part) → orderNote (partOf p) l ≡ least (complainIf (pastKeys p) 4 (l .number))
-  unfolding orderNote misplaced partOf pastKeys complainIf when
-  order-key e Keys = rw e refl
-  order-key e Early = rw e refl
-  order-key e Pattern = rw e refl
-  order-key e Behind = rw e refl
-
-  order-modifier : kindOfLine l ≡ modifierLine → (p : Part) → orderNote (partOf p) l ≡ least (complainIf (beforePattern p) 8 (l .number))
-  unfolding orderNote misplaced partOf beforePattern complainIf when
-  order-modifier e Keys = rw e refl
-  order-modifier e Early = rw e refl
-  order-modifier e Pattern = rw e refl
-  order-modifier e Behind = rw e refl
-
-  order-pattern : kindOfLine l ≡ patternLine → (p : Part) → orderNote (partOf p) l ≡ least (complainIf (pastPattern p) 8 (l .number))
-  unfolding orderNote misplaced partOf pastPattern complainIf when
-  order-pattern e Keys = rw e refl
-  order-pattern e Early = rw e refl
-  order-pattern e Pattern = rw e refl
-  order-pattern e Behind = rw e refl
-
--- The next place.
-place-key : (p : Part) → partIs (placeAfter (partOf p) keyLine) ≡ afterKey p
-unfolding partIs partOf placeAfter afterKey
-place-key Keys = refl
-place-key Early = refl
-place-key Pattern = refl
-place-key Behind = refl
-
-place-modifier : (p : Part) → partIs (placeAfter (partOf p) modifierLine) ≡ afterModifier p
-unfolding partIs partOf placeAfter afterModifier
-place-modifier Keys = refl
-place-modifier Early = refl
-place-modifier Pattern = refl
-place-modifier Behind = refl
-
-place-pattern : (p : Part) → partIs (placeAfter (partOf p) patternLine) ≡ afterPattern p
-unfolding partIs partOf placeAfter afterPattern
-place-pattern Keys = refl
-place-pattern Early = refl
-place-pattern Pattern = refl
-place-pattern Behind = refl
+  order-note : (k : Kind) (p : Part) → kindOfLine l ≡ k → orderNote p l ≡ least (misplacedAt k p l)
+  unfolding orderNote
+  order-note k p e = rw e refl
 
 -- What is numbered 8 is nothing.
 nothing-again : (number : ℕ) (marks : List Bool) (line : ℕ) → again number 8 marks line ≡ none
@@ -87,52 +48,50 @@ all-none cs = let h = least-le cs in omega arith
 
 module _ (p : Part) (c : State) (l : Line) where
   abbrev inBody : Judged
-  inBody = judged (bodyJudged (partOf p) (c .keys) (c .modifiers) l) (bodyState (partOf p) c l)
+  inBody = judged (bodyJudged p (c .keys) (c .modifiers) l) (bodyState p c l)
 
   on-key : kindOfLine l ≡ keyLine → onKey p c l ≡ inBody
-  unfolding onKey bodyJudged bodyState pendingAfter
+  unfolding onKey bodyJudged bodyState pendingAfter partAfter misplacedAt
   on-key e =
       let k = keyIs (keyNameOf l) in
       let out = complainIf (pastKeys p) 4 (l .number) in
       rw (
         e,
-        order-key l e p,
+        order-note l keyLine p e,
         key-of l e,
         key-no-modifier l e,
         key-in-section l e,
         nothing-again 8 (c .modifiers) (l .number),
         nothing-marked
             (c .modifiers),
-        place-key p,
         second-none out (again 4 (keyNumber k) (c .keys) (l .number)),
       )
       refl
 
   on-modifier : kindOfLine l ≡ modifierLine → onModifier p c l ≡ inBody
-  unfolding onModifier bodyJudged bodyState pendingAfter
+  unfolding onModifier bodyJudged bodyState pendingAfter partAfter misplacedAt
   on-modifier e =
       let m = modifierIs (modifierNameOf l) in
       let out = complainIf (beforePattern p) 8 (l .number) in
       rw (
         e,
-        order-modifier l e p,
+        order-note l modifierLine p e,
         modifier-of l e,
         modifier-no-key l e,
         modifier-in-section l e,
         nothing-again 4 (c .keys) (l .number),
         nothing-marked (c .keys),
-        place-modifier p,
         first-none out (again 8 (modifierNumber m) (c .modifiers) (l .number)),
       )
       refl
 
   on-pattern : kindOfLine l ≡ patternLine → onPattern p c l ≡ inBody
-  unfolding onPattern bodyJudged bodyState pendingAfter
+  unfolding onPattern bodyJudged bodyState pendingAfter partAfter misplacedAt
   on-pattern e =
       let out = complainIf (pastPattern p) 8 (l .number) in
       rw (
         e,
-        order-pattern l e p,
+        order-note l patternLine p e,
         pattern-no-modifier l e,
         pattern-no-key l e,
         pattern-in-section l e,
@@ -140,7 +99,6 @@ module _ (p : Part) (c : State) (l : Line) where
         nothing-again 8 (c .modifiers) (l .number),
         nothing-marked (c .keys),
         nothing-marked (c .modifiers),
-        place-pattern p,
         all-none out,
       )
       refl

@@ -5,6 +5,7 @@ pub mod BlockWalk
 pub mod SeenLaws
 pub mod MetadataWalk
 pub mod DefinitionWalk
+pub mod PlaceLaws
 pub mod PatternWalk
 pub mod SectionWalk
 pub mod TextWalk

@@ -18,9 +18,10 @@ use Rattle.stage2.specs.declared.states.Pending.{Pending}
 use Rattle.stage2.specs.declared.states.State.{State}
 use Rattle.stage2.specs.Ranks.{least}
 use Rattle.stage2.specs.Walk.{patternPending}
-use Rattle.stage2.specs.States.{partOf, again, marked, keyOf, judged, stateAt, keyJudged}
+use Rattle.stage2.specs.States.{again, marked, keyOf, judged, stateAt, keyJudged}
 use Rattle.stage2.specs.LineNotes.{keyNumber, modifierNumber, keyNote, modifierNote}
-use Rattle.stage2.specs.BodyLines.{pastKeys, beforePattern, pastPattern, afterKey, afterModifier, afterPattern, keyAlone, onKey, onModifier, onPattern}
+use Rattle.stage2.specs.Places.{pastKeys, beforePattern, pastPattern, afterKey, afterModifier, afterPattern}
+use Rattle.stage2.specs.BodyLines.{keyAlone, onKey, onModifier, onPattern}
 use Rattle.stage2.proofs.RankLaws.{least-le}
 use Rattle.stage2.proofs.LineReturns.{key-of, modifier-no-key, pattern-no-key, key-in-metadata, modifier-in-metadata, pattern-in-metadata}
 
@@ -70,7 +71,7 @@ module _ (p : Part) (c : State) (l : Line) where
       rw (j, x, i, h, e, f, g, d, b, a) refl
 
   pub pattern-judged : (note : ℕ) (past : Bool) (pending : Pending) (q : Part) → past ≡ pastPattern p → note ≡ least (complainIf past 8 (l .number))
-      → pending ≡ patternPending (partOf p) l (c .pending) → q ≡ afterPattern p
+      → pending ≡ patternPending p l (c .pending) → q ≡ afterPattern p
       → judged note (stateAt (Body q) (c .carried) (c .keys) (c .modifiers) pending) ≡ onPattern p c l
   unfolding onPattern
   pattern-judged note past pending q a b d e = rw (b, d, e, a) refl

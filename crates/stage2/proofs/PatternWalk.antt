@@ -7,12 +7,15 @@ use native.Mathlib.Omega.{arith}
 use Rattle.songcode.specs.Lists.{if_then_else_, taken, left, isSome}
 use Rattle.songcode.specs.answer.Lines.{Line}
 use Rattle.songcode.specs.answer.PatternText.{sectionText}
-use Rattle.songcode.specs.answer.Sections.{Kind, keyLine, modifierLine, patternLine, kindOfLine, isPatternLine, notPatternLine, Place, amongKeys, early}
-use Rattle.songcode.specs.answer.Sections.{inPattern, behind, placeAfter, patternRun, patternFaults}
+use Rattle.songcode.specs.answer.Sections.{Kind, keyLine, modifierLine, patternLine, kindOfLine, isPatternLine, notPatternLine, patternRun}
+use Rattle.songcode.specs.answer.Sections.{patternFaults}
 use Rattle.grammar.specs.Checks.{first, checkText}
 use Rattle.grammar.specs.Verdicts.{sectionFine}
 use Rattle.grammar.proofs.VerdictLaws.{section-fine}
 use Rattle.stage2.specs.declared.states.Pending.{Pending}
+use Rattle.stage2.specs.declared.states.Part.{Part}
+use Rattle.stage2.specs.declared.states.Part.the-variants.{Keys, Early, Pattern, Behind}
+use Rattle.stage2.specs.Places.{partAfter}
 use Rattle.stage2.specs.Ranks.{ranked, none, least, unless}
 use Rattle.stage2.specs.Walk.{pendingAfter, patternPending}
 use Rattle.stage2.proofs.RankLaws.{least-if}
@@ -26,28 +29,28 @@ wanted w [] = w
 wanted w (l ∷ ls) = unless (sectionFine (checkOn (checkText first (l .text)) ls)) (ranked 7 (l .number))
 
 -- What the pattern is complained of, with these lines to come.
-unfoldable pub patternLeft : Place → Pending → List Line → ℕ
-patternLeft amongKeys q ls = wanted (q .want) (patternRun ls)
-patternLeft early q ls = wanted (q .want) (patternRun ls)
-patternLeft inPattern q ls = unless (sectionFine (checkOn (q .check) (taken isPatternLine ls))) (q .bad)
-patternLeft behind q ls = unless (sectionFine (q .check)) (q .bad)
+unfoldable pub patternLeft : Part → Pending → List Line → ℕ
+patternLeft Keys q ls = wanted (q .want) (patternRun ls)
+patternLeft Early q ls = wanted (q .want) (patternRun ls)
+patternLeft Pattern q ls = unless (sectionFine (checkOn (q .check) (taken isPatternLine ls))) (q .bad)
+patternLeft Behind q ls = unless (sectionFine (q .check)) (q .bad)
 
 -- Before the pattern nothing is said of its text; from its first line on none is wanted.
-unfoldable pub Fits : Place → Pending → Type 0
-Fits amongKeys q = q .bad ≡ none
-Fits early q = q .bad ≡ none
-Fits inPattern q = q .want ≡ none
-Fits behind q = q .want ≡ none
+unfoldable pub Fits : Part → Pending → Type 0
+Fits Keys q = q .bad ≡ none
+Fits Early q = q .bad ≡ none
+Fits Pattern q = q .want ≡ none
+Fits Behind q = q .want ≡ none
 
 not-yet : (q : Pending) → q .bad ≡ none → min (q .want) (unless (sectionFine (q .check)) (q .bad)) ≡ min none (q .want)
 not-yet q h = let u = unless-none (sectionFine (q .check)) in rw h (omega arith)
 
-pub at-end : (p : Place) (q : Pending) → Fits p q → min (q .want) (unless (sectionFine (q .check)) (q .bad)) ≡ min none (patternLeft p q [])
+pub at-end : (p : Part) (q : Pending) → Fits p q → min (q .want) (unless (sectionFine (q .check)) (q .bad)) ≡ min none (patternLeft p q [])
 unfolding Fits patternLeft patternRun taken left wanted checkOn
-at-end amongKeys q h = not-yet q h
-at-end early q h = not-yet q h
-at-end inPattern q h = omega arith
-at-end behind q h = omega arith
+at-end Keys q h = not-yet q h
+at-end Early q h = not-yet q h
+at-end Pattern q h = omega arith
+at-end Behind q h = omega arith
 
 module _ (l : Line) where
   key-line : kindOfLine l ≡ keyLine → isPatternLine l ≡ false
@@ -80,38 +83,38 @@ module _ (l : Line) where
     no-more e = rw e
 
     -- One line more, by its kind.
-    pattern-by : (p : Place) (q : Pending) (k : Kind) → kindOfLine l ≡ k → patternLeft p q (l ∷ ls) ≡ patternLeft (placeAfter p k) (pendingAfter k p l q) ls
-    unfolding patternLeft placeAfter pendingAfter patternPending wanted checkOn
-    pattern-by amongKeys q keyLine e = rw (other-run (key-line e)) refl
-    pattern-by amongKeys q modifierLine e = rw (other-run (modifier-line e)) refl
-    pattern-by amongKeys q patternLine e = rw (first-run (pattern-line e)) refl
-    pattern-by early q keyLine e = rw (other-run (key-line e)) refl
-    pattern-by early q modifierLine e = rw (other-run (modifier-line e)) refl
-    pattern-by early q patternLine e = rw (first-run (pattern-line e)) refl
-    pattern-by inPattern q keyLine e = rw (no-more (key-line e)) refl
-    pattern-by inPattern q modifierLine e = rw (no-more (modifier-line e)) refl
-    pattern-by inPattern q patternLine e = rw (one-more (pattern-line e)) refl
-    pattern-by behind q keyLine e = refl
-    pattern-by behind q modifierLine e = refl
-    pattern-by behind q patternLine e = refl
+    pattern-by : (p : Part) (q : Pending) (k : Kind) → kindOfLine l ≡ k → patternLeft p q (l ∷ ls) ≡ patternLeft (partAfter k p) (pendingAfter k p l q) ls
+    unfolding patternLeft partAfter pendingAfter patternPending wanted checkOn
+    pattern-by Keys q keyLine e = rw (other-run (key-line e)) refl
+    pattern-by Keys q modifierLine e = rw (other-run (modifier-line e)) refl
+    pattern-by Keys q patternLine e = rw (first-run (pattern-line e)) refl
+    pattern-by Early q keyLine e = rw (other-run (key-line e)) refl
+    pattern-by Early q modifierLine e = rw (other-run (modifier-line e)) refl
+    pattern-by Early q patternLine e = rw (first-run (pattern-line e)) refl
+    pattern-by Pattern q keyLine e = rw (no-more (key-line e)) refl
+    pattern-by Pattern q modifierLine e = rw (no-more (modifier-line e)) refl
+    pattern-by Pattern q patternLine e = rw (one-more (pattern-line e)) refl
+    pattern-by Behind q keyLine e = refl
+    pattern-by Behind q modifierLine e = refl
+    pattern-by Behind q patternLine e = refl
 
-    pub pattern-next : (p : Place) (q : Pending) → patternLeft p q (l ∷ ls) ≡ patternLeft (placeAfter p (kindOfLine l)) (pendingAfter (kindOfLine l) p l q) ls
+    pub pattern-next : (p : Part) (q : Pending) → patternLeft p q (l ∷ ls) ≡ patternLeft (partAfter (kindOfLine l) p) (pendingAfter (kindOfLine l) p l q) ls
     pattern-next p q = pattern-by p q (kindOfLine l) refl
 
-pub fits-next : (l : Line) (p : Place) (k : Kind) (q : Pending) → Fits p q → Fits (placeAfter p k) (pendingAfter k p l q)
-unfolding Fits placeAfter pendingAfter patternPending
-fits-next l amongKeys keyLine q h = h
-fits-next l amongKeys modifierLine q h = h
-fits-next l amongKeys patternLine q h = refl
-fits-next l early keyLine q h = h
-fits-next l early modifierLine q h = h
-fits-next l early patternLine q h = refl
-fits-next l inPattern keyLine q h = h
-fits-next l inPattern modifierLine q h = h
-fits-next l inPattern patternLine q h = h
-fits-next l behind keyLine q h = h
-fits-next l behind modifierLine q h = h
-fits-next l behind patternLine q h = h
+pub fits-next : (l : Line) (p : Part) (k : Kind) (q : Pending) → Fits p q → Fits (partAfter k p) (pendingAfter k p l q)
+unfolding Fits partAfter pendingAfter patternPending
+fits-next l Keys keyLine q h = h
+fits-next l Keys modifierLine q h = h
+fits-next l Keys patternLine q h = refl
+fits-next l Early keyLine q h = h
+fits-next l Early modifierLine q h = h
+fits-next l Early patternLine q h = refl
+fits-next l Pattern keyLine q h = h
+fits-next l Pattern modifierLine q h = h
+fits-next l Pattern patternLine q h = h
+fits-next l Behind keyLine q h = h
+fits-next l Behind modifierLine q h = h
+fits-next l Behind patternLine q h = h
 
 -- What the run is complained of.
 pub run-faults : (header : ℕ) (run : List Line) → least (patternFaults header run) ≡ min none (wanted (ranked 8 header) run)

@@ -7,7 +7,7 @@ use lib.Dec.{leb, ltb}
 use Rattle.songcode.specs.Lists.{left, isSome}
 use Rattle.songcode.specs.answer.Lines.{Line, Block}
 use Rattle.songcode.specs.Complaints.{Complaint, complainIf}
-use Rattle.songcode.specs.answer.Sections.{isPatternLine, notPatternLine, twice, keySaid, modifierSaid, faults, amongKeys, order, patternRun, patternFaults}
+use Rattle.songcode.specs.answer.Sections.{isPatternLine, notPatternLine, twice, keySaid, modifierSaid, faults, order, patternRun, patternFaults}
 use Rattle.songcode.specs.answer.Sections.{headerFaults, notDashes, lyricFaults, body, fromDashes, sectionFaults}
 use Rattle.songcode.specs.answer.SongText.{BlockKind, metadata, definition, section, blockKind, turn, blockOrder, linesIf, metadataLines, metadataFault}
 use Rattle.songcode.specs.answer.SongText.{metadataFaults, headIn, definitionIf, sectionIf, definitionBlocks, sectionBlocks, headsFaults, firstLine}
@@ -39,14 +39,14 @@ fine-section b h =
     let run = each-taken Low isPatternLine (left notPatternLine (body b)) (each-left Low notPatternLine (body b) low) in
     all-seven
     (headerFaults (b .first))
-    (order amongKeys (body b))
+    (order [] (body b))
     (twice 4 keySaid [] (body b))
     (twice 8 modifierSaid [] (body b))
     (flatMap faults (body b))
     (patternFaults (b .first .number) (patternRun (body b)))
     (lyricFaults (fromDashes b))
     (fine-header (b .first) (h .0))
-    (fine-order amongKeys (body b) low)
+    (fine-order [] (body b) low)
     (fine-twice 4 (omega arith, omega arith) keySaid [] (body b) low)
     (fine-twice 8 (omega arith, omega arith) modifierSaid [] (body b) low)
     (fine-gather faults fine-faults (body b) low)

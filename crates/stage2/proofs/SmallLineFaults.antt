@@ -1,6 +1,6 @@
 -- A line's complaints have small numbers, and its own line.
 use Prim.Native.Nat.{ℕ, _<_, _≤_}
-use mathlib.Core.List.{List, [], _∷_, map, flatMap}
+use mathlib.Core.List.{List, [], _∷_, _++_, flatMap}
 use mathlib.Core.Bool.{Bool, true, false, not}
 use mathlib.Core.Option.{Option, none, some}
 use native.Mathlib.Omega.{arith}
@@ -13,8 +13,8 @@ use Rattle.songcode.specs.answer.Modifiers.{ModifierName, ofRepeat, ofCutStart,
 use Rattle.songcode.specs.answer.PatternText.{sectionText, definitionText}
 use Rattle.songcode.specs.Complaints.{Complaint, complaint, complainIf}
 use Rattle.songcode.specs.answer.Sections.{Kind, keyLine, modifierLine, patternLine, kindOfLine, settingOf, keyFaultsBy, keyFaults, keyNameOf}
-use Rattle.songcode.specs.answer.Sections.{modifierFaultsBy, modifierFaults, modifierNameOf, twice, twiceBy, faults, Place, amongKeys, early, inPattern}
-use Rattle.songcode.specs.answer.Sections.{behind, misplaced, placeAfter, order, patternFaults, lyricFaults}
+use Rattle.songcode.specs.answer.Sections.{modifierFaultsBy, modifierFaults, modifierNameOf, twice, twiceBy, faults, isPatternLine, notKeyLine, pastRun}
+use Rattle.songcode.specs.answer.Sections.{misplaced, order, patternFaults, lyricFaults}
 use Rattle.songcode.specs.answer.SongText.{metadataFault, definitionFaults}
 use Rattle.songcode.proofs.ListLaws.{Each, each-append, by-cases}
 use Rattle.songcode.proofs.LineAgree.{by-kind as by-line-kind}
@@ -121,27 +121,18 @@ module _ (l : Line) (h : Low l) where
       (λ e. rw (e, metadataFault) (one 8 l (omega arith, omega arith) h))
       (λ e. rw (e, metadataFault) (one 8 l (omega arith, omega arith) h))
 
-  fine-misplaced : (p : Place) (k : Kind) → Fine (map (λ n. complaint n (l .number)) (misplaced p k))
-  unfolding misplaced Each
-  fine-misplaced amongKeys keyLine = tt
-  fine-misplaced amongKeys modifierLine = one 8 l (omega arith, omega arith) h
-  fine-misplaced amongKeys patternLine = tt
-  fine-misplaced early keyLine = one 4 l (omega arith, omega arith) h
-  fine-misplaced early modifierLine = one 8 l (omega arith, omega arith) h
-  fine-misplaced early patternLine = tt
-  fine-misplaced inPattern keyLine = one 4 l (omega arith, omega arith) h
-  fine-misplaced inPattern modifierLine = tt
-  fine-misplaced inPattern patternLine = tt
-  fine-misplaced behind keyLine = one 4 l (omega arith, omega arith) h
-  fine-misplaced behind modifierLine = tt
-  fine-misplaced behind patternLine = one 8 l (omega arith, omega arith) h
+  fine-misplaced : (before : List Line) (k : Kind) → Fine (misplaced k before l)
+  unfolding misplaced
+  fine-misplaced before keyLine = fine-if (any notKeyLine before) 4 l (omega arith, omega arith) h
+  fine-misplaced before modifierLine = fine-if (not (any isPatternLine before)) 8 l (omega arith, omega arith) h
+  fine-misplaced before patternLine = fine-if (not (isEmpty (pastRun before))) 8 l (omega arith, omega arith) h
 
-pub fine-order : (p : Place) (ls : List Line) → Each Low ls → Fine (order p ls)
+pub fine-order : (before ls : List Line) → Each Low ls → Fine (order before ls)
 unfolding order Each
-fine-order p [] h = tt
-fine-order p (l ∷ ls) h =
-    each-append Small (map (λ n. complaint n (l .number)) (misplaced p (kindOfLine l))) (order (placeAfter p (kindOfLine l)) ls)
-    (fine-misplaced l (h .0) p (kindOfLine l)) (fine-order (placeAfter p (kindOfLine l)) ls (h .1))
+fine-order before [] h = tt
+fine-order before (l ∷ ls) h =
+    each-append Small (misplaced (kindOfLine l) before l) (order (before ++ (l ∷ [])) ls)
+    (fine-misplaced l (h .0) before (kindOfLine l)) (fine-order (before ++ (l ∷ [])) ls (h .1))
 
 pub fine-pattern : (b : Line) (ls : List Line) → Low b → Each Low ls → Fine (patternFaults (b .number) ls)
 unfolding patternFaults Each

@@ -5,12 +5,13 @@ use mathlib.Core.List.{[]}
 use lib.ListN.{replicate}
 use Rattle.songcode.specs.Lists.{if_then_else_, isEmpty, prepend}
 use Rattle.songcode.specs.answer.Lines.{Line}
-use Rattle.songcode.specs.answer.Sections as sections
-use Rattle.songcode.specs.answer.Sections.{amongKeys, early, inPattern, behind, keySaid, modifierSaid, notDashes}
+use Rattle.songcode.specs.answer.Sections.{keySaid, modifierSaid, notDashes}
 use Rattle.songcode.specs.answer.SongText.{BlockKind, metadata, definition, section, kindOfText, headIn}
 use Rattle.songcode.proofs.ListLaws.{by-cases}
 use Rattle.grammar.specs.declared.checks.Check.{Check}
 use Rattle.tokens.specs.Decimals.{numberOf}
+use Rattle.stage2.specs.declared.states.Part.{Part}
+use Rattle.stage2.specs.declared.states.Part.the-variants.{Keys}
 use Rattle.stage2.specs.declared.states.Place.{Place}
 use Rattle.stage2.specs.declared.states.Place.the-variants.{Between, Metadata, Head, Definition, Body, Lyrics}
 use Rattle.stage2.specs.declared.states.Carried.{Carried}
@@ -20,7 +21,7 @@ use Rattle.stage2.specs.declared.states.Judged.{Judged}
 use Rattle.stage2.specs.Walk.{Where, between, inMetadata, behindHead, inDefinition, inBody, inLyrics, Known, known, Walk, Step, blockAt}
 use Rattle.stage2.specs.Walk.{pending, nothingPending, fineAt, closed, late, metadataNote, headNote, opens, bodyNote, bodyStep, stepAt, stepped}
 use Rattle.stage2.specs.Walk.{finished, atFirst}
-use Rattle.stage2.specs.States.{partOf, partIs, noMarks, marked, keyOf, headJudged, blockState, carried, judged, fineFor, closing, keyJudged}
+use Rattle.stage2.specs.States.{noMarks, marked, keyOf, headJudged, blockState, carried, judged, fineFor, closing, keyJudged}
 use Rattle.stage2.specs.States.{opening, bodyJudged, bodyState, judgedAt, judge, ends}
 use Rattle.stage2.proofs.MarkLaws.{Agrees, none-agrees, again-agrees, marked-agrees, key-said-below, modifier-said-below}
 use Rattle.stage2.proofs.HeadLaws.{HeadsAgree, no-heads-agree, head-counts, head-agrees, with-head-agrees}
@@ -30,15 +31,8 @@ placeIs between = Between
 placeIs inMetadata = Metadata
 placeIs behindHead = Head
 placeIs inDefinition = Definition
-placeIs (inBody p) = Body (partIs p)
+placeIs (inBody p) = Body p
 placeIs inLyrics = Lyrics
-
-part-is : (p : sections.Place) → partOf (partIs p) ≡ p
-unfolding partOf partIs
-part-is amongKeys = refl
-part-is early = refl
-part-is inPattern = refl
-part-is behind = refl
 
 pub record Knows (k : Known) (c : Carried) : Type 0 where
   pub turn : c .turn ≡ k .turn
@@ -94,7 +88,7 @@ module _ (k : Known) (c : Carried) (h : Knows k c) (l : Line) where
   head-same = head-agrees (c .heads) (k .sofar) (k .heads) (h .heads) (headIn l) l (head-counts l)
 
   opening-by : (b : BlockKind) → Follows (opens b k l) (opening b c l)
-  unfolding opens opening placeIs partIs
+  unfolding opens opening placeIs
   opening-by metadata = rw (h .turn) (ap (min (late 0 (k .turn) l)) key-same, opened inMetadata _ _ nothingPending (key-known (max (k .turn) 0)))
   opening-by definition = rw (h .turn) (
     ap (min (late 1 (k .turn) l)) head-same,
@@ -105,10 +99,10 @@ module _ (k : Known) (c : Carried) (h : Knows k c) (l : Line) where
           heads = with-head-agrees (c .heads) (k .sofar) (k .heads) (h .heads) (headIn l) (head-counts l);
         }),
   )
-  opening-by section = rw (h .turn) (refl, opened (inBody amongKeys) _ _ _ (record { turn = refl; metadata = h .metadata; heads = h .heads }))
+  opening-by section = rw (h .turn) (refl, opened (inBody Keys) _ _ _ (record { turn = refl; metadata = h .metadata; heads = h .heads }))
 
 module _ (w : Walk) (c : State) (h : Stands w c) (l : Line) where
-  body-same : (p : sections.Place) → bodyJudged p (c .keys) (c .modifiers) l ≡ bodyNote p (w .keys) (w .modifiers) l
+  body-same : (p : Part) → bodyJudged p (c .keys) (c .modifiers) l ≡ bodyNote p (w .keys) (w .modifiers) l
   unfolding bodyJudged bodyNote
   body-same p =
       rw (
@@ -117,7 +111,7 @@ module _ (w : Walk) (c : State) (h : Stands w c) (l : Line) where
             l (modifier-said-below l) (h .modifiers),
       ) refl
 
-  in-body : (p : sections.Place) → Follows (bodyStep p w l) (judged (bodyJudged p (c .keys) (c .modifiers) l) (bodyState p c l))
+  in-body : (p : Part) → Follows (bodyStep p w l) (judged (bodyJudged p (c .keys) (c .modifiers) l) (bodyState p c l))
   unfolding bodyStep bodyState placeIs
   in-body p = (
     body-same p,
@@ -141,9 +135,8 @@ module _ (w : Walk) (c : State) (h : Stands w c) (l : Line) where
   by-place behindHead = rw (h .pending) (refl, opened inDefinition _ _ _ (h .carried))
   by-place inDefinition = rw (h .pending) (refl, opened inDefinition _ _ _ (h .carried))
   by-place (inBody p) =
-      rw (part-is p)
-      (by-cases (notDashes l) (λ e. rw e (in-body p))
-      (λ e. rw (e, h .pending) (refl, record { place = refl; carried = h .carried; keys = h .keys; modifiers = h .modifiers; pending = refl })))
+      by-cases (notDashes l) (λ e. rw e (in-body p))
+      (λ e. rw (e, h .pending) (refl, record { place = refl; carried = h .carried; keys = h .keys; modifiers = h .modifiers; pending = refl }))
   by-place inLyrics = rw (h .pending) (refl, record { place = refl; carried = h .carried; keys = h .keys; modifiers = h .modifiers; pending = refl })
 
   -- One line more.

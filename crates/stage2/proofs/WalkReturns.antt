@@ -29,7 +29,7 @@ use Rattle.stage2.specs.declared.states.State.{State}
 use Rattle.stage2.specs.declared.states.Judged.{Judged}
 use Rattle.stage2.specs.Ranks.{ranked, none, refusalAt}
 use Rattle.stage2.specs.Walk.{Walk, known, nothingPending, patternBegun, patternMore, stepped, walked, atFirst}
-use Rattle.stage2.specs.States.{Fit, partOf, blockState, judged, closing, bodyJudged, bodyState, lyricsState, judgedAt, judge, ends}
+use Rattle.stage2.specs.States.{Fit, blockState, judged, closing, bodyJudged, bodyState, lyricsState, judgedAt, judge, ends}
 use Rattle.stage2.proofs.BlockWalk.{by-blocks-le, walked-by-blocks}
 use Rattle.stage2.proofs.SmallLines.{stage-walked}
 use Rattle.stage2.proofs.StateLaws.{Stands, keeps-step, ends-same}
@@ -43,8 +43,8 @@ module _ (c : State) (p : Part) (n : ℕ) (s : List ℕ) (a e : ℕ) (t : Bool) 
   unfolding judgedAt if_then_else_
   at-dashes bare d y b g = rw (not-dashes, y, g, b) refl
 
-  pub at-body : (j : Judged) → t ≡ false → j ≡ judged (bodyJudged (partOf p) (c .keys) (c .modifiers) (lineFrom n s a e))
-      (bodyState (partOf p) c (lineFrom n s a e)) → j ≡ judgedAt (Body p) c (lineFrom n s a e)
+  pub at-body : (j : Judged) → t ≡ false → j ≡ judged (bodyJudged p (c .keys) (c .modifiers) (lineFrom n s a e))
+      (bodyState p c (lineFrom n s a e)) → j ≡ judgedAt (Body p) c (lineFrom n s a e)
   unfolding judgedAt if_then_else_
   at-body j y g = rw (not-dashes, y) g
 

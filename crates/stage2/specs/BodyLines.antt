@@ -7,52 +7,14 @@ use Rattle.songcode.specs.Complaints.{complainIf}
 use Rattle.songcode.specs.answer.Sections.{keyNameOf, modifierNameOf, settingOf}
 use Rattle.settings.specs.Names.{keyIs, modifierIs}
 use Rattle.stage2.specs.declared.states.Part.{Part}
-use Rattle.stage2.specs.declared.states.Part.the-variants.{Keys, Early, Pattern, Behind}
 use Rattle.stage2.specs.declared.states.Place.the-variants.{Body}
 use Rattle.stage2.specs.declared.states.State.{State}
 use Rattle.stage2.specs.declared.states.Judged.{Judged}
 use Rattle.stage2.specs.Ranks.{least}
+use Rattle.stage2.specs.Places.{pastKeys, beforePattern, pastPattern, afterKey, afterModifier, afterPattern}
 use Rattle.stage2.specs.Walk.{patternPending}
-use Rattle.stage2.specs.States.{partOf, again, marked, stateAt, judged}
+use Rattle.stage2.specs.States.{again, marked, stateAt, judged}
 use Rattle.stage2.specs.LineNotes.{keyNumber, modifierNumber, keyNote, modifierNote}
-
--- What is out of place where: a key anywhere but among keys, a modifier before the pattern, a pattern line past its run.
-abbrev pub pastKeys : Part → Bool
-pastKeys Keys = false
-pastKeys Early = true
-pastKeys Pattern = true
-pastKeys Behind = true
-
-abbrev pub beforePattern : Part → Bool
-beforePattern Keys = true
-beforePattern Early = true
-beforePattern Pattern = false
-beforePattern Behind = false
-
-abbrev pub pastPattern : Part → Bool
-pastPattern Keys = false
-pastPattern Early = false
-pastPattern Pattern = false
-pastPattern Behind = true
-
--- Where the next line stands.
-abbrev pub afterKey : Part → Part
-afterKey Keys = Keys
-afterKey Early = Early
-afterKey Pattern = Behind
-afterKey Behind = Behind
-
-abbrev pub afterModifier : Part → Part
-afterModifier Keys = Early
-afterModifier Early = Early
-afterModifier Pattern = Behind
-afterModifier Behind = Behind
-
-abbrev pub afterPattern : Part → Part
-afterPattern Keys = Pattern
-afterPattern Early = Pattern
-afterPattern Pattern = Pattern
-afterPattern Behind = Behind
 
 -- A key line of metadata.
 unfoldable pub keyAlone : List Bool → Line → ℕ
@@ -79,4 +41,4 @@ unfoldable pub onPattern : Part → State → Line → Judged
 onPattern p c l =
     judged
     (least (complainIf (pastPattern p) 8 (l .number)))
-    (stateAt (Body (afterPattern p)) (c .carried) (c .keys) (c .modifiers) (patternPending (partOf p) l (c .pending)))
+    (stateAt (Body (afterPattern p)) (c .carried) (c .keys) (c .modifiers) (patternPending p l (c .pending)))

@@ -9,8 +9,7 @@ use lib.ListN.{length, getD, set, take, replicate}
 use Rattle.songcode.specs.Lists.{if_then_else_, isEmpty, any}
 use Rattle.songcode.specs.answer.Lines.{Line}
 use Rattle.songcode.specs.Complaints.{complainIf}
-use Rattle.songcode.specs.answer.Sections as sections
-use Rattle.songcode.specs.answer.Sections.{kindOfLine, amongKeys, early, inPattern, behind, placeAfter, keySaid, modifierSaid, faults, headerFaults, notDashes}
+use Rattle.songcode.specs.answer.Sections.{kindOfLine, keySaid, modifierSaid, faults, headerFaults, notDashes}
 use Rattle.songcode.specs.answer.SongText.{BlockKind, metadata, definition, section, kindOfText, metadataFault, headIn}
 use Rattle.tokens.specs.Decimals.{numberOf}
 use Rattle.tokens.specs.declared.numbers.Number.{Number}
@@ -20,7 +19,7 @@ use Rattle.grammar.specs.Checks.{first}
 use Rattle.grammar.specs.Verdicts.{definitionFine, sectionFine}
 use Rattle.grammar.specs.declared.checks.Check.{Check}
 use Rattle.stage2.specs.declared.states.Part.{Part}
-use Rattle.stage2.specs.declared.states.Part.the-variants.{Keys, Early, Pattern, Behind}
+use Rattle.stage2.specs.declared.states.Part.the-variants.{Keys}
 use Rattle.stage2.specs.declared.states.Place.{Place}
 use Rattle.stage2.specs.declared.states.Place.the-variants.{Between, Metadata, Head, Definition, Body, Lyrics}
 use Rattle.stage2.specs.declared.states.Heads.{Heads}
@@ -29,20 +28,8 @@ use Rattle.stage2.specs.declared.states.Pending.{Pending}
 use Rattle.stage2.specs.declared.states.State.{State}
 use Rattle.stage2.specs.declared.states.Judged.{Judged}
 use Rattle.stage2.specs.Ranks.{ranked, noSection, none, least, unless, onlyIf}
+use Rattle.stage2.specs.Places.{partAfter}
 use Rattle.stage2.specs.Walk.{pending, nothingPending, late, orderNote, patternBegun, patternMore, pendingAfter}
-
--- The parts of a section as songcode has them.
-unfoldable pub partOf : Part → sections.Place
-partOf Keys = amongKeys
-partOf Early = early
-partOf Pattern = inPattern
-partOf Behind = behind
-
-unfoldable pub partIs : sections.Place → Part
-partIs amongKeys = Keys
-partIs early = Early
-partIs inPattern = Pattern
-partIs behind = Behind
 
 -- Eight marks for what was said; none yet. What is numbered 8 is nothing.
 abbrev pub noMarks : List Bool
@@ -131,16 +118,16 @@ opening definition k l = judged (min (late 1 (k .turn) l) (headJudged (numberOf 
 opening section k l = judged (min (late 2 (k .turn) l) (least (headerFaults l))) (headerState (max (k .turn) 2) k l)
 
 -- A line between a section's header and its `--`.
-unfoldable pub bodyJudged : sections.Place → List Bool → List Bool → Line → ℕ
+unfoldable pub bodyJudged : Part → List Bool → List Bool → Line → ℕ
 bodyJudged p ks ms l =
     min
     (min (min (orderNote p l) (again 4 (keyOf l) ks (l .number))) (again 8 (modifierOf l) ms (l .number)))
     (least (faults l))
 
-unfoldable pub bodyState : sections.Place → State → Line → State
+unfoldable pub bodyState : Part → State → Line → State
 bodyState p c l =
     stateAt
-    (Body (partIs (placeAfter p (kindOfLine l))))
+    (Body (partAfter (kindOfLine l) p))
     (c .carried)
     (marked (keyOf l) (c .keys))
     (marked (modifierOf l) (c .modifiers))
@@ -156,7 +143,7 @@ judgedAt Between c l = opening (kindOfText (l .text)) (c .carried) l
 judgedAt Metadata c l = judged (keyJudged (c .carried .metadata) l) (metadataState (c .carried .turn) (c .carried) l)
 judgedAt Head c l = judged none (blockState Definition (c .carried) (patternBegun l (c .pending)))
 judgedAt Definition c l = judged none (blockState Definition (c .carried) (patternMore l (c .pending)))
-judgedAt (Body p) c l = if notDashes l then judged (bodyJudged (partOf p) (c .keys) (c .modifiers) l) (bodyState (partOf p) c l) else judged none
+judgedAt (Body p) c l = if notDashes l then judged (bodyJudged p (c .keys) (c .modifiers) l) (bodyState p c l) else judged none
     (lyricsState c (ranked 8 (l .number)))
 judgedAt Lyrics c l = judged none (lyricsState c none)
 

@@ -1,25 +1,28 @@
 -- Stage 2 as one walk over the lines, in songcode's words: what a line is complained of where it stands, and what is kept of it.
 use Prim.Native.Nat.{ℕ, suc, min, max}
-use mathlib.Core.List.{List, [], _∷_, map}
+use mathlib.Core.List.{List, [], _∷_}
 use mathlib.Core.Bool.{Bool, _||_, not}
 use lib.Dec.{leb, ltb}
 use Rattle.songcode.specs.Lists.{if_then_else_, isEmpty, isSome, prepend}
 use Rattle.songcode.specs.answer.Lines.{Line}
-use Rattle.songcode.specs.Complaints.{complaint, complainIf}
-use Rattle.songcode.specs.answer.Sections.{Kind, keyLine, modifierLine, patternLine, kindOfLine, Place, amongKeys, early, inPattern, behind, misplaced}
-use Rattle.songcode.specs.answer.Sections.{placeAfter, twiceBy, keySaid, modifierSaid, faults, headerFaults, notDashes}
+use Rattle.songcode.specs.Complaints.{complainIf}
+use Rattle.songcode.specs.answer.Sections.{Kind, keyLine, modifierLine, patternLine, kindOfLine, twiceBy, keySaid, modifierSaid, faults, headerFaults}
+use Rattle.songcode.specs.answer.Sections.{notDashes}
 use Rattle.songcode.specs.answer.SongText.{BlockKind, metadata, definition, section, kindOfText, metadataFault, headIn}
 use Rattle.grammar.specs.Checks.{first, checkStep, checkText}
 use Rattle.grammar.specs.Verdicts.{definitionFine, sectionFine}
 use Rattle.grammar.specs.declared.checks.Check.{Check}
 use Rattle.grammar.specs.declared.kinds.Kind.the-variants.{LineEnd}
 use Rattle.stage2.specs.declared.states.Pending.{Pending}
+use Rattle.stage2.specs.declared.states.Part.{Part}
+use Rattle.stage2.specs.declared.states.Part.the-variants.{Keys, Early, Pattern, Behind}
+use Rattle.stage2.specs.Places.{partAfter, misplacedAt}
 use Rattle.stage2.specs.Ranks.{ranked, noSection, none, least, unless, onlyIf}
 
 -- Between blocks; in metadata; behind a definition's head, and among its pattern lines; between a section's header and its `--`; behind that.
 pub data Where : Type 0 where
   between inMetadata behindHead inDefinition inLyrics : Where
-  inBody : Place → Where
+  inBody : Part → Where
 
 -- What goes from block to block: the latest turn, the keys of all metadata, how many definitions there are and their numbers.
 pub record Known : Type 0 where
@@ -96,7 +99,7 @@ headAfter t k l = blockAt behindHead (known t (k .keys) (suc (k .sofar)) (prepen
 
 -- A section's header: that a pattern line is wanted is pending.
 abbrev pub headerAfter : ℕ → Known → Line → Walk
-headerAfter t k l = blockAt (inBody amongKeys) (known t (k .keys) (k .sofar) (k .heads)) (pending (ranked 8 (l .number)) none none first)
+headerAfter t k l = blockAt (inBody Keys) (known t (k .keys) (k .sofar) (k .heads)) (pending (ranked 8 (l .number)) none none first)
 
 unfoldable pub opens : BlockKind → Known → Line → Step
 opens metadata k l = step (min (late 0 (k .turn) l) (metadataNote (k .keys) l)) (metadataAfter (max (k .turn) 0) k l)
@@ -110,32 +113,32 @@ patternBegun l q = pending none (q .bare) (ranked 7 (l .number)) (checkText firs
 abbrev pub patternMore : Line → Pending → Pending
 patternMore l q = pending (q .want) (q .bare) (q .bad) (checkText (checkStep (q .check) LineEnd) (l .text))
 
-unfoldable pub patternPending : Place → Line → Pending → Pending
-patternPending amongKeys l q = patternBegun l q
-patternPending early l q = patternBegun l q
-patternPending inPattern l q = patternMore l q
-patternPending behind l q = q
+unfoldable pub patternPending : Part → Line → Pending → Pending
+patternPending Keys l q = patternBegun l q
+patternPending Early l q = patternBegun l q
+patternPending Pattern l q = patternMore l q
+patternPending Behind l q = q
 
-unfoldable pub pendingAfter : Kind → Place → Line → Pending → Pending
+unfoldable pub pendingAfter : Kind → Part → Line → Pending → Pending
 pendingAfter keyLine p l q = q
 pendingAfter modifierLine p l q = q
 pendingAfter patternLine p l q = patternPending p l q
 
 -- A line between a section's header and its `--`.
-unfoldable pub orderNote : Place → Line → ℕ
-orderNote p l = least (map (λ n. complaint n (l .number)) (misplaced p (kindOfLine l)))
+unfoldable pub orderNote : Part → Line → ℕ
+orderNote p l = least (misplacedAt (kindOfLine l) p l)
 
-unfoldable pub bodyNote : Place → List ℕ → List ℕ → Line → ℕ
+unfoldable pub bodyNote : Part → List ℕ → List ℕ → Line → ℕ
 bodyNote p ks ms l =
     min
     (min (min (orderNote p l) (least (twiceBy 4 (keySaid l) ks l))) (least (twiceBy 8 (modifierSaid l) ms l)))
     (least (faults l))
 
-unfoldable pub bodyStep : Place → Walk → Line → Step
+unfoldable pub bodyStep : Part → Walk → Line → Step
 bodyStep p w l =
     step
     (bodyNote p (w .keys) (w .modifiers) l)
-    (walkAt (inBody (placeAfter p (kindOfLine l))) (w .known) (prepend (keySaid l) (w .keys)) (prepend (modifierSaid l) (w .modifiers))
+    (walkAt (inBody (partAfter (kindOfLine l) p)) (w .known) (prepend (keySaid l) (w .keys)) (prepend (modifierSaid l) (w .modifiers))
     (pendingAfter (kindOfLine l) p l (w .pending)))
 
 -- The `--`, and a line behind it.

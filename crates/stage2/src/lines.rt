@@ -29,7 +29,7 @@ ghost use lib.ListN.{length};
 ghost use Rattle.songcode.specs.answer.Sections.{kindOfLine, keyNameOf};
 ghost use Rattle.text.specs.Spans.{lineText};
 ghost use Rattle.settings.specs.Kinds.{kindIs};
-ghost use Rattle.stage2.specs.States.{partOf, marked, keyOf, keyJudged, judged, bodyJudged, bodyState};
+ghost use Rattle.stage2.specs.States.{marked, keyOf, keyJudged, judged, bodyJudged, bodyState};
 ghost use Rattle.settings.specs.Names.{keyIs};
 ghost use Rattle.stage2.specs.LineNotes.{keyNumber};
 ghost use Rattle.stage2.specs.BodyLines.{keyAlone, onKey, onModifier, onPattern};
@@ -163,8 +163,8 @@ pub fn pattern_line(s: &[u8], c: State, p: Part, l: Line) -> Judged
 // A line between a section's header and its `--`.
 pub fn body_line(s: &[u8], c: State, p: Part, l: Line) -> Judged
     requires { ⌜ (l .start < l .stop) × (l .stop ≤ length (now s)) × (l .stop ≤ 65536) × (l .number ≤ 65537) ⌝ }
-    ensures { λ r. ⌜ r ≡ judged (bodyJudged (partOf p) (c .keys) (c .modifiers) (lineText (now (s .entry)) l))
-        (bodyState (partOf p) c (lineText (now (s .entry)) l)) ⌝ }
+    ensures { λ r. ⌜ r ≡ judged (bodyJudged p (c .keys) (c .modifiers) (lineText (now (s .entry)) l))
+        (bodyState p c (lineText (now (s .entry)) l)) ⌝ }
 {
     let kind = line_kind(s, l);
     match kind {

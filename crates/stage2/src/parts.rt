@@ -1,7 +1,7 @@
 // Where a section's line stands: what is out of place there, and where the next line stands.
 use super::states::Part;
 ghost use mathlib.Core.Path.{_≡_};
-ghost use Rattle.stage2.specs.BodyLines.{pastKeys, beforePattern, pastPattern, afterKey, afterModifier, afterPattern};
+ghost use Rattle.stage2.specs.Places.{pastKeys, beforePattern, pastPattern, afterKey, afterModifier, afterPattern};
 
 // A key is out of place.
 pub fn past_keys(p: Part) -> bool

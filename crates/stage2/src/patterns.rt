@@ -12,7 +12,6 @@ ghost use Prim.Native.Nat.{_<_, _≤_};
 ghost use lib.ListN.{length};
 ghost use Rattle.text.specs.Spans.{lineText};
 ghost use Rattle.stage2.specs.Walk.{nothingPending, patternBegun, patternMore, patternPending};
-ghost use Rattle.stage2.specs.States.{partOf};
 
 // Nothing is pending.
 pub fn no_pending() -> Pending
@@ -60,7 +59,7 @@ pub fn next_line(s: &[u8], q: Pending, l: Line) -> Pending
 // A pattern line of a section; past the pattern's run it adds nothing.
 pub fn pattern_pending(s: &[u8], p: Part, q: Pending, l: Line) -> Pending
     requires { ⌜ (l .start < l .stop) × (l .stop ≤ length (now s)) × (l .stop ≤ 65536) × (l .number ≤ 65537) ⌝ }
-    ensures { λ r. ⌜ r ≡ patternPending (partOf p) (lineText (now (s .entry)) l) q ⌝ }
+    ensures { λ r. ⌜ r ≡ patternPending p (lineText (now (s .entry)) l) q ⌝ }
 {
     match p {
         Part::Keys => first_line(s, q, l),

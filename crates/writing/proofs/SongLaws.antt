@@ -6,8 +6,8 @@ use native.Mathlib.Omega.{arith}
 use lib.ListN.{length, take, drop, set, length-append, length-take, length-drop}
 use lib.Seq.{sets, sets-eq}
 use borrow.Rule.Slice.PartMut.{putMid}
-use Rattle.songcode.specs.Song.{Section, Song}
-use Rattle.songcode.specs.answer.Playing.{Beat, timeOf, bpmOf, played}
+use Rattle.songcode.specs.Song.{Section, Song, Beat}
+use Rattle.songcode.specs.answer.Playing.{timeOf, bpmOf, played}
 use Rattle.songcode.specs.description.Performance.{total}
 use Rattle.songcode.specs.answer.Tables.{sectionWord, sectionWords, measureWord, measureWords, beatWord, allMeasures, tables}
 use Rattle.songcode.specs.answer.Answer.{songOf}

@@ -1,7 +1,7 @@
 -- Request 1, "A flat copy for paper": the copy by the answer's order, as rows of bytes, and the answer of the call.
 use Prim.Native.Nat.{ℕ, _-_}
 use mathlib.Core.List.{List, [], _∷_, _++_, map, flatMap}
-use mathlib.Core.Bool.{Bool, true, false, _||_}
+use mathlib.Core.Bool.{Bool, _||_}
 use mathlib.Core.Option.{Option, none, some}
 use lib.Dec.{ltb}
 use lib.ListN.{length, getD, replicate}
@@ -10,10 +10,10 @@ use Rattle.songcode.specs.Bytes.{values, ascii}
 use Rattle.songcode.specs.answer.Chords.{Chord, bases}
 use Rattle.songcode.specs.answer.Lines.{Line, Block}
 use Rattle.songcode.specs.Complaints.{Complaint, complainIf, verdict}
-use Rattle.songcode.specs.Song.{Section, Song}
-use Rattle.songcode.specs.answer.Sections.{keyLine, modifierLine, patternLine, kindOfLine, body, fromDashes, sectionIn}
+use Rattle.songcode.specs.Song.{Section, Song, Beat}
+use Rattle.songcode.specs.answer.Sections.{isKeyLine, body, fromDashes, sectionIn}
 use Rattle.songcode.specs.answer.SongText.{metadataLines, sectionBlocks, songIn}
-use Rattle.songcode.specs.answer.Playing.{Beat, timeOf, played}
+use Rattle.songcode.specs.answer.Playing.{timeOf, played}
 use Rattle.songcode.specs.answer.Answer.{mostBytes, blocksOf, songStages}
 
 -- A trimmed line, byte for byte.
@@ -85,10 +85,6 @@ unfolding flatMap endLine copyRows
 copyBytes bs = flatMap endLine (copyRows bs)
 
 -- The same for a file that has been read.
-unfoldable pub isKeyLine : Line → Bool
-unfolding kindOfLine
-isKeyLine l = elim (kindOfLine l) [ keyLine ↦ true | modifierLine ↦ false | patternLine ↦ false ]
-
 unfoldable pub flatSection : Song → Block → List (List ℕ)
 unfolding sectionRows textOf taken isKeyLine body fromDashes timeOf played sectionIn
 flatSection s b =

@@ -1,7 +1,7 @@
 -- "How a section is played": measures and beats in the section's own N, loops, repeats, the two cuts, lead-in and tail.
 use Prim.Native.Nat.{ℕ, zero, suc, _+_, _-_, _/_}
 use mathlib.Core.List.{List, [], _∷_, _++_, map, reverse, flatMap}
-use mathlib.Core.Bool.{Bool, true, false}
+use mathlib.Core.Bool.{true, false}
 use mathlib.Core.Option.{Option, none, some, Option·getD, bind}
 use lib.Dec.{eqb}
 use lib.ListN.{length, drop, replicate}
@@ -10,7 +10,7 @@ use Rattle.songcode.specs.Bytes.{Byte}
 use Rattle.songcode.specs.answer.Chords.{Chord}
 use Rattle.songcode.specs.Song.{Sound, chord, again, silence, Sounds, only, also, Measure, Item, measure, loop, refer, Items, one, next}
 use Rattle.songcode.specs.Song.{KeyName, bpm, time, Key, Measures, Beats, Cut, Section}
-use Rattle.songcode.specs.Song.{Side, Modifiers, Song}
+use Rattle.songcode.specs.Song.{Side, Modifiers, Song, Beat, beat}
 use Rattle.songcode.specs.answer.Keys.{keyPlace, bpmIn, timeIn}
 use Rattle.songcode.specs.answer.References.{patternItems}
 
@@ -71,14 +71,6 @@ unfoldable pub voices : Option Chord → Sounds → List (Option Chord)
 unfolding heard lastSounds
 voices last (only s) = heard last s ∷ []
 voices last (also ss s) = voices last ss ++ (heard (lastSounds last ss) s ∷ [])
-
--- A beat: what sounds, and whether it is the first of a position as written.
-pub record Beat : Type 0 where
-  pub sounds : Option Chord
-  pub head : Bool
-
-abbrev pub beat : Option Chord → Bool → Beat
-beat c h = record { sounds = c; head = h }
 
 -- "each position lasts N/p beats and each remover takes N/p away": the positions that sound are left.
 unfoldable pub lasting : ℕ → Option Chord → List Beat

@@ -1,4 +1,4 @@
--- A section's lines: which is what, what is complained of, and the section that they say.
+-- A section's lines: which is what; what is complained of, by the rows of "What stops a chart"; and the section that they say.
 use Prim.Native.Nat.{ℕ}
 use Prim.Native.Char.{code}
 use mathlib.Core.List.{List, [], _∷_, _++_, map, flatMap, filterMap}
@@ -39,6 +39,14 @@ unfoldable pub notPatternLine : Line → Bool
 unfolding isPatternLine
 notPatternLine l = not (isPatternLine l)
 
+unfoldable pub isKeyLine : Line → Bool
+unfolding kindOfLine
+isKeyLine l = elim (kindOfLine l) [ keyLine ↦ true | modifierLine ↦ false | patternLine ↦ false ]
+
+unfoldable pub notKeyLine : Line → Bool
+unfolding isKeyLine
+notKeyLine l = not (isKeyLine l)
+
 -- A line without its first byte.
 unfoldable pub behindFirst : List Byte → List Byte
 behindFirst [] = []
@@ -57,7 +65,7 @@ unfoldable pub keyNameOf : Line → Option KeyName
 unfolding keyNamed nameOf
 keyNameOf l = keyNamed (nameOf l)
 
--- A key's own faults: 4 where it is "unknown" or "not allowed here", 5 where its setting is "malformed or out of range".
+-- Rows 4 and 5, of a key by itself: "key unknown, ... or not allowed here"; "setting of a key ... malformed or out of range".
 unfoldable pub keyFaultsBy : (KeyName → Bool) → Option KeyName → Line → List Complaint
 unfolding complainIf isSetting settingOf
 keyFaultsBy allowed none l = complaint 4 (l .number) ∷ []
@@ -81,7 +89,8 @@ unfoldable pub modifierOfAs : Reading → Line → Option Modifier
 unfolding modifierNameOf modifierInAs settingOf bind
 modifierOfAs read l = bind (modifierNameOf l) (λ m. modifierInAs read m (l .number) (settingOf l))
 
--- A modifier's own faults: 8 where it is unknown; its setting's.
+-- Rows 5, 7 and 8, of a modifier by itself: "setting of a ... repeat or cut malformed or out of range"; "pattern text against the rules", "lead-in, tail: own";
+-- "unknown ... modifier".
 unfoldable pub modifierFaultsByAs : Reading → Option ModifierName → Line → List Complaint
 unfolding complainIf isSome modifierInAs settingRefusal settingOf
 modifierFaultsByAs read none l = complaint 8 (l .number) ∷ []
@@ -91,7 +100,7 @@ unfoldable pub modifierFaultsAs : Reading → Line → List Complaint
 unfolding modifierFaultsByAs modifierNameOf
 modifierFaultsAs read l = modifierFaultsByAs read (modifierNameOf l) l
 
--- "each at most once": complained of where an earlier line says the same. A line's kind of thing is numbered, if it has one.
+-- Rows 4, 6 and 8, "twice" and "doubled": complained of where an earlier line says the same. A line's kind of thing is numbered, if it has one.
 unfoldable pub twiceBy : ℕ → Option ℕ → List ℕ → Line → List Complaint
 unfolding complainIf any
 twiceBy number none seen l = []
@@ -121,50 +130,28 @@ unfoldable pub faultsAs : Reading → Line → List Complaint
 unfolding faultsByAs kindOfLine
 faultsAs read l = faultsByAs read (kindOfLine l) l
 
--- "Out of place are a key after a pattern or modifier line, a modifier before the pattern, a pattern line past that run."
--- Where a line stands: only keys came before it; a modifier came before the pattern; in the pattern's run; past it.
-pub data Place : Type 0 where
-  amongKeys early inPattern behind : Place
-
-unfoldable pub misplaced : Place → Kind → List ℕ
-misplaced amongKeys keyLine = []
-misplaced amongKeys modifierLine = 8 ∷ []
-misplaced amongKeys patternLine = []
-misplaced early keyLine = 4 ∷ []
-misplaced early modifierLine = 8 ∷ []
-misplaced early patternLine = []
-misplaced inPattern keyLine = 4 ∷ []
-misplaced inPattern modifierLine = []
-misplaced inPattern patternLine = []
-misplaced behind keyLine = 4 ∷ []
-misplaced behind modifierLine = []
-misplaced behind patternLine = 8 ∷ []
-
-unfoldable pub placeAfter : Place → Kind → Place
-placeAfter amongKeys keyLine = amongKeys
-placeAfter amongKeys modifierLine = early
-placeAfter amongKeys patternLine = inPattern
-placeAfter early keyLine = early
-placeAfter early modifierLine = early
-placeAfter early patternLine = inPattern
-placeAfter inPattern keyLine = behind
-placeAfter inPattern modifierLine = behind
-placeAfter inPattern patternLine = inPattern
-placeAfter behind keyLine = behind
-placeAfter behind modifierLine = behind
-placeAfter behind patternLine = behind
-
-unfoldable pub order : Place → List Line → List Complaint
-unfolding misplaced placeAfter kindOfLine
-order p [] = []
-order p (l ∷ ls) = map (λ n. complaint n (l .number)) (misplaced p (kindOfLine l)) ++ order (placeAfter p (kindOfLine l)) ls
-
--- "the pattern is their first run"
+-- "the pattern is their first run"; what stands from its end on.
 unfoldable pub patternRun : List Line → List Line
 unfolding taken left isPatternLine notPatternLine
 patternRun ls = taken isPatternLine (left notPatternLine ls)
 
--- "no pattern line" names the header; "pattern text against the rules" its first line.
+unfoldable pub pastRun : List Line → List Line
+unfolding left isPatternLine notPatternLine
+pastRun ls = left isPatternLine (left notPatternLine ls)
+
+-- Rows 4 and 8: "Out of place are a key after a pattern or modifier line, a modifier before the pattern, a pattern line past that run", by the lines before it.
+unfoldable pub misplaced : Kind → List Line → Line → List Complaint
+unfolding complainIf any notKeyLine isPatternLine isEmpty pastRun
+misplaced keyLine before l = complainIf (any notKeyLine before) 4 (l .number)
+misplaced modifierLine before l = complainIf (not (any isPatternLine before)) 8 (l .number)
+misplaced patternLine before l = complainIf (not (isEmpty (pastRun before))) 8 (l .number)
+
+unfoldable pub order : List Line → List Line → List Complaint
+unfolding misplaced kindOfLine
+order before [] = []
+order before (l ∷ ls) = misplaced (kindOfLine l) before l ++ order (before ++ (l ∷ [])) ls
+
+-- Rows 7 and 8: "pattern text against the rules", on its first line; "no pattern line", on the header.
 unfoldable pub patternInAs : Reading → List Line → Option Pattern
 unfolding sectionTextAs
 patternInAs read [] = none
@@ -175,14 +162,14 @@ unfolding complainIf isSome sectionTextAs
 patternFaultsAs read header [] = complaint 8 header ∷ []
 patternFaultsAs read header (l ∷ ls) = complainIf (not (isSome (sectionTextAs read l ls))) 7 (l .number)
 
--- "name of 1 to 50 characters up to the first `!`"
+-- Row 8, "name empty or long": "name of 1 to 50 characters up to the first `!`".
 unfoldable pub headerFaults : Line → List Complaint
 unfolding complainIf characters taken isByte
 headerFaults l =
     let n = characters (taken (λ b. not (isByte (code "!") b)) (l .text)) in
     complainIf (not (leb 1 n && leb n 50)) 8 (l .number)
 
--- "then, if wanted, `--` alone and one or more lyric lines, free text to the block's end"
+-- Row 8, "`--` without lyrics", on the `--`: "then, if wanted, `--` alone and one or more lyric lines, free text to the block's end".
 unfoldable pub notDashes : Line → Bool
 unfolding is
 notDashes l = not (is "--" (l .text))
@@ -213,7 +200,7 @@ unfoldable pub sectionFaultsAs : Reading → Block → List Complaint
 unfolding headerFaults flatMap faultsAs order twice keySaid modifierSaid patternFaultsAs patternRun lyricFaults body fromDashes
 sectionFaultsAs read b =
     headerFaults (b .first)
-    ++ order amongKeys (body b)
+    ++ order [] (body b)
     ++ twice 4 keySaid [] (body b)
     ++ twice 8 modifierSaid [] (body b)
     ++ flatMap (faultsAs read) (body b)

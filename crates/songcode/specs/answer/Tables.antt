@@ -6,8 +6,8 @@ use mathlib.Core.Option.{Option, none, some}
 use lib.ListN.{length}
 use Rattle.songcode.specs.Bytes.{Byte}
 use Rattle.songcode.specs.answer.Chords.{Chord}
-use Rattle.songcode.specs.Song.{KeyName, name, artist, original, capo, bpm, time, warning, end, Section, Song}
-use Rattle.songcode.specs.answer.Playing.{Beat, settingNamed, timeOf, bpmOf, played}
+use Rattle.songcode.specs.Song.{KeyName, name, artist, original, capo, bpm, time, warning, end, Section, Song, Beat}
+use Rattle.songcode.specs.answer.Playing.{settingNamed, timeOf, bpmOf, played}
 use Rattle.songcode.specs.answer.Lyrics.{Prompt, prompts}
 
 -- The place of a text: that of its first byte, 0 if it is empty.

@@ -9,10 +9,9 @@ use Rattle.songcode.specs.Bytes.{Byte}
 use Rattle.songcode.specs.Song.{Items, Pattern, items, named, LyricLine, Definition, Section, Song}
 use Rattle.songcode.specs.answer.PatternText.{depth, loopsDeep, references}
 use Rattle.songcode.specs.answer.References.{definitionOf, itemsOf, putIn, patternItems}
-use Rattle.songcode.specs.answer.Playing.{repeats}
 use Rattle.songcode.specs.description.WrittenSection.{Each}
 use Rattle.songcode.specs.description.WrittenLyrics.{CountedLine}
-use Rattle.songcode.specs.description.Performance.{Parts, PlaysSection, joined, uncut}
+use Rattle.songcode.specs.description.Performance.{asOften, Parts, PlaysSection, joined, uncut}
 
 -- A reference that a definition may hold: to an earlier definition that is not empty and holds no reference itself.
 pub record Refers (earlier : List Definition) (n : ℕ) : Type 0 where
@@ -52,7 +51,7 @@ unfoldable pub uncutLength : List Section → List Parts → ℕ
 unfolding uncut
 uncutLength [] ps = 0
 uncutLength (x ∷ xs) [] = 0
-uncutLength (x ∷ xs) (p ∷ ps) = length (uncut (repeats (x .modifiers)) p) + uncutLength xs ps
+uncutLength (x ∷ xs) (p ∷ ps) = length (uncut (asOften (x .modifiers)) p) + uncutLength xs ps
 
 -- Lyric lines that all have a count, with their sum; lyric lines of which none has one.
 pub data Counted : List LyricLine → ℕ → Type 0 where

@@ -10,7 +10,7 @@ use Rattle.songcode.specs.Bytes.{Byte}
 use Rattle.songcode.specs.answer.Chords.{Chord}
 use Rattle.songcode.specs.answer.Lyrics.{Prompt}
 use Rattle.songcode.specs.answer.Tables.{offset, keyWord, sectionWord, measureWord, headBit, beatBy, itemWord}
-use Rattle.songcode.specs.description.Joined.{firstBeat, beatCount}
+use Rattle.songcode.specs.description.Joined.{firstBeat, beatCount, firstMeasure, measureCount, sectionBpm}
 
 -- A row of the table: how many bits its word has, and how many each of its fields.
 pub record Row : Type 0 where
@@ -117,3 +117,6 @@ pub record Laid : Type 0 where
   pub somewhere : (b : Byte) (bs : List Byte) → offset (b ∷ bs) ≡ b .place
   -- The second call reads the two fields of a measure's word, "ignores spare bits".
   pub sought : (word : ℕ) → word < 2 ^ 32 → firstBeat word ∷ beatCount word ∷ [] ≡ fieldsOf measuresRow word
+  -- What is read of a section's word to join the tables up is its second, third and fifth field.
+  pub covered : (word : ℕ)
+      → field 47 17 word ∷ firstMeasure word ∷ measureCount word ∷ field 9 6 word ∷ sectionBpm word ∷ [] ≡ fieldsOf sectionsRow word

@@ -1,18 +1,19 @@
 -- The description of playing: what a section is, beat for beat. It says when a row of measures is what a text plays, and runs nothing.
-use Prim.Native.Nat.{ℕ, _+_, _*_, _≤_}
+use Prim.Native.Nat.{ℕ, zero, suc, _+_, _*_, _≤_}
 use mathlib.Core.Path.{_≡_}
 use mathlib.Core.List.{List, [], _∷_, _++_, flatMap}
+use mathlib.Core.Logic.{_⊎_}
+use mathlib.Core.Bool.{true, false}
 use mathlib.Core.Option.{Option, none, some, Option·getD}
-use lib.ListN.{length}
+use lib.ListN.{length, replicate}
 use Rattle.songcode.specs.Lists.{times}
 use Rattle.songcode.specs.Bytes.{Byte}
 use Rattle.songcode.specs.answer.Chords.{Chord}
 use Rattle.songcode.specs.Song.{Sound, chord, again, silence, Sounds, only, also, Measure, Item, measure, loop, refer, Items, one, next}
-use Rattle.songcode.specs.Song.{KeyName, bpm, time, Key, Cut, Section, Song, Side, Modifiers, unmodified}
+use Rattle.songcode.specs.Song.{KeyName, bpm, time, Key, Cut, Section, Song, Side, Modifiers, unmodified, Beat, beat}
 use Rattle.songcode.specs.description.WrittenPattern.{Number}
 use Rattle.songcode.specs.description.WrittenSection.{TimeText}
 use Rattle.songcode.specs.answer.References.{patternItems}
-use Rattle.songcode.specs.answer.Playing.{Beat, settingNamed, positions, lasting, repeats}
 
 -- What a position sounds behind the last chord, and the last chord behind it.
 -- "`%` is the last chord before it in the written order of its own text ...; silence isn't a chord."
@@ -27,13 +28,18 @@ HearsAll last (only s) heard later = (h : Option Chord) × Hears last s h later 
 HearsAll last (also ss s) heard later =
     (before : List (Option Chord)) × (mid h : Option Chord) × HearsAll last ss before mid × Hears mid s h later × (heard ≡ before ++ (h ∷ []))
 
--- "A measure of p positions needs p to divide N; each position lasts N/p beats and each remover takes N/p away."
+-- A position that lasts so many beats: "Head is 1 on the first beat of a position as written".
+unfoldable pub heldFor : ℕ → Option Chord → List Beat
+heldFor zero heard = []
+heldFor (suc more) heard = beat heard true ∷ replicate more (beat heard false)
+
+-- "A measure of p positions needs p to divide N; each position lasts N/p beats and each remover takes N/p away": p counts those that are heard, and removers.
 pub record PlaysMeasure (n : ℕ) (last : Option Chord) (m : Measure) (beats : List Beat) (later : Option Chord) : Type 0 where
-  pub share : ℕ
-  pub divides : share * positions m ≡ n
   pub heard : List (Option Chord)
   pub hears : HearsAll last (m .sounds) heard later
-  pub lasts : beats ≡ flatMap (lasting share) heard
+  pub share : ℕ
+  pub divides : share * (length heard + m .removers) ≡ n
+  pub lasts : beats ≡ flatMap (heldFor share) heard
 
 -- A row in N: measure after measure; a loop as often as it says, each pass like the first. References have been put in.
 unfoldable mutual
@@ -94,10 +100,18 @@ module _ {A : Type 0} where
   CutIf cuts none row kept = kept ≡ row
   CutIf cuts (some c) row kept = cuts c row kept
 
--- What a key says among others: nothing where it is not there.
+-- What a key says among others: nothing where none has its name, else what the first of that name says.
+unfoldable pub Unsaid : KeyName → List Key → Type 0
+Unsaid k [] = Unit {0}
+Unsaid k (x ∷ xs) = (x .key ≡ k → ⊥) × Unsaid k xs
+
+unfoldable pub Said : KeyName → List Byte → List Key → Type 0
+Said k setting [] = ⊥
+Said k setting (x ∷ xs) = ((x .key ≡ k) × (x .setting ≡ setting)) ⊎ ((x .key ≡ k → ⊥) × Said k setting xs)
+
 unfoldable pub Says : KeyName → (List Byte → ℕ → Type 0) → List Key → Option ℕ → Type 0
-Says k meaning ks none = settingNamed k ks ≡ none
-Says k meaning ks (some n) = (setting : List Byte) × (settingNamed k ks ≡ some setting) × meaning setting n
+Says k meaning ks none = Unsaid k ks
+Says k meaning ks (some n) = (setting : List Byte) × Said k setting ks × meaning setting n
 
 -- "the section's ..., else the song's", else a default.
 pub record Inherits (k : KeyName) (meaning : List Byte → ℕ → Type 0) (default : ℕ) (s : Song) (x : Section) (n : ℕ) : Type 0 where
@@ -116,6 +130,10 @@ pub record Parts : Type 0 where
   pub middle : List (List Beat)
   pub tail : List (List Beat)
 
+-- "`_repeat n`": a pattern without it is played once.
+unfoldable pub asOften : Modifiers → ℕ
+asOften ms = Option·getD (ms .repeat) 1
+
 -- "Loops are written out, then the pattern repeated." The two cuts take from the whole repeated row, and "at least one beat of the pattern must remain".
 -- An empty pattern plays nothing and has no modifier.
 unfoldable pub PlaysPattern : ℕ → Modifiers → Option Items → List (List Beat) → List (List Beat) → Type 0
@@ -124,7 +142,7 @@ PlaysPattern n ms none pass middle = (ms ≡ unmodified) × (pass ≡ []) × (mi
 PlaysPattern n ms (some r) pass middle =
     (shorter : List (List Beat))
     × PlaysAlone n r pass
-    × CutIf CutsFront (ms .cutStart) (times (repeats ms) pass) shorter
+    × CutIf CutsFront (ms .cutStart) (times (asOften ms) pass) shorter
     × CutIf CutsBack (ms .cutEnd) shorter middle
     × (1 ≤ total middle)
 

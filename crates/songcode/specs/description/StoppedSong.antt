@@ -9,16 +9,15 @@ use Rattle.songcode.specs.Lists.{sum}
 use Rattle.songcode.specs.Bytes.{Byte, placed}
 use Rattle.songcode.specs.Complaints.{Complaint, complaint}
 use Rattle.songcode.specs.Song.{Sound, chord, again, silence, Sounds, only, also, Measure, Item, measure, loop, refer, Items, one, next, named, time}
-use Rattle.songcode.specs.Song.{unmodified, LyricLine, Definition, Section, Song}
+use Rattle.songcode.specs.Song.{unmodified, LyricLine, Definition, Section, Song, Beat}
 use Rattle.songcode.specs.answer.PatternText.{references}
 use Rattle.songcode.specs.answer.References.{patternItems}
-use Rattle.songcode.specs.answer.Playing.{Beat, positions, repeats}
 use Rattle.songcode.specs.answer.Tables.{Tables}
 use Rattle.songcode.specs.answer.Answer.{Room}
 use Rattle.songcode.specs.description.WrittenText.{FirstBad, Cuts}
 use Rattle.songcode.specs.description.WrittenSection.{TimeText, Each}
 use Rattle.songcode.specs.description.WrittenLyrics.{CountedLine}
-use Rattle.songcode.specs.description.Performance.{Inherits, Parts, PlaysAlone, PlaysSide, PlaysPattern, PlaysSection, joined}
+use Rattle.songcode.specs.description.Performance.{Inherits, asOften, Parts, PlaysAlone, PlaysSide, PlaysPattern, PlaysSection, joined}
 use Rattle.songcode.specs.description.Fits.{Counted}
 use Rattle.songcode.specs.description.WrittenTables.{WrittenTables}
 
@@ -90,6 +89,11 @@ unfoldable pub soundsWritten : Sounds → List Sound
 soundsWritten (only s) = s ∷ []
 soundsWritten (also ss s) = soundsWritten ss ++ (s ∷ [])
 
+-- The positions of a measure: those that sound, and its removers.
+unfoldable pub places : Measure → ℕ
+unfolding soundsWritten
+places m = length (soundsWritten (m .sounds)) + m .removers
+
 unfoldable mutual
   unfolding soundsWritten
 
@@ -117,7 +121,7 @@ pub record AgainFirst (r : Items) : Type 0 where
 
 -- A row in N, refused on a line. 12: "p doesn't divide N"; 13: "`%` with no chord before".
 pub data RowStops (n line : ℕ) (r : Items) : Complaint → Type 0 where
-  undivided : (m : Measure) → MeasureIn m r → ((k : ℕ) → k * positions m ≡ n → ⊥) → RowStops n line r (complaint 12 line)
+  undivided : (m : Measure) → MeasureIn m r → ((k : ℕ) → k * places m ≡ n → ⊥) → RowStops n line r (complaint 12 line)
   again-first : AgainFirst r → RowStops n line r (complaint 13 line)
 
 -- Stage 4: "header; lead-in, tail: own". "A pattern is judged only where it is played, in that section's N; a lead-in or tail always."
@@ -143,7 +147,7 @@ pub record Uncut (s : Song) (x : Section) (measures : ℕ) : Type 0 where
   pub leads : PlaysSide meter (x .modifiers .before) leadIn
   pub passes : PlaysPass meter (patternItems (s .definitions) (x .pattern)) pass
   pub tails : PlaysSide meter (x .modifiers .after) tail
-  pub counts : measures ≡ length leadIn + repeats (x .modifiers) * length pass + length tail
+  pub counts : measures ≡ length leadIn + asOften (x .modifiers) * length pass + length tail
 
 -- Stage 5, on the header.
 pub data Stops5 (s : Song) : Complaint → Type 0 where

@@ -140,23 +140,25 @@ pub record FirstRun (body run : List Line) : Type 0 where
   pub ofPattern : AllPattern run
   pub ends : RunEnds rest
 
--- What stops a section's block.
+-- What stops a section's block, row by row.
 pub data SectionStops (b : Block) : Complaint → Type 0 where
-  -- 8: "name empty or long", on the header
-  name-wrong : (Header (b .first .text) → ⊥) → SectionStops b (complaint 8 (b .first .number))
-  -- 4 and 8: "out of place"; 4: "twice"; 8: "doubled modifier"
-  out-of-place : {c : Complaint} (body ending before behind : List Line) (l : Line) → Split b body ending → body ≡ before ++ (l ∷ behind)
-      → PlaceStops before l c → SectionStops b c
+  -- 4 and 5: a key by itself; 4: "twice"
+  key-stops : {c : Complaint} (body ending : List Line) (l : Line) → Split b body ending → List·Memᴰ l body → KeyStops OfSection l c → SectionStops b c
   key-doubled : {c : Complaint} (body ending before behind : List Line) (l : Line) → Split b body ending → body ≡ before ++ (l ∷ behind)
       → KeyDoubled before l c → SectionStops b c
-  modifier-doubled : {c : Complaint} (body ending before behind : List Line) (l : Line) → Split b body ending → body ≡ before ++ (l ∷ behind)
-      → ModifierDoubled before l c → SectionStops b c
-  -- 4, 5, 7 and 8: a key or modifier by itself
-  key-stops : {c : Complaint} (body ending : List Line) (l : Line) → Split b body ending → List·Memᴰ l body → KeyStops OfSection l c → SectionStops b c
+  -- 4 and 8: "out of place"
+  out-of-place : {c : Complaint} (body ending before behind : List Line) (l : Line) → Split b body ending → body ≡ before ++ (l ∷ behind)
+      → PlaceStops before l c → SectionStops b c
+  -- 5, 7 and 8: a modifier by itself
   modifier-stops : {c : Complaint} (body ending : List Line) (l : Line) → Split b body ending → List·Memᴰ l body → ModifierStops l c → SectionStops b c
   -- 7: "pattern text against the rules", on its first line
   pattern-text : (body ending run : List Line) (l : Line) → Split b body ending → FirstRun body (l ∷ run) → ((p : Pattern) → WrittenPattern l run p → ⊥)
       → SectionStops b (complaint 7 (l .number))
+  -- 8: "doubled modifier"
+  modifier-doubled : {c : Complaint} (body ending before behind : List Line) (l : Line) → Split b body ending → body ≡ before ++ (l ∷ behind)
+      → ModifierDoubled before l c → SectionStops b c
+  -- 8: "name empty or long", on the header
+  name-wrong : (Header (b .first .text) → ⊥) → SectionStops b (complaint 8 (b .first .number))
   -- 8: "no pattern line", on the header; "`--` without lyrics", on the `--`
   no-pattern : (body ending : List Line) → Split b body ending → NoPattern body → SectionStops b (complaint 8 (b .first .number))
   no-lyrics : (body : List Line) (dashes : Line) → Split b body (dashes ∷ []) → SectionStops b (complaint 8 (dashes .number))

@@ -6,8 +6,7 @@ use mathlib.Core.Bool.{Bool}
 use lib.ListN.{length, take, drop, replicate}
 use Rattle.songcode.specs.Lists.{isEmpty, any}
 use Rattle.songcode.specs.answer.Lines.{Block}
-use Rattle.songcode.specs.Song.{Section, Song}
-use Rattle.songcode.specs.answer.Playing.{Beat}
+use Rattle.songcode.specs.Song.{Section, Song, Beat}
 use Rattle.songcode.specs.answer.Tables.{Tables}
 use Rattle.songcode.specs.description.WrittenSection.{Each, none-each, and-each, WrittenSection}
 use Rattle.songcode.specs.description.WrittenSong.{linesOf, SectionBlock, WrittenSong, WrittenChart}

@@ -1,11 +1,11 @@
 -- The description of pattern text: how numbers, chords and words are spelled, and how measures, loops and rows are written as tokens.
-use Prim.Native.Nat.{ℕ, zero, suc, _≤_}
+use Prim.Native.Nat.{ℕ, _≤_}
 use Prim.Native.Char.{code}
 use mathlib.Core.Path.{_≡_}
 use mathlib.Core.List.{List, [], _∷_, _++_, List·Memᴰ}
 use mathlib.Core.Bool.{true, false}
 use mathlib.Core.Option.{some}
-use lib.ListN.{length, getElem?}
+use lib.ListN.{length, getElem?, replicate}
 use Rattle.songcode.specs.Bytes.{Byte, values, ascii}
 use Rattle.songcode.specs.answer.Lines.{Line}
 use Rattle.songcode.specs.answer.Numbers.{isDecimal, valueFrom}
@@ -81,50 +81,48 @@ pub data TextLines : Line → List Line → List Token → Type 0 where
   more-lines : {l m : Line} {ms : List Line} {ts us vs : List Token} → Text (l .text) ts → TextLines m ms us → vs ≡ ts ++ (lineEnd ∷ us)
       → TextLines l (m ∷ ms) vs
 
--- How each part of a pattern is written, in front of the tokens k.
-unfoldable pub writeSounds : Sounds → List Token → List Token
-writeSounds (only s) k = sound s ∷ k
-writeSounds (also ss s) k = writeSounds ss (sound s ∷ k)
+-- The tokens of a pattern, each part joined to the next: positions, the measures that they make, separators, items.
+unfoldable pub soundsTokens : Sounds → List Token
+soundsTokens (only s) = sound s ∷ []
+soundsTokens (also ss s) = soundsTokens ss ++ (sound s ∷ [])
 
-unfoldable pub writeRemovers : ℕ → List Token → List Token
-writeRemovers zero k = k
-writeRemovers (suc n) k = writeRemovers n (remover ∷ k)
+-- "Removers stand only at the end, after some other position."
+unfoldable pub measureTokens : Measure → List Token
+unfolding soundsTokens
+measureTokens m = soundsTokens (m .sounds) ++ replicate (m .removers) remover
 
-unfoldable pub writeMeasure : Measure → List Token → List Token
-unfolding writeSounds writeRemovers
-writeMeasure m k = writeSounds (m .sounds) (writeRemovers (m .removers) k)
-
-unfoldable pub writeBeside : Beside → List Token → List Token
-writeBeside nothing k = k
-writeBeside aLineEnd k = lineEnd ∷ k
+unfoldable pub besideTokens : Beside → List Token
+besideTokens nothing = []
+besideTokens aLineEnd = lineEnd ∷ []
 
 -- "Line ends beside a `:` count with it as one."
-unfoldable pub writeSeparator : Separator → List Token → List Token
-unfolding writeBeside
-writeSeparator bySemicolon k = semicolon ∷ k
-writeSeparator byLineEnd k = lineEnd ∷ k
-writeSeparator (byColon b a) k = writeBeside b (colon ∷ writeBeside a k)
+unfoldable pub separatorTokens : Separator → List Token
+unfolding besideTokens
+separatorTokens bySemicolon = semicolon ∷ []
+separatorTokens byLineEnd = lineEnd ∷ []
+separatorTokens (byColon b a) = besideTokens b ++ (colon ∷ besideTokens a)
 
+-- "a loop `[items]n`"; "Items stand in a row with exactly one separator between neighbours".
 unfoldable mutual
-  unfolding writeMeasure writeSeparator
+  unfolding measureTokens separatorTokens
 
-  pub writeItem : Item → List Token → List Token
-  writeItem (measure m) k = writeMeasure m k
-  writeItem (loop r n) k = opens ∷ writeItems r (closes n ∷ k)
-  writeItem (refer n) k = reference n ∷ k
+  pub itemTokens : Item → List Token
+  itemTokens (measure m) = measureTokens m
+  itemTokens (loop r n) = opens ∷ (itemsTokens r ++ (closes n ∷ []))
+  itemTokens (refer n) = reference n ∷ []
 
-  pub writeItems : Items → List Token → List Token
-  writeItems (one i) k = writeItem i k
-  writeItems (next r s i) k = writeItems r (writeSeparator s (writeItem i k))
+  pub itemsTokens : Items → List Token
+  itemsTokens (one i) = itemTokens i
+  itemsTokens (next r s i) = itemsTokens r ++ (separatorTokens s ++ itemTokens i)
 
 -- A definition's text: items, with "no loop in a loop".
 pub record WrittenDefinitionText (l : Line) (ls : List Line) (r : Items) : Type 0 where
-  pub text : TextLines l ls (writeItems r [])
+  pub text : TextLines l ls (itemsTokens r)
   pub shallow : depth r ≤ loopsDeep
 
 -- A section's pattern: items without `$n`, or "`$n` as its whole text".
 unfoldable pub WrittenPattern : Line → List Line → Pattern → Type 0
-WrittenPattern l ls (items r) = TextLines l ls (writeItems r []) × (depth r ≤ loopsDeep) × (references r ≡ [])
+WrittenPattern l ls (items r) = TextLines l ls (itemsTokens r) × (depth r ≤ loopsDeep) × (references r ≡ [])
 WrittenPattern l ls (named n) = TextLines l ls (reference n ∷ [])
 
 -- "p after `_before` or `_after` is one line, not empty, without `:` and `$`."
@@ -133,6 +131,6 @@ Unbarred [] = Unit {0}
 Unbarred (b ∷ bs) = (barred b ≡ false) × Unbarred bs
 
 pub record WrittenSide (bs : List Byte) (r : Items) : Type 0 where
-  pub text : Text bs (writeItems r [])
+  pub text : Text bs (itemsTokens r)
   pub shallow : depth r ≤ loopsDeep
   pub unbarred : Unbarred bs

@@ -5,9 +5,9 @@ use mathlib.Core.List.{List, [], _∷_, map, flatMap}
 use mathlib.Core.Option.{some}
 use lib.ListN.{length}
 use Rattle.songcode.specs.Bytes.{Byte}
-use Rattle.songcode.specs.Song.{Key, Items, LyricLine, Section, Song}
+use Rattle.songcode.specs.Song.{Key, Items, LyricLine, Section, Song, Beat}
 use Rattle.songcode.specs.answer.References.{patternItems}
-use Rattle.songcode.specs.answer.Playing.{Beat, settingNamed}
+use Rattle.songcode.specs.answer.Playing.{settingNamed}
 use Rattle.songcode.specs.answer.Lyrics.{Prompt}
 use Rattle.songcode.specs.answer.Tables.{Tables, keyOrder}
 use Rattle.songcode.specs.description.Layout.{keysRow, sectionsRow, measuresRow, beatsRow, itemsRow, laid, keyFields, beatFields, itemFields}

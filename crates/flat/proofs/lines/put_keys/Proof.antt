@@ -4,7 +4,7 @@ use mathlib.Core.Path.{_≡_, refl, sym, _∙_}
 use native.Mathlib.Omega.{arith}
 use lib.ListN.{length}
 use Rattle.songcode.specs.Lists.{taken}
-use Rattle.songcode.specs.answer.Flat.{isKeyLine}
+use Rattle.songcode.specs.answer.Sections.{isKeyLine}
 use Rattle.sections.specs.Runs.{textLines}
 use Rattle.flat.specs.Sheets.{puts}
 use Rattle.flat.specs.Taken.{lineBytes}

@@ -1,4 +1,3 @@
-use Rattle.stage2.specs.States.{partOf}
 use Rattle.stage2.specs.Walk.{patternPending}
 use mathlib.Core.Path.{refl}
 use borrow.Author.Needs.{needs}
@@ -6,19 +5,19 @@ use Rattle.stage2.proofs.patterns.pattern_pending.Statement.{statement}
 use Rattle.stage2.proofs.patterns.pattern_pending.Tie as tie
 
 returns : tie.Need-returns
-unfolding patternPending partOf
+unfolding patternPending
 returns c = rw (c .before .enum-told .given .1) (c .first-line .ensures)
 
 returns-2 : tie.Need-returns-2
-unfolding patternPending partOf
+unfolding patternPending
 returns-2 c = rw (c .before .enum-told2 .given .1) (c .first-line2 .ensures)
 
 returns-3 : tie.Need-returns-3
-unfolding patternPending partOf
+unfolding patternPending
 returns-3 c = rw (c .before .enum-told3 .given .1) (c .next-line .ensures)
 
 returns-4 : tie.Need-returns-4
-unfolding patternPending partOf
+unfolding patternPending
 returns-4 c = rw (c .enum-told4 .given .1) refl
 
 pub pattern-pending-spec : {M : Type 1} → statement M
