@@ -7,9 +7,9 @@ use native.Mathlib.Omega.{arith}
 use lib.ListN.{length}
 use Rattle.songcode.specs.Lists.{times}
 use Rattle.songcode.specs.Song as song
-use Rattle.songcode.specs.Song.{Items, Section, Song, Side}
+use Rattle.songcode.specs.Song.{Items, Section, Song, Side, Beat}
 use Rattle.songcode.specs.answer.References.{patternItems}
-use Rattle.songcode.specs.answer.Playing.{Beat, repeats, cutRow, measuresOf}
+use Rattle.songcode.specs.answer.Playing.{repeats, cutRow, measuresOf}
 use Rattle.songcode.specs.answer.Playing.{sideMeasures, keptMeasures, timeOf, played}
 use Rattle.songcode.specs.description.Performance.{total}
 use Rattle.songcode.specs.answer.Meter.{rowFaults, playedFaults, sideFaults, sectionMeter, measuresIn, sideCount, sectionCount}

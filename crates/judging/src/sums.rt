@@ -3,7 +3,7 @@ use super::lengths::arrangement;
 use super::lyrics::Tally;
 use laying::Texts;
 use player::Counts;
-use player::play_section;
+use player::count_section;
 use sections::Modifiers;
 use text::Refusal;
 ghost use mathlib.Core.Path.{_≡_};
@@ -44,31 +44,12 @@ pub fn refused(refusal: Refusal) -> Totals
     }
 }
 
-// A section played into the lent parts of the tables, its first beat at `base`.
-pub fn play(
-    words: &[u32],
-    n: usize,
-    t: Texts,
-    m: Modifiers,
-    base: usize,
-    measures: &mut [u32],
-    beats: &mut [u32],
-) -> Counts
-    requires { ⌜ TextsWithin (now words) n t m base ⌝ }
-    ensures { λ r. ⌜ Plays (rowOfTexts (now (words .entry)) n t m) base r
-        (now (measures .entry)) (now (beats .entry)) (now (measures .exit)) (now (beats .exit)) ⌝ }
-{
-    play_section(words, arrangement(n, t, m), base, measures, beats)
-}
-
 // How many measures and beats a section plays.
 pub fn counts_of(words: &[u32], n: usize, t: Texts, m: Modifiers) -> Counts
     requires { ⌜ TextsWithin (now words) n t m 0 ⌝ }
     ensures { λ r. ⌜ r ≡ countsOf (now (words .entry)) n t m ⌝ }
 {
-    let mut no_measures = [0u32; 1];
-    let mut no_beats = [0u32; 1];
-    play(words, n, t, m, 0, &mut no_measures, &mut no_beats)
+    count_section(words, arrangement(n, t, m))
 }
 
 pub fn totals_of(x: Sums) -> Totals

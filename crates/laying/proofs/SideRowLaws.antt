@@ -14,6 +14,7 @@ use Rattle.songcode.proofs.ListLaws.{Each}
 use Rattle.songcode.proofs.PatternLaws.{none-some}
 use Rattle.songcode.proofs.SideAgree.{side-references, side-sound}
 use Rattle.songcode.proofs.TokensAgree.{text-complete}
+use Rattle.songcode.proofs.WrittenBefore.{appended}
 use Rattle.tokens.specs.TokenWords.{tokenWords}
 use Rattle.tokens.specs.Fitting.{Fit}
 use Rattle.settings.specs.declared.cuts.CutRead.{CutRead}
@@ -43,14 +44,14 @@ side-row (some x) y e clean good = go (sideText (x .text)) refl
         let t = text-complete (w .text) in
         rw z (
           ap tokenWords t,
-          record { words = items-fit r (tokens (x .text)) t good; shallow = w .shallow; plain = side-references r (w .text) (w .unbarred) },
+          record { words = items-fit r (tokens (x .text)) (t ∙ sym (appended r)) good; shallow = w .shallow; plain = side-references r (w .text) (w .unbarred) },
         )
 
 -- A pattern.
 pub pattern-row : (p : Pattern) (ts : List Token) → Shape ts p → Each Good ts → (tokenWords ts ≡ patternRow p) × PatternFits p
 unfolding Shape patternRow itemsRow PatternFits Each Fit Counted
 pattern-row (items r) ts h good = (
-  ap tokenWords (h .0),
+  ap tokenWords (h .0 ∙ appended r),
   record { words = items-fit r ts (h .0) good; shallow = h .1; plain = h .2 },
 )
 pattern-row (named n) ts h good =

@@ -18,10 +18,10 @@ use Rattle.player.proofs.PageLaws.{measure-none, play-none, goes-on, re
 use Rattle.player.proofs.WindowLaws.{window-none}
 use Rattle.player.specs.Page.{Page, Ink, beatBy, beatOf, inked, closeBy, closed, onPage, rested, lookedAt, measureBy, measureOf, play}
 
-abbrev pen-of : ℕ → ℕ → ℕ → ℕ → ℕ → ℕ → Pen
+abbrev pub pen-of : ℕ → ℕ → ℕ → ℕ → ℕ → ℕ → Pen
 pen-of base todo s l m b = record { base = base; todo = todo; skip = s; left = l; m = m; b = b }
 
-abbrev ink-of : Pen → List ℕ → Ink
+abbrev pub ink-of : Pen → List ℕ → Ink
 ink-of p bs = record { pen = p; bs = bs }
 
 abbrev page-of : Pen → List ℕ → List ℕ → Page
@@ -31,11 +31,11 @@ pub sets-append : (t : List ℕ) (i : ℕ) (xs ys : List ℕ) → sets t i (xs +
 sets-append t i [] ys = let e : i + 0 ≡ i = omega arith in rw e
 sets-append t i (x ∷ xs) ys = let e : i + suc (length xs) ≡ suc i + length xs = omega arith in rw e (sets-append (set t i x) (suc i) xs ys)
 
-ink-eq : (base todo m : ℕ) (s s' l l' b b' : ℕ) (bs bs' : List ℕ) → s ≡ s' → l ≡ l' → b ≡ b' → bs ≡ bs'
+pub ink-eq : (base todo m : ℕ) (s s' l l' b b' : ℕ) (bs bs' : List ℕ) → s ≡ s' → l ≡ l' → b ≡ b' → bs ≡ bs'
     → ink-of (pen-of base todo s l m b) bs ≡ ink-of (pen-of base todo s' l' m b') bs'
 ink-eq base todo m s s' l l' b b' bs bs' e f g h = rw (e, f, g, h)
 
-inked-is : (x : List ℕ) (base todo s l m b : ℕ) (bs : List ℕ)
+pub inked-is : (x : List ℕ) (base todo s l m b : ℕ) (bs : List ℕ)
     → inked x (ink-of (pen-of base todo s l m b) bs) ≡ ink-of
     (pen-of base todo (s - length x) (l - (length x - s)) m (b + length (take l (drop s x)))) (sets bs b (take l (drop s x)))
 unfolding inked beatOf beatBy

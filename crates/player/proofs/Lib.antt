@@ -6,6 +6,7 @@ pub mod CopyLaws
 pub mod AgainLaws
 pub mod WalkLaws
 pub mod ContentLaws
+pub mod BarLaws
 pub mod ShortLaws
 pub mod WindowLaws
 pub mod SectionLaws

@@ -77,7 +77,7 @@ unfolding lastingOf
 lasting-length zero v = refl
 lasting-length (suc k) v = ap suc (length-replicate k v)
 
-part-length : (share last w : ℕ) → length (partOf share last w) ≡ share * soundsAs (kindOf w)
+pub part-length : (share last w : ℕ) → length (partOf share last w) ≡ share * soundsAs (kindOf w)
 unfolding partOf soundsAs
 part-length share last w =
     by-cases (eqb (kindOf w) 61) (λ e. rw (e, if_then_else_) (omega arith))

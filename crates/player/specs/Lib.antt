@@ -1,5 +1,6 @@
 -- What the contracts of the player say.
 pub mod Signs
+pub mod Bars
 pub mod Page
 pub mod Again
 pub mod Walks

@@ -1,5 +1,6 @@
 // Plays a pattern that stands as token words in a buffer into lent tables of measures and beats, in a section's N.
 mod again;
+mod bars;
 mod leaves;
 mod measures;
 mod pens;
@@ -11,6 +12,7 @@ pub use pens::Pen;
 pub use playing::Arrangement;
 pub use playing::Counts;
 pub use playing::Plan;
+pub use playing::count_section;
 pub use playing::planned;
 pub use playing::play_part;
 pub use playing::play_section;

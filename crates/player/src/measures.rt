@@ -1,4 +1,6 @@
 // One measure of the text: its positions are looked at once, then sounded, each for its share of N.
+use super::bars::Bar;
+use super::bars::write_bar;
 use super::leaves::chord_after;
 use super::leaves::share_of;
 use super::leaves::sounds;
@@ -12,10 +14,12 @@ use tokens::REMOVER;
 use tokens::is_position;
 use tokens::kind;
 ghost use mathlib.Core.Path.{_≡_};
-ghost use Prim.Native.Nat.{_+_, _-_, _*_, _≤_, _<_};
+ghost use mathlib.Core.Bool.{true};
+ghost use Prim.Native.Nat.{_+_, _-_, _≤_, _<_};
 ghost use lib.ListN.{length};
-ghost use Rattle.player.specs.Signs.{partOf, partsOf, positionsAt, soundingOf, chordsOf};
-ghost use Rattle.player.specs.Page.{Page, Ink, Fine, page, inked, measureOf};
+ghost use Rattle.player.specs.Signs.{partOf, positionsAt, soundingOf, chordsOf};
+ghost use Rattle.player.specs.Bars.{beatsOf, Counted};
+ghost use Rattle.player.specs.Page.{Ink, Fine, page, inked, measureOf};
 ghost use Rattle.player.specs.Walks.{finish, oneOf, endOf};
 
 // Where a walk has come: the place, the last chord, the pen.
@@ -68,31 +72,68 @@ pub fn position(w: u32, share: usize, last: u32, p: Pen, bs: &mut [u32]) -> Pen
     lasting(share, voice(last, w), p, bs)
 }
 
-// The positions from a place on and before another.
-pub fn positions(
-    words: &[u32],
-    to: usize,
-    at: usize,
-    stop: usize,
-    share: usize,
-    last: u32,
-    p: Pen,
-    bs: &mut [u32],
-) -> Pen
-    requires { ⌜ Fine p × (last ≤ 4227858432) × (stop ≡ at + length (positionsAt (now words) to at)) ⌝ }
+// The positions of a measure, beat by beat.
+pub fn positions(words: &[u32], to: usize, bar: Bar, p: Pen, bs: &mut [u32]) -> Pen
+    requires { ⌜ Fine p × Counted (now words) to bar ⌝ }
     ensures { λ r. ⌜ _≡_ {A = Ink} (record { pen = r; bs = now (bs .exit) })
-        (inked (partsOf share last (positionsAt (now (words .entry)) to at)) (record { pen = p; bs = now (bs .entry) })) ⌝ }
+        (inked (beatsOf (now (words .entry)) to bar) (record { pen = p; bs = now (bs .entry) })) ⌝ }
 {
     let mut q = p;
-    let mut l = last;
-    let mut i = at;
-    while i < stop {
+    let mut l = bar.last;
+    let mut i = bar.at;
+    while i < bar.stop {
         let w = word_at(words, to, i);
-        q = position(w, share, l, q, bs);
+        q = position(w, bar.share, l, q, bs);
         l = chord_after(l, w);
         i += 1;
     }
     q
+}
+
+// Whether so many beats are all to be written, and the table has room for all of them or for none.
+fn is_whole(p: Pen, beats: usize, room: usize) -> bool
+    ensures { λ r. ⌜ (r ≡ true → (p .skip ≤ 0) × (beats ≤ p .left) × (p .b < room → p .b + beats ≤ room)) ⌝ }
+{
+    if 0 < p.skip || p.left < beats {
+        return false;
+    }
+    if p.b < room {
+        return beats <= room - p.b;
+    }
+    true
+}
+
+// The pen behind so many beats that are written.
+fn advanced(p: Pen, beats: usize) -> Pen
+    requires { ⌜ Fine p × (beats ≤ p .left) ⌝ }
+    ensures { λ r. ⌜ r ≡ record { base = p .base; todo = p .todo; skip = p .skip; left = p .left - beats; m = p .m; b = p .b + beats } ⌝ }
+{
+    Pen {
+        base: p.base,
+        todo: p.todo,
+        skip: p.skip,
+        left: p.left - beats,
+        m: p.m,
+        b: p.b + beats,
+    }
+}
+
+// The same positions; where all their beats are written, nothing is asked of each, and where the table is full, they cost nothing.
+pub fn played(words: &[u32], to: usize, bar: Bar, p: Pen, bs: &mut [u32]) -> Pen
+    requires { ⌜ Fine p × Counted (now words) to bar ⌝ }
+    ensures { λ r. ⌜ _≡_ {A = Ink} (record { pen = r; bs = now (bs .exit) })
+        (inked (beatsOf (now (words .entry)) to bar) (record { pen = p; bs = now (bs .entry) })) ⌝ }
+{
+    let beats = bar.share * bar.sounding;
+    let room = bs.len();
+    if !is_whole(p, beats, room) {
+        return positions(words, to, bar, p, bs);
+    }
+    if p.b < room {
+        write_bar(words, to, bar, p.b, bs);
+        return advanced(p, beats);
+    }
+    advanced(p, beats)
 }
 
 // A measure fewer to be looked at, and so many beats to be passed over.
@@ -110,32 +151,21 @@ fn begun(p: Pen, skip: usize) -> Pen
     }
 }
 
-// A measure whose positions were seen, if one is still to be looked at. One that is passed over as a whole costs nothing for its beats.
-pub fn sounded(
-    words: &[u32],
-    to: usize,
-    at: usize,
-    share: usize,
-    last: u32,
-    seen: Seen,
-    p: Pen,
-    ms: &mut [u32],
-    bs: &mut [u32],
-) -> Pen
-    requires { ⌜ Fine p × (last ≤ 4227858432) × (seen .stop ≡ at + length (positionsAt (now words) to at))
-        × (seen .sounding ≡ soundingOf (positionsAt (now words) to at)) × (share * seen .sounding ≤ 32) ⌝ }
-    ensures { λ r. ⌜ _≡_ {A = Page} (record { pen = r; ms = now (ms .exit); bs = now (bs .exit) })
-        (measureOf (partsOf share last (positionsAt (now (words .entry)) to at)) (record { pen = p; ms = now (ms .entry); bs = now (bs .entry) })) ⌝ }
+// A measure, if one is still to be looked at. One that is passed over as a whole costs nothing for its beats.
+pub fn sounded(words: &[u32], to: usize, bar: Bar, p: Pen, ms: &mut [u32], bs: &mut [u32]) -> Pen
+    requires { ⌜ Fine p × Counted (now words) to bar ⌝ }
+    ensures { λ r. ⌜ page r (now (ms .exit)) (now (bs .exit))
+        ≡ measureOf (beatsOf (now (words .entry)) to bar) (page p (now (ms .entry)) (now (bs .entry))) ⌝ }
 {
     if p.todo == 0 {
         return p;
     }
-    let beats = share * seen.sounding;
+    let beats = bar.share * bar.sounding;
     if beats <= p.skip {
         return resting(begun(p, p.skip - beats));
     }
     let from = p.b;
-    let q = positions(words, to, at, seen.stop, share, last, begun(p, p.skip), bs);
+    let q = played(words, to, bar, begun(p, p.skip), bs);
     resting(close(from, q, ms))
 }
 
@@ -154,8 +184,16 @@ pub fn measure(
     ensures last { λ r. ⌜ r .last ≤ 4227858432 ⌝ }
 {
     let seen = look(words, to, from.at, from.last);
-    let share = share_of(n, seen.stop - from.at);
-    let pen = sounded(words, to, from.at, share, from.last, seen, from.pen, ms, bs);
+    let count = seen.stop - from.at;
+    let share = share_of(n, count);
+    let bar = Bar {
+        at: from.at,
+        stop: seen.stop,
+        sounding: seen.sounding,
+        share,
+        last: from.last,
+    };
+    let pen = sounded(words, to, bar, from.pen, ms, bs);
     Walk {
         at: seen.stop,
         last: seen.last,

@@ -260,6 +260,16 @@ pub fn play_section(
     play_window(words, a, opening(base, 0, 2097120 - base), ms, bs)
 }
 
+// How many measures and beats a section plays: it is played into tables that have no room.
+pub fn count_section(words: &[u32], a: Arrangement) -> Counts
+    requires { ⌜ PlaysWithin (now words) a 0 ⌝ }
+    ensures { λ c. ⌜ (c .measures ≡ length (arrangedRow (now (words .entry)) a)) × (c .beats ≡ total (arrangedRow (now (words .entry)) a)) ⌝ }
+{
+    let mut no_measures = [0u32; 0];
+    let mut no_beats = [0u32; 0];
+    play_section(words, a, 0, &mut no_measures, &mut no_beats)
+}
+
 // A part of a section: behind `from` of its beats, as many as the table of beats holds. Its measures name their beats in that table.
 pub fn play_part(
     words: &[u32],

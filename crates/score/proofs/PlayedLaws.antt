@@ -10,11 +10,12 @@ use Rattle.songcode.specs.Lists.{if_then_else_}
 use Rattle.songcode.specs.Song.{chord, again, silence, Sounds, only, also, Item, measure, loop, refer, Items, one, next}
 use Rattle.songcode.specs.answer.Tokens.{Token, sound, reference, closes}
 use Rattle.songcode.specs.answer.PatternText.{referencesI, references}
-use Rattle.songcode.specs.description.WrittenPattern.{writeSounds, writeRemovers, writeMeasure, writeSeparator, writeItem, writeItems}
+use Rattle.songcode.proofs.WrittenBefore.{writeSounds, writeRemovers, writeMeasure, writeSeparator, writeItem, writeItems}
 use Rattle.songcode.proofs.ListLaws.{append-is-nil, nil-is-not-cons}
 use Rattle.tokens.specs.TokenWords.{chordWord, tokenWord, tokenWords}
 use Rattle.tokens.specs.Signs.{kindOf, numberOf}
 use Rattle.score.specs.declared.stretches.Stretch.{Stretch}
+use Rattle.score.proofs.StandingLaws.{stands-written}
 use Rattle.score.specs.Places.{wordOf, stretchOf, playedText}
 use Rattle.score.specs.Standing.{ChordFits, ChordsFit, ItemFits, ItemsFit, Stands}
 use Rattle.score.specs.Fitting.{PlainFits}
@@ -65,10 +66,9 @@ module _ (ws : List ℕ) (t : Stretch) where
 
   -- Items without a reference, and a name.
   pub plain-word : (r : Items) → PlainFits r → Stands ws t r → kindOf (wordOf ws (t .to) (t .from)) ≡ 55 → ⊥
-  unfolding Stands
   plain-word r f h e =
       let b = items-begin r [] (f .words) (f .plain) in
-      b .plain (ap kindOf (sym (first-word (b .first) (b .others) (h ∙ b .split))) ∙ e)
+      b .plain (ap kindOf (sym (first-word (b .first) (b .others) (stands-written ws t r h ∙ b .split))) ∙ e)
 
   pub named-word : (n : ℕ) → n ≤ 9999 → drop (t .from) (take (t .to) ws) ≡ tokenWords (reference n ∷ [])
       → (kindOf (wordOf ws (t .to) (t .from)) ≡ 55) × (numberOf (wordOf ws (t .to) (t .from)) ≡ n)

@@ -11,13 +11,13 @@ use Rattle.songcode.specs.answer.Tokens.{reference}
 use Rattle.songcode.specs.answer.Playing.{timeOf, bpmOf, repeats}
 use Rattle.songcode.specs.answer.Lyrics.{Styled, wordsOf, styled, countOf}
 use Rattle.songcode.specs.answer.Tables.{offset}
-use Rattle.songcode.specs.description.WrittenPattern.{writeItems}
+use Rattle.songcode.specs.description.WrittenPattern.{itemsTokens}
 use Rattle.tokens.specs.TokenWords.{tokenWords}
 
 -- The words of items as they are written.
 unfoldable pub itemsRow : Items → List ℕ
-unfolding tokenWords writeItems
-itemsRow r = tokenWords (writeItems r [])
+unfolding tokenWords itemsTokens
+itemsRow r = tokenWords (itemsTokens r)
 
 -- A lead-in or tail; a pattern, of which a name is one word.
 unfoldable pub sideRow : Option Side → List ℕ

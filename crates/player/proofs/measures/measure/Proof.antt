@@ -1,3 +1,4 @@
+-- The positions are counted, then sounded.
 use Rattle.player.proofs.LookLaws.{few-beats, one-done}
 use Rattle.player.specs.Signs.{positionsAt}
 use borrow.Author.Needs.{needs}
@@ -10,11 +11,13 @@ sounded-requires c κs =
     let a = q .args in
     let k = c .before .before .before .before .before .look in (
       q .pre .0,
-      q .pre .1,
-      k .ensures .0,
-      k .ensures .1 .0,
-      few-beats (a .n) (a .from .at) (k .result .stop) (k .result .sounding) (c .before .before .share-of .result)
-          (positionsAt (a .words .now) (a .to) (a .from .at)) (k .ensures .0) (k .ensures .1 .0) (c .before .before .share-of .ensures) (q .pre .2),
+      record {
+        last = q .pre .1;
+        stop = k .ensures .0;
+        sounding = k .ensures .1 .0;
+        few = few-beats (a .n) (a .from .at) (k .result .stop) (k .result .sounding) (c .before .before .share-of .result)
+            (positionsAt (a .words .now) (a .to) (a .from .at)) (k .ensures .0) (k .ensures .1 .0) (c .before .before .share-of .ensures) (q .pre .2);
+      },
     )
 
 returns : tie.Need-returns
