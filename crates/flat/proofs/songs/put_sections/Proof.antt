@@ -5,10 +5,8 @@ use mathlib.Core.List.{List}
 use native.Mathlib.Omega.{arith}
 use lib.ListN.{length}
 use Rattle.songcode.specs.Song.{Section}
-use Rattle.songcode.specs.answer.Playing.{timeOf}
-use Rattle.songcode.specs.answer.Answer.{songOf}
 use Rattle.songcode.proofs.ListLaws.{Each}
-use Rattle.sections.specs.Onward.{Onward, sectionsFrom, sectionAt}
+use Rattle.sections.specs.Onward.{Onward, sectionsFrom}
 use Rattle.judging.proofs.AheadLaws.{Ahead, ahead-start, ahead-low}
 use Rattle.flat.specs.Measures.{Lent}
 use Rattle.flat.specs.Blocks.{flatFrom, putBlocks}
@@ -35,19 +33,68 @@ abbrev μ-loop : tie.MeasureT-loop
 μ-loop s words measures₀ beats₀ copy₀ at place₀ row₀ out₀ measures beats copy place row out = length s - place .at
 
 loop-holds : tie.Need-loop-holds Inv-loop μ-loop
-loop-holds c = ?a
+loop-holds c =
+    let q = c .before .before .before .before .before in
+    let s = q .args .s .now in
+    let begins = q .pre .0 .2 in
+    let l = q .pre .0 .3 in
+    let all = sym (begins .sections) in (
+      q .args .rows .to,
+      subst (λ (xs : List Section). Ahead s (q .args .words .now) (q .args .rows .from) (q .args .rows .to) 0 0 xs) all
+          (ahead-start (l .row) (l .fits) (l .clear .meters) (l .clear .lengths)),
+      begins .onward,
+      subst (λ (xs : List Section). Each (HeardIn s) xs) all (heard-all s (q .pre .0 .0) (q .pre .0 .1) (l .clear)),
+      q .pre .1,
+      refl,
+      refl,
+      refl,
+      refl,
+    )
 
 section-at-requires : tie.Need-section-at-requires Inv-loop μ-loop
-section-at-requires c κs = ?b
+section-at-requires c κs = let h = ahead-low (c .before .before .before .loop .inv .1) in omega arith
 
 put-section-requires : tie.Need-put-section-requires Inv-loop μ-loop
-put-section-requires c κs = ?c
+unfolding Each
+put-section-requires c κs =
+    let y = c .before .before .before .before in
+    let l = y .before .before .before .before .loop in
+    let q = y .before .before .before .before .before .before .before .before .before .before in
+    let s = q .args .s .now in
+    let first = y .before .pass .ensures .first in
+    let heard = subst (λ (xs : List Section). Each (HeardIn s) xs) first (l .inv .3) .0 in
+    let p = seen-plays (q .pre .0 .3 .ready) first (l .inv .1) (y .section-at .ensures) (c .before .before .before .arrangement-in .ensures) in
+    ((l .inv .2, y .before .before .if1 .taken), (p .0, (p .1, (p .2, (heard, l .inv .4)))))
 
 loop-again : tie.Need-loop-again Inv-loop μ-loop
-loop-again c = ?d
+unfolding Each
+loop-again c =
+    let y = c .before .before .before .before .before .before .before .before .before .before .before .before in
+    let l = y .before .before .before .before .loop in
+    let q = y .before .before .before .before .before .before .before .before .before .before in
+    let s = q .args .s .now in
+    let met = y .before .pass in
+    let done = c .before .before .before .before .before .before .before .put-section in (
+      l .inv .0,
+      seen-next (q .pre .0 .3 .ready) (met .ensures .first) (l .inv .1) (y .section-at .ensures),
+      met .ensures .onward,
+      subst (λ (xs : List Section). Each (HeardIn s) xs) (met .ensures .first) (l .inv .3) .1,
+      done .ensures .1,
+      done .kept .1 .1 .1 .1 .0 ∙ l .inv .5,
+      done .kept .1 .1 .1 .1 .1 .0 ∙ l .inv .6,
+      done .kept .1 .1 .1 .1 .1 .1 .0 ∙ l .inv .7,
+      ap (putBlocks (flatFrom s (met .result .next))) (done .ensures .0) ∙ sym (blocks-next s (l .place) (met .result .next) _ (met .ensures .opened))
+          ∙ l .inv .8,
+    )
 
 returns : tie.Need-returns Inv-loop μ-loop
-returns c = ?e
+returns c =
+    let l = c .before .before .loop in
+    let s = c .before .before .before .before .before .before .before .before .args .s .now in
+    sym (none-left s (l .place) _ (c .if1 .left)) ∙ l .inv .8
 
 pub put-sections-spec : {M : Type 1} → statement M
-put-sections-spec = ?f
+put-sections-spec =
+    tie.close
+    (tie.spec Inv-loop μ-loop loop-holds (λ c κs. (c .before .before .loop .inv .2, c .if1 .taken)) section-at-requires (λ c κs. search needs)
+    put-section-requires (λ c. search needs) loop-again (λ c. search needs) (λ c. search needs) (λ c. search needs) returns)
