@@ -10,7 +10,7 @@ use Rattle.songcode.specs.answer.Tokens.{Token, tokens}
 use Rattle.songcode.specs.answer.PatternText.{depth, loopsDeep, references, sideText}
 use Rattle.songcode.specs.answer.References.{patternItems}
 use Rattle.songcode.specs.answer.Playing.{measuresOf}
-use Rattle.songcode.proofs.WrittenBefore.{writeItems}
+use Rattle.songcode.proofs.WrittenBefore.{writeItems, appended}
 use Rattle.songcode.proofs.ListLaws.{Each}
 use Rattle.songcode.proofs.PatternLaws.{none-some}
 use Rattle.songcode.proofs.SideAgree.{side-references, side-sound}
@@ -72,7 +72,7 @@ module _ (ws : List ℕ) (find : ℕ → Outline) (t : Stretch) where
       go (some r) f =
           let w = side-sound (x .text) r f in
           let z : y ≡ some (record { line = x .line; items = r }) = sym e ∙ rw f refl in
-          rw z (plain-carries r (tokens (x .text)) (text-complete (w .text)) good (w .shallow) (side-references r (w .text) (w .unbarred)) stands)
+          rw z (plain-carries r (tokens (x .text)) (text-complete (w .text) ∙ sym (appended r)) good (w .shallow) (side-references r (w .text) (w .unbarred)) stands)
 
   -- A pattern that names nothing.
   pub items-carries : (ds : List Definition) (p : Pattern) (ts : List Token) → Names p 0 → Shape ts p → Each Good ts

@@ -45,6 +45,12 @@ take-capped m row h =
     (λ e. let l = leb-false m 65536 e in let z : min m 65536 ≡ 65536 =
     omega arith in rw z (take-all 65536 row (omega arith) ∙ sym (take-all m row (omega arith))))
 
+-- All measures, counted up to 65,536 of them.
+pub tallied-all : (row : List (List ℕ)) (a b : ℕ) → length row ≤ 65535 → a ≡ min 65536 (length row) → b ≡ total (take 65536 row) → b ≡ total (take a row)
+tallied-all row a b h e f =
+    let z : a ≡ length row = omega arith in
+    f ∙ ap total (take-all 65536 row (omega arith) ∙ sym (rw z (take-all (length row) row (omega arith))))
+
 pub planned-is : (row : List (List ℕ)) (f k : Cut) (a j x i y u v : ℕ) → length row ≤ 65535 → a ≡ min 65536 (length row)
     → j ≡ min (f .measures .0) 65536 → x ≡ total (take j row) → i ≡ a - k .measures .0
     → y ≡ total (take i row) → u ≡ y - k .beats .0 → v ≡ u - (x + f .beats .0)

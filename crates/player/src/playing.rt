@@ -98,6 +98,29 @@ pub fn tally(words: &[u32], a: Arrangement, k: usize) -> Counts
     Counts { measures, beats }
 }
 
+// The beats of the first k measures; nothing is walked for none.
+fn beats_before(words: &[u32], a: Arrangement, k: usize) -> usize
+    requires { ⌜ (a .n ≤ 32) × (k ≤ 65536) ⌝ }
+    ensures { λ b. ⌜ (b ≡ total (take k (repeatedRow (now (words .entry)) a))) × (b ≤ 2097152) ⌝ }
+{
+    if k == 0 {
+        return 0;
+    }
+    let first = tally(words, a, k);
+    first.beats
+}
+
+// The beats of all measures but so many at the end, where all of them were counted.
+fn beats_but(words: &[u32], a: Arrangement, all: Counts, cut: usize) -> usize
+    requires { ⌜ (a .n ≤ 32) × (all .measures ≤ 65536) × (all .beats ≡ total (take (all .measures) (repeatedRow (now words) a))) × (all .beats ≤ 2097152) ⌝ }
+    ensures { λ b. ⌜ (b ≡ total (take (all .measures - cut) (repeatedRow (now (words .entry)) a))) × (b ≤ 2097152) ⌝ }
+{
+    if cut == 0 {
+        return all.beats;
+    }
+    beats_before(words, a, minus(all.measures, cut))
+}
+
 // The two cuts as two numbers.
 pub fn planned(words: &[u32], a: Arrangement) -> Plan
     requires { ⌜ Countable (now words) a ⌝ }
@@ -108,10 +131,9 @@ pub fn planned(words: &[u32], a: Arrangement) -> Plan
     let front = a.front;
     let back = a.back;
     let all = tally(words, a, 65536);
-    let f = tally(words, a, least(front.measures.0, 65536));
-    let e = tally(words, a, minus(all.measures, back.measures.0));
-    let first = f.beats + front.beats.0;
-    let left = minus(minus(e.beats, back.beats.0), first);
+    let first = beats_before(words, a, least(front.measures.0, 65536)) + front.beats.0;
+    let last = beats_but(words, a, all, back.measures.0);
+    let left = minus(minus(last, back.beats.0), first);
     Plan {
         todo: all.measures,
         skip: first,
