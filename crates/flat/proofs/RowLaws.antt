@@ -50,12 +50,12 @@ module _ {s ws : List ℕ} {mark at end : ℕ} {x : Section} {xs : List Section}
       let h = here e in (
         (λ t. let w : playsNothing (songOf s) x ≡ true = h ∙ t in sym (rw w at (sym (l .same)))),
         λ t.
-        let w : playsNothing (songOf s) x ≡ false = h ∙ t in
-        record {
-          ahead = subst (λ (p : ℕ). Ahead s ws p end 0 0 xs) (sym (ap (λ (u : View). u .next) is)) (ahead-alone (ahead-next ready (l .ahead)));
-          silent = l .silent .1;
-          same = rw w at (l .same);
-        },
+            let w : playsNothing (songOf s) x ≡ false = h ∙ t in
+            record {
+              ahead = subst (λ (p : ℕ). Ahead s ws p end 0 0 xs) (sym (ap (λ (u : View). u .next) is)) (ahead-alone (ahead-next ready (l .ahead)));
+              silent = l .silent .1;
+              same = rw w at (l .same);
+            },
       )
 
 -- A section that is seen where its block begins.

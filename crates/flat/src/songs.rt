@@ -169,5 +169,14 @@ pub fn put_copy(s: &[u8], first: Place, words: &[u32], rows: Stretch, copy: &mut
     let keyed = put_metadata(s, copy);
     let empty = has_empty(s, words, rows);
     let begun = put_empty(empty, copy, keyed);
-    put_sections(s, first, words, rows, &mut measures, &mut beats, copy, begun)
+    put_sections(
+        s,
+        first,
+        words,
+        rows,
+        &mut measures,
+        &mut beats,
+        copy,
+        begun,
+    )
 }

@@ -18,7 +18,8 @@ copy-chart-requires : tie.Need-copy-chart-requires
 copy-chart-requires c κs =
     let judged = c .before .before .before .before .before .before .before .before in
     let q = judged .before .before .before .before .before in
-    (q .pre .0, q .pre .1, judged .judge .ensures .writable (c .before .before .if1 .left))
+    let w = judged .judge .ensures .writable (c .before .before .if1 .left) in
+    (q .pre .0, q .pre .1, w .begins, w .laid)
 
 pub copy-song-spec : {M : Type 1} → statement M
 copy-song-spec =

@@ -29,8 +29,18 @@ abbrev μ-loop : tie.MeasureT-loop
 μ-loop s words count sections₀ measures₀ beats₀ items₀ end at₀ k₀ m₀ b₀ i₀ sections measures beats items at k m b i = end - at
 
 loop-holds : tie.Need-loop-holds Inv-loop μ-loop
-loop-holds c = let q = c .before .before .before .before .before .before in (_, midway-start _ (q .pre .0 .0) (q .pre .0 .1), refl, refl, refl, refl, omega
-    arith, omega arith, omega arith)
+loop-holds c = let q = c .before .before .before .before .before .before in (
+  _,
+  midway-start _ (q .pre .0 .0) (q .pre .0 .1),
+  refl,
+  refl,
+  refl,
+  refl,
+  omega
+      arith,
+  omega arith,
+  omega arith,
+)
 
 section-at-requires : tie.Need-section-at-requires Inv-loop μ-loop
 section-at-requires c κs = let h = ahead-low (c .before .loop .inv .1 .ahead) in omega arith
@@ -90,15 +100,23 @@ room c =
     omega (arith, l .inv .2)
 
 mul-sections : tie.Need-mul-sections Inv-loop μ-loop
-mul-sections c = omega (arith, room (c .before .before .before .before .before .before .before .before .before), small (c .before .before .before .before
-    .before .before .before .before .before .before) .0)
+mul-sections c = omega (
+  arith,
+  room (c .before .before .before .before .before .before .before .before .before),
+  small (c .before .before .before .before
+      .before .before .before .before .before .before) .0,
+)
 
 slice-write-sections : tie.Need-slice-write-sections Inv-loop μ-loop
 slice-write-sections c = room (c .before .before .before .before .before .before .before .before .before)
 
 mul-write-lyrics : tie.Need-mul-write-lyrics Inv-loop μ-loop
-mul-write-lyrics c = omega (arith, small (c .before .before .before .before .before .before .before .before .before .before .before) .1, c .before .before
-    .before .before .before .before .before .before .before .before .before .before .loop .inv .8)
+mul-write-lyrics c = omega (
+  arith,
+  small (c .before .before .before .before .before .before .before .before .before .before .before) .1,
+  c .before .before
+      .before .before .before .before .before .before .before .before .before .before .loop .inv .8,
+)
 
 write-lyrics-requires : tie.Need-write-lyrics-requires Inv-loop μ-loop
 write-lyrics-requires c κs =
@@ -126,8 +144,12 @@ add-i c =
     omega (arith, c .before .before .write-lyrics .ensures .1, small (y .before) .1)
 
 add-k : tie.Need-add-k Inv-loop μ-loop
-add-k c = omega (arith, room (c .before .before .before .before .before .before .before .before .before .before .before .before .before .before), small (c
-    .before .before .before .before .before .before .before .before .before .before .before .before .before .before .before) .0)
+add-k c = omega (
+  arith,
+  room (c .before .before .before .before .before .before .before .before .before .before .before .before .before .before),
+  small (c
+      .before .before .before .before .before .before .before .before .before .before .before .before .before .before .before) .0,
+)
 
 add-m : tie.Need-add-m Inv-loop μ-loop
 add-m c =
