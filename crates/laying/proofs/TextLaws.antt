@@ -72,7 +72,8 @@ module _ (ws : List ℕ) (find : ℕ → Outline) (t : Stretch) where
       go (some r) f =
           let w = side-sound (x .text) r f in
           let z : y ≡ some (record { line = x .line; items = r }) = sym e ∙ rw f refl in
-          rw z (plain-carries r (tokens (x .text)) (text-complete (w .text) ∙ sym (appended r)) good (w .shallow) (side-references r (w .text) (w .unbarred)) stands)
+          let written = text-complete (w .text) ∙ sym (appended r) in
+          rw z (plain-carries r (tokens (x .text)) written good (w .shallow) (side-references r (w .text) (w .unbarred)) stands)
 
   -- A pattern that names nothing.
   pub items-carries : (ds : List Definition) (p : Pattern) (ts : List Token) → Names p 0 → Shape ts p → Each Good ts
