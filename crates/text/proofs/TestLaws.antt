@@ -4,19 +4,13 @@ use mathlib.Core.Path.{_≡_, sym, ap, _∙_}
 use mathlib.Core.List.{List, [], _∷_, map, head-eq-of-cons-eq, tail-eq-of-cons-eq}
 use mathlib.Core.Bool.{true, false}
 use native.Mathlib.Omega.{arith}
-use borrow.Author.Tests.{le-leb, eqb-true, eqb-false}
+use borrow.Author.Tests.{eqb-true, eqb-false}
 use lib.Dec.{eqb}
 use lib.ListN.{replicate}
-use Rattle.songcode.specs.answer.Characters.{within}
 use Rattle.songcode.proofs.ListLaws.{by-cases}
 
 pub false-not-true : false ≡ true → ⊥
 false-not-true h = let z : _≡_ {A = ℕ} 0 1 = cc in omega arith
-
--- A number as a test sees it.
-pub within-true : (low high b : ℕ) → low ≤ b → b ≤ high → within low high b ≡ true
-unfolding within
-within-true low high b p q = simp (le-leb _ _ p, le-leb _ _ q)
 
 -- So many numbers, from this one on.
 unfoldable pub upFrom : ℕ → ℕ → List ℕ

@@ -23,6 +23,8 @@ use Rattle.text.specs.Spans.{part, frontBlanks}
 use Rattle.text.specs.Spans as text
 use Rattle.text.proofs.WalkLaws.{part-length}
 use Rattle.tokens.specs.Lexing.{plainClass, isPlain, plainLength, tokensFrom}
+use Rattle.tokens.specs.Bases.{isLetter}
+use Rattle.tokens.proofs.RowLaws.{letter-range}
 use Rattle.tokens.proofs.PartLaws.{part-cons, part-none, part-drop}
 use Rattle.tokens.proofs.WordLaws.{number-placed}
 
@@ -250,6 +252,13 @@ module _ (s : List ℕ) (a stop : ℕ) where
 pub plain-byte : (b : ℕ) → text.blank b ≡ false → (b ≡ 59 → ⊥) → (b ≡ 58 → ⊥) → (b ≡ 91 → ⊥) → (b ≡ 93 → ⊥) → isPlain b ≡ true
 unfolding isPlain class isByte if_then_else_ plainClass
 plain-byte b e p q r t = rw (e, ne-eqb b 59 p, ne-eqb b 58 q, ne-eqb b 91 r, ne-eqb b 93 t)
+
+pub letter-plain : (b : ℕ) → isLetter b ≡ true → isPlain b ≡ true
+unfolding isBlank
+letter-plain b l =
+    let r = letter-range b l in
+    plain-byte b (rw (ne-eqb b 32 (λ z. omega arith), ne-eqb b 9 (λ z. omega arith)))
+    (λ z. omega arith) (λ z. omega arith) (λ z. omega arith) (λ z. omega arith)
 
 pub blank-not-plain : (b : ℕ) → text.blank b ≡ true → isPlain b ≡ false
 unfolding isPlain class if_then_else_ plainClass

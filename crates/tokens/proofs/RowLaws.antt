@@ -6,7 +6,7 @@ use mathlib.Core.Bool.{Bool, true, false, _&&_}
 use mathlib.Core.Option.{Option, none}
 use native.Mathlib.Omega.{arith}
 use native.Mathlib.Numerals.{add-one}
-use borrow.Author.Tests.{leb-true, eqb-true, eqb-false, ne-eqb}
+use borrow.Author.Tests.{leb-true, le-leb, eqb-true, eqb-false, ne-eqb}
 use lib.Dec.{eqb, leb}
 use lib.ListN.{getD, drop, drop-of-length-le}
 use lib.Seq.{drop-cons, getD-drop}
@@ -17,7 +17,7 @@ use Rattle.songcode.specs.answer.Chords as songcode
 use Rattle.songcode.proofs.ListLaws.{by-cases, both-pass}
 use Rattle.text.proofs.TestLaws.{false-not-true}
 use Rattle.tokens.specs.declared.bases.Behind.{Behind}
-use Rattle.tokens.specs.Bases.{baseOf, firstOf, rowOf, minorOf, behindOf, hasBehind, six, placeFrom, inRow}
+use Rattle.tokens.specs.Bases.{baseOf, isLetter, firstOf, rowOf, minorOf, behindOf, hasBehind, six, placeFrom, inRow}
 
 -- The code's table: the rows of songcode, each spelling padded to three bytes and each row to six spellings.
 abbrev three : List ℕ → List ℕ
@@ -177,6 +177,14 @@ held (c ∷ t) =
     (λ m. held-other c t s f m)))
 
 -- A byte is one of the seven letters or none of them.
+pub letter-range : (b : ℕ) → isLetter b ≡ true → (65 ≤ b) × (b ≤ 71)
+unfolding isLetter
+letter-range b e = let p = both-pass (leb 65 b) (leb b 71) e in (leb-true 65 b (p .0), leb-true b 71 (p .1))
+
+pub not-letter : (b : ℕ) → isLetter b ≡ false → 65 ≤ b → b ≤ 71 → ⊥
+unfolding isLetter
+not-letter b e p q = false-not-true (sym e ∙ simp (le-leb 65 b p, le-leb b 71 q))
+
 pub no-letter : (b : ℕ) → 65 ≤ b → b ≤ 71 → (b ≡ 65 → ⊥) → (b ≡ 66 → ⊥) → (b ≡ 67 → ⊥) → (b ≡ 68 → ⊥) → (b ≡ 69 → ⊥) → (b ≡ 70 → ⊥) → (b ≡ 71 → ⊥) → ⊥
 no-letter b l h =
     let k : b - 65 < 7 = omega arith in

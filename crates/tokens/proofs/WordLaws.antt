@@ -22,11 +22,12 @@ use Rattle.text.specs.Spans.{part}
 use Rattle.text.proofs.WalkLaws.{part-length}
 use Rattle.tokens.specs.declared.bases.Base.{Base}
 use Rattle.tokens.specs.declared.numbers.Number.the-variants.{Is, Not}
-use Rattle.tokens.specs.Bases.{baseOf}
+use Rattle.tokens.specs.Bases.{baseOf, isLetter}
 use Rattle.tokens.specs.Decimals.{numberOf}
 use Rattle.tokens.specs.TokenWords.{tokenWord, chordWord}
 use Rattle.tokens.specs.Lexing.{isSlipByte}
 use Rattle.tokens.proofs.BaseLaws.{Fits, longest-fits}
+use Rattle.tokens.proofs.RowLaws.{letter-range, not-letter, no-row}
 use Rattle.tokens.proofs.TakenLaws.{slips-placed}
 use Rattle.tokens.proofs.PartLaws.{placed-drop}
 
@@ -203,6 +204,22 @@ module _ (a : ℕ) (w : List ℕ) where
         unfolding placed isByte
         word-chord b v e n =
             rw (word-other, e) (ap tokenWord (sym (dollar-chord (record { place = a; value = b }) (placed (suc a) v) (ne-eqb b 36 n))))
+
+-- A word that begins with one of the letters is no sign and no reference; one that does not is no chord.
+other-sign : (sign b : ℕ) (v : List ℕ) → (b ≡ sign → ⊥) → false ≡ same (sign ∷ []) (b ∷ v)
+unfolding same
+other-sign sign b v n = rw (ne-eqb sign b (λ z. n (sym z)))
+
+pub word-letter : (a b : ℕ) (v w : List ℕ) → w ≡ b ∷ v → isLetter b ≡ true → tokenWord (chordToken (chordIn (placed a w))) ≡ tokenWord (wordToken (placed a w))
+word-letter a b v w e l =
+    let r = letter-range b l in
+    rw e
+    (word-chord a (b ∷ v) (other-sign 37 b v (λ z. omega arith)) (other-sign 95 b v (λ z. omega arith)) (other-sign 61 b v (λ z. omega arith)) b v refl
+    (λ z. omega arith))
+
+pub chord-no-letter : (a b : ℕ) (v w : List ℕ) → w ≡ b ∷ v → isLetter b ≡ false → 54 * 2 ^ 26 ≡ tokenWord (chordToken (chordIn (placed a w)))
+unfolding baseOf
+chord-no-letter a b v w e l = rw e (chord-none a (b ∷ v) _ (ap baseOf (sym (no-row (b ∷ v) (not-letter b l)))) refl)
 
 -- A word of one byte.
 pub sign-long : (sign : ℕ) (w : List ℕ) → (length w ≡ 1 → ⊥) → false ≡ same (sign ∷ []) w

@@ -4,7 +4,7 @@ use Prim.Native.Char.{code}
 use mathlib.Core.List.{List, [], _∷_}
 use mathlib.Core.Bool.{Bool, _&&_, not}
 use mathlib.Core.Option.{Option, none, some}
-use lib.Dec.{eqb, ltb}
+use lib.Dec.{eqb, leb, ltb}
 use lib.ListN.{getD, drop}
 use Rattle.songcode.specs.Lists.{if_then_else_}
 use Rattle.songcode.specs.Bytes.{begins, ascii}
@@ -17,6 +17,10 @@ use Rattle.tokens.specs.declared.bases.Behind.{Behind}
 unfoldable pub baseOf : Option songcode.Base → Base
 baseOf none = record { number = 0; length = 0 }
 baseOf (some b) = record { number = b .number; length = b .length }
+
+-- A letter that has a row.
+unfoldable pub isLetter : ℕ → Bool
+isLetter b = leb (code "A") b && leb b (code "G")
 
 -- A spelling without the zeros that pad it.
 unfoldable pub unpadded : List ℕ → List ℕ

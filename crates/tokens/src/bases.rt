@@ -7,7 +7,7 @@ ghost use Prim.Native.Nat.{_≤_, _<_};
 ghost use lib.ListN.{drop};
 ghost use Rattle.songcode.specs.Bytes.{placed};
 ghost use Rattle.songcode.specs.answer.Chords.{bases, spellingOf, isTaken, longestFrom, isBase};
-ghost use Rattle.tokens.specs.Bases.{baseOf, unpadded, rowOfNumber, minorOf, behindOf, hasBehind, six, placeFrom, inRow};
+ghost use Rattle.tokens.specs.Bases.{baseOf, unpadded, rowOfNumber, isLetter, minorOf, behindOf, hasBehind, six, placeFrom, inRow};
 
 // What pads a row of less than six.
 const NONE: [u8; 3] = *b"\0\0\0";
@@ -31,6 +31,13 @@ const ROWS: [[[u8; 3]; 6]; 7] = [ROW_A, ROW_B, ROW_C, ROW_D, ROW_E, ROW_F, ROW_G
 
 // The number of the first base chord of each row.
 const FIRSTS: [usize; 7] = [0, 6, 10, 14, 20, 24, 28];
+
+// A letter that has a row.
+pub fn is_letter(b: u8) -> bool
+    ensures { λ r. ⌜ r ≡ isLetter b ⌝ }
+{
+    b'A' <= b && b <= b'G'
+}
 
 // A base chord: its number and how many bytes spell it; length 0 where there is none.
 pub struct Base {

@@ -1,8 +1,10 @@
 // The tokens of a line, one after another, and the buffer that keeps their words.
+use super::bases::is_letter;
 use super::signs::COLON_WORD;
 use super::signs::LINE_END_WORD;
 use super::signs::OPENS_WORD;
 use super::signs::SEMICOLON_WORD;
+use super::words::chord_token;
 use super::words::closing_token;
 use super::words::word_token;
 use text::front_blanks;
@@ -10,7 +12,9 @@ use text::is_blank;
 ghost use mathlib.Core.Path.{_≡_};
 ghost use mathlib.Core.List.{[], _∷_};
 ghost use Prim.Native.Nat.{_+_, _*_, _-_, _^_, _≤_, _<_};
-ghost use lib.ListN.{length};
+ghost use mathlib.Core.Bool.{true};
+ghost use lib.ListN.{length, getD};
+ghost use Rattle.tokens.specs.Bases.{isLetter};
 ghost use Rattle.tokens.specs.TokenWords.{tokenWords};
 ghost use Rattle.tokens.specs.Lexing.{isPlain, plainLength, tokensFrom, Reads, laid};
 
@@ -53,6 +57,15 @@ fn plain_len(w: &[u8]) -> usize
     i
 }
 
+// The token of a chord and the place behind it.
+fn chord_at(s: &[u8], a: usize, stop: usize) -> Lexed
+    requires { ⌜ (a < stop) × (stop ≤ length (now s)) × (stop ≤ 65536) × (isLetter (getD (now s) a 0) ≡ true) ⌝ }
+    ensures { λ r. ⌜ Reads (now (s .entry)) a stop r ⌝ }
+{
+    let e = a + 1 + plain_len(&s[a + 1..stop]);
+    Lexed::Token(chord_token(s, a, e), e)
+}
+
 // The first token of a part of a text.
 pub fn next_token(s: &[u8], at: usize, stop: usize) -> Lexed
     requires { ⌜ (at ≤ stop) × (stop ≤ length (now s)) × (stop ≤ 65536) ⌝ }
@@ -63,6 +76,9 @@ pub fn next_token(s: &[u8], at: usize, stop: usize) -> Lexed
         return Lexed::End;
     }
     let b = s[a];
+    if is_letter(b) {
+        return chord_at(s, a, stop);
+    }
     if b == b';' {
         return Lexed::Token(SEMICOLON_WORD, a + 1);
     }

@@ -12,7 +12,9 @@ use super::signs::WRONG_WORD;
 ghost use mathlib.Core.Path.{_≡_};
 ghost use mathlib.Core.List.{[], _∷_};
 ghost use Prim.Native.Nat.{_≤_, _<_};
-ghost use lib.ListN.{length};
+ghost use mathlib.Core.Bool.{false};
+ghost use lib.ListN.{length, getD};
+ghost use Rattle.tokens.specs.Bases.{isLetter};
 ghost use Rattle.songcode.specs.Lists.{any};
 ghost use Rattle.songcode.specs.Bytes.{placed, same};
 ghost use Rattle.songcode.specs.answer.Numbers.{countIn, repeatIn};
@@ -90,7 +92,7 @@ pub fn has_slip(w: &[u8]) -> bool
 }
 
 // The token of a chord: its base, and the place and length of its extension.
-fn chord_token(s: &[u8], a: usize, e: usize) -> u32
+pub fn chord_token(s: &[u8], a: usize, e: usize) -> u32
     requires { ⌜ (a ≤ e) × (e ≤ length (now s)) × (e ≤ 65536) ⌝ }
     ensures { λ r. ⌜ r ≡ tokenWord (chordToken (chordIn (placed a (part a e (now (s .entry)))))) ⌝ }
 {
@@ -113,9 +115,9 @@ fn chord_token(s: &[u8], a: usize, e: usize) -> u32
     (kind + x * 1024 + k * 32) as u32
 }
 
-// The token of a word: one of three signs, a reference or a chord.
+// The token of a word that is no chord: one of three signs, or a reference.
 pub fn word_token(s: &[u8], a: usize, e: usize) -> u32
-    requires { ⌜ (a < e) × (e ≤ length (now s)) × (e ≤ 65536) ⌝ }
+    requires { ⌜ (a < e) × (e ≤ length (now s)) × (isLetter (getD (now s) a 0) ≡ false) ⌝ }
     ensures { λ r. ⌜ r ≡ tokenWord (wordToken (placed a (part a e (now (s .entry))))) ⌝ }
 {
     if is_sign(b'%', &s[a..e]) {
@@ -130,5 +132,5 @@ pub fn word_token(s: &[u8], a: usize, e: usize) -> u32
     if s[a] == b'$' {
         return reference_token(&s[a + 1..e]);
     }
-    chord_token(s, a, e)
+    WRONG_WORD
 }

@@ -1,5 +1,5 @@
--- A word that is one sign is that sign's token; one that begins as a reference is a reference, and any other a chord.
-use Rattle.tokens.proofs.WordLaws.{word-again, word-silence, word-remover, word-reference, word-chord}
+-- A word that is one sign is that sign's token; one that begins as a reference is a reference, and any other is wrong.
+use Rattle.tokens.proofs.WordLaws.{word-again, word-silence, word-remover, word-reference, word-chord, chord-no-letter}
 use Rattle.tokens.proofs.PartLaws.{part-cons}
 use Rattle.text.specs.Spans.{part}
 use mathlib.Core.List.{_∷_}
@@ -52,21 +52,21 @@ returns-4 c =
 
 returns-5 : tie.Need-returns-5
 returns-5 c =
-    let a = c .before .before .before .before .before .before .before .before .before .before .before .before .before .args in
+    let q = c .before .before .before .before .before .before .before .before .before .before .before .before in
+    let a = q .args in
     let s = a .s .now in
     let w = part (a .a) (a .e) s in
-    c .chord-token .ensures
-    ∙ word-chord (a .a) w (sym (c .before .before .before .before .before .before .before .before .before .if1 .left)
-    ∙ c .before .before .before .before .before .before .before .before .before .before .is-sign .ensures)
-    (sym (c .before .before .before .before .before .before .if2 .left)
-    ∙ c .before .before .before .before .before .before .before .is-sign2 .ensures)
-    (sym (c .before .before .before .if3 .left) ∙ c .before .before .before .before .is-sign3 .ensures) (getD s (a .a) 0)
-    (part (a .a + 1) (a .e) s) (part-cons s (a .a) (a .e) (omega arith) (omega arith)) (c .before .if4 .left)
+    chord-no-letter (a .a) (getD s (a .a) 0) (part (a .a + 1) (a .e) s) w (part-cons s (a .a) (a .e) (omega arith) (omega arith)) (q .pre .2)
+    ∙ word-chord (a .a) w (sym (c .before .before .before .before .before .before .before .before .if1 .left)
+    ∙ c .before .before .before .before .before .before .before .before .before .is-sign .ensures)
+    (sym (c .before .before .before .before .before .if2 .left)
+    ∙ c .before .before .before .before .before .before .is-sign2 .ensures)
+    (sym (c .before .before .if3 .left) ∙ c .before .before .before .is-sign3 .ensures) (getD s (a .a) 0)
+    (part (a .a + 1) (a .e) s) (part-cons s (a .a) (a .e) (omega arith) (omega arith)) (c .if4 .left)
 
 pub word-token-spec : {M : Type 1} → statement M
 word-token-spec =
     tie.close
-    (tie.spec (λ c. search needs) (λ c. search needs) (λ c. search needs) (λ c κs. search needs) returns (λ c. search needs)
-    (λ c. search needs) (λ c. search needs) (λ c κs. search needs) returns-2 (λ c. search needs) (λ c. search needs) (λ c. search needs)
-    (λ c κs. search needs) returns-3 (λ c. search needs) (λ c. search needs) (λ c. search needs) (λ c. search needs) (λ c. search needs)
-    (λ c κs. search needs) returns-4 (λ c κs. search needs) returns-5)
+    (tie.spec (λ c. search needs) (λ c. search needs) (λ c. search needs) (λ c κs. search needs) returns (λ c. search needs) (λ c. search needs)
+    (λ c. search needs) (λ c κs. search needs) returns-2 (λ c. search needs) (λ c. search needs) (λ c. search needs) (λ c κs. search needs) returns-3
+    (λ c. search needs) (λ c. search needs) (λ c. search needs) (λ c. search needs) (λ c. search needs) (λ c κs. search needs) returns-4 returns-5)
