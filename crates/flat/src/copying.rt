@@ -8,6 +8,7 @@ use score::LONG_ROW;
 use score::SHORT_ROW;
 use score::Stretch;
 use sections::Place;
+use text::COPY_TOO_LONG;
 ghost use mathlib.Core.Path.{_≡_};
 ghost use mathlib.Core.List.{[]};
 ghost use Prim.Native.Nat.{_+_, _≤_};
@@ -26,10 +27,10 @@ fn copy_chart(text: &[u8], first: Place, words: &[u32], rows: Stretch, copy: &mu
     let mut none = [0u8; 1];
     let length = put_copy(text, first, words, rows, &mut none);
     if 65536 < length {
-        return refused(20, 0);
+        return refused(COPY_TOO_LONG, 0);
     }
     if copy.len() < length {
-        return refused(20, 0);
+        return refused(COPY_TOO_LONG, 0);
     }
     put_copy(text, first, words, rows, copy);
     Copied {

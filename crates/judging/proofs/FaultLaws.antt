@@ -18,7 +18,7 @@ use Rattle.songcode.specs.answer.Meter.{allFit, stray, rowFaults, playedFaults,
 use Rattle.songcode.proofs.ListLaws.{by-cases, Each, each-append}
 use Rattle.songcode.proofs.PatternLaws.{none-some}
 use Rattle.text.specs.Spans.{part}
-use Rattle.text.specs.Refusals.{refusalOf}
+use Rattle.text.specs.Refusals.{refusalOf, nothingRefused, soonerOf}
 use Rattle.outlines.specs.declared.readings.Outline.{Outline}
 use Rattle.outlines.specs.Sizes.{divides}
 use Rattle.outlines.specs.Words.{vacant}
@@ -30,7 +30,7 @@ use Rattle.sections.specs.SectionSays.{sideOn, sideSaid}
 use Rattle.laying.specs.declared.texts.Text.{Text}
 use Rattle.laying.specs.declared.texts.Texts.{Texts}
 use Rattle.laying.specs.Scores.{Carries, sideItems, TextsAre}
-use Rattle.judging.specs.Meters.{nothingRefused, textFault, soonerOf, meterFault}
+use Rattle.judging.specs.Meters.{textFault, meterFault}
 use Rattle.laying.proofs.ComplaintLaws.{Numbered, numbered-if}
 use Rattle.judging.proofs.SoonerLaws.{sooner-append}
 

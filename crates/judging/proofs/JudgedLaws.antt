@@ -11,14 +11,14 @@ use Rattle.songcode.specs.answer.Meter.{sectionMeter, meterFaults}
 use Rattle.songcode.specs.answer.Answer.{songOf}
 use Rattle.songcode.proofs.ListLaws.{Each, each-append}
 use Rattle.text.specs.declared.Refusal.{Refusal}
-use Rattle.text.specs.Refusals.{refusalOf}
+use Rattle.text.specs.Refusals.{refusalOf, nothingRefused, soonerOf}
 use Rattle.sections.specs.declared.blocks.Place.{Place}
 use Rattle.sections.specs.Onward.{sectionsFrom, sectionAt}
 use Rattle.sections.proofs.MeetLaws.{sections-over}
 use Rattle.laying.specs.declared.texts.Opened.{Opened}
 use Rattle.laying.specs.Scores.{Begins, Opens}
 use Rattle.laying.specs.Rows.{meterOf}
-use Rattle.judging.specs.Meters.{nothingRefused, soonerOf, meterFault}
+use Rattle.judging.specs.Meters.{meterFault}
 use Rattle.laying.proofs.ComplaintLaws.{Numbered}
 use Rattle.judging.proofs.SoonerLaws.{sooner-append}
 use Rattle.laying.proofs.MeterLaws.{meter-is, meter-range}

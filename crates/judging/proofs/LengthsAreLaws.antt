@@ -15,7 +15,7 @@ use Rattle.songcode.specs.answer.Meter.{meterFaults, lengthFaults}
 use Rattle.songcode.specs.answer.Answer.{songOf}
 use Rattle.songcode.proofs.ListLaws.{by-cases}
 use Rattle.text.specs.declared.Refusal.{Refusal}
-use Rattle.text.specs.Refusals.{refusalOf}
+use Rattle.text.specs.Refusals.{refusalOf, nothingRefused}
 use Rattle.sections.specs.declared.blocks.Place.{Place}
 use Rattle.sections.specs.declared.values.Modifiers.{Modifiers}
 use Rattle.sections.specs.Onward.{Onward}
@@ -24,7 +24,6 @@ use Rattle.laying.specs.declared.texts.Opened.{Opened}
 use Rattle.laying.specs.Scores.{Begins, Opens}
 use Rattle.judging.specs.declared.lengths.Lengths.{Lengths}
 use Rattle.laying.specs.Rows.{meterOf}
-use Rattle.judging.specs.Meters.{nothingRefused}
 use Rattle.judging.specs.Lengths.{countOfTexts, cutAway, lengthFault, withLengths}
 use Rattle.judging.proofs.OpenedLaws.{Measured, measured-start, measured-end, opened-passes, opened-cut, opened-on}
 

@@ -14,7 +14,7 @@ use Rattle.songcode.specs.answer.References.{definitionOf, namedFault, sectionR
 use Rattle.songcode.specs.answer.Answer.{songOf}
 use Rattle.songcode.proofs.ListLaws.{true-is-not-false, Each, each-map}
 use Rattle.text.specs.declared.Refusal.{Refusal}
-use Rattle.text.specs.Refusals.{refusalOf}
+use Rattle.text.specs.Refusals.{refusalOf, nothingRefused}
 use Rattle.sections.specs.declared.blocks.Place.{Place}
 use Rattle.sections.specs.Runs.{linesOf}
 use Rattle.sections.specs.Onward.{sectionsFrom, sectionAt, Later}
@@ -22,7 +22,6 @@ use Rattle.sections.proofs.MeetLaws.{sections-over}
 use Rattle.laying.specs.declared.texts.Opened.{Opened}
 use Rattle.laying.specs.Laying.{Names}
 use Rattle.laying.specs.Scores.{Begins, Opens}
-use Rattle.judging.specs.Meters.{nothingRefused}
 use Rattle.laying.proofs.ComplaintLaws.{UpTo, Numbered, first-wins, gather-behind, refused-none}
 use Rattle.laying.proofs.FaultLineLaws.{section-line}
 use Rattle.judging.proofs.StageLaws.{numbered-gather}

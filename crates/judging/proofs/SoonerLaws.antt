@@ -14,8 +14,7 @@ use Rattle.songcode.specs.description.Given.{Before}
 use Rattle.songcode.proofs.ListLaws.{by-cases, Each}
 use Rattle.songcode.proofs.VerdictAgree.{goes-first}
 use Rattle.text.specs.declared.Refusal.{Refusal}
-use Rattle.text.specs.Refusals.{refusalOf}
-use Rattle.judging.specs.Meters.{soonerOf}
+use Rattle.text.specs.Refusals.{refusalOf, soonerOf}
 use Rattle.laying.proofs.ComplaintLaws.{Numbered, before-goes, firstOf, earliest-append, earliest-each}
 
 -- Two complaints by their lines and numbers.

@@ -20,7 +20,7 @@ use Rattle.songcode.specs.answer.Tables.{tables}
 use Rattle.songcode.specs.answer.Answer.{songOf}
 use Rattle.songcode.proofs.ListLaws.{by-cases, Each}
 use Rattle.text.specs.declared.Refusal.{Refusal}
-use Rattle.text.specs.Refusals.{refusalOf}
+use Rattle.text.specs.Refusals.{refusalOf, firstGiven}
 use Rattle.player.specs.Texts.{rowWords}
 use Rattle.player.proofs.SectionMeaning.{rows-length, rows-total}
 use Rattle.sections.specs.declared.blocks.Place.{Place}
@@ -33,7 +33,7 @@ use Rattle.laying.proofs.ComplaintLaws.{refused-none}
 use Rattle.judging.specs.declared.measures.Metered.{Metered}
 use Rattle.judging.specs.declared.singing.Sung.{Sung}
 use Rattle.laying.specs.Rows.{meterOf}
-use Rattle.judging.specs.Meters.{firstGiven, meterFault}
+use Rattle.judging.specs.Meters.{meterFault}
 use Rattle.judging.specs.Measures.{withMeasures, meteredRefusal}
 use Rattle.judging.specs.Lyrics.{firstLine, bareLine}
 use Rattle.judging.specs.Sums.{rowOfTexts, countsOf, withSection, totalsOf, Holds}

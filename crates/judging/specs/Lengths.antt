@@ -6,6 +6,7 @@ use lib.Dec.{eqb, ltb}
 use lib.ListN.{length}
 use Rattle.songcode.specs.Lists.{if_then_else_, times}
 use Rattle.text.specs.declared.Refusal.{Refusal}
+use Rattle.text.specs.Refusals.{nothingRefused}
 use Rattle.settings.specs.Cuts.{CutFits}
 use Rattle.settings.specs.declared.cuts.Cut.{Cut}
 use Rattle.settings.specs.declared.cuts.CutRead.{CutRead}
@@ -17,7 +18,6 @@ use Rattle.sections.specs.declared.values.Modifiers.{Modifiers}
 use Rattle.laying.specs.declared.texts.Texts.{Texts}
 use Rattle.laying.specs.Rows.{hasCut}
 use Rattle.judging.specs.declared.lengths.Lengths.{Lengths}
-use Rattle.judging.specs.Meters.{nothingRefused}
 
 unfoldable pub cutOrNone : CutRead → Cut
 cutOrNone (read.Cut c) = c

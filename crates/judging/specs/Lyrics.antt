@@ -8,9 +8,9 @@ use Rattle.songcode.specs.Lists.{if_then_else_, any}
 use Rattle.songcode.specs.Song.{LyricLine}
 use Rattle.songcode.specs.answer.Lyrics.{isCounted, counted}
 use Rattle.text.specs.declared.Refusal.{Refusal}
+use Rattle.text.specs.Refusals.{nothingRefused}
 use Rattle.judging.specs.declared.lyrics.Tally.{Tally}
 use Rattle.judging.specs.declared.lyrics.Taken.{Taken}
-use Rattle.judging.specs.Meters.{nothingRefused}
 
 -- The least of two line numbers, where 0 is none.
 unfoldable pub firstLine : ℕ → ℕ → ℕ

@@ -2,9 +2,10 @@
 use Prim.Native.Nat.{ℕ}
 use mathlib.Core.List.{List}
 use Rattle.text.specs.declared.Refusal.{Refusal}
+use Rattle.text.specs.Refusals.{firstGiven, soonerOf}
 use Rattle.laying.specs.declared.texts.Opened.{Opened}
 use Rattle.judging.specs.declared.measures.Metered.{Metered}
-use Rattle.judging.specs.Meters.{soonerOf, firstGiven, meterFault}
+use Rattle.judging.specs.Meters.{meterFault}
 use Rattle.judging.specs.Lengths.{withLengths}
 
 -- With one more section, played in n.

@@ -7,6 +7,7 @@ use lib.ListN.{length}
 use Rattle.songcode.specs.Lists.{if_then_else_}
 use Rattle.songcode.specs.answer.Sections.{lyricLine}
 use Rattle.text.specs.declared.Refusal.{Refusal}
+use Rattle.text.specs.Refusals.{firstGiven, nothingRefused}
 use Rattle.player.specs.declared.playing.Counts.{Counts}
 use Rattle.sections.specs.Runs.{linesOf}
 use Rattle.sections.specs.BlockParts.{Placed}
@@ -14,7 +15,6 @@ use Rattle.laying.specs.declared.texts.Opened.{Opened}
 use Rattle.judging.specs.declared.lyrics.Tally.{Tally}
 use Rattle.judging.specs.declared.sums.Sums.{Sums}
 use Rattle.judging.specs.declared.singing.Sung.{Sung}
-use Rattle.judging.specs.Meters.{nothingRefused, firstGiven}
 use Rattle.judging.specs.Lyrics.{tallied, takenWith, countFault}
 use Rattle.judging.specs.Sums.{TextsWithin, countsOf, hasPrompts, sumDiffers, withSection}
 

@@ -9,6 +9,7 @@ use Rattle.songcode.specs.Lists.{if_then_else_}
 use Rattle.songcode.specs.answer.Tables.{Tables}
 use Rattle.songcode.specs.description.Performance.{total}
 use Rattle.text.specs.declared.Refusal.{Refusal}
+use Rattle.text.specs.Refusals.{nothingRefused}
 use Rattle.player.specs.declared.playing.Counts.{Counts}
 use Rattle.player.specs.Arrangements.{arrangedRow, PlaysWithin}
 use Rattle.sections.specs.declared.values.Modifiers.{Modifiers}
@@ -16,7 +17,6 @@ use Rattle.laying.specs.declared.texts.Texts.{Texts}
 use Rattle.judging.specs.declared.lyrics.Tally.{Tally}
 use Rattle.judging.specs.declared.sums.Sums.{Sums}
 use Rattle.judging.specs.declared.sums.Totals.{Totals}
-use Rattle.judging.specs.Meters.{nothingRefused}
 use Rattle.judging.specs.Lengths.{arrangementOf}
 
 -- The row that a section plays in n, as words.

@@ -3,10 +3,10 @@ use mathlib.Core.Bool.{true, false}
 use lib.Dec.{eqb}
 use Rattle.songcode.specs.Lists.{if_then_else_}
 use Rattle.text.specs.declared.Refusal.{Refusal}
+use Rattle.text.specs.Refusals.{firstGiven, nothingRefused}
 use Rattle.judging.specs.declared.measures.Metered.{Metered}
 use Rattle.judging.specs.declared.sums.Totals.{Totals}
 use Rattle.judging.specs.declared.singing.Sung.{Sung}
-use Rattle.judging.specs.Meters.{nothingRefused, firstGiven}
 use Rattle.judging.specs.Measures.{meteredRefusal}
 use Rattle.judging.specs.Sums.{refusedWith, totalsOf}
 use Rattle.judging.specs.Singing.{lyricRefusal}

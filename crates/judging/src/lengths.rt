@@ -8,7 +8,10 @@ use settings::Beats;
 use settings::Cut;
 use settings::CutRead;
 use settings::Measures;
+use text::NOTHING;
+use text::NOTHING_LEFT;
 use text::Refusal;
+use text::SONG_TOO_LONG;
 ghost use mathlib.Core.Path.{_≡_};
 ghost use Prim.Native.Nat.{_≤_};
 ghost use lib.ListN.{length};
@@ -118,17 +121,17 @@ fn length_fault(
 {
     if 65535 < measures {
         return Refusal {
-            number: 14,
+            number: SONG_TOO_LONG,
             line: header,
         };
     }
     if is_cut_away(words, n, m, t) {
         return Refusal {
-            number: 15,
+            number: NOTHING_LEFT,
             line: header,
         };
     }
-    Refusal { number: 0, line: 0 }
+    NOTHING
 }
 
 // What is refused of the sections so far, number 0 if nothing, and their measures.

@@ -1,6 +1,8 @@
 // Stage 6: if one of the lyric lines taken has a count, all have.
 use sections::Run;
 use settings::lyric_words;
+use text::COUNT_MISSING;
+use text::NOTHING;
 use text::Refusal;
 use text::line_at;
 ghost use mathlib.Core.Path.{_≡_};
@@ -108,10 +110,10 @@ pub fn count_fault(y: Taken) -> Refusal
     if y.counted {
         if y.bare != 0 {
             return Refusal {
-                number: 16,
+                number: COUNT_MISSING,
                 line: y.bare,
             };
         }
     }
-    Refusal { number: 0, line: 0 }
+    NOTHING
 }

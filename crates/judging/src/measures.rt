@@ -1,11 +1,11 @@
 // Stages 4 and 5 from section to section: what each of them refuses first.
 use super::lengths::Lengths;
 use super::lengths::with_lengths;
-use super::meters::first_given;
 use super::meters::meter_fault;
-use super::meters::sooner;
 use laying::Opened;
 use text::Refusal;
+use text::first_given;
+use text::sooner;
 ghost use mathlib.Core.Path.{_≡_};
 ghost use Prim.Native.Nat.{_≤_};
 ghost use Rattle.judging.specs.Lengths.{Measurable};

@@ -2,6 +2,8 @@
 use laying::named_in;
 use outlines::is_missing;
 use sections::Run;
+use text::NOTHING;
+use text::REFERENCE_UNDEFINED;
 use text::Refusal;
 ghost use mathlib.Core.Path.{_≡_};
 ghost use mathlib.Core.Option.{some};
@@ -22,13 +24,13 @@ pub fn name_fault(s: &[u8], words: &[u32], pattern: Run, header: usize) -> Refus
 {
     let named = named_in(s, pattern);
     if named == 0 {
-        return Refusal { number: 0, line: 0 };
+        return NOTHING;
     }
     if is_missing(words, named) {
         return Refusal {
-            number: 10,
+            number: REFERENCE_UNDEFINED,
             line: header,
         };
     }
-    Refusal { number: 0, line: 0 }
+    NOTHING
 }

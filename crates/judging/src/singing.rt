@@ -4,7 +4,6 @@ use super::lyrics::Tally;
 use super::lyrics::count_fault;
 use super::lyrics::taken_with;
 use super::lyrics::tally_lyrics;
-use super::meters::first_given;
 use super::sums::Sums;
 use super::sums::counts_of;
 use super::sums::has_prompts;
@@ -12,7 +11,10 @@ use super::sums::sum_differs;
 use super::sums::with_section;
 use laying::Opened;
 use player::Counts;
+use text::COUNT_SUM;
+use text::NOTHING;
 use text::Refusal;
+use text::first_given;
 ghost use mathlib.Core.Path.{_≡_};
 ghost use Rattle.judging.specs.Sums.{countsOf};
 ghost use Rattle.judging.specs.Singing.{offWith, sungWith, tallyOf, Addable, Singable, offFault, lyricRefusal};
@@ -67,12 +69,12 @@ fn off_fault(counted: bool, off: usize) -> Refusal
     if counted {
         if off != 0 {
             return Refusal {
-                number: 17,
+                number: COUNT_SUM,
                 line: off,
             };
         }
     }
-    Refusal { number: 0, line: 0 }
+    NOTHING
 }
 
 // What is refused of all sections: whether their lines are counted is known only now.

@@ -5,6 +5,7 @@ use laying::Texts;
 use player::Counts;
 use player::count_section;
 use sections::Modifiers;
+use text::NOTHING;
 use text::Refusal;
 ghost use mathlib.Core.Path.{_≡_};
 ghost use Prim.Native.Nat.{_+_, _≤_};
@@ -56,7 +57,7 @@ pub fn totals_of(x: Sums) -> Totals
     ensures { λ r. ⌜ r ≡ totalsOf x ⌝ }
 {
     Totals {
-        refusal: Refusal { number: 0, line: 0 },
+        refusal: NOTHING,
         sections: x.sections,
         measures: x.measures,
         beats: x.beats,

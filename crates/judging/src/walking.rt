@@ -4,7 +4,6 @@ use super::lyrics::Taken;
 use super::measures::Metered;
 use super::measures::metered_refusal;
 use super::measures::with_measures;
-use super::meters::first_given;
 use super::references::name_fault;
 use super::singing::Sung;
 use super::singing::lyric_refusal;
@@ -17,7 +16,8 @@ use laying::lay_section;
 use score::Stretch;
 use sections::Keys;
 use sections::Place;
-use text::Refusal;
+use text::NOTHING;
+use text::first_given;
 ghost use mathlib.Core.Path.{_≡_};
 ghost use mathlib.Core.List.{[]};
 ghost use Prim.Native.Nat.{_+_, _≤_};
@@ -38,11 +38,10 @@ ghost use Rattle.judging.specs.Walking.{nothingMetered, nothingSung, out
 fn nothing_metered() -> Metered
     ensures { λ r. ⌜ r ≡ nothingMetered ⌝ }
 {
-    let none = Refusal { number: 0, line: 0 };
     Metered {
-        meters: none,
+        meters: NOTHING,
         lengths: Lengths {
-            refusal: none,
+            refusal: NOTHING,
             measures: 0,
         },
     }

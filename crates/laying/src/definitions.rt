@@ -12,6 +12,7 @@ use sections::kind_at;
 use sections::next_block;
 use sections::read_definition;
 use settings::BlockKind;
+use text::NOTHING;
 use text::Refusal;
 ghost use mathlib.Core.Path.{_≡_};
 ghost use mathlib.Core.List.{[]};
@@ -96,6 +97,6 @@ pub fn load(s: &[u8], first: Place, words: &mut [u32]) -> Loaded
     Loaded {
         mark,
         sections: place,
-        refusal: Refusal { number: 0, line: 0 },
+        refusal: NOTHING,
     }
 }

@@ -7,6 +7,8 @@ use super::words::outline_for;
 use score::Stretch;
 use score::least;
 use score::word_at;
+use text::REFERENCE_KIND;
+use text::REFERENCE_UNDEFINED;
 use tokens::CLOSES;
 use tokens::OPENS;
 use tokens::REFERENCE;
@@ -79,9 +81,9 @@ pub fn fault_number(f: Faults) -> usize
     ensures { λ r. ⌜ r ≡ faultNumber f ⌝ }
 {
     if f.missing {
-        return 10;
+        return REFERENCE_UNDEFINED;
     }
-    if f.deep { 11 } else { 0 }
+    if f.deep { REFERENCE_KIND } else { 0 }
 }
 
 pub fn reference_fault(words: &[u32], text: Stretch) -> usize

@@ -7,6 +7,7 @@ use judging::first_stages;
 use judging::judge;
 use score::LONG_ROW;
 use score::SHORT_ROW;
+use text::TABLE_TOO_SHORT;
 use writing::write_tables;
 ghost use mathlib.Core.Path.{_≡_};
 ghost use mathlib.Core.List.{[]};
@@ -83,7 +84,7 @@ fn read_song(
         beats.len(),
         items.len(),
     ) {
-        return refused(18, 0);
+        return refused(TABLE_TOO_SHORT, 0);
     }
     write_tables(text, chart, words, keys, sections, measures, beats, items);
     accepted(totals)

@@ -23,6 +23,8 @@ use settings::BlockKind;
 use settings::block_kind;
 use settings::head_in;
 use settings::header_ok;
+use text::BAD_LINE;
+use text::BLOCK_ORDER;
 use text::Line;
 ghost use mathlib.Core.Path.{_≡_};
 ghost use Prim.Native.Nat.{_<_, _≤_};
@@ -71,7 +73,7 @@ fn open_metadata(s: &[u8], k: Carried, l: Line) -> Judged
     requires { ⌜ (l .start < l .stop) × (l .stop ≤ length (now s)) × (l .number ≤ 65537) ⌝ }
     ensures { λ r. ⌜ r ≡ opening metadata k (lineText (now (s .entry)) l) ⌝ }
 {
-    let late = complain_if(0 < k.turn, 3, l.number);
+    let late = complain_if(0 < k.turn, BLOCK_ORDER, l.number);
     let turn = most_of(k.turn, 0);
     let j = in_metadata(s, k, turn, l);
     let note = least_of(late, j.note);
@@ -84,7 +86,7 @@ fn open_definition(s: &[u8], k: Carried, l: Line) -> Judged
     requires { ⌜ (l .start < l .stop) × (l .stop ≤ length (now s)) × (l .number ≤ 65537) × Fit (k .heads) ⌝ }
     ensures { λ r. ⌜ r ≡ opening definition k (lineText (now (s .entry)) l) ⌝ }
 {
-    let late = complain_if(1 < k.turn, 3, l.number);
+    let late = complain_if(1 < k.turn, BLOCK_ORDER, l.number);
     let a = l.start;
     let e = l.stop;
     let head = head_in(&s[a..e]);
@@ -108,11 +110,11 @@ fn open_section(s: &[u8], k: Carried, l: Line) -> Judged
     requires { ⌜ (l .start < l .stop) × (l .stop ≤ length (now s)) × (l .number ≤ 65537) ⌝ }
     ensures { λ r. ⌜ r ≡ opening section k (lineText (now (s .entry)) l) ⌝ }
 {
-    let late = complain_if(2 < k.turn, 3, l.number);
+    let late = complain_if(2 < k.turn, BLOCK_ORDER, l.number);
     let a = l.start;
     let e = l.stop;
     let good = header_ok(&s[a..e]);
-    let eight = complain_if(!good, 8, l.number);
+    let eight = complain_if(!good, BAD_LINE, l.number);
     let note = least_of(late, eight);
     let turn = most_of(k.turn, 2);
     let metadata = k.metadata;
@@ -122,7 +124,7 @@ fn open_section(s: &[u8], k: Carried, l: Line) -> Judged
         metadata,
         heads,
     };
-    let want = rank(8, l.number);
+    let want = rank(BAD_LINE, l.number);
     let check = start();
     let pending = Pending {
         want,

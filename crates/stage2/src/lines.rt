@@ -22,6 +22,8 @@ use super::states::Place;
 use super::states::State;
 use settings::Kind;
 use settings::kind_of;
+use text::BAD_KEY;
+use text::BAD_LINE;
 use text::Line;
 ghost use mathlib.Core.Path.{_≡_};
 ghost use Prim.Native.Nat.{_<_, _≤_};
@@ -57,7 +59,7 @@ fn metadata_key(s: &[u8], marks: [bool; 8], l: Line) -> Noted
 {
     let k = key_at(s, l);
     let n = key_number(k);
-    let twice = again_note(4, n, marks, l.number);
+    let twice = again_note(BAD_KEY, n, marks, l.number);
     let own = key_note(s, l, k, false);
     let note = least_of(twice, own);
     Noted {
@@ -75,11 +77,11 @@ pub fn metadata_line(s: &[u8], marks: [bool; 8], l: Line) -> Noted
     match kind {
         Kind::Key => metadata_key(s, marks, l),
         Kind::Modifier => Noted {
-            note: complain_if(true, 8, l.number),
+            note: complain_if(true, BAD_LINE, l.number),
             marks,
         },
         Kind::Pattern => Noted {
-            note: complain_if(true, 8, l.number),
+            note: complain_if(true, BAD_LINE, l.number),
             marks,
         },
     }
@@ -92,9 +94,9 @@ pub fn key_line(s: &[u8], c: State, p: Part, l: Line) -> Judged
 {
     let k = key_at(s, l);
     let n = key_number(k);
-    let out = complain_if(past_keys(p), 4, l.number);
+    let out = complain_if(past_keys(p), BAD_KEY, l.number);
     let marks = c.keys;
-    let twice = again_note(4, n, marks, l.number);
+    let twice = again_note(BAD_KEY, n, marks, l.number);
     let own = key_note(s, l, k, true);
     let note = least_of(least_of(out, twice), own);
     let keys = put_mark(n, marks);
@@ -119,9 +121,9 @@ pub fn modifier_line(s: &[u8], c: State, p: Part, l: Line) -> Judged
 {
     let m = modifier_at(s, l);
     let n = modifier_number(m);
-    let out = complain_if(before_pattern(p), 8, l.number);
+    let out = complain_if(before_pattern(p), BAD_LINE, l.number);
     let marks = c.modifiers;
-    let twice = again_note(8, n, marks, l.number);
+    let twice = again_note(BAD_LINE, n, marks, l.number);
     let own = modifier_note(s, l, m);
     let note = least_of(least_of(out, twice), own);
     let modifiers = put_mark(n, marks);
@@ -144,7 +146,7 @@ pub fn pattern_line(s: &[u8], c: State, p: Part, l: Line) -> Judged
     requires { ⌜ (l .start < l .stop) × (l .stop ≤ length (now s)) × (l .stop ≤ 65536) × (l .number ≤ 65537) ⌝ }
     ensures { λ r. ⌜ r ≡ onPattern p c (lineText (now (s .entry)) l) ⌝ }
 {
-    let note = complain_if(past_pattern(p), 8, l.number);
+    let note = complain_if(past_pattern(p), BAD_LINE, l.number);
     let pending = pattern_pending(s, p, c.pending, l);
     let keys = c.keys;
     let modifiers = c.modifiers;

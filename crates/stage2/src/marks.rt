@@ -3,6 +3,7 @@ use super::notes::NONE;
 use super::notes::complain_if;
 use super::notes::least_of;
 use super::states::Heads;
+use text::BAD_HEAD;
 use tokens::Number;
 ghost use mathlib.Core.Path.{_≡_};
 ghost use Prim.Native.Nat.{_<_, _≤_};
@@ -53,10 +54,10 @@ pub fn head_note(head: Number, h: Heads, line: usize) -> usize
     ensures { λ r. ⌜ r ≡ headJudged head h line ⌝ }
 {
     let Number::Is(x) = head else {
-        return complain_if(true, 6, line);
+        return complain_if(true, BAD_HEAD, line);
     };
-    let many = complain_if(26 <= h.count, 6, line);
-    least_of(many, complain_if(has_head(h, x), 6, line))
+    let many = complain_if(26 <= h.count, BAD_HEAD, line);
+    least_of(many, complain_if(has_head(h, x), BAD_HEAD, line))
 }
 
 fn or_zero(n: Number) -> usize

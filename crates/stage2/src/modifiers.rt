@@ -9,6 +9,9 @@ use settings::modifier_named;
 use settings::name_end;
 use settings::repeat_in;
 use settings::setting_start;
+use text::BAD_LINE;
+use text::BAD_PATTERN;
+use text::BAD_SETTING;
 use text::Line;
 ghost use mathlib.Core.Path.{_≡_};
 ghost use Prim.Native.Nat.{_<_, _≤_};
@@ -46,12 +49,12 @@ pub fn setting_number(m: ModifierName) -> usize
     ensures { λ r. ⌜ (r ≡ settingNumber m) × (r < 32) ⌝ }
 {
     match m {
-        ModifierName::Repeat => 5,
-        ModifierName::CutStart => 5,
-        ModifierName::CutEnd => 5,
-        ModifierName::Before => 7,
-        ModifierName::After => 7,
-        ModifierName::Unknown => 8,
+        ModifierName::Repeat => BAD_SETTING,
+        ModifierName::CutStart => BAD_SETTING,
+        ModifierName::CutEnd => BAD_SETTING,
+        ModifierName::Before => BAD_PATTERN,
+        ModifierName::After => BAD_PATTERN,
+        ModifierName::Unknown => BAD_LINE,
     }
 }
 

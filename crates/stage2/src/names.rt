@@ -6,6 +6,8 @@ use settings::is_setting;
 use settings::key_named;
 use settings::name_end;
 use settings::setting_start;
+use text::BAD_KEY;
+use text::BAD_SETTING;
 use text::Line;
 ghost use mathlib.Core.Path.{_≡_};
 ghost use Prim.Native.Nat.{_<_, _≤_};
@@ -66,8 +68,8 @@ pub fn key_note(s: &[u8], l: Line, k: KeyName, section: bool) -> usize
     let e = l.stop;
     let q = setting_start(s, l.start + 1, e);
     let allowed = is_allowed(section, k);
-    let four = complain_if(!allowed, 4, l.number);
+    let four = complain_if(!allowed, BAD_KEY, l.number);
     let good = is_setting(k, &s[q..e]);
-    let five = complain_if(!good, 5, l.number);
+    let five = complain_if(!good, BAD_SETTING, l.number);
     least_of(four, five)
 }

@@ -1,4 +1,6 @@
 // Complaints as numbers: the line times 32, and the number.
+use text::NO_SECTION;
+use text::NOTHING;
 use text::Refusal;
 ghost use mathlib.Core.Path.{_≡_};
 ghost use Prim.Native.Nat.{_<_, _≤_, min, max};
@@ -9,7 +11,7 @@ ghost use Rattle.stage2.specs.Ranks.{ranked, least, unless, refusalAt};
 pub const NONE: usize = 8388608;
 
 // "No section" stands behind every other complaint.
-pub const NO_SECTION: usize = 4194313;
+pub const NO_SECTION_RANK: usize = 4194313;
 
 pub fn rank(number: usize, line: usize) -> usize
     requires { ⌜ (number < 32) × (line ≤ 65537) ⌝ }
@@ -47,15 +49,18 @@ pub fn none_if(test: bool, r: usize) -> usize
 pub fn refusal_at(r: usize) -> Refusal
     ensures { λ x. ⌜ x ≡ refusalAt r ⌝ }
 {
-    if r < NO_SECTION {
+    if r < NO_SECTION_RANK {
         return Refusal {
             number: r % 32,
             line: r / 32,
         };
     }
-    if r == NO_SECTION {
-        Refusal { number: 9, line: 0 }
+    if r == NO_SECTION_RANK {
+        Refusal {
+            number: NO_SECTION,
+            line: 0,
+        }
     } else {
-        Refusal { number: 0, line: 0 }
+        NOTHING
     }
 }

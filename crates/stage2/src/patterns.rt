@@ -6,6 +6,7 @@ use super::states::Pending;
 use grammar::check_line;
 use grammar::line_between;
 use grammar::start;
+use text::BAD_PATTERN;
 use text::Line;
 ghost use mathlib.Core.Path.{_≡_};
 ghost use Prim.Native.Nat.{_<_, _≤_};
@@ -32,7 +33,7 @@ pub fn first_line(s: &[u8], q: Pending, l: Line) -> Pending
     ensures { λ r. ⌜ r ≡ patternBegun (lineText (now (s .entry)) l) q ⌝ }
 {
     let check = check_line(s, l.start, l.stop, start());
-    let bad = rank(7, l.number);
+    let bad = rank(BAD_PATTERN, l.number);
     Pending {
         want: NONE,
         bare: q.bare,

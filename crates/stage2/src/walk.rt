@@ -4,7 +4,7 @@ use super::blocks::close_block;
 use super::blocks::in_metadata;
 use super::blocks::open_block;
 use super::lines::body_line;
-use super::notes::NO_SECTION;
+use super::notes::NO_SECTION_RANK;
 use super::notes::NONE;
 use super::notes::least_of;
 use super::notes::none_if;
@@ -21,6 +21,7 @@ use super::states::Pending;
 use super::states::Place;
 use super::states::State;
 use settings::is_dashes;
+use text::BAD_LINE;
 use text::Line;
 use text::Refusal;
 use text::line_at;
@@ -66,7 +67,7 @@ fn in_body(s: &[u8], c: State, p: Part, l: Line) -> Judged
     let a = l.start;
     let e = l.stop;
     if is_dashes(&s[a..e]) {
-        let bare = rank(8, l.number);
+        let bare = rank(BAD_LINE, l.number);
         let state = lyrics_state(c, bare);
         return Judged { note: NONE, state };
     }
@@ -136,7 +137,7 @@ fn end_text(c: State) -> usize
     ensures { λ r. ⌜ r ≡ ends c ⌝ }
 {
     let k = c.carried;
-    let nine = none_if(2 <= k.turn, NO_SECTION);
+    let nine = none_if(2 <= k.turn, NO_SECTION_RANK);
     let closing = close_block(c);
     least_of(closing, nine)
 }

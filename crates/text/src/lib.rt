@@ -2,6 +2,7 @@
 mod characters;
 mod ends;
 mod lines;
+mod refusals;
 
 pub use characters::Lead;
 pub use characters::good_bytes;
@@ -12,6 +13,28 @@ pub use lines::front_blanks;
 pub use lines::is_blank;
 pub use lines::line_at;
 pub use lines::solid_len;
+pub use refusals::BAD_HEAD;
+pub use refusals::BAD_KEY;
+pub use refusals::BAD_LINE;
+pub use refusals::BAD_PATTERN;
+pub use refusals::BAD_SETTING;
+use refusals::BAD_TEXT;
+pub use refusals::BLOCK_ORDER;
+pub use refusals::COPY_TOO_LONG;
+pub use refusals::COUNT_MISSING;
+pub use refusals::COUNT_SUM;
+pub use refusals::DIVISION;
+pub use refusals::NO_CHORD_BEFORE;
+pub use refusals::NO_SECTION;
+pub use refusals::NOTHING;
+pub use refusals::NOTHING_LEFT;
+pub use refusals::REFERENCE_KIND;
+pub use refusals::REFERENCE_UNDEFINED;
+pub use refusals::SONG_TOO_LONG;
+pub use refusals::TABLE_TOO_SHORT;
+use refusals::TEXT_TOO_LONG;
+pub use refusals::first_given;
+pub use refusals::sooner;
 ghost use mathlib.Core.Path.{_≡_};
 ghost use lib.ListN.{getD};
 ghost use Rattle.songcode.specs.Complaints.{earliest};
@@ -36,14 +59,17 @@ pub fn judge_input(s: &[u8]) -> Refusal
     ensures { λ r. ⌜ r ≡ refusalOf (earliest (inputFaults (now (s .entry)))) ⌝ }
 {
     if 65536 < s.len() {
-        return Refusal { number: 1, line: 0 };
+        return Refusal {
+            number: TEXT_TOO_LONG,
+            line: 0,
+        };
     }
     let good = good_bytes(s);
     if good < s.len() {
         return Refusal {
-            number: 2,
+            number: BAD_TEXT,
             line: line_of(s, good),
         };
     }
-    Refusal { number: 0, line: 0 }
+    NOTHING
 }

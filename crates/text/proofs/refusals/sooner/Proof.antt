@@ -1,9 +1,9 @@
 -- Of two refusals the one that goes first, by its line and then its number; none goes behind every other.
-use Rattle.judging.specs.Meters.{soonerOf}
+use Rattle.text.specs.Refusals.{soonerOf}
 use Rattle.songcode.specs.Lists.{if_then_else_}
 use borrow.Author.Tests.{eq-eqb, ne-eqb, lt-ltb, le-ltb}
-use Rattle.judging.proofs.meters.sooner.Statement.{statement}
-use Rattle.judging.proofs.meters.sooner.Tie as tie
+use Rattle.text.proofs.refusals.sooner.Statement.{statement}
+use Rattle.text.proofs.refusals.sooner.Tie as tie
 
 returns : tie.Need-returns
 unfolding soonerOf if_then_else_
