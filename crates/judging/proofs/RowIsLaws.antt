@@ -76,8 +76,7 @@ row-is-next {s} {old} {new} {mark} {at} {p} r i l big same =
 pub row-is-end : {s ws : List ℕ} {mark at : ℕ} {p : Place} → RowIs s ws mark at p → length s ≤ p .at
     → RowFrom (songOf s) ws (mark + 1) at (songOf s .sections) × SectionsFit (songOf s) (songOf s .sections)
 row-is-end {s} {ws} {mark} {at} {p} i over =
-    let e : i .done ≡ songOf s .sections = sym (append-nil (i .done)) ∙ ap (λ (xs : List Section). i .done ++ xs) (sym (sections-over s p over)) ∙ i .all in
-    (
+    let e : i .done ≡ songOf s .sections = sym (append-nil (i .done)) ∙ ap (λ (xs : List Section). i .done ++ xs) (sym (sections-over s p over)) ∙ i .all in (
       subst (λ (xs : List Section). RowFrom (songOf s) ws (mark + 1) at xs) e (i .row),
       subst (SectionsFit (songOf s)) e (i .fits),
     )

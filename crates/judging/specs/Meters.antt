@@ -10,7 +10,6 @@ use Rattle.outlines.specs.Sizes.{divides}
 use Rattle.sections.specs.declared.values.Modifiers.{Modifiers}
 use Rattle.laying.specs.declared.texts.Texts.{Texts}
 
-
 unfoldable pub textFault : Outline → ℕ → ℕ → Refusal
 unfolding if_then_else_
 textFault o n line =

@@ -1,10 +1,10 @@
 // A chart judged by stages 3 to 7: what the writers of the tables need to know of it.
 use super::stages::later_stages;
 use super::sums::Totals;
-use score::Stretch;
 use laying::lines_before;
 use laying::load;
 use laying::metadata_end;
+use score::Stretch;
 use sections::Place;
 use sections::keys_of;
 ghost use mathlib.Core.Path.{_≡_};

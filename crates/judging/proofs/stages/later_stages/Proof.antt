@@ -30,8 +30,7 @@ walk-requires c κs =
 
 returns-2 : tie.Need-returns-2
 returns-2 c =
-    let later = c .before .before .walk .ensures in
-    (
+    let later = c .before .before .walk .ensures in (
       later .0,
       λ z. record {
         early = c .before .before .before .before .if1 .left;
