@@ -6,7 +6,7 @@ use mathlib.Core.Option.{Option, none, some, bind}
 use native.Mathlib.Omega.{arith}
 use lib.ListN.{length}
 use Rattle.songcode.specs.Lists.{times}
-use Rattle.songcode.specs.Song.{Items, Section, Song, Side, Beat}
+use Rattle.songcode.specs.Song.{Items, Section, Song, Side}
 use Rattle.songcode.specs.answer.References.{patternItems}
 use Rattle.songcode.specs.answer.Playing.{repeats}
 use Rattle.songcode.specs.answer.Playing.{sideMeasures, timeOf, played}

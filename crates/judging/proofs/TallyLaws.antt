@@ -18,7 +18,8 @@ use Rattle.settings.specs.declared.lyrics.Words.{Words}
 use Rattle.settings.specs.LyricParts.{countFrom, wordsFrom}
 use Rattle.judging.specs.declared.lyrics.Tally.{Tally}
 use Rattle.judging.specs.Lyrics.{firstLine, withLine, bareLine, tallied}
-use Rattle.judging.proofs.LyricLaws.{lyricsAt, lyricAt, lyrics-more, count-here}
+use Rattle.laying.proofs.LyricRowLaws.{lyricsAt, lyricAt, lyrics-more}
+use Rattle.judging.proofs.LyricLaws.{count-here}
 
 -- The first of two lines, where 0 is none.
 pub zero-first : (b : ℕ) → firstLine 0 b ≡ b

@@ -1,7 +1,6 @@
 -- What stage 4 finds of a section, from the outlines of its texts.
 use Prim.Native.Nat.{ℕ}
 use mathlib.Core.Bool.{not}
-use lib.Dec.{eqb}
 use Rattle.songcode.specs.Lists.{if_then_else_}
 use Rattle.text.specs.declared.Refusal.{Refusal}
 use Rattle.text.specs.Refusals.{nothingRefused, soonerOf}

@@ -9,10 +9,7 @@ use text::NOTHING;
 use text::Refusal;
 ghost use mathlib.Core.Path.{_≡_};
 ghost use Prim.Native.Nat.{_+_, _≤_};
-ghost use lib.ListN.{length};
-ghost use Rattle.songcode.specs.description.Performance.{total};
-ghost use Rattle.player.specs.Arrangements.{Plays};
-ghost use Rattle.judging.specs.Sums.{rowOfTexts, TextsWithin, countsOf, refusedWith, hasLines, hasPrompts, sumDiffers, withSection, totalsOf};
+ghost use Rattle.judging.specs.Sums.{TextsWithin, countsOf, refusedWith, hasLines, hasPrompts, sumDiffers, withSection, totalsOf};
 
 // How many words the tables take, or the refusal of a stage.
 pub struct Totals {

@@ -1,8 +1,8 @@
 -- How many words the sections of some blocks take: no more than their bytes, each line with one for its end, each block with one for the blank line.
-use Prim.Native.Nat.{ℕ, zero, suc, _+_, _*_, _<_, _≤_}
-use mathlib.Core.Path.{_≡_, refl, sym, ap, _∙_, subst}
-use mathlib.Core.List.{List, [], _∷_, _++_}
-use mathlib.Core.Bool.{Bool, true, false, not, _||_}
+use Prim.Native.Nat.{ℕ, _+_, _*_, _<_, _≤_}
+use mathlib.Core.Path.{_≡_, refl}
+use mathlib.Core.List.{List, [], _∷_}
+use mathlib.Core.Bool.{false, _||_}
 use mathlib.Core.Option.{Option, none, some}
 use native.Mathlib.Omega.{arith}
 use borrow.Author.Tests.{eqb-true}
@@ -10,14 +10,14 @@ use lib.Dec.{eqb}
 use lib.ListN.{length}
 use Rattle.songcode.specs.Lists.{if_then_else_, isEmpty, isSome, taken, left}
 use Rattle.songcode.specs.Bytes.{Byte}
-use Rattle.songcode.specs.answer.Lines.{Line, Block, Runs, shut, join, runs, blocks}
+use Rattle.songcode.specs.answer.Lines.{Line, Block, shut, join, runs, blocks}
 use Rattle.songcode.specs.answer.Sections.{kindOfLine, kindOf, settingOf, isPatternLine, notPatternLine, notDashes, patternRun, body, fromDashes}
 use Rattle.songcode.proofs.ListLaws.{by-cases, Each, true-is-not-false}
 use Rattle.sections.proofs.ListLaws.{each-left}
 use Rattle.sections.specs.declared.blocks.Place.{Place}
 use Rattle.sections.specs.Runs.{textLines}
 use Rattle.sections.specs.Slots.{slotOf, slotBy, Setting, settingAmong}
-use Rattle.sections.specs.BlockParts.{blockAt, earlyLines, lateLines, behindDashes}
+use Rattle.sections.specs.BlockParts.{lateLines, behindDashes}
 use Rattle.laying.specs.Laying.{weight, saidWeight}
 use Rattle.laying.specs.Rows.{bulk, RoomFor}
 use Rattle.laying.proofs.WeightLaws.{weight-parts, weight-lines, setting-length}

@@ -1,8 +1,8 @@
 -- The lyric lines of a run, line by line, and the words of each.
 use Prim.Native.Nat.{ℕ, zero, suc, _+_, _-_, _*_, _<_, _≤_}
 use mathlib.Core.Path.{_≡_, refl, sym, ap, _∙_, subst}
-use mathlib.Core.List.{List, [], _∷_, _++_, map, flatMap}
-use mathlib.Core.Option.{Option, Option·getD}
+use mathlib.Core.List.{List, [], _∷_, map}
+use mathlib.Core.Option.{Option·getD}
 use native.Mathlib.Omega.{arith}
 use borrow.Author.Tests.{eqb-true, eqb-false, ltb-true, ltb-false}
 use lib.Dec.{eqb, ltb}
@@ -31,7 +31,7 @@ use Rattle.sections.proofs.ListLaws.{each-taken, each-left}
 use Rattle.sections.proofs.MeetLaws.{From, from-lines}
 use Rattle.sections.proofs.RunLaws.{lines-found, lines-next, lines-over}
 use Rattle.score.specs.Sections.{lyricBy, lyricRow}
-use Rattle.score.specs.Fitting.{LyricBounds, LyricFits}
+use Rattle.score.specs.Fitting.{LyricFits}
 use Rattle.laying.specs.Rows.{placeWord}
 
 -- So many lyric lines from a line on, as far as the text has them.

@@ -1,29 +1,22 @@
 -- The parts of a section laid one behind the other: each has room, and together they are all its parts.
 use Prim.Native.Nat.{ℕ, _+_, _*_, _≤_}
-use mathlib.Core.Path.{_≡_, refl, sym, ap, _∙_}
-use mathlib.Core.List.{List, [], _∷_, _++_, append-assoc, map, flatMap}
+use mathlib.Core.Path.{_≡_, ap, _∙_}
+use mathlib.Core.List.{List, _++_, append-assoc, map}
 use mathlib.Core.Bool.{Bool, true, false}
 use native.Mathlib.Omega.{arith}
 use lib.ListN.{length, length-append, length-map}
-use Rattle.songcode.specs.Song.{LyricLine}
 use Rattle.songcode.specs.answer.Sections.{lyricLine}
 use Rattle.tokens.specs.Lexing.{laid}
 use Rattle.tokens.proofs.LaidLaws.{laid-length}
-use Rattle.score.specs.Sections.{cutsBy, lyricBy, lyricRow}
-use Rattle.sections.specs.declared.values.Modifiers.{Modifiers}
+use Rattle.score.specs.Sections.{cutsBy}
 use Rattle.sections.specs.declared.blocks.SectionRead.{SectionRead}
 use Rattle.sections.specs.Runs.{linesOf}
 use Rattle.sections.specs.Slots.{settingAt}
-use Rattle.laying.specs.declared.rows.Places.{Places}
 use Rattle.laying.specs.Laying.{weight, saidWeight}
 use Rattle.laying.specs.Rows.{readWord, cutsSaid, hasCut, leadSaid, patternSaid, tailSaid, lyricsSaid, partsSaid, PlacesAre}
+use Rattle.score.proofs.ViewLaws.{lyrics-size}
 use Rattle.laying.proofs.LaidLaws.{laid-laid}
 use Rattle.laying.proofs.WeightLaws.{run-words, said-words}
-
-pub lyrics-size : (ls : List LyricLine) → length (flatMap lyricRow ls) ≡ 2 * length ls
-unfolding flatMap lyricRow lyricBy
-lyrics-size [] = refl
-lyrics-size (l ∷ ls) = let h = lyrics-size ls in omega arith
 
 -- So many words are laid from a place on.
 pub record Done (at : ℕ) (held done words : List ℕ) (fill : ℕ) : Type 0 where
@@ -87,7 +80,8 @@ module _ (s : List ℕ) (r : SectionRead) (at : ℕ) (held : List ℕ)
       pub room-lines : begun + weight (linesOf s (r .pattern)) ≤ length two
       room-lines = let c = cuts-small in let a = lead-small in let l = done-length second in omega arith
 
-      module _ {three : List ℕ} {ended : ℕ} (three-laid : three ≡ laid begun (patternSaid s r) two) (three-fill : ended ≡ begun + length (patternSaid s r)) where
+      module _ {three : List ℕ} {ended : ℕ} (three-laid : three ≡ laid begun (patternSaid s r) two)
+          (three-fill : ended ≡ begun + length (patternSaid s r)) where
         third : Done at held ((cutsSaid (r .modifiers) ++ leadSaid s r) ++ patternSaid s r) three ended
         third = let c = cuts-small in let a = lead-small in let b = pattern-small in done-next (patternSaid s r) second three-laid three-fill (omega arith)
 
@@ -112,7 +106,8 @@ module _ (s : List ℕ) (r : SectionRead) (at : ℕ) (held : List ℕ)
               let l = done-length fourth in
               omega arith
 
-          module _ {five : List ℕ} {end : ℕ} (five-laid : five ≡ laid last (lyricsSaid s r) four) (five-fill : end ≡ last + 2 * length (linesOf s (r .lyrics))) where
+          module _ {five : List ℕ} {end : ℕ} (five-laid : five ≡ laid last (lyricsSaid s r) four)
+              (five-fill : end ≡ last + 2 * length (linesOf s (r .lyrics))) where
             pub all-laid : five ≡ laid at (partsSaid s r) held
             unfolding partsSaid
             all-laid =

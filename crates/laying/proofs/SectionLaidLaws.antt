@@ -1,9 +1,9 @@
 -- A section laid into the row: it has room, its words are those of the definitions, and its texts are carried.
 use Prim.Native.Nat.{ℕ, _+_, _-_, _*_, _/_, _^_, _<_, _≤_}
 use mathlib.Core.Path.{_≡_, refl, sym, ap, _∙_, subst}
-use mathlib.Core.List.{List, [], _∷_, _++_, append-assoc, append-nil, flatMap, map}
+use mathlib.Core.List.{List, [], _∷_, _++_, append-assoc, flatMap, map}
 use mathlib.Core.Bool.{Bool, true, false, _||_}
-use mathlib.Core.Option.{Option, none, some, bind, Option·getD}
+use mathlib.Core.Option.{Option, none, some, bind}
 use native.Mathlib.Omega.{arith}
 use borrow.Author.Tests.{eqb-true, eqb-false}
 use lib.Dec.{eqb}
@@ -11,7 +11,7 @@ use lib.ListN.{length, take, drop, set, length-append, length-map}
 use lib.Seq.{take-take}
 use Rattle.songcode.specs.Lists.{if_then_else_, isSome}
 use Rattle.songcode.specs.answer.Lines.{Line, Block, blocks}
-use Rattle.songcode.specs.Song.{LyricLine, Pattern, Section, Song}
+use Rattle.songcode.specs.Song.{LyricLine, Pattern, Section}
 use Rattle.songcode.specs.answer.Modifiers.{ofBefore, ofAfter, modifierPlace, beforeSaid, afterSaid}
 use Rattle.songcode.specs.answer.Sections.{patternIn, patternRun, body, fromDashes, sectionFaults, lyricLine}
 use Rattle.songcode.specs.answer.References.{patternItems}
@@ -22,7 +22,6 @@ use Rattle.songcode.proofs.PatternLaws.{none-some}
 use Rattle.tokens.specs.TokenWords.{tokenWords}
 use Rattle.tokens.specs.Lexing.{laid}
 use Rattle.tokens.proofs.LaidLaws.{laid-length}
-use Rattle.settings.specs.declared.cuts.CutRead.{CutRead}
 use Rattle.settings.specs.Cuts.{cutIs, CutFits}
 use Rattle.outlines.specs.Words.{lookUp}
 use Rattle.sections.specs.declared.blocks.Place.{Place}
@@ -37,19 +36,17 @@ use Rattle.sections.specs.SectionSays.{sideSaid}
 use Rattle.sections.specs.Onward.{Onward, sectionAt, Meets}
 use Rattle.sections.proofs.SectionLaws.{clean-order}
 use Rattle.sections.proofs.TellLaws.{before-tells, after-tells}
-use Rattle.score.specs.Sections.{sideRow, patternRow, cutWord, isCut, cutsBy, cutsRow, lyricRow, partsRow, bit, sectionRow}
+use Rattle.score.specs.Sections.{sideRow, patternRow, isCut, cutsBy, cutsRow, lyricRow, partsRow, bit, sectionRow}
 use Rattle.score.specs.Fitting.{SideFits, PatternFits, LyricsFit, SectionFits}
 use Rattle.laying.specs.declared.rows.Places.{Places}
-use Rattle.laying.specs.declared.texts.Text.{Text}
-use Rattle.laying.specs.declared.texts.Opened.{Opened}
 use Rattle.laying.specs.Laying.{runTokens, saidTokens, weight, saidWeight, Names}
-use Rattle.laying.specs.Scores.{namedText, Carries, Ready, sideItems, TextsAre}
-use Rattle.laying.specs.Rows.{meterOf, tempoOf, readCut, readWord, hasCut, cutsSaid, leadSaid, patternSaid, tailSaid, lyricsSaid, partsSaid, PlacesAre}
+use Rattle.laying.specs.Scores.{namedText, Carries, Ready, sideItems}
+use Rattle.laying.specs.Rows.{meterOf, tempoOf, readCut, hasCut, cutsSaid, leadSaid, patternSaid, tailSaid, lyricsSaid, partsSaid, PlacesAre}
 use Rattle.laying.specs.Rows.{aboutSection, textAt, patternText, toldTexts, bulk, RoomFor, Before, SongKeys, Lays}
 use Rattle.laying.proofs.LaidLaws.{laid-part, laid-before, laid-front}
 use Rattle.laying.proofs.WeightLaws.{run-few, said-words}
 use Rattle.laying.proofs.BulkLaws.{SolidBlock, blocks-solid, cutsThere, section-weight}
-use Rattle.laying.proofs.PartsLaidLaws.{lyrics-size}
+use Rattle.score.proofs.ViewLaws.{lyrics-size}
 use Rattle.laying.proofs.LyricRowLaws.{lyrics-behind}
 use Rattle.laying.proofs.MeterLaws.{meter-is, meter-range, tempo-is, tempo-few}
 use Rattle.laying.proofs.FitLaws.{said-good, run-good}
@@ -264,7 +261,8 @@ module _ {s : List ℕ} {p : Place} {at : ℕ} {held : List ℕ} {met : Met} {so
   unfolding lyricsSaid
   lyrics-length = let a = lyrics-size (map lyricLine lyrics) in let b = length-map lyrics lyricLine in omega arith
 
-  parts-length : length (partsSaid s r) ≡ length (cutsSaid (r .modifiers)) + (length (leadSaid s r) + (length (patternSaid s r) + (length (tailSaid s r) + 2 * length lyrics)))
+  parts-length : length (partsSaid s r)
+      ≡ length (cutsSaid (r .modifiers)) + (length (leadSaid s r) + (length (patternSaid s r) + (length (tailSaid s r) + 2 * length lyrics)))
   unfolding partsSaid
   parts-length =
       let c = cutsSaid (r .modifiers) in

@@ -1,10 +1,7 @@
 -- The words of a section's texts as the code lays them are those of its lead-in, pattern and tail, and can be played.
-use Prim.Native.Nat.{ℕ, _+_, _*_, _≤_}
 use mathlib.Core.Path.{_≡_, refl, sym, ap, _∙_, subst}
 use mathlib.Core.List.{List, [], _∷_}
-use mathlib.Core.Bool.{Bool, true, false, _||_}
 use mathlib.Core.Option.{Option, none, some, bind}
-use lib.ListN.{length}
 use Rattle.songcode.specs.Lists.{isSome}
 use Rattle.songcode.specs.Song as song
 use Rattle.songcode.specs.Song.{Items, Pattern, items, named, Side}
@@ -17,13 +14,11 @@ use Rattle.songcode.proofs.TokensAgree.{text-complete}
 use Rattle.songcode.proofs.WrittenBefore.{appended}
 use Rattle.tokens.specs.TokenWords.{tokenWords}
 use Rattle.tokens.specs.Fitting.{Fit}
-use Rattle.settings.specs.declared.cuts.CutRead.{CutRead}
 use Rattle.settings.specs.Cuts.{cutIs, CutFits}
 use Rattle.sections.specs.Slots.{Setting}
 use Rattle.sections.specs.SectionSays.{sideOn, sideSaid}
-use Rattle.sections.specs.Values.{cutSaid}
-use Rattle.score.specs.Sections.{itemsRow, sideRow, patternRow, cutWord, cutsBy}
-use Rattle.score.specs.Fitting.{PlainFits, SideFits, PatternFits, CutSmall}
+use Rattle.score.specs.Sections.{itemsRow, sideRow, patternRow, cutWord}
+use Rattle.score.specs.Fitting.{SideFits, PatternFits, CutSmall}
 use Rattle.laying.specs.Laying.{saidTokens}
 use Rattle.laying.specs.Rows.{readCut, readWord}
 use Rattle.laying.proofs.FitLaws.{Counted, Good, items-fit}
@@ -42,9 +37,10 @@ side-row (some x) y e clean good = go (sideText (x .text)) refl
         let w = side-sound (x .text) r f in
         let z : y ≡ some (record { line = x .line; items = r }) = sym e ∙ rw f refl in
         let t = text-complete (w .text) in
+        let plain = side-references r (w .text) (w .unbarred) in
         rw z (
           ap tokenWords t,
-          record { words = items-fit r (tokens (x .text)) (t ∙ sym (appended r)) good; shallow = w .shallow; plain = side-references r (w .text) (w .unbarred) },
+          record { words = items-fit r (tokens (x .text)) (t ∙ sym (appended r)) good; shallow = w .shallow; plain = plain },
         )
 
 -- A pattern.

@@ -7,7 +7,7 @@ use mathlib.Core.Option.{Option·getD}
 use lib.Dec.{eqb}
 use lib.ListN.{length, take, drop, set}
 use Rattle.songcode.specs.Lists.{if_then_else_}
-use Rattle.songcode.specs.Song.{Song, Section}
+use Rattle.songcode.specs.Song.{Song}
 use Rattle.songcode.specs.answer.Lines.{Block, blocks}
 use Rattle.songcode.specs.answer.Sections.{lyricLine}
 use Rattle.songcode.specs.answer.Playing.{timeAmong, bpmAmong, timeOf}

@@ -17,5 +17,4 @@ pub use rows::meter_of;
 pub use texts::Opened;
 pub use texts::Text;
 pub use texts::Texts;
-pub use texts::is_played;
 pub use texts::lay_section;

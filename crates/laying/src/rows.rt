@@ -178,7 +178,8 @@ pub struct Places {
 
 // The parts of a section, one behind the other.
 pub fn lay_parts(s: &[u8], section: SectionRead, words: &mut [u32], at: usize) -> Places
-    requires places { ⌜ Placed (now s) (section .pattern) × Placed (now s) (section .lyrics) × (0 < length (linesOf (now s) (section .lyrics)) → 2 ≤ section .lyrics .number)
+    requires places { ⌜ Placed (now s) (section .pattern) × Placed (now s) (section .lyrics)
+        × (0 < length (linesOf (now s) (section .lyrics)) → 2 ≤ section .lyrics .number)
         × Inside (now s) (section .modifiers .before) × Inside (now s) (section .modifiers .after) × (length (now s) ≤ 65536) ⌝ }
     requires cuts { ⌜ CutFits (section .modifiers .front) × CutFits (section .modifiers .back) ⌝ }
     requires room { ⌜ at + (2 + (saidWeight (settingAt (now s) (section .modifiers .before)) + weight (linesOf (now s) (section .pattern))

@@ -13,24 +13,16 @@ use score::Stretch;
 use score::stretch_of;
 use sections::Keys;
 use sections::Place;
-use sections::Run;
 use sections::SectionRead;
 use sections::meet;
 ghost use mathlib.Core.Path.{_≡_};
-ghost use mathlib.Core.Option.{some};
 ghost use Prim.Native.Nat.{_+_, _≤_, _<_};
 ghost use lib.ListN.{length, take, drop};
-ghost use Rattle.songcode.specs.Lists.{isSome};
-ghost use Rattle.songcode.specs.Song.{Pattern};
-ghost use Rattle.songcode.specs.answer.Sections.{patternIn};
-ghost use Rattle.songcode.specs.answer.References.{patternItems};
 ghost use Rattle.songcode.specs.answer.Answer.{songOf};
 ghost use Rattle.outlines.specs.Readings.{outlined};
 ghost use Rattle.outlines.specs.Words.{lookUp};
-ghost use Rattle.sections.specs.Runs.{linesOf};
-ghost use Rattle.sections.specs.BlockParts.{Placed};
 ghost use Rattle.sections.specs.Onward.{Onward};
-ghost use Rattle.laying.specs.Scores.{namedText, Told};
+ghost use Rattle.laying.specs.Scores.{namedText};
 ghost use Rattle.laying.specs.Rows.{toldTexts, RoomFor, Before, SongKeys, Lays};
 
 // A text in the buffer, and what it says.
@@ -137,19 +129,4 @@ pub fn lay_section(s: &[u8], p: Place, song: Keys, at: usize, words: &mut [u32])
         end: places.end,
         next,
     }
-}
-
-// Whether a section's pattern is not empty.
-pub fn is_played(s: &[u8], pattern: Run, words: &[u32]) -> bool
-    requires { ⌜ Placed (now s) pattern × Told (now s) (now words) ⌝ }
-    ensures { λ r. ⌜ ((x : Pattern) → patternIn (linesOf (now (s .entry)) pattern) ≡ some x
-        → r ≡ isSome (patternItems (songOf (now (s .entry)) .definitions) x)) ⌝ }
-{
-    let named = named_in(s, pattern);
-    if named == 0 {
-        return true;
-    }
-    let x = named_text(words, named);
-    let o = x.outline;
-    !o.empty
 }

@@ -1,21 +1,11 @@
 -- An outline comes back from its word.
 use Prim.Native.Nat.{ℕ, _+_, _*_, _/_, _%_, _≤_}
 use mathlib.Core.Path.{_≡_, refl}
-use mathlib.Core.Bool.{Bool, true, false}
 use native.Mathlib.Omega.{arith}
-use lib.Dec.{eqb}
 use Rattle.outlines.specs.declared.readings.Outline.{Outline}
-use Rattle.outlines.specs.Words.{bit, isSet, outlineWord, outlineIn}
-
-bit-small : (x : Bool) → bit x ≤ 1
-unfolding bit
-bit-small true = omega arith
-bit-small false = omega arith
-
-bit-again : (x : Bool) → eqb (bit x) 1 ≡ x
-unfolding bit
-bit-again true = refl
-bit-again false = refl
+use Rattle.score.specs.Sections.{bit}
+use Rattle.score.proofs.ViewLaws.{bit-small, bit-read}
+use Rattle.outlines.specs.Words.{isSet, outlineWord, outlineIn}
 
 abbrev packed : ℕ → ℕ → ℕ → ℕ → ℕ → ℕ → ℕ → ℕ
 packed m s a b c d e = m * 32768 + s * 512 + a * 256 + b * 128 + c * 64 + d * 32 + e * 4
@@ -65,9 +55,9 @@ outline-again o h =
       third-out m s a b c d e h p q r t u,
       fourth-out m s a b c d e h p q r t u,
       last-out m s a b c d e h p q r t u,
-      bit-again (o .wants),
-      bit-again (o .empty),
-      bit-again (o .chord),
-      bit-again (o .refers),
-      bit-again (o .loops),
+      bit-read (o .wants),
+      bit-read (o .empty),
+      bit-read (o .chord),
+      bit-read (o .refers),
+      bit-read (o .loops),
     ) refl

@@ -6,15 +6,12 @@ use lib.Dec.{eqb}
 use lib.ListN.{getD}
 use Rattle.songcode.specs.Lists.{if_then_else_}
 use Rattle.score.specs.Places.{lengthAt, placeOf}
+use Rattle.score.specs.Sections.{bit}
 use Rattle.outlines.specs.declared.readings.Outline.{Outline}
 
 -- The outline of an empty text.
 unfoldable pub vacant : Outline
 vacant = record { empty = true; loops = false; refers = false; sizes = 1; wants = false; chord = false; measures = 0 }
-
-unfoldable pub bit : Bool → ℕ
-bit true = 1
-bit false = 0
 
 -- From the top bit down: measures 17, sizes 6, and a bit for each answer.
 unfoldable pub outlineWord : Outline → ℕ

@@ -5,7 +5,8 @@ use score::length_at;
 use score::place_of;
 ghost use mathlib.Core.Path.{_≡_};
 ghost use Prim.Native.Nat.{_≤_, _*_};
-ghost use Rattle.outlines.specs.Words.{bit, isSet, outlineWord, outlineIn, isMissing, lookUp};
+ghost use Rattle.outlines.specs.Words.{isSet, outlineWord, outlineIn, isMissing, lookUp};
+ghost use Rattle.score.specs.Sections.{bit};
 
 // What the fields of the word weigh: the measures, the sizes, and a bit for each answer.
 const MEASURES: usize = 32768;

@@ -1,7 +1,7 @@
 // A pass of a loop done again without reading its words: it was passed over, or written whole, and will be.
-use super::leaves::minus;
 use super::pens::Pen;
 use score::least;
+use score::minus;
 ghost use mathlib.Core.Path.{_≡_};
 ghost use mathlib.Core.Bool.{true};
 ghost use Prim.Native.Nat.{_+_, _-_, _*_, _≤_, _<_};

@@ -64,13 +64,6 @@ pub fn behind(words: &[u32], to: usize, at: usize) -> usize
     }
 }
 
-// A difference, 0 where there is none.
-pub fn minus(a: usize, b: usize) -> usize
-    ensures { λ r. ⌜ r ≡ a - b ⌝ }
-{
-    if a < b { 0 } else { a - b }
-}
-
 // A share of n among p, 0 among none.
 pub fn share_of(n: usize, p: usize) -> usize
     ensures { λ r. ⌜ r ≡ n / p ⌝ }

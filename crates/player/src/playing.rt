@@ -1,5 +1,4 @@
 // A section: counted, its cuts turned into two numbers, and written in one forward pass.
-use super::leaves::minus;
 use super::measures::Walk;
 use super::pens::Pen;
 use super::walks::Scope;
@@ -7,6 +6,7 @@ use super::walks::again;
 use super::walks::items;
 use score::Stretch;
 use score::least;
+use score::minus;
 use settings::Cut;
 use tokens::SILENCE_WORD;
 ghost use mathlib.Core.Path.{_≡_};

@@ -1,12 +1,12 @@
 -- What a view tells of the section whose words stand at a place.
-use Prim.Native.Nat.{ℕ, suc, _+_, _-_, _*_, _^_, _/_, _%_, _<_, _≤_}
+use Prim.Native.Nat.{ℕ, _+_, _-_, _*_, _^_, _/_, _%_, _<_, _≤_}
 use mathlib.Core.Path.{_≡_, refl, sym, ap, _∙_, subst}
 use mathlib.Core.List.{List, [], _∷_, _++_, append-assoc, flatMap}
 use mathlib.Core.Bool.{Bool, true, false, _||_}
 use mathlib.Core.Option.{Option, none, some}
 use native.Mathlib.Omega.{arith}
 use lib.Dec.{eqb}
-use lib.ListN.{length, take, drop, getD, length-append}
+use lib.ListN.{length, drop, getD, length-append}
 use lib.Seq.{getD-drop, drop-drop, take-append-seam, drop-append-seam}
 use Rattle.songcode.proofs.ListLaws.{drop-take}
 use Rattle.songcode.specs.Lists.{isSome}
@@ -14,7 +14,6 @@ use Rattle.songcode.specs.Song as song
 use Rattle.songcode.specs.Song.{LyricLine, Modifiers, Section, Song}
 use Rattle.songcode.specs.answer.Playing.{timeOf, bpmOf, repeats}
 use Rattle.settings.specs.declared.cuts.Cut.{Cut}
-use Rattle.settings.specs.Cuts.{cutOf}
 use Rattle.score.specs.declared.views.View.{View}
 use Rattle.score.specs.Sections.{sideRow, patternRow, cutWord, isCut, cutsBy, cutsRow, lyricBy, lyricRow, partsRow, bit, sectionRow, sectionsRow}
 use Rattle.score.specs.Views.{cutIn, cutAt, cutsLength, viewBy, viewOf, stretch}
@@ -65,12 +64,13 @@ lower-field a b h = omega arith
 alone-field : (a : ℕ) → a * 2 ^ 16 / 65536 ≡ a
 alone-field a = omega arith
 
-bit-small : (b : Bool) → bit b ≤ 1
+-- A bit, and the answer read again.
+pub bit-small : (b : Bool) → bit b ≤ 1
 unfolding bit
 bit-small true = omega arith
 bit-small false = omega arith
 
-bit-read : (b : Bool) → eqb (bit b) 1 ≡ b
+pub bit-read : (b : Bool) → eqb (bit b) 1 ≡ b
 unfolding bit
 bit-read true = refl
 bit-read false = refl
@@ -93,7 +93,7 @@ unfolding cutsBy cutsLength
 cuts-size true v w = refl
 cuts-size false v w = refl
 
-lyrics-size : (ls : List LyricLine) → length (flatMap lyricRow ls) ≡ 2 * length ls
+pub lyrics-size : (ls : List LyricLine) → length (flatMap lyricRow ls) ≡ 2 * length ls
 unfolding flatMap lyricRow lyricBy
 lyrics-size [] = refl
 lyrics-size (l ∷ ls) = let h = lyrics-size ls in omega arith
@@ -277,7 +277,8 @@ module _ (s : Song) (ws : List ℕ) (at : ℕ) (x : Section) (f : SectionFits s 
             (holds-there ws (first + length lead) (first + length lead + length pattern) pattern _ from-pattern refl);
         tail = rw (tail-is, length-is, lines-is, m, n)
             (holds-there ws (first + length lead + length pattern) (first + length lead + length pattern + length tail) tail _ from-tail refl);
-        lyrics = rw (length-is, lines-is, n) (holds-there ws (first + length lead + length pattern + length tail) (at + size) lyrics _ from-lyrics (omega arith));
+        lyrics = rw (length-is, lines-is, n)
+            (holds-there ws (first + length lead + length pattern + length tail) (at + size) lyrics _ from-lyrics (omega arith));
       })
 
 -- The first section of the row is seen, and the others stand from the next place on.

@@ -67,7 +67,8 @@ unfoldable pub bit : Bool → ℕ
 bit true = 1
 bit false = 0
 
--- How many words they are 17, N 6, bpm 9; header's line less 1: 16, repeat 14, whether it is cut 1; the words of the lead-in 16, of the tail 16; lyric lines 16.
+-- How many words they are 17, N 6, bpm 9; header's line less 1: 16, repeat 14, whether it is cut 1; the words of the lead-in 16, of the tail 16;
+-- lyric lines 16.
 unfoldable pub sectionRow : Song → Section → List ℕ
 unfolding partsRow timeOf bpmOf repeats bit isCut sideRow
 sectionRow s x =

@@ -19,7 +19,6 @@ pub use stretches::Stretch;
 pub use stretches::least;
 pub use stretches::minus;
 pub use stretches::word_at;
-pub use views::CUTS;
 pub use views::LYRIC;
 pub use views::SECTION_HEADS;
 pub use views::View;

@@ -70,7 +70,7 @@ unfolding NoPlain placed plainLength if_then_else_
 stops at [] = tt
 stops at (b ∷ bs) = by-cases (isPlain b) (λ e. rw e (stops at bs)) (λ e. rw e (class-other at b e))
 
-plain-le : (bs : List ℕ) → plainLength bs ≤ length bs
+pub plain-le : (bs : List ℕ) → plainLength bs ≤ length bs
 unfolding plainLength if_then_else_
 plain-le [] = omega arith
 plain-le (b ∷ bs) = let h = plain-le bs in by-cases (isPlain b) (λ e. rw e (omega arith)) (λ e. rw e (omega arith))

@@ -7,6 +7,7 @@ pub mod DecimalLaws
 pub mod PartLaws
 pub mod WordLaws
 pub mod LexLaws
+pub mod PlainBases
 pub mod LaidLaws
 pub mod KindLaws
 pub mod TokensFit

@@ -1,4 +1,5 @@
 // The tokens of a line, one after another, and the buffer that keeps their words.
+use super::bases::base_of;
 use super::bases::is_letter;
 use super::signs::COLON_WORD;
 use super::signs::LINE_END_WORD;
@@ -62,8 +63,10 @@ fn chord_at(s: &[u8], a: usize, stop: usize) -> Lexed
     requires { ⌜ (a < stop) × (stop ≤ length (now s)) × (stop ≤ 65536) × (isLetter (getD (now s) a 0) ≡ true) ⌝ }
     ensures { λ r. ⌜ Reads (now (s .entry)) a stop r ⌝ }
 {
-    let e = a + 1 + plain_len(&s[a + 1..stop]);
-    Lexed::Token(chord_token(s, a, e), e)
+    let base = base_of(&s[a..stop]);
+    let x = a + base.length;
+    let e = x + plain_len(&s[x..stop]);
+    Lexed::Token(chord_token(s, a, e, base), e)
 }
 
 // The first token of a part of a text.

@@ -1,5 +1,5 @@
 // The token of a run of plain bytes, and that of a bracket with its count, as words.
-use super::bases::base_of;
+use super::bases::Base;
 use super::numbers::Number;
 use super::numbers::number_in;
 use super::signs::AGAIN_WORD;
@@ -14,11 +14,12 @@ ghost use mathlib.Core.List.{[], _∷_};
 ghost use Prim.Native.Nat.{_≤_, _<_};
 ghost use mathlib.Core.Bool.{false};
 ghost use lib.ListN.{length, getD};
-ghost use Rattle.tokens.specs.Bases.{isLetter};
+ghost use Rattle.tokens.specs.Bases.{baseOf, isLetter};
 ghost use Rattle.songcode.specs.Lists.{any};
 ghost use Rattle.songcode.specs.Bytes.{placed, same};
 ghost use Rattle.songcode.specs.answer.Numbers.{countIn, repeatIn};
-ghost use Rattle.songcode.specs.answer.Chords.{chordIn};
+ghost use mathlib.Core.Option.{none};
+ghost use Rattle.songcode.specs.answer.Chords.{bases, isTaken, longestFrom, chordIn};
 ghost use Rattle.songcode.specs.answer.Tokens.{chordToken, referenceToken, closingToken, wordToken};
 ghost use Rattle.text.specs.Spans.{part};
 ghost use Rattle.tokens.specs.TokenWords.{tokenWord};
@@ -91,12 +92,11 @@ pub fn has_slip(w: &[u8]) -> bool
     false
 }
 
-// The token of a chord: its base, and the place and length of its extension.
-pub fn chord_token(s: &[u8], a: usize, e: usize) -> u32
-    requires { ⌜ (a ≤ e) × (e ≤ length (now s)) × (e ≤ 65536) ⌝ }
+// The token of a chord by its base: with the place and length of its extension.
+pub fn chord_token(s: &[u8], a: usize, e: usize, base: Base) -> u32
+    requires { ⌜ (a ≤ e) × (e ≤ length (now s)) × (e ≤ 65536) × (base ≡ baseOf (longestFrom isTaken 0 bases (part a e (now s)) none)) ⌝ }
     ensures { λ r. ⌜ r ≡ tokenWord (chordToken (chordIn (placed a (part a e (now (s .entry)))))) ⌝ }
 {
-    let base = base_of(&s[a..e]);
     if base.length == 0 {
         return WRONG_WORD;
     }

@@ -1,6 +1,6 @@
 -- The words of the keys table, from the settings that the code finds.
 use Prim.Native.Nat.{ℕ, zero, suc, _+_, _-_, _*_, _^_, _<_, _≤_}
-use mathlib.Core.Path.{_≡_, refl, ap, _∙_, subst}
+use mathlib.Core.Path.{_≡_, refl, ap, subst}
 use mathlib.Core.List.{List, [], _∷_, map, filterMap}
 use mathlib.Core.Logic.{_⊎_, ⊎-elim}
 use mathlib.Core.Option.{Option, none, some, bind}
@@ -15,28 +15,16 @@ use Rattle.songcode.specs.Song.{KeyName, name, artist, original, capo, bpm, tim
 use Rattle.songcode.specs.answer.Keys.{keyPlace}
 use Rattle.songcode.specs.answer.Sections.{keyIn}
 use Rattle.songcode.specs.answer.Playing.{settingNamed}
-use Rattle.songcode.specs.answer.Tables.{offset, keyWord, keyOrder}
-use Rattle.songcode.proofs.ByteLaws.{length-placed}
+use Rattle.songcode.specs.answer.Tables.{keyWord, keyOrder}
 use Rattle.songcode.specs.answer.Answer.{inputFaults}
 use Rattle.text.specs.Spans.{part}
 use Rattle.text.proofs.WalkLaws.{part-length}
 use Rattle.sections.specs.declared.slots.Said.{Said}
 use Rattle.sections.specs.Slots.{Setting, settingAmong, settingAt}
 use Rattle.sections.proofs.SaidLaws.{key-among}
+use Rattle.laying.proofs.LyricRowLaws.{offset-part, length-part}
 use Rattle.writing.specs.Words.{wordOfSetting, ShortSetting}
 use Rattle.writing.proofs.GoodLaws.{part-short, input-good}
-
--- A text from one place up to another.
-offset-part : (s : List ℕ) (a e : ℕ) → a < e → e ≤ length s → offset (placed a (part a e s)) ≡ a
-unfolding offset placed
-offset-part s a e h f = first (part a e s) (let l = part-length s a e f in omega arith)
-  where
-    first : (w : List ℕ) → 0 < length w → offset (placed a w) ≡ a
-    first [] z = absurd (let y : ⊥ = omega arith in y)
-    first (b ∷ w) z = refl
-
-length-part : (s : List ℕ) (a e : ℕ) → e ≤ length s → length (placed a (part a e s)) ≡ e - a
-length-part s a e f = length-placed a (part a e s) ∙ part-length s a e f
 
 module _ (s : List ℕ) (r : Said) where
   pub absent-word : r .line ≡ 0 → wordOfSetting (settingAt s r) ≡ 0

@@ -7,7 +7,7 @@ use lib.ListN.{length}
 use Rattle.sections.specs.Runs.{linesOf}
 use Rattle.judging.specs.declared.lyrics.Tally.{Tally}
 use Rattle.judging.specs.Lyrics.{tallied}
-use Rattle.judging.proofs.LyricLaws.{lyricsAt, lyrics-none, lyrics-over}
+use Rattle.laying.proofs.LyricRowLaws.{lyricsAt, lyrics-none, lyrics-over}
 use Rattle.judging.proofs.TallyLaws.{joined, joined-none, none-joined, with-lines, with-sum, tally-more}
 use borrow.Author.Needs.{needs}
 use Rattle.judging.proofs.lyrics.tally_lyrics.Statement.{statement}

@@ -1,4 +1,4 @@
--- What is known of the sections passed, and what is left of stage 3, is all of it; behind the last the outcome is the verdict, and all of them stand in the row.
+-- What is known of the sections passed, and what is left of stage 3, is all of it; behind the last the outcome is the verdict, and all stand in the row.
 use Rattle.judging.proofs.OpenedLaws.{opened-measurable}
 use Rattle.judging.proofs.LengthsAreLaws.{lengths-small}
 use Rattle.judging.proofs.ReferenceLaws.{ReferencesLeft, fault-at, references-start, references-over, references-stop, references-next}
@@ -16,7 +16,7 @@ use lib.ListN.{length}
 use native.Mathlib.Omega.{arith}
 use mathlib.Core.Logic.{⊎-elim}
 use mathlib.Core.Path.{_≡_, refl, sym, ap, _∙_, subst}
-use Prim.Native.Nat.{_-_, _≤_}
+use Prim.Native.Nat.{_-_}
 use borrow.Author.Needs.{needs}
 use Rattle.judging.proofs.walking.walk.Statement.{statement}
 use Rattle.judging.proofs.walking.walk.Tie as tie
@@ -119,11 +119,13 @@ loop-again c =
       w .0 .opens .met .onward,
       laid,
       w .1 ∙ i .2,
-      references-next (w .0 .opens) (fault-at (song .definitions) (fault .result) (w .0 .opens) (fault .ensures)) (c .before .before .before .before .before .before .if2 .left) (i .3),
+      references-next (w .0 .opens) (fault-at (song .definitions) (fault .result) (w .0 .opens) (fault .ensures))
+          (c .before .before .before .before .before .before .if2 .left) (i .3),
       ⊎-elim
           (λ v. walk-on (q .lay-section .result) (w .0 .opens) (i .0) inside (i .1 .ready .small) time meter _ _ (i .4) measures refusal (v .0 .taken)
           (v .3 ∙ v .2 .ensures))
-          (λ v. walk-refused (q .lay-section .result) (w .0 .opens) (i .0) inside (i .1 .ready .small) time meter _ _ (i .4) measures refusal (v .0 .left) (v .1))
+          (λ v. walk-refused (q .lay-section .result) (w .0 .opens) (i .0) inside (i .1 .ready .small) time meter _ _ (i .4) measures refusal (v .0 .left)
+          (v .1))
           (c .before .if3 .came),
     )
 

@@ -29,7 +29,8 @@ slice-write-words-4 c =
     let p = q .pre .1 in
     let l = length-set (q .args .words .now) (q .args .at + 3) (c .halves2 .result) in
     let m = length-set (set (q .args .words .now) (q .args .at + 3) (c .halves2 .result)) (q .args .at + 2) (c .before .before .halves .result) in
-    let n = length-set (set (set (q .args .words .now) (q .args .at + 3) (c .halves2 .result)) (q .args .at + 2) (c .before .before .halves .result)) (q .args .at + 1)
+    let n = length-set (set (set (q .args .words .now) (q .args .at + 3) (c .halves2 .result)) (q .args .at + 2) (c .before .before .halves .result))
+    (q .args .at + 1)
     (c .before .before .before .before .before .header-word .result) in
     omega arith
 

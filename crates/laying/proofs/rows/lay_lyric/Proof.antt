@@ -1,6 +1,5 @@
 -- The two words of a lyric line.
-use mathlib.Core.Path.{_≡_, sym, ap, _∙_}
-use mathlib.Core.List.{List}
+use mathlib.Core.Path.{sym}
 use native.Mathlib.Omega.{arith}
 use Rattle.laying.proofs.LaidLaws.{laid-two}
 use Rattle.laying.proofs.LyricRowLaws.{lyric-words, lyric-fits}

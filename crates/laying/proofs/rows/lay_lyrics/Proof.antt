@@ -12,16 +12,12 @@ use Rattle.score.specs.Sections.{lyricBy, lyricRow}
 use Rattle.score.specs.Fitting.{LyricFits, LyricsFit}
 use Rattle.sections.specs.declared.runs.Run.{Run}
 use Rattle.sections.specs.Runs.{linesOf}
+use Rattle.score.proofs.ViewLaws.{lyrics-size}
 use Rattle.laying.proofs.LaidLaws.{laid-laid}
 use Rattle.laying.proofs.LyricRowLaws.{lyricsAt, lyricAt, lyrics-none, lyrics-over, lyrics-more}
 use borrow.Author.Needs.{needs}
 use Rattle.laying.proofs.rows.lay_lyrics.Statement.{statement}
 use Rattle.laying.proofs.rows.lay_lyrics.Tie as tie
-
-lyrics-size : (ls : List LyricLine) → length (flatMap lyricRow ls) ≡ 2 * length ls
-unfolding flatMap lyricRow lyricBy
-lyrics-size [] = refl
-lyrics-size (l ∷ ls) = let h = lyrics-size ls in omega arith
 
 record Passed (n : ℕ) (held words : List ℕ) (fill : ℕ) (left all : List LyricLine) : Type 0 where
   done : List LyricLine

@@ -8,56 +8,75 @@ use Rattle.laying.proofs.rows.lay_parts.Tie as tie
 lay-said-requires : tie.Need-lay-said-requires
 unfolding leadSaid patternSaid tailSaid lyricsSaid
 lay-said-requires c κs =
-    let q = c .before .before .before .before .before .before .before .before in
-    let a = q .args in
+    let cuts = c .before .before .before in
+    let q = cuts .before .before .before .before .before in
     let p = q .pre in
-    let u = c .before .before .before .lay-cuts .ensures in
-    (p .0 .3, p .0 .5, room-lead (a .s .now) (a .section) (a .at) (a .words .now) (p .1 .1) (u .0) (u .1))
+    let u = cuts .lay-cuts .ensures in
+    (p .0 .3, p .0 .5, room-lead (q .args .s .now) (q .args .section) (q .args .at) (q .args .words .now) (p .1 .1) (u .0) (u .1))
 
 lay-run-requires : tie.Need-lay-run-requires
 unfolding leadSaid patternSaid tailSaid lyricsSaid
 lay-run-requires c κs =
-    let q = c .before .before .before .before .before .before .before .before .before .before .before .before in
-    let a = q .args in
+    let lead = c .before .before .before in
+    let cuts = lead .before .before .before .before in
+    let q = cuts .before .before .before .before .before in
     let p = q .pre in
-    let u = c .before .before .before .before .before .before .before .lay-cuts .ensures in
-    let v = c .before .before .before .lay-said .ensures in
-    (p .0 .0, p .0 .5, room-lines (a .s .now) (a .section) (a .at) (a .words .now) (p .1 .1) (u .0) (u .1) (v .0) (v .1))
+    let u = cuts .lay-cuts .ensures in
+    let v = lead .lay-said .ensures in
+    (p .0 .0, p .0 .5, room-lines (q .args .s .now) (q .args .section) (q .args .at) (q .args .words .now) (p .1 .1) (u .0) (u .1) (v .0) (v .1))
 
 lay-said-requires-2 : tie.Need-lay-said-requires-2
 unfolding leadSaid patternSaid tailSaid lyricsSaid
 lay-said-requires-2 c κs =
-    let q = c .before .before .before .before .before .before .before .before .before .before .before .before .before .before .before .before in
-    let a = q .args in
+    let run = c .before .before .before in
+    let lead = run .before .before .before .before in
+    let cuts = lead .before .before .before .before in
+    let q = cuts .before .before .before .before .before in
     let p = q .pre in
-    let u = c .before .before .before .before .before .before .before .before .before .before .before .lay-cuts .ensures in
-    let v = c .before .before .before .before .before .before .before .lay-said .ensures in
-    let w = c .before .before .before .lay-run .ensures in
-    (p .0 .4, p .0 .5, room-tail (a .s .now) (a .section) (a .at) (a .words .now) (p .1 .1) (u .0) (u .1) (v .0) (v .1) (w .0) (w .1))
+    let u = cuts .lay-cuts .ensures in
+    let v = lead .lay-said .ensures in
+    let w = run .lay-run .ensures in (
+      p .0 .4,
+      p .0 .5,
+      room-tail (q .args .s .now) (q .args .section) (q .args .at) (q .args .words .now) (p .1 .1) (u .0) (u .1) (v .0) (v .1) (w .0) (w .1),
+    )
 
 lay-lyrics-requires : tie.Need-lay-lyrics-requires
 unfolding leadSaid patternSaid tailSaid lyricsSaid
 lay-lyrics-requires c κs =
-    let q = c .before .before .before .before .before .before .before .before .before .before .before .before .before .before .before .before .before .before .before .before in
-    let a = q .args in
+    let tail = c .before .before .before in
+    let run = tail .before .before .before .before in
+    let lead = run .before .before .before .before in
+    let cuts = lead .before .before .before .before in
+    let q = cuts .before .before .before .before .before in
     let p = q .pre in
-    let u = c .before .before .before .before .before .before .before .before .before .before .before .before .before .before .before .lay-cuts .ensures in
-    let v = c .before .before .before .before .before .before .before .before .before .before .before .lay-said .ensures in
-    let w = c .before .before .before .before .before .before .before .lay-run .ensures in
-    let x = c .before .before .before .lay-said2 .ensures in
-    (p .0 .1, p .0 .2, p .0 .5, room-lyrics (a .s .now) (a .section) (a .at) (a .words .now) (p .1 .1) (u .0) (u .1) (v .0) (v .1) (w .0) (w .1) (x .0) (x .1))
+    let u = cuts .lay-cuts .ensures in
+    let v = lead .lay-said .ensures in
+    let w = run .lay-run .ensures in
+    let x = tail .lay-said2 .ensures in (
+      p .0 .1,
+      p .0 .2,
+      p .0 .5,
+      room-lyrics (q .args .s .now) (q .args .section) (q .args .at) (q .args .words .now) (p .1 .1) (u .0) (u .1) (v .0) (v .1) (w .0) (w .1)
+          (x .0) (x .1),
+    )
 
 returns : tie.Need-returns
 unfolding leadSaid patternSaid tailSaid lyricsSaid
 returns c =
-    let q = c .before .before .before .before .before .before .before .before .before .before .before .before .before .before .before .before .before .before .before .before .before .before .before in
+    let lines = c .before .before in
+    let tail = lines .before .before .before .before in
+    let run = tail .before .before .before .before in
+    let lead = run .before .before .before .before in
+    let cuts = lead .before .before .before .before in
+    let q = cuts .before .before .before .before .before in
     let a = q .args in
     let p = q .pre in
-    let u = c .before .before .before .before .before .before .before .before .before .before .before .before .before .before .before .before .before .before .lay-cuts .ensures in
-    let v = c .before .before .before .before .before .before .before .before .before .before .before .before .before .before .lay-said .ensures in
-    let w = c .before .before .before .before .before .before .before .before .before .before .lay-run .ensures in
-    let x = c .before .before .before .before .before .before .lay-said2 .ensures in
-    let y = c .before .before .lay-lyrics .ensures in (
+    let u = cuts .lay-cuts .ensures in
+    let v = lead .lay-said .ensures in
+    let w = run .lay-run .ensures in
+    let x = tail .lay-said2 .ensures in
+    let y = lines .lay-lyrics .ensures in (
       all-laid (a .s .now) (a .section) (a .at) (a .words .now) (p .1 .1) (u .0) (u .1) (v .0) (v .1) (w .0) (w .1) (x .0) (x .1) (y .0) (y .1 .0),
       (
         all-places (a .s .now) (a .section) (a .at) (a .words .now) (p .1 .1) (u .0) (u .1) (v .0) (v .1) (w .0) (w .1) (x .0) (x .1) (y .0) (y .1 .0),

@@ -1,5 +1,4 @@
 -- Both cases.
-use mathlib.Core.Path.{_∙_, sym}
 use borrow.Author.Tests.{eq-eqb, ne-eqb}
 use borrow.Author.Needs.{needs}
 use Rattle.songcode.specs.Lists.{if_then_else_}

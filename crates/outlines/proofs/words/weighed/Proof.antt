@@ -1,5 +1,5 @@
 use native.Mathlib.Omega.{arith}
-use Rattle.outlines.specs.Words.{bit}
+use Rattle.score.specs.Sections.{bit}
 use Rattle.outlines.proofs.words.weighed.Statement.{statement}
 use Rattle.outlines.proofs.words.weighed.Tie as tie
 

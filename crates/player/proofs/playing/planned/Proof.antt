@@ -23,7 +23,8 @@ returns c =
     let q = c .before .before .before .before .before .before .before .before .before .before in
     let a = q .args .a in
     let w = planned-is (repeatedRow (q .args .words .now) a) (a .front) (a .back) _ _ _ _ _ _ _ (q .pre .measures)
-    (c .before .before .before .before .before .before .tally .ensures .0) (c .before .before .before .before .before .least .ensures) (c .before .before .before .before .beats-before .ensures .0) refl (c .before .before .beats-but .ensures .0)
+    (c .before .before .before .before .before .before .tally .ensures .0) (c .before .before .before .before .before .least .ensures)
+    (c .before .before .before .before .beats-before .ensures .0) refl (c .before .before .beats-but .ensures .0)
     (c .before .minus .ensures) (c .minus2 .ensures) in
     (w .0, (w .1, w .2))
 

@@ -14,18 +14,18 @@ use Rattle.tokens.proofs.words.chord_token.Tie as tie
 
 -- The base is one of the 34 and lies in the word.
 inside : (c : tie.After-struct-known2)
-    → let a = c .before .before .before .before .before .before .args in
-    let b = c .before .before .before .base-of .result in
-    (b .number ≤ 33) × (b .length ≤ a .e - a .a)
+    → let a = c .before .before .before .before .args in
+    (a .base .number ≤ 33) × (a .base .length ≤ a .e - a .a)
 inside c =
-    let a = c .before .before .before .before .before .before .args in
-    base-inside (a .s .now) (a .a) (a .e) (c .before .before .before .base-of .result) (c .before .before .before .base-of .ensures)
-    (omega arith) (c .before .if1 .left)
+    let q = c .before .before .before .before in
+    let a = q .args in
+    base-inside (a .s .now) (a .a) (a .e) (a .base) (q .pre .3) (omega arith) (c .before .if1 .left)
 
 returns : tie.Need-returns
 returns c =
-    let a = c .before .before .before .before .before .args in
-    chord-none (a .a) (part (a .a) (a .e) (a .s .now)) (c .before .before .base-of .result) (c .before .before .base-of .ensures) (c .if1 .taken)
+    let q = c .before .before .before in
+    let a = q .args in
+    chord-none (a .a) (part (a .a) (a .e) (a .s .now)) (a .base) (q .pre .3) (c .if1 .taken)
 
 mul-kind : tie.Need-mul-kind
 mul-kind c = omega (arith, inside c .0)
@@ -38,28 +38,28 @@ sub-k c = omega (arith, inside (c .before) .1)
 
 returns-2 : tie.Need-returns-2
 returns-2 c =
-    let a = c .before .before .before .before .before .before .before .before .args in
-    let b = c .before .before .before .before .before .base-of in
+    let q = c .before .before .before .before .before .before in
+    let a = q .args in
     let l = part-length (a .s .now) (a .a) (a .e) (omega arith) in
-    omega (arith, chord-long (a .a) (part (a .a) (a .e) (a .s .now)) (b .result) (b .ensures) (c .before .before .before .if1 .left) (omega arith))
+    omega (arith, chord-long (a .a) (part (a .a) (a .e) (a .s .now)) (a .base) (q .pre .3) (c .before .before .before .if1 .left) (omega arith))
 
 cast-result : tie.Need-cast-result
 cast-result c = omega (arith, inside (c .before .before .before) .0)
 
 returns-3 : tie.Need-returns-3
 returns-3 c =
-    let a = c .before .before .before .before .before .before .before .before .before .args in
-    let b = c .before .before .before .before .before .before .base-of in
+    let q = c .before .before .before .before .before .before .before in
+    let a = q .args in
     let l = part-length (a .s .now) (a .a) (a .e) (omega arith) in
-    omega (arith, chord-bare (a .a) (part (a .a) (a .e) (a .s .now)) (b .result) (b .ensures) (c .before .before .before .before .if1 .left) (omega arith))
+    omega (arith, chord-bare (a .a) (part (a .a) (a .e) (a .s .now)) (a .base) (q .pre .3) (c .before .before .before .before .if1 .left) (omega arith))
 
 returns-4 : tie.Need-returns-4
 returns-4 c =
-    let a = c .before .before .before .before .before .before .before .before .before .before .before .before .args in
-    let b = c .before .before .before .before .before .before .before .before .before .base-of in
+    let q = c .before .before .before .before .before .before .before .before .before .before in
+    let a = q .args in
     let l = part-length (a .s .now) (a .a) (a .e) (omega arith) in
-    let t = ap (any isSlipByte) (part-drop (a .s .now) (a .a) (a .e) (b .result .length)) ∙ sym (c .before .has-slip .ensures) ∙ c .if4 .taken in
-    chord-slip (a .a) (part (a .a) (a .e) (a .s .now)) (b .result) (b .ensures)
+    let t = ap (any isSlipByte) (part-drop (a .s .now) (a .a) (a .e) (a .base .length)) ∙ sym (c .before .has-slip .ensures) ∙ c .if4 .taken in
+    chord-slip (a .a) (part (a .a) (a .e) (a .s .now)) (a .base) (q .pre .3)
     (c .before .before .before .before .before .before .before .if1 .left) (omega arith) t
 
 add-result : tie.Need-add-result
@@ -73,19 +73,18 @@ cast-result-2 c = let k = inside (c .before .before .before .before .before .bef
 
 returns-5 : tie.Need-returns-5
 returns-5 c =
-    let a = c .before .before .before .before .before .before .before .before .before .before .before .before .args in
-    let b = c .before .before .before .before .before .before .before .before .before .base-of in
+    let q = c .before .before .before .before .before .before .before .before .before .before in
+    let a = q .args in
     let l = part-length (a .s .now) (a .a) (a .e) (omega arith) in
-    let t = ap (any isSlipByte) (part-drop (a .s .now) (a .a) (a .e) (b .result .length)) ∙ sym (c .before .has-slip .ensures) ∙ c .if4 .left in
+    let t = ap (any isSlipByte) (part-drop (a .s .now) (a .a) (a .e) (a .base .length)) ∙ sym (c .before .has-slip .ensures) ∙ c .if4 .left in
     omega (
       arith,
-      chord-extended (a .a) (part (a .a) (a .e) (a .s .now)) (b .result) (b .ensures) (c .before .before .before .before .before .before .before .if1 .left)
+      chord-extended (a .a) (part (a .a) (a .e) (a .s .now)) (a .base) (q .pre .3) (c .before .before .before .before .before .before .before .if1 .left)
           (λ z. c .before .before .before .if3 .left (omega (arith, inside (c .before .before .before .before .before .before) .1))) (omega arith) t,
     )
 
 pub chord-token-spec : {M : Type 1} → statement M
 chord-token-spec =
     tie.close
-    (tie.spec (λ c. search needs) (λ c. search needs) (λ c. search needs) (λ c κs. search needs) returns mul-kind add-x sub-k returns-2
-    cast-result returns-3 (λ c. search needs) (λ c. search needs) (λ c. search needs) (λ c κs. search needs) returns-4 (λ c. search needs)
-    add-result (λ c. search needs) add-result-2 cast-result-2 returns-5)
+    (tie.spec returns mul-kind add-x sub-k returns-2 cast-result returns-3 (λ c. search needs) (λ c. search needs) (λ c. search needs)
+    (λ c κs. search needs) returns-4 (λ c. search needs) add-result (λ c. search needs) add-result-2 cast-result-2 returns-5)
