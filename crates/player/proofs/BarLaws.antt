@@ -5,17 +5,18 @@ use mathlib.Core.List.{List, [], _∷_, _++_}
 use native.Mathlib.Omega.{arith}
 use native.Mathlib.Numerals.{add-one}
 use borrow.Author.Tests.{eq-eqb, ne-eqb}
-use lib.ListN.{length, take, drop, replicate, set}
+use lib.ListN.{length, take, drop, getD, replicate, set, length-take}
 use lib.Seq.{sets, take-all}
 use Rattle.songcode.specs.Lists.{if_then_else_}
 use Rattle.score.specs.Places.{wordOf}
+use Rattle.score.proofs.WordLaws.{word-is}
 use Rattle.tokens.specs.Signs.{kindOf}
 use Rattle.player.specs.declared.pens.Pen.{Pen}
 use Rattle.player.specs.declared.bars.Bar.{Bar}
 use Rattle.player.specs.Bars.{beatsOf, Counted}
 use Rattle.player.specs.Signs.{voiceOf, chordOf, lastingOf, partOf, partsOf, soundsAs, soundingOf, positionsAt}
 use Rattle.player.specs.Page.{Ink, inked}
-use Rattle.player.proofs.SignLaws.{positions-next, part-length, parts-length}
+use Rattle.player.proofs.SignLaws.{position-within, position-there, positions-next, part-length, parts-length}
 use Rattle.player.proofs.ContentLaws.{sets-append, inked-is, ink-eq}
 
 -- A word n times.
@@ -59,6 +60,13 @@ bar-sounds share last w k v b t t' e n p q = let y : (kindOf w ≡ 61 → ⊥) =
 -- The positions of a measure.
 times-sum : (s a b : ℕ) → s * (a + b) ≡ s * a + s * b
 times-sum s a b = omega arith
+
+pub bar-inside : (ws : List ℕ) (to i stop : ℕ) → i < stop → stop ≡ i + length (positionsAt ws to i) → (i < length ws) × (getD ws i 0 ≡ wordOf ws to i)
+bar-inside ws to i stop lt e =
+    let h = position-within ws to i (position-there ws to i (omega arith)) in
+    let l = length-take to ws in
+    let k : i < length ws = omega (arith, h .1) in
+    (k, word-is ws to i 0 (h .0) k)
 
 pub bar-next : (ws : List ℕ) (to i stop share l w y b b' : ℕ) (t t' goal : List ℕ) → i < stop → stop ≡ i + length (positionsAt ws to i)
     → w ≡ wordOf ws to i → y ≡ chordOf l w → b' ≡ b + share * soundsAs (kindOf w) → t' ≡ sets t b (partOf share l w)

@@ -29,9 +29,12 @@ word-inside ws to at n =
     (λ f. let z : wordOf ws to at ≡ 3623878656 = sym (word-over ws to at (leb-true (length ws) at f)) in absurd (n (rw z)))
     (λ f. let k = leb-false (length ws) at f in (h, omega arith)))
 
-pub position-inside : (ws : List ℕ) (to at : ℕ) → isPosition (kindOf (wordOf ws to at)) ≡ true → at < to
+pub position-within : (ws : List ℕ) (to at : ℕ) → isPosition (kindOf (wordOf ws to at)) ≡ true → (at < to) × (at < length (take to ws))
 unfolding isPosition
-position-inside ws to at e = word-inside ws to at (λ z. let y : (ltb 54 34 || leb 61 54) ≡ true = rw z at e in let x : _≡_ {A = ℕ} 0 1 = cc in omega arith) .0
+position-within ws to at e = word-inside ws to at (λ z. let y : (ltb 54 34 || leb 61 54) ≡ true = rw z at e in let x : _≡_ {A = ℕ} 0 1 = cc in omega arith)
+
+pub position-inside : (ws : List ℕ) (to at : ℕ) → isPosition (kindOf (wordOf ws to at)) ≡ true → at < to
+position-inside ws to at e = position-within ws to at e .0
 
 pub stop-inside : (ws : List ℕ) (to at : ℕ) → isStop (kindOf (wordOf ws to at)) ≡ false → at < to
 unfolding isStop

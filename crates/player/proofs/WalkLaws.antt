@@ -1,7 +1,7 @@
 -- Laws of the walk, one for each way through the code.
 use Prim.Native.Nat.{ℕ, zero, suc, _+_, _-_, _<_, _≤_}
 use mathlib.Core.Path.{_≡_, refl, sym, ap, _∙_}
-use mathlib.Core.List.{List}
+use mathlib.Core.List.{List, []}
 use mathlib.Core.Bool.{Bool, true, false}
 use native.Mathlib.Omega.{arith}
 use borrow.Author.Tests.{eq-eqb, ne-eqb, eqb-false, leb-false, le-leb, ltb-false}
@@ -139,6 +139,11 @@ pub rounds-none : (row : List (List ℕ)) (r : ℕ) (g : Page) → r ≡ 0 → g
 unfolding times play
 rounds-none row zero g e = refl
 rounds-none row (suc r) g e = let z : ⊥ = omega arith in absurd z
+
+pub rounds-empty : (row : List (List ℕ)) (r : ℕ) (g : Page) → row ≡ [] → g ≡ play (times r row) g
+unfolding times play
+rounds-empty row zero g e = refl
+rounds-empty row (suc r) g e = rw e (rw e at (rounds-empty row r g e))
 
 pub rounds-some : (row : List (List ℕ)) (r : ℕ) (g h k : Page) → (r ≡ 0 → ⊥) → h ≡ play row g → k ≡ play (times (r - 1) row) h → k ≡ play (times r row) g
 unfolding times

@@ -1,7 +1,6 @@
 // A measure that is written whole: where the table has room for it, nothing is asked of a beat.
 use super::leaves::chord_after;
 use super::leaves::voice;
-use score::word_at;
 use tokens::REMOVER;
 use tokens::kind;
 ghost use mathlib.Core.Path.{_≡_};
@@ -67,7 +66,7 @@ pub fn write_bar(words: &[u32], to: usize, bar: Bar, b: usize, bs: &mut [u32])
     let mut i = bar.at;
     let mut j = b;
     while i < bar.stop {
-        let w = word_at(words, to, i);
+        let w = words[i];
         j = write_position(w, bar.share, l, j, bs);
         l = chord_after(l, w);
         i += 1;

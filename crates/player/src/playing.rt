@@ -44,7 +44,7 @@ pub struct Plan {
     pub left: usize,
 }
 
-// A stretch, r times; nothing more is looked at once no measure is to be looked at.
+// A stretch, r times, if anything stands there; nothing more is looked at once no measure is to be looked at.
 pub fn rounds(
     words: &[u32],
     n: usize,
@@ -58,6 +58,9 @@ pub fn rounds(
     ensures { λ q. ⌜ _≡_ {A = Page} (record { pen = q; ms = now (ms .exit); bs = now (bs .exit) })
         (play (times r (rowOf n (now (words .entry)) s)) (record { pen = p; ms = now (ms .entry); bs = now (bs .entry) })) ⌝ }
 {
+    if s.to <= s.from {
+        return p;
+    }
     if r == 0 || p.todo == 0 {
         return p;
     }
