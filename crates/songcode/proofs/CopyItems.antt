@@ -30,12 +30,12 @@ use Rattle.songcode.proofs.CopyWords.{item-offset, item-length, item-wi
 marked-alike : (mark : String) (a b inner : List Byte) → values a ≡ values b → Marked mark b inner
     → (other : List Byte) × Marked mark a other × (values other ≡ values inner)
 marked-alike mark a b inner e m =
-    let p = split a (m .opening) (inner ++ m .ending) (rw (m .written) at e) in
-    let q = split (p .back) inner (m .ending) (p .backAlike) in (
+    let p = split a (m .markBefore) (inner ++ m .markBehind) (rw (m .written) at e) in
+    let q = split (p .back) inner (m .markBehind) (p .backAlike) in (
       q .front,
       record {
-        opening = p .front;
-        ending = q .back;
+        markBefore = p .front;
+        markBehind = q .back;
         written = p .joined ∙ ap (λ w. p .front ++ w) (q .joined);
         opens = p .frontAlike ∙ m .opens;
         ends = q .backAlike ∙ m .ends;
@@ -85,9 +85,9 @@ pub record ItemFits (bs : List ℕ) (p : Prompt) : Type 0 where
 marked-part : {file : List Byte} {mark : String} {words inner : List Byte} → Marked mark words inner → Stands file words
     → Stands file inner × (length inner ≤ length words)
 marked-part {file} {words} {inner} m h =
-    let q = stands-parts (m .opening) (inner ++ m .ending) (subst (λ x. Stands file x) (m .written) h) .1 in
-    let l : length words ≡ length (m .opening) + (length inner + length (m .ending)) = rw (m .written, length-append, length-append) refl in
-    (stands-parts inner (m .ending) q .0, omega arith)
+    let q = stands-parts (m .markBefore) (inner ++ m .markBehind) (subst (λ x. Stands file x) (m .written) h) .1 in
+    let l : length words ≡ length (m .markBefore) + (length inner + length (m .markBehind)) = rw (m .written, length-append, length-append) refl in
+    (stands-parts inner (m .markBehind) q .0, omega arith)
 
 styled-part : {file : List Byte} {words inner : List Byte} {k : ℕ} → StyledText words k inner → Stands file words
     → Stands file inner × (length inner ≤ length words) × (k < 4)

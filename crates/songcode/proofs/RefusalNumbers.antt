@@ -26,7 +26,8 @@ use Rattle.songcode.specs.description.StoppedSong.{undivided, again-firs
 use Rattle.songcode.specs.description.StoppedSong.{empty-modified}
 use Rattle.songcode.specs.description.StoppedSong.{Stops6, uncounted, Stops7, sums-not, Stops8, keys-short, sections-short, measures-short, beats-short}
 use Rattle.songcode.specs.description.StoppedSong.{items-short}
-use Rattle.songcode.specs.description.Refusals.{Stage, stage1, stage2, stage3, stage4, stage5, stage6, stage7, stage8, Stated, complaintsIn}
+use Rattle.songcode.specs.description.Refusals.{Stage, stage1, stage2, stage3, stage4, stage5, stage6, stage7, stage8, Stated}
+use Rattle.songcode.specs.StageLists.{complaintsIn}
 use Rattle.songcode.proofs.AnswerAgree.{room-exact}
 use Rattle.songcode.proofs.RefusalsAgree.{stage-as-stated, refused-as-stated}
 use Rattle.songcode.proofs.SongAlone.{ownRoom, own-room, refused-with-tables}

@@ -28,7 +28,8 @@ use Rattle.songcode.specs.description.StoppedSong.{beats-short}
 use Rattle.songcode.specs.description.StoppedSong.{items-short}
 use Rattle.songcode.specs.description.Refusals.{Stage, stage1, stage2, stage3, stage4, stage5, stage6, stage7, stage8, Stated, Nothing, stagesBefore}
 use Rattle.songcode.specs.description.Refusals.{NothingIn}
-use Rattle.songcode.specs.description.Refusals.{complaintsIn, Refused}
+use Rattle.songcode.specs.description.Refusals.{Refused}
+use Rattle.songcode.specs.StageLists.{complaintsIn}
 use Rattle.songcode.proofs.MemberLaws.{either-passes, pass-left, pass-right, in-complaint, complaint-in}
 use Rattle.songcode.proofs.LinesAgree.{lines-sound, lines-complete}
 use Rattle.songcode.proofs.BlocksAgree.{blocks-sound, blocks-complete}

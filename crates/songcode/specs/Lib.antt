@@ -11,6 +11,7 @@ pub mod Jumps
 pub mod FlatCharts
 pub mod FlatDemands
 -- Last what is promised of all this.
+pub mod StageLists
 pub mod Starred
 pub mod Edges
 pub mod EitherOrder

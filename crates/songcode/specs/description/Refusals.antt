@@ -6,12 +6,7 @@ use Rattle.songcode.specs.Bytes.{placed}
 use Rattle.songcode.specs.answer.Lines.{Line, Block}
 use Rattle.songcode.specs.Complaints.{Complaint}
 use Rattle.songcode.specs.Song.{Song}
-use Rattle.songcode.specs.answer.SongText.{textFaults}
-use Rattle.songcode.specs.answer.References.{referenceFaults}
-use Rattle.songcode.specs.answer.Meter.{meterFaults, lengthFaults}
-use Rattle.songcode.specs.answer.Lyrics.{countFaults, sumFaults}
-use Rattle.songcode.specs.answer.Tables.{tables}
-use Rattle.songcode.specs.answer.Answer.{Room, inputFaults, blocksOf, songOf, roomFaults}
+use Rattle.songcode.specs.answer.Answer.{Room}
 use Rattle.songcode.specs.description.WrittenText.{WrittenLines, WrittenBlocks}
 use Rattle.songcode.specs.description.WrittenSong.{WrittenChart}
 use Rattle.songcode.specs.description.Performance.{Parts}
@@ -53,17 +48,6 @@ unfoldable pub NothingIn : Room → List ℕ → List Stage → Type 0
 unfolding Nothing
 NothingIn room bs [] = Unit {0}
 NothingIn room bs (k ∷ ks) = Nothing room bs k × NothingIn room bs ks
-
--- The answer's complaints in a stage, which the stage's theorem compares with what is stated.
-unfoldable pub complaintsIn : Room → List ℕ → Stage → List Complaint
-complaintsIn room bs stage1 = inputFaults bs
-complaintsIn room bs stage2 = textFaults (blocksOf bs)
-complaintsIn room bs stage3 = referenceFaults (songOf bs)
-complaintsIn room bs stage4 = meterFaults (songOf bs)
-complaintsIn room bs stage5 = lengthFaults (songOf bs) 0 (songOf bs .sections)
-complaintsIn room bs stage6 = countFaults (songOf bs)
-complaintsIn room bs stage7 = sumFaults (songOf bs)
-complaintsIn room bs stage8 = roomFaults room (tables (songOf bs))
 
 -- The refusal that is given.
 pub record Refused (room : Room) (bs : List ℕ) (c : Complaint) : Type 0 where

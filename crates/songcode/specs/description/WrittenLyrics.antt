@@ -23,11 +23,11 @@ pub record CountedLine (text words : List Byte) (n : ℕ) : Type 0 where
 
 -- "begins and ends with `***`, or with `:::`, and is at least 7 bytes": something stands between the two marks.
 pub record Marked (mark : String) (text inner : List Byte) : Type 0 where
-  pub opening : List Byte
-  pub ending : List Byte
-  pub written : text ≡ opening ++ (inner ++ ending)
-  pub opens : values opening ≡ ascii mark
-  pub ends : values ending ≡ ascii mark
+  pub markBefore : List Byte
+  pub markBehind : List Byte
+  pub written : text ≡ markBefore ++ (inner ++ markBehind)
+  pub opens : values markBefore ≡ ascii mark
+  pub ends : values markBehind ≡ ascii mark
   pub long : 1 ≤ length inner
 
 -- "has style 1, or 2, and its text is what lies between; else style 0"
