@@ -1,12 +1,14 @@
 -- A place that is found stands there: refusals 13, 16 and 17.
 use Prim.Native.Nat.{ℕ, _+_, _<_, _≤_}
 use mathlib.Core.Path.{_≡_, refl, sym, ap, _∙_, subst}
-use mathlib.Core.List.{List}
+use mathlib.Core.List.{List, List·Memᴰ}
 use native.Mathlib.Omega.{arith}
 use lib.ListN.{length, getD}
 use Rattle.songcode.specs.answer.Answer as songcode
 use Rattle.songcode.specs.answer.Answer.{refused, accepted, lineOfPlace, songAnswer}
 use Rattle.songcode.specs.Lists.{if_then_else_}
+use Rattle.songcode.specs.Song.{Song}
+use Rattle.songcode.proofs.AnswerAgree.{of-chart, song-read}
 use Rattle.songcode.specs.answer.Lines.{inside, ending}
 use Rattle.text.specs.declared.lines.Line.{Line}
 use Rattle.text.specs.Spans.{end}
@@ -22,8 +24,9 @@ use Rattle.slips.specs.Finds.{LineOf, NameOn, BareOn, Finds}
 use Rattle.slips.proofs.StartLaws.{line-whole, line-begins, line-holds}
 use Rattle.explain.specs.declared.Explained.{Explained}
 use Rattle.explain.specs.Causes.{clauses, clauseOfCause}
+use Rattle.explain.specs.Sums.{SumsAt, SumNamed}
 use Rattle.explain.specs.Explained.{OnVerdict, StrayNamed, in-pattern, in-side}
-use Rattle.explain.proofs.StageLaws.{short-text}
+use Rattle.explain.proofs.StageLaws.{short-text, header-refused}
 use Rattle.explain.proofs.StrayThere.{StrayAbout, about-pattern, about-side, stray-about}
 use Rattle.explain.proofs.VerdictLines.{lyric-listed, header-listed}
 
@@ -40,6 +43,11 @@ plain : (text : List ℕ) (n : ℕ) → getD text n 0 ≡ 37 → end (getD text 
 unfolding ending if_then_else_
 plain text n e = rw e refl
 
+-- What is told of a verdict and a slip at its place.
+abbrev pub Said : Answer → Slip → Place → ℕ → Explained → Type 0
+Said a x p cause r =
+    (r .refusal ≡ a .refusal) × (r .line ≡ a .line) × (r .cause ≡ cause) × (r .place ≡ p) × (r .first ≡ x .first) × (r .second ≡ x .second)
+
 module _ (text : List ℕ) (a : Answer) (h : a ≡ answerOf (songAnswer text)) where
   pub as-refused : (n : ℕ) → a .refusal ≡ n → (n ≡ 0 → ⊥) → songAnswer text ≡ refused n (a .line)
   unfolding answerOf
@@ -52,10 +60,21 @@ module _ (text : List ℕ) (a : Answer) (h : a ≡ answerOf (songAnswer text)) w
           ap (λ (i : ℕ). refused i l) x ∙ ap (λ (i : ℕ). refused n i) y
       go (accepted t) f = let x : 0 ≡ n = ap (λ (y : Answer). y .refusal) f ∙ e in absurd (nz (sym x))
 
-  module _ (x : Slip) (finds : length text ≤ 65536 → Finds text (a .refusal) (a .line) x)
+  -- The section whose header the verdict names is one of the song's.
+  pub sum-named : (x : Slip) → (a .refusal ≡ 17 → SumsAt text (a .line) (record { sum = x .first; measures = x .second })) → (r : Explained)
+      → r .line ≡ a .line → r .first ≡ x .first → r .second ≡ x .second → a .refusal ≡ 17 → SumNamed text r
+  sum-named x summed r line first second f =
+      let v = header-refused text (a .line) (as-refused 17 f (λ z. let y : ⊥ = omega arith in y)) in
+      let y = v .2 .0 in
+      let same = song-read text (v .0) (of-chart text (v .0) (v .1)) in
+      let there = subst (λ (q : Song). List·Memᴰ y (q .sections)) (sym same) (v .2 .1) in
+      let sums = summed f .is y there (v .2 .2) in
+      record { section = y; listed = there; header = v .2 .2 ∙ sym line; sum = first ∙ sums .0; measures = second ∙ sums .1 }
+
+  module _ (time : ℕ) (x : Slip) (finds : length text ≤ 65536 → Finds text (a .refusal) (a .line) time x)
       (p : Place) (on : OnLine text p) (covers : Covers text (x .from) (x .to) p)
       (cause : ℕ) (told : a .refusal ≤ 17 → x .clause ≤ 99 → x .clause ≤ getD clauses (a .refusal) 0 → clauseOfCause cause ≡ x .clause)
-      (r : Explained) (e : (r .refusal ≡ a .refusal) × (r .line ≡ a .line) × (r .cause ≡ cause) × (r .place ≡ p)) where
+      (r : Explained) (e : Said a x p cause r) where
     -- What is found in the text of the verdict's line is the place, and this names the line.
     here : (l : Line) → LineOf text (a .line) l → l .start ≤ x .from → x .from ≤ x .to → x .to ≤ l .stop
         → (r .place .offset ≡ x .from) × (r .place .offset + r .place .length ≡ x .to) × (r .place .line ≡ r .line)

@@ -6,4 +6,9 @@ pub mod StageLaws
 pub mod VerdictLines
 pub mod SoundLaws
 pub mod StrayThere
+pub mod SizeLaws
+pub mod MisfitThere
+pub mod TimeLaws
+pub mod SumLaws
 pub mod FirstLaws
+pub mod MisfitFirst

@@ -81,7 +81,7 @@ mutual
 abbrev pub tokensIn : List Mark → List Token
 tokensIn ms = map (λ (m : Mark). m .token) ms
 
-tokens-behind : (ms ns : List Mark) → tokensIn (ms ++ ns) ≡ tokensIn ms ++ tokensIn ns
+pub tokens-behind : (ms ns : List Mark) → tokensIn (ms ++ ns) ≡ tokensIn ms ++ tokensIn ns
 tokens-behind [] ns = refl
 tokens-behind (m ∷ ms) ns = ap (λ (ts : List Token). m .token ∷ ts) (tokens-behind ms ns)
 

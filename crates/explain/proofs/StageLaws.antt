@@ -1,17 +1,19 @@
--- The stages of the verdicts 13, 16 and 17: what the first five stages state has a number below 16, and what the next two state is said of the song's lines.
-use Prim.Native.Nat.{ℕ, _<_, _≤_}
-use mathlib.Core.Path.{_≡_, refl, ap, _∙_}
+-- The stages of the verdicts 12, 13, 16 and 17: what the first five stages state has a number below 16; what the next two state is said of the
+-- song's lines.
+use Prim.Native.Nat.{ℕ, _*_, _<_, _≤_}
+use mathlib.Core.Path.{_≡_, refl, ap, _∙_, subst}
 use mathlib.Core.Logic.{_⊎_, inl, inr}
 use mathlib.Core.Option.{some}
-use mathlib.Core.List.{List, List·Memᴰ}
+use mathlib.Core.List.{List, [], _∷_, List·Memᴰ, List·Memᴰ·head}
 use native.Mathlib.Omega.{arith}
 use borrow.Author.Tests.{ltb-true, ltb-false}
 use lib.Dec.{ltb}
 use lib.ListN.{length}
 use Rattle.songcode.specs.answer.Lines.{Line, Block}
 use Rattle.songcode.specs.Complaints.{Complaint, complaint}
-use Rattle.songcode.specs.Song.{KeyName, Items, LyricLine, Section, Song}
+use Rattle.songcode.specs.Song.{KeyName, Measure, Items, LyricLine, Section, Song}
 use Rattle.songcode.specs.answer.References.{patternItems}
+use Rattle.songcode.specs.answer.Playing.{positions, timeOf}
 use Rattle.songcode.specs.answer.Answer.{Room, refused, songAnswer}
 use Rattle.songcode.specs.description.Performance.{Parts}
 use Rattle.songcode.specs.description.WrittenSong.{WrittenChart}
@@ -24,14 +26,18 @@ use Rattle.songcode.specs.description.StoppedText.{no-key, DefinitionStops, hea
 use Rattle.songcode.specs.description.StoppedText.{in-metadata, in-definition, in-section, Stops2, stated, no-section}
 use Rattle.songcode.specs.description.StoppedSong.{Stops1, over-long, bad-bytes, Stops3, undefined, undefined-named, too-deep, loop-in-loop, to-empty, RowStops}
 use Rattle.songcode.specs.description.StoppedSong.{undivided, again-first, Stops4, of-pattern, of-lead-in, of-tail, Stops5, too-long, no-beat, empty-modified}
-use Rattle.songcode.specs.description.StoppedSong.{AgainFirst, Taken, Stops6, uncounted, Stops7, sums-not, Stops8, keys-short, sections-short, measures-short}
+use Rattle.songcode.specs.description.StoppedSong.{MeasureIn, AgainFirst, Taken}
+use Rattle.songcode.specs.description.StoppedSong.{Stops6, uncounted, Stops7, sums-not, Stops8, keys-short, sections-short, measures-short}
 use Rattle.songcode.specs.description.StoppedSong.{beats-short}
 use Rattle.songcode.specs.description.StoppedSong.{items-short}
-use Rattle.songcode.specs.description.Refusals.{Stage, stage1, stage2, stage3, stage4, stage5, stage6, stage7, stage8, Stated, Nothing, NothingIn}
+use Rattle.songcode.specs.description.Refusals.{Stage, stage1, stage2, stage3, stage4, stage5, stage6, stage7, stage8, Stated, Nothing, NothingIn, complaintsIn}
 use Rattle.songcode.specs.description.Refusals as refusals
 use Rattle.songcode.proofs.ListLaws.{by-cases}
-use Rattle.songcode.proofs.RefusalsAgree.{refused-as-stated}
+use Rattle.songcode.proofs.InheritsAgree.{says-meter}
+use Rattle.songcode.proofs.MeterStops.{places-are}
+use Rattle.songcode.proofs.RefusalsAgree.{refused-as-stated, stage-as-stated}
 use Rattle.songcode.proofs.SongAlone.{refused-with-tables}
+use Rattle.explain.specs.Sums.{Playable}
 
 abbrev Early : Complaint → Type 0
 Early c = c .number ≤ 11
@@ -146,6 +152,33 @@ stray-4 (of-pattern x n r i h e t) k = let g = row-again t k in in-text x r i e 
 stray-4 (of-lead-in x n l r i h m t) k = let g = row-again t k in in-side x r i (inl (m ∙ ap (λ (j : ℕ). some (record { line = j; items = r })) (g .1))) (g .0)
 stray-4 (of-tail x n l r i h m t) k = let g = row-again t k in in-side x r i (inr (m ∙ ap (λ (j : ℕ). some (record { line = j; items = r })) (g .1))) (g .0)
 
+-- 12: a row with a measure whose positions do not divide the section's N.
+pub record Undivided (n : ℕ) (r : Items) : Type 0 where
+  pub measure : Measure
+  pub there : MeasureIn measure r
+  pub undivides : (k : ℕ) → k * positions measure ≡ n → ⊥
+
+pub data MisfitIn (s : Song) (line : ℕ) : Type 0 where
+  in-text : (x : Section) (r : Items) → List·Memᴰ x (s .sections) → patternItems (s .definitions) (x .pattern) ≡ some r → Undivided (timeOf s x) r
+      → x .header ≡ line → MisfitIn s line
+  in-side : (x : Section) (r : Items) → List·Memᴰ x (s .sections)
+      → (x .modifiers .before ≡ some (record { line = line; items = r })) ⊎ (x .modifiers .after ≡ some (record { line = line; items = r }))
+      → Undivided (timeOf s x) r → MisfitIn s line
+
+row-undivided : {n line : ℕ} {r : Items} {c : Complaint} → RowStops n line r c → c .number ≡ 12 → Undivided n r × (line ≡ c .line)
+row-undivided (undivided m h u) e = (record { measure = m; there = h; undivides = λ k z. u k (ap (λ (j : ℕ). k * j) (places-are m) ∙ z) }, refl)
+row-undivided (again-first a) e = let z : ⊥ = omega arith in absurd z
+
+misfit-4 : {s : Song} {c : Complaint} → Stops4 s c → c .number ≡ 12 → MisfitIn s (c .line)
+misfit-4 {s} (of-pattern x n r i h e t) k =
+    let g = row-undivided t k in in-text x r i e (subst (λ (j : ℕ). Undivided j r) (says-meter s x n h) (g .0)) (g .1)
+misfit-4 {s} (of-lead-in x n l r i h m t) k =
+    let g = row-undivided t k in
+    in-side x r i (inl (m ∙ ap (λ (j : ℕ). some (record { line = j; items = r })) (g .1))) (subst (λ (j : ℕ). Undivided j r) (says-meter s x n h) (g .0))
+misfit-4 {s} (of-tail x n l r i h m t) k =
+    let g = row-undivided t k in
+    in-side x r i (inr (m ∙ ap (λ (j : ℕ). some (record { line = j; items = r })) (g .1))) (subst (λ (j : ℕ). Undivided j r) (says-meter s x n h) (g .0))
+
 pub of-6 : {s : Song} {c : Complaint} → Stops6 s c → (c .number ≡ 16) × ((l : LyricLine) × Taken s l × (l .number ≡ c .line))
 of-6 (uncounted l o w n v k) = (refl, (l, w, refl))
 
@@ -182,23 +215,26 @@ module _ (bs : List ℕ) (line : ℕ) where
       (λ o. absurd (over-long-first (r .stage) n (r .stated) (r .noneEarlier) l (ltb-true 65536 (length bs) o)))
       (λ o. let k = ltb-false 65536 (length bs) o in omega arith)
 
-  abbrev StrayRefused : Type 0
-  StrayRefused = (s : Song) × WrittenChart bs s × StrayIn s line
-
-  in-stage-4 : (k : Stage) → Stated room bs k (complaint 13 line) → StrayRefused
+  -- 12 and 13: a section of the chart, its pattern, lead-in or tail.
+  in-stage-4 : (k : Stage) (n : ℕ) → 12 ≤ n → n ≤ 13 → Stated room bs k (complaint n line) → (s : Song) × WrittenChart bs s × Stops4 s (complaint n line)
   unfolding Stated
-  in-stage-4 stage1 h = let e = of-1 h in let z : ⊥ = omega arith in absurd z
-  in-stage-4 stage2 h = let e = of-2 (h .4) in let z : ⊥ = omega arith in absurd z
-  in-stage-4 stage3 h = let e = of-3 (h .2) in let z : ⊥ = omega arith in absurd z
-  in-stage-4 stage4 h = (h .0, h .1, stray-4 (h .2) refl)
-  in-stage-4 stage5 h = let e = high-5 (h .2) in let z : ⊥ = omega arith in absurd z
-  in-stage-4 stage6 h = let e = of-6 (h .2) .0 in let z : ⊥ = omega arith in absurd z
-  in-stage-4 stage7 h = let e = of-7 (h .2) .0 in let z : ⊥ = omega arith in absurd z
-  in-stage-4 stage8 h = let e = of-8 (h .4) in let z : ⊥ = omega arith in absurd z
+  in-stage-4 stage1 n i j h = let e = of-1 h in let z : ⊥ = omega arith in absurd z
+  in-stage-4 stage2 n i j h = let e = of-2 (h .4) in let z : ⊥ = omega arith in absurd z
+  in-stage-4 stage3 n i j h = let e = of-3 (h .2) in let z : ⊥ = omega arith in absurd z
+  in-stage-4 stage4 n i j h = (h .0, h .1, h .2)
+  in-stage-4 stage5 n i j h = let e = high-5 (h .2) in let z : ⊥ = omega arith in absurd z
+  in-stage-4 stage6 n i j h = let e = of-6 (h .2) .0 in let z : ⊥ = omega arith in absurd z
+  in-stage-4 stage7 n i j h = let e = of-7 (h .2) .0 in let z : ⊥ = omega arith in absurd z
+  in-stage-4 stage8 n i j h = let e = of-8 (h .4) in let z : ⊥ = omega arith in absurd z
 
-  pub stray-refused : songAnswer bs ≡ refused 13 line → StrayRefused
-  stray-refused e =
-      let r = refused-as-stated room bs 13 line .0 (refused-with-tables room bs 13 line e) in in-stage-4 (r .stage) (r .stated)
+  refused-4 : (n : ℕ) → 12 ≤ n → n ≤ 13 → songAnswer bs ≡ refused n line → (s : Song) × WrittenChart bs s × Stops4 s (complaint n line)
+  refused-4 n i j e = let r = refused-as-stated room bs n line .0 (refused-with-tables room bs n line e) in in-stage-4 (r .stage) n i j (r .stated)
+
+  pub stray-refused : songAnswer bs ≡ refused 13 line → (s : Song) × WrittenChart bs s × StrayIn s line
+  stray-refused e = let r = refused-4 13 (omega arith) (omega arith) e in (r .0, r .1, stray-4 (r .2) refl)
+
+  pub misfit-refused : songAnswer bs ≡ refused 12 line → (s : Song) × WrittenChart bs s × MisfitIn s line
+  misfit-refused e = let r = refused-4 12 (omega arith) (omega arith) e in (r .0, r .1, misfit-4 (r .2) refl)
 
   -- 16: a taken lyric line of the chart.
   abbrev LyricRefused : Type 0
@@ -237,3 +273,37 @@ module _ (bs : List ℕ) (line : ℕ) where
   pub header-refused : songAnswer bs ≡ refused 17 line → HeaderRefused
   header-refused e =
       let r = refused-as-stated room bs 17 line .0 (refused-with-tables room bs 17 line e) in in-stage-7 (r .stage) (r .stated)
+
+  -- Then the stages before have nothing against the chart.
+  before-7 : (k : Stage) → Stated room bs k (complaint 17 line) → NothingIn room bs (refusals.stagesBefore k)
+      → NothingIn room bs (refusals.stagesBefore stage7)
+  unfolding Stated
+  before-7 stage1 h n = let e = of-1 h in let z : ⊥ = omega arith in absurd z
+  before-7 stage2 h n = let e = of-2 (h .4) in let z : ⊥ = omega arith in absurd z
+  before-7 stage3 h n = let e = of-3 (h .2) in let z : ⊥ = omega arith in absurd z
+  before-7 stage4 h n = let e = of-4 (h .2) in let z : ⊥ = omega arith in absurd z
+  before-7 stage5 h n = let e = of-5 (h .2) in let z : ⊥ = omega arith in absurd z
+  before-7 stage6 h n = let e = of-6 (h .2) .0 in let z : ⊥ = omega arith in absurd z
+  before-7 stage7 h n = n
+  before-7 stage8 h n = let e = of-8 (h .4) in let z : ⊥ = omega arith in absurd z
+
+  none-stated : (k : Stage) → NothingIn room bs (refusals.stagesBefore k) → Nothing room bs k → complaintsIn room bs k ≡ []
+  unfolding Nothing
+  none-stated k n q = empty (complaintsIn room bs k) (λ c m. q c (stage-as-stated room bs k n c .0 m))
+    where
+      empty : (cs : List Complaint) → ((c : Complaint) → List·Memᴰ c cs → ⊥) → cs ≡ []
+      empty [] h = refl
+      empty (c ∷ cs) h = absurd (h c (List·Memᴰ·head refl))
+
+  pub sum-playable : songAnswer bs ≡ refused 17 line → Playable bs
+  unfolding NothingIn refusals.stagesBefore complaintsIn
+  sum-playable e =
+      let r = refused-as-stated room bs 17 line .0 (refused-with-tables room bs 17 line e) in
+      let n = before-7 (r .stage) (r .stated) (r .noneEarlier) in
+      record {
+        small = short-text 17 e (omega arith);
+        text = none-stated stage2 (n .0, tt) (n .1 .0);
+        references = none-stated stage3 (n .0, (n .1 .0, tt)) (n .1 .1 .0);
+        meters = none-stated stage4 (n .0, (n .1 .0, (n .1 .1 .0, tt))) (n .1 .1 .1 .0);
+        lengths = none-stated stage5 (n .0, (n .1 .0, (n .1 .1 .0, (n .1 .1 .1 .0, tt)))) (n .1 .1 .1 .1 .0);
+      }

@@ -15,7 +15,7 @@ use Rattle.songcode.specs.answer.Lines.{Line, Block}
 use Rattle.songcode.specs.Song.{Items, Pattern, items, named, Modifier, before, after, Definition, Section, Song}
 use Rattle.songcode.specs.answer.References.{patternItems}
 use Rattle.songcode.specs.answer.Sections.{behindFirst, patternRun, body}
-use Rattle.songcode.specs.answer.Tokens.{Token, reference, lineEnd, tokens}
+use Rattle.songcode.specs.answer.Tokens.{Token, reference, lineEnd, tokens, tokensOf}
 use Rattle.songcode.specs.answer.Answer.{blocksOf, refused, songAnswer}
 use Rattle.songcode.specs.description.WrittenPattern.{Word, spells-again, spells-silence, spells-remover, spells-reference, spells-chord, Text, t-end, t-blank}
 use Rattle.songcode.specs.description.WrittenPattern.{t-semicolon, t-colon, t-open, t-close, t-word, TextLines, one-line, more-lines}
@@ -56,10 +56,11 @@ setting-behind : (b : Byte) (bs : List Byte) → b .value ≡ 95 → settingIn (
 unfolding settingIn left notBlank isBlank if_then_else_
 setting-behind b bs e = rw e refl
 
--- The clause is told of every line of the file that is this one.
-abbrev ToldOn : Line → Items → Type 0
-ToldOn l r =
-    AgainFirst r → (s : List ℕ) (k : text.Line) → lineText s k ≡ l → (clause from to : ℕ) → StrayTold s (SideText s k) clause from to → clause ≡ 1
+-- The tokens of the setting on every line of the file that is this one are those of the items.
+abbrev pub SideTokens : Line → Items → Type 0
+SideTokens l r =
+    (s : List ℕ) (k : text.Line) → lineText s k ≡ l → (ms : List Mark) (q : SideText s k ms)
+    → tokens (placed (q .from) (part (q .from) (k .stop) s)) ≡ writeItems r []
 
 module _ (l : Line) (r : Items) {spelling : List ℕ} {setting : List Byte} (u : Unblank spelling) (w : Signed 95 spelling (l .text) setting)
     (t : WrittenSide setting r) where
@@ -71,18 +72,20 @@ module _ (l : Line) (r : Items) {spelling : List ℕ} {setting : List Byte} (u :
       let f : settingIn (behindFirst (l .text)) ≡ settingIn rest = ap (λ (bs : List Byte). settingIn (behindFirst bs)) (w .written) in
       e ∙ sym f ∙ signed-setting u w
 
-  side-stray : ToldOn l r
-  unfolding sounding
-  side-stray a s k e clause from to x =
-      let q = x .text in
-      let told : tokens (placed (q .from) (part (q .from) (k .stop) s)) ≡ writeItems r [] =
-      ap tokens (sym (q .setting) ∙ ap (λ (m : Line). settingIn (m .text)) e ∙ setting-is) ∙ text-complete (t .text) ∙ sym (appended r) in
-      let sounds : sounding (tokensIn (x .marks)) ≡ itemsWritten r =
-      ap (λ (ms : List Mark). sounding (tokensIn ms)) (q .all) ∙ before-end (q .marks) (k .stop) []
-      ∙ append-nil (sounding (tokensIn (q .marks)))
-      ∙ ap sounding (of-marks s (q .from) (k .stop) (q .marks) (q .marked) ∙ told)
-      ∙ of-items r [] ∙ append-nil (itemsWritten r) in
-      told-there s (SideText s k) x (items-stray r a (x .marks) sounds)
+  side-tokens : SideTokens l r
+  side-tokens s k e ms q = ap tokens (sym (q .setting) ∙ ap (λ (m : Line). settingIn (m .text)) e ∙ setting-is) ∙ text-complete (t .text) ∙ sym (appended r)
+
+side-stray : (l : Line) (r : Items) → SideTokens l r → AgainFirst r → (s : List ℕ) (k : text.Line) → lineText s k ≡ l → (clause from to : ℕ)
+    → StrayTold s (SideText s k) clause from to → clause ≡ 1
+unfolding sounding
+side-stray l r h a s k e clause from to x =
+    let q = x .text in
+    let sounds : sounding (tokensIn (x .marks)) ≡ itemsWritten r =
+    ap (λ (ms : List Mark). sounding (tokensIn ms)) (q .all) ∙ before-end (q .marks) (k .stop) []
+    ∙ append-nil (sounding (tokensIn (q .marks)))
+    ∙ ap sounding (of-marks s (q .from) (k .stop) (q .marks) (q .marked) ∙ h s k e (x .marks) q)
+    ∙ of-items r [] ∙ append-nil (itemsWritten r) in
+    told-there s (SideText s k) x (items-stray r a (x .marks) sounds)
 
 unblank-before : (n : ℕ) (r : Items) → Unblank (modifierSpelling (before n r))
 unfolding Unblank modifierSpelling ascii every
@@ -93,17 +96,17 @@ unfolding Unblank modifierSpelling ascii every
 unblank-after n r = refl
 
 -- The line of a lead-in or tail.
-side-line : (l : Line) (m : Modifier) (n : ℕ) (r : Items) → ModifierLine l m → (m ≡ before n r) ⊎ (m ≡ after n r)
-    → (n ≡ l .number) × ToldOn l r
+pub side-line : (l : Line) (m : Modifier) (n : ℕ) (r : Items) → ModifierLine l m → (m ≡ before n r) ⊎ (m ≡ after n r)
+    → (n ≡ l .number) × SideTokens l r
 unfolding ModifierSetting
 side-line l m n r w o =
     ⊎-elim
     (λ e.
     let v : ModifierLine l (before n r) = subst (ModifierLine l) e w in
-    (v .allowed .0, λ a s k f clause from to x. side-stray l r (unblank-before n r) (v .written) (v .allowed .1) a s k f clause from to x))
+    (v .allowed .0, λ s k f ms q. side-tokens l r (unblank-before n r) (v .written) (v .allowed .1) s k f ms q))
     (λ e.
     let v : ModifierLine l (after n r) = subst (ModifierLine l) e w in
-    (v .allowed .0, λ a s k f clause from to x. side-stray l r (unblank-after n r) (v .written) (v .allowed .1) a s k f clause from to x))
+    (v .allowed .0, λ s k f ms q. side-tokens l r (unblank-after n r) (v .written) (v .allowed .1) s k f ms q))
     o
 
 -- A reference names at least 1.
@@ -141,8 +144,8 @@ names-one (one-line {l} h) n e z =
     y
 names-one (more-lines {ts = ts} {us = us} h t v) n e z = alone ts us n (sym v ∙ e)
 
-module _ {b : Block} {x : Section} (w : WrittenSection b x) (ds : List Definition) (r : Items) (a : AgainFirst r) where
-  lines-are : patternRun (body b) ≡ w .firstPattern ∷ w .morePattern
+module _ {b : Block} {x : Section} (w : WrittenSection b x) (ds : List Definition) (r : Items) where
+  pub lines-are : patternRun (body b) ≡ w .firstPattern ∷ w .morePattern
   lines-are =
       run-found (record {
         keyLines = w .keyLines;
@@ -153,12 +156,12 @@ module _ {b : Block} {x : Section} (w : WrittenSection b x) (ds : List Definitio
         ofModifiers = w .eachSays;
       })
 
-  pattern-stray : patternItems ds (x .pattern) ≡ some r → (s : List ℕ) → namedIn (patternRun (body b)) ≡ 0 → {clause from to : ℕ}
-      → StrayTold s (PlainText s (patternRun (body b))) clause from to → clause ≡ 1
-  unfolding WrittenPattern patternItems sounding
-  pattern-stray e s z {clause} y = go (x .pattern) refl
+  -- The tokens of a pattern that is no reference are those of the items that are played.
+  pub pattern-tokens : patternItems ds (x .pattern) ≡ some r → namedIn (patternRun (body b)) ≡ 0 → tokensOf (w .firstPattern) (w .morePattern) ≡ writeItems r []
+  unfolding WrittenPattern patternItems
+  pattern-tokens e z = go (x .pattern) refl
     where
-      go : (p : Pattern) → x .pattern ≡ p → clause ≡ 1
+      go : (p : Pattern) → x .pattern ≡ p → tokensOf (w .firstPattern) (w .morePattern) ≡ writeItems r []
       go (named n) f =
           let t = subst (λ (q : Pattern). WrittenPattern (w .firstPattern) (w .morePattern) q) f (w .pattern) in
           absurd (names-one t n refl (ap namedIn (sym lines-are) ∙ z))
@@ -166,17 +169,23 @@ module _ {b : Block} {x : Section} (w : WrittenSection b x) (ds : List Definitio
           let t = subst (λ (q : Pattern). WrittenPattern (w .firstPattern) (w .morePattern) q) f (w .pattern) in
           let g : some q ≡ some r = ap (patternItems ds) (sym f) ∙ e in
           let i : q ≡ r = cc in
-          let m = y .text in
-          let sounds : sounding (tokensIn (y .marks)) ≡ itemsWritten r =
-          of-marked-lines s (m .lines) (y .marks) (m .marked)
-          ∙ ap soundingLines (m .same ∙ lines-are)
-          ∙ sym (of-lines (w .firstPattern) (w .morePattern))
-          ∙ ap sounding (text-lines-complete (t .0) ∙ sym (appended q))
-          ∙ of-items q [] ∙ append-nil (itemsWritten q) ∙ ap itemsWritten i in
-          told-there s _ y (items-stray r a (y .marks) sounds)
+          text-lines-complete (t .0) ∙ sym (appended q) ∙ ap (λ (y : Items). writeItems y []) i
+
+  pattern-stray : AgainFirst r → patternItems ds (x .pattern) ≡ some r → (s : List ℕ) → namedIn (patternRun (body b)) ≡ 0 → {clause from to : ℕ}
+      → StrayTold s (PlainText s (patternRun (body b))) clause from to → clause ≡ 1
+  unfolding sounding
+  pattern-stray a e s z {clause} y =
+      let m = y .text in
+      let sounds : sounding (tokensIn (y .marks)) ≡ itemsWritten r =
+      of-marked-lines s (m .lines) (y .marks) (m .marked)
+      ∙ ap soundingLines (m .same ∙ lines-are)
+      ∙ sym (of-lines (w .firstPattern) (w .morePattern))
+      ∙ ap sounding (pattern-tokens e z)
+      ∙ of-items r [] ∙ append-nil (itemsWritten r) in
+      told-there s _ y (items-stray r a (y .marks) sounds)
 
 -- The modifier that says a section's lead-in or tail.
-side-said : {b : Block} {x : Section} (w : WrittenSection b x) (line : ℕ) (r : Items)
+pub side-said : {b : Block} {x : Section} (w : WrittenSection b x) (line : ℕ) (r : Items)
     → (x .modifiers .before ≡ some (record { line = line; items = r })) ⊎ (x .modifiers .after ≡ some (record { line = line; items = r }))
     → (m : Modifier) × List·Memᴰ m (w .said) × ((m ≡ before line r) ⊎ (m ≡ after line r))
 side-said w line r o =
@@ -217,7 +226,7 @@ stray-about bs line e =
         let same : lineText bs (l .0) ≡ k .0 = sym (l .2) in
         about-side (l .0) (record { listed = l .1; number = ap (λ (y : Line). y .number) same ∙ sym (q .0) }) (b .0) (b .1)
         (subst (λ (y : Line). List·Memᴰ y (b .0 .others)) (sym same) there)
-        (λ clause from to y. q .1 a bs (l .0) same clause from to y)
+        (λ clause from to y. side-stray (k .0) r (q .1) a bs (l .0) same clause from to y)
 
 -- The verdict's line is a line of the text.
 pub stray-listed : (bs : List ℕ) {line : ℕ} → songAnswer bs ≡ refused 13 line → (l : text.Line) × LineOf bs line l

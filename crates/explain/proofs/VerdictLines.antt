@@ -7,11 +7,13 @@ use mathlib.Core.List.{List, _∷_, map, List·Memᴰ, List·Memᴰ·head, List�
 use mathlib.Core.List.{Memᴰ·append-right}
 use Rattle.songcode.specs.answer.Lines.{Line, Block}
 use Rattle.songcode.specs.Song.{LyricLine, Section, Song}
+use Rattle.songcode.specs.answer.SongText.{sectionBlocks}
 use Rattle.songcode.specs.answer.Answer.{blocksOf, refused, songAnswer}
 use Rattle.songcode.specs.description.WrittenText.{WrittenBlocks}
 use Rattle.songcode.specs.description.WrittenSection.{Each, none-each, and-each, LyricLines, no-lyrics, with-lyrics, WrittenSection}
 use Rattle.songcode.specs.description.WrittenSong.{WrittenSong}
 use Rattle.songcode.proofs.BlocksAgree.{blocks-sound}
+use Rattle.songcode.proofs.SongAgree.{sections-are}
 use Rattle.songcode.proofs.AnswerAgree.{of-chart}
 use Rattle.text.specs.declared.lines.Line as text
 use Rattle.text.specs.Spans.{lineText, spans}
@@ -52,12 +54,21 @@ module _ (bs : List ℕ) where
       let r = line-of-block b i m j in
       (r .0, record { listed = r .1; number = sym (ap (λ (x : Line). x .number) (r .2)) ∙ e })
 
-  -- The block of a section.
+  -- The block of a section; among the blocks of sections, and among all blocks.
+  pub section-block : (s : Song) → WrittenSong (blocksOf bs) s → (x : Section) → List·Memᴰ x (s .sections)
+      → (b : Block) × List·Memᴰ b (sectionBlocks (blocksOf bs)) × WrittenSection b x
+  section-block s w x m = let r = each-right (w .sections) m in (r .0, rw (sections-are w) (r .1), r .2 .section)
+
   pub block-of : (s : Song) → WrittenSong (blocksOf bs) s → (x : Section) → List·Memᴰ x (s .sections)
       → (b : Block) × List·Memᴰ b (blocksOf bs) × WrittenSection b x
   block-of s w x m =
       let r = each-right (w .sections) m in
       (r .0, rw (w .written) (Memᴰ·append-right (w .metadata) (Memᴰ·append-right (w .definitionBlocks) (r .1))), r .2 .section)
+
+  pub block-among : (s : Song) → WrittenSong (blocksOf bs) s → (b : Block) → List·Memᴰ b (sectionBlocks (blocksOf bs)) → List·Memᴰ b (blocksOf bs)
+  block-among s w b m =
+      let i = subst (λ (cs : List Block). List·Memᴰ b cs) (sections-are w) m in
+      rw (w .written) (Memᴰ·append-right (w .metadata) (Memᴰ·append-right (w .definitionBlocks) i))
 
   module _ (line : ℕ) where
     abbrev Listed : Type 0

@@ -15,6 +15,8 @@ use Rattle.slips.specs.Finds.{LineOf, NameOn, BareOn}
 use Rattle.explain.specs.declared.Explained.{Explained}
 use Rattle.explain.specs.Causes.{Belongs, clauseOfCause}
 use Rattle.explain.specs.Stopped.{Stopped}
+use Rattle.explain.specs.MisfitNamed.{MisfitNamed}
+use Rattle.explain.specs.Sums.{SumNamed}
 
 -- The place stands on the line that the verdict names: bytes of it that pass a test, which is told the clause, the first byte and the end.
 pub record OnVerdict (text : List ℕ) (r : Explained) (test : Line → ℕ → ℕ → ℕ → Type 0) : Type 0 where
@@ -41,6 +43,8 @@ pub record Explains (text : List ℕ) (r : Explained) : Type 0 where
   -- "and for 7 ... the place is the first at which the definition fails": the text that the verdict names is not right, and the place is that of the token
   -- with which no right text goes on, or its end where it is not whole.
   pub stopped : r .refusal ≡ 7 → Stopped text r
+  -- "and for ... 12 ... the place is the first at which the definition fails", with "positions and N".
+  pub misfit : r .refusal ≡ 12 → MisfitNamed text r
   -- "and for ... 13 ... the place is the first at which the definition fails": in a section's pattern without references, or in the lead-in or tail on
   -- the verdict's line, the first `%` before every chord.
   pub stray-named : r .refusal ≡ 13 → StrayNamed text r
@@ -50,3 +54,5 @@ pub record Explains (text : List ℕ) (r : Explained) : Type 0 where
   -- should stand; on the first header of a section whose counts do not sum, its name.
   pub uncounted : r .refusal ≡ 16 → OnVerdict text r (λ l clause from to. BareOn text l clause from to)
   pub summed : r .refusal ≡ 17 → OnVerdict text r (λ l clause from to. (clause ≡ 1) × NameOn text l from to)
+  -- "sum and measures"
+  pub sums : r .refusal ≡ 17 → SumNamed text r

@@ -1,16 +1,25 @@
 // Why a chart is refused, and where: the reader's verdict, the clause of it that holds, the bytes that are to change, and the numbers that a
 // sentence needs.
 mod clauses;
+mod sums;
+mod times;
 
 use clauses::cause_of;
+use reader::Answer;
 use slips::Place;
 use slips::Slip;
 use slips::find_slip;
 use slips::place_at;
+use sums::sums_at;
+use times::time_at;
 ghost use mathlib.Core.Path.{_≡_};
-ghost use Prim.Native.Nat.{_≤_};
+ghost use Prim.Native.Nat.{ℕ, _≤_};
 ghost use lib.ListN.{length};
+ghost use Rattle.songcode.specs.answer.Answer.{songAnswer};
+ghost use Rattle.reader.specs.Answers.{answerOf};
 ghost use Rattle.slips.specs.Finds.{Finds};
+ghost use Rattle.explain.specs.Times.{TimeAt};
+ghost use Rattle.explain.specs.Sums.{SumsAt};
 ghost use Rattle.explain.specs.Explained.{Explains};
 
 // Texts of more bytes are not looked into: they are refused on no line.
@@ -18,6 +27,14 @@ const TEXT_MOST: usize = 65536;
 
 // The refusal of a chart without a section: no number belongs to it.
 const NO_SECTION: usize = 9;
+
+// The refusals that a section's N decides, or that are told with it.
+const UNDIVIDED: usize = 12;
+
+const STRAY: usize = 13;
+
+// The refusal that is told with a sum and a number of measures.
+const UNSUMMED: usize = 17;
 
 // Refusal and line, both 0 where the chart is accepted; the cause, 100 times the refusal and the number of its clause; the place, all 0 where the
 // refusal names no line; one more line worth showing, 0 where there is none; three numbers.
@@ -56,7 +73,7 @@ fn nowhere(refusal: usize, cause: usize, bytes: usize) -> Explained
 
 // A slip at its place.
 fn at_place(refusal: usize, line: usize, cause: usize, x: Slip, p: Place) -> Explained
-    ensures { λ r. ⌜ (r .refusal ≡ refusal) × (r .line ≡ line) × (r .cause ≡ cause) × (r .place ≡ p) ⌝ }
+    ensures { λ r. ⌜ (r .refusal ≡ refusal) × (r .line ≡ line) × (r .cause ≡ cause) × (r .place ≡ p) × (r .first ≡ x .first) × (r .second ≡ x .second) ⌝ }
 {
     Explained {
         refusal,
@@ -70,14 +87,50 @@ fn at_place(refusal: usize, line: usize, cause: usize, x: Slip, p: Place) -> Exp
     }
 }
 
+// N where the verdict asks for it.
+fn time_for(text: &[u8], a: Answer) -> usize
+    requires { ⌜ a ≡ answerOf (songAnswer (now text)) ⌝ }
+    ensures { λ r. ⌜ (a .refusal ≡ 12 → TimeAt (now (text .entry)) (a .line) r) ⌝ }
+{
+    if a.refusal == UNDIVIDED {
+        return time_at(text, a.line);
+    }
+    if a.refusal == STRAY {
+        return time_at(text, a.line);
+    }
+    0
+}
+
 // The slip of a text of any length.
-fn slip_in(text: &[u8], refusal: usize, line: usize) -> Slip
-    ensures { λ r. ⌜ (length (now (text .entry)) ≤ 65536 → Finds (now (text .entry)) refusal line r) ⌝ }
+fn slip_in(text: &[u8], refusal: usize, line: usize, time: usize) -> Slip
+    ensures { λ r. ⌜ (length (now (text .entry)) ≤ 65536 → Finds (now (text .entry)) refusal line time r) ⌝ }
 {
     if TEXT_MOST < text.len() {
         return slips::no_slip();
     }
-    find_slip(text, refusal, line)
+    find_slip(text, refusal, line, time)
+}
+
+// A slip with the numbers of refusal 17, if it is that.
+fn with_sums(text: &[u8], a: Answer, x: Slip) -> Slip
+    requires { ⌜ a ≡ answerOf (songAnswer (now text)) ⌝ }
+    ensures { λ r. ⌜ ((time : ℕ) → Finds (now (text .entry)) (a .refusal) (a .line) time x → Finds (now (text .entry)) (a .refusal) (a .line) time r)
+        × (r .from ≡ x .from) × (r .to ≡ x .to) × (r .clause ≡ x .clause)
+        × (a .refusal ≡ 17 → SumsAt (now (text .entry)) (a .line) (record { sum = r .first; measures = r .second })) ⌝ }
+{
+    if a.refusal != UNSUMMED {
+        return x;
+    }
+    let t = sums_at(text, a.line);
+    Slip {
+        clause: x.clause,
+        from: x.from,
+        to: x.to,
+        other: x.other,
+        first: t.sum,
+        second: t.measures,
+        third: x.third,
+    }
 }
 
 // Every text of every length is explained.
@@ -88,7 +141,8 @@ pub fn explain(text: &[u8]) -> Explained
     if a.line == 0 {
         return nowhere(a.refusal, cause_of(a.refusal, 1), text.len());
     }
-    let x = slip_in(text, a.refusal, a.line);
+    let found = slip_in(text, a.refusal, a.line, time_for(text, a));
+    let x = with_sums(text, a, found);
     let p = place_at(text, x.from, x.to);
     at_place(a.refusal, a.line, cause_of(a.refusal, x.clause), x, p)
 }

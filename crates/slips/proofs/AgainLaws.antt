@@ -132,7 +132,7 @@ unfolding MarkedLines
 lines-at s [] ms h m i = absurd (List·Memᴰ·not-nil (subst (λ (ns : List Mark). List·Memᴰ m ns) h i))
 lines-at s (l ∷ ls) ms h m i =
     ⊎-elim
-    (λ j. marks-at s (l .start) (l .stop) (h .2) (h .0) (h .3) m j)
+    (λ j. marks-at s (l .start) (l .stop) (h .2 .0) (h .0) (h .3) m j)
     (λ j.
     ⊎-elim
     (λ e t. absurd (end-not (l .stop) m e t))

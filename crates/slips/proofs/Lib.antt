@@ -14,6 +14,8 @@ pub mod WrongTexts
 pub mod FindLaws
 pub mod StartLaws
 pub mod StrayLaws
+pub mod MisfitLaws
 pub mod MarkLaws
 pub mod AgainLaws
 pub mod TextLaws
+pub mod MeasureLaws

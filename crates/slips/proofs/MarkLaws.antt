@@ -12,18 +12,23 @@ use Rattle.tokens.specs.Fitting.{Fit, kind}
 use Rattle.tokens.specs.Lexing.{tokensFrom}
 use Rattle.tokens.proofs.KindLaws.{word-kind}
 use Rattle.slips.specs.declared.readings.Stray.{Stray}
+use Rattle.slips.specs.declared.readings.Misfit.{Misfit}
 use Rattle.slips.specs.declared.readings.Reading.{Reading}
 use Rattle.slips.specs.declared.signs.Token as slips
 use Rattle.slips.specs.Marks.{Mark, Marked, endMark, MarkedLines}
 use Rattle.slips.specs.Taken.{TokenAt}
+use Rattle.slips.specs.Places.{Whole}
 use Rattle.slips.specs.Strays.{heard, hearingSign}
+use Rattle.slips.specs.Misfits.{fittingSign, fitted}
 use Rattle.slips.specs.Readings.{Follows}
 use Rattle.slips.proofs.LineLaws.{From}
+use Rattle.slips.proofs.StartLaws.{whole-line}
 use Rattle.slips.proofs.StrayLaws.{hearing-sign, sign-within, heard-behind}
+use Rattle.slips.proofs.MisfitLaws.{fitting-sign, fitted-behind}
 
 pub follows-none : (x : Reading) → Follows x [] x
-unfolding heard
-follows-none x = record { stray = refl; within = λ h. h; known = refl }
+unfolding heard fitted
+follows-none x = record { stray = refl; within = λ h. h; known = refl; time = refl; misfit = refl }
 
 pub follows-both : {x y z : Reading} {ms ns : List Mark} → Follows x ms y → Follows y ns z → Follows x (ms ++ ns) z
 follows-both {x} {y} {z} {ms} {ns} f g =
@@ -31,23 +36,31 @@ follows-both {x} {y} {z} {ms} {ns} f g =
       stray = g .stray ∙ ap (λ (v : Stray). heard v ns) (f .stray) ∙ sym (heard-behind (x .stray) ms ns);
       within = λ h. g .within (f .within h);
       known = g .known ∙ f .known;
+      time = g .time ∙ f .time;
+      misfit =
+          g .misfit ∙ ap (λ (n : ℕ). fitted n (y .misfit) ns) (f .time) ∙ ap (λ (v : Misfit). fitted (x .time) v ns) (f .misfit)
+          ∙ sym (fitted-behind (x .time) (x .misfit) ms ns);
     }
 
 -- What is promised of one more token, by its sign.
-abbrev pub Taken : Reading → ℕ → ℕ → Reading → Type 0
-Taken x sign from r = (r .stray ≡ hearingSign (x .stray) sign from) × (r .known ≡ x .known)
+abbrev pub Taken : Reading → ℕ → ℕ → ℕ → Reading → Type 0
+Taken x sign from to r =
+    (r .stray ≡ hearingSign (x .stray) sign from) × (r .known ≡ x .known) × (r .time ≡ x .time)
+    × (r .misfit ≡ fittingSign (x .time) (x .misfit) sign from to)
 
-follows-one : {x r : Reading} (t : Token) (from to : ℕ) → from ≤ 65536 → Fit t → Taken x (kind t) from r
+follows-one : {x r : Reading} (t : Token) (from to : ℕ) → from ≤ 65536 → Fit t → Taken x (kind t) from to r
     → Follows x (record { token = t; from = from; to = to } ∷ []) r
-unfolding heard
+unfolding heard fitted
 follows-one {x} t from to a f h =
     record {
       stray = h .0 ∙ hearing-sign (x .stray) t from f;
       within = λ b. rw (h .0) (sign-within (x .stray) (kind t) from a b);
       known = h .1;
+      time = h .2;
+      misfit = h .3 ∙ fitting-sign (x .time) (x .misfit) t from to f;
     }
 
-pub follows-end : {x r : Reading} (to : ℕ) → to ≤ 65536 → Taken x 58 to r → Follows x (endMark to ∷ []) r
+pub follows-end : {x r : Reading} (to : ℕ) → to ≤ 65536 → Taken x 58 to to r → Follows x (endMark to ∷ []) r
 unfolding kind Fit
 follows-end to a h = follows-one lineEnd to to a tt h
 
@@ -56,11 +69,11 @@ module _ (s : List ℕ) (at to : ℕ) (u : to ≤ 65536) (t : slips.Token) (h : 
   abbrev pub mark : Mark
   mark = record { token = h .token; from = t .from; to = t .next }
 
-  pub follows-token : {x r : Reading} {sign : ℕ} → sign ≡ t .word / 67108864 → Taken x sign (t .from) r → Follows x (mark ∷ []) r
+  pub follows-token : {x r : Reading} {sign : ℕ} → sign ≡ t .word / 67108864 → Taken x sign (t .from) (t .next) r → Follows x (mark ∷ []) r
   follows-token {x} {r} e k =
       let i : t .word / 67108864 ≡ kind (h .token) = ap (λ (w : ℕ). w / 67108864) (h .word) ∙ word-kind (h .token) (h .fits) in
       let j = h .solid in
-      follows-one (h .token) (t .from) (t .next) (omega arith) (h .fits) (subst (λ (n : ℕ). Taken x n (t .from) r) (e ∙ i) k)
+      follows-one (h .token) (t .from) (t .next) (omega arith) (h .fits) (subst (λ (n : ℕ). Taken x n (t .from) (t .next) r) (e ∙ i) k)
 
   pub marked-more : (ms : List Mark) → Marked s (t .next) to ms → Marked s at to (mark ∷ ms)
   unfolding Marked
@@ -90,11 +103,10 @@ pub lines-more : (s : List ℕ) (n at left : ℕ) {l : Line} → Found s n at l 
 unfolding MarkedLines
 lines-more s n at left {l} f h z here rest m r =
     let e : left ≡ suc (left - 1) = omega arith in
-    let o = f .over in
-    let p = f .next in
+    let whole = subst (Whole s) (sym (f .is)) (whole-line s n at h) in
     let all : take left (From s n at) ≡ l ∷ take (left - 1) (From s (n + 1) (l .next)) =
     ap (take left) (spans-found f h) ∙ ap (λ (k : ℕ). take k (l ∷ From s (n + 1) (l .next))) e in
-    subst (λ (ls : List Line). MarkedLines s ls (here ++ (endMark (l .stop) ∷ rest))) (sym all) (here, rest, omega arith, m, r, refl)
+    subst (λ (ls : List Line). MarkedLines s ls (here ++ (endMark (l .stop) ∷ rest))) (sym all) (here, rest, whole, m, r, refl)
 
 -- Some marks, others and one between, behind marks that were read before.
 pub regroup : (done here ms : List Mark) (m : Mark) → (done ++ (here ++ (m ∷ []))) ++ ms ≡ done ++ (here ++ (m ∷ ms))

@@ -17,7 +17,8 @@ use Rattle.songcode.specs.answer.Tokens.{Class, blank, semi, double, bracket, c
 use Rattle.songcode.specs.answer.PatternText.{itemsIn, kept, references, noReference, barred}
 use Rattle.songcode.specs.description.WrittenText.{All}
 use Rattle.songcode.specs.description.WrittenPattern.{Word, spells-again, spells-silence, spells-remover, spells-reference, spells-chord, SpelledChord, Plain}
-use Rattle.songcode.specs.description.WrittenPattern.{Text, t-end, t-blank, t-semicolon, t-colon, t-open, t-close, t-word, Unbarred, WrittenSide, writeItems}
+use Rattle.songcode.specs.description.WrittenPattern.{Text, t-end, t-blank, t-semicolon, t-colon, t-open, t-close, t-word, Unbarred, WrittenSide}
+use Rattle.songcode.proofs.WrittenBefore.{writeItems, appended}
 use Rattle.songcode.proofs.ListLaws.{true-is-not-false, none-passes, nil-is-not-cons}
 use Rattle.songcode.proofs.ChoiceLaws.{isSome-some}
 use Rattle.songcode.proofs.MemberLaws.{either, only-one}
@@ -152,4 +153,4 @@ side-written bs h =
     let t = text-exact bs (writeItems r []) (no-wrong r) .0 (k .0) in
     let m : mentioned (writeItems r []) ≡ [] = items-mentioned r [] ∙ append-nil (references r) ∙ none-referred r .0 (k .2) in
     let c : any isColon (writeItems r []) ≡ false = subst (λ (ts : List Token). any isColon ts ≡ false) (k .0) (h .0) in
-    (r, record { text = t; shallow = k .1; unbarred = text-unbarred t c m })
+    (r, record { text = subst (λ (ts : List Token). Text bs ts) (appended r) t; shallow = k .1; unbarred = text-unbarred t c m })

@@ -19,7 +19,7 @@ use Rattle.text.proofs.SpanLaws.{by-ending}
 use Rattle.text.proofs.WalkLaws.{whole, next-is}
 use Rattle.text.proofs.CutLaws.{ended, unended}
 use Rattle.text.proofs.TrimLaws.{solid-le}
-use Rattle.slips.specs.Places.{Unended}
+use Rattle.slips.specs.Places.{Unended, Whole}
 use Rattle.slips.proofs.PlaceLaws.{same-line}
 use Rattle.slips.proofs.FindLaws.{no-lf, no-cr}
 use Rattle.slips.proofs.LineLaws.{each-line}
@@ -116,10 +116,7 @@ module _ (s : List ℕ) where
       (omega arith, omega arith)
 
   -- No line ends in the text of a line, which lies in the file.
-  abbrev Whole : Line → Type 0
-  Whole l = (l .stop ≤ length s) × Unended s (l .start) (l .stop)
-
-  whole-line : (n at : ℕ) → at < length s → Whole (lineAt s n at)
+  pub whole-line : (n at : ℕ) → at < length s → Whole s (lineAt s n at)
   whole-line n at h =
       let a = text-ends n at in
       let b = text-starts n at .0 in
@@ -132,9 +129,9 @@ module _ (s : List ℕ) where
             subst (λ (x : ℕ). end x ≡ inside) e (inside-line (drop at s) (k - at) (omega arith)),
       )
 
-  pub line-whole : (l : Line) → List·Memᴰ l (spans s) → Whole l
+  pub line-whole : (l : Line) → List·Memᴰ l (spans s) → Whole s l
   unfolding spans
-  line-whole l m = each-line s (λ n at. Unit {0}) Whole (λ n at h i. (whole-line n at h, tt)) (length s) 1 0 (omega arith) tt l m
+  line-whole l m = each-line s (λ n at. Unit {0}) (Whole s) (λ n at h i. (whole-line n at h, tt)) (length s) 1 0 (omega arith) tt l m
 
   -- Where a line begins, as many lines end before a place behind it as its number says, and those between.
   abbrev Begins : ℕ → ℕ → Type 0

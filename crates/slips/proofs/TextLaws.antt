@@ -39,7 +39,7 @@ use Rattle.slips.proofs.StrayLaws.{Outcome, stray-heard}
 use Rattle.slips.proofs.AgainLaws.{lines-at, side-at, stray-byte}
 use Rattle.slips.proofs.BlockLaws.{others-later}
 
-map-take : {A B : Type 0} (f : A → B) (k : ℕ) (xs : List A) → map f (take k xs) ≡ take k (map f xs)
+pub map-take : {A B : Type 0} (f : A → B) (k : ℕ) (xs : List A) → map f (take k xs) ≡ take k (map f xs)
 map-take f zero xs = refl
 map-take f (suc k) [] = refl
 map-take f (suc k) (x ∷ xs) = ap (λ ys. f x ∷ ys) (map-take f k xs)
@@ -159,10 +159,10 @@ module _ (s : List ℕ) (run : Run) where
 
 -- What is told of a text is told of the block that holds the verdict's line.
 module _ (s : List ℕ) (line : ℕ) (l : Line) {p : Place} (o : BlockOf s line p) where
-  block-first : (b : Block) → List·Memᴰ b (blocksOf s) → b .first .number ≡ line → (p .at < length s) × (b ≡ blockAt s (p .number) (p .at))
+  pub block-first : (b : Block) → List·Memᴰ b (blocksOf s) → b .first .number ≡ line → (p .at < length s) × (b ≡ blockAt s (p .number) (p .at))
   block-first b i e = o .holds b i (b .first, List·Memᴰ·head refl, e)
 
-  block-other : l .number ≡ line → (b : Block) → List·Memᴰ b (blocksOf s) → List·Memᴰ (lineText s l) (b .others)
+  pub block-other : l .number ≡ line → (b : Block) → List·Memᴰ b (blocksOf s) → List·Memᴰ (lineText s l) (b .others)
       → (p .at < length s) × (b ≡ blockAt s (p .number) (p .at))
   block-other e b i m = o .holds b i (lineText s l, List·Memᴰ·tail m, e)
 

@@ -1,4 +1,4 @@
--- What is found for the line that a verdict names: refusals 7, 13, 16 and 17.
+-- What is found for the line that a verdict names: refusals 7, 12, 13, 16 and 17.
 use Prim.Native.Nat.{ℕ, _<_, _≤_}
 use mathlib.Core.Path.{_≡_}
 use mathlib.Core.List.{List, [], _∷_, List·Memᴰ}
@@ -11,7 +11,7 @@ use Rattle.songcode.specs.answer.Answer.{blocksOf}
 use Rattle.text.specs.declared.lines.Line.{Line}
 use Rattle.text.specs.Spans.{spans}
 use Rattle.slips.specs.declared.slip.Slip.{Slip}
-use Rattle.slips.specs.MeterTold.{MeterTold}
+use Rattle.slips.specs.MeterTold.{MeterTold, MisfitsTold}
 use Rattle.slips.specs.declared.patterns.Whose.{Whose}
 use Rattle.slips.specs.declared.patterns.Whose.the-variants.{Definition, Section, Side}
 use Rattle.slips.specs.Rules.{Ruled}
@@ -60,9 +60,10 @@ pub data TextOf (s : List ℕ) (n : ℕ) : Whose → List songcode.Line → Type
   of-side : {b : Block} {m : songcode.Line} → InBlock s n b m → blockKind b ≡ section → kindOfLine m ≡ modifierLine
       → TextOf s n Side (record { number = m .number; text = settingOf m } ∷ [])
 
--- What is promised of a slip, by its refusal, if the text has a line of that number.
-pub record Finds (s : List ℕ) (refusal line : ℕ) (x : Slip) : Type 0 where
+-- What is promised of a slip, by its refusal, if the text has a line of that number; the time is the N of its section.
+pub record Finds (s : List ℕ) (refusal line time : ℕ) (x : Slip) : Type 0 where
   pub ruled : refusal ≡ 7 → (w : Whose) (ls : List songcode.Line) → TextOf s line w ls → Ruled s w ls (x .clause) (x .from)
+  pub misfit : refusal ≡ 12 → (l : Line) → LineOf s line l → MisfitsTold s line l time x
   pub stray : refusal ≡ 13 → (l : Line) → LineOf s line l → MeterTold s line l (x .clause) (x .from) (x .to)
   pub uncounted : refusal ≡ 16 → (l : Line) → LineOf s line l → BareOn s l (x .clause) (x .from) (x .to)
   pub summed : refusal ≡ 17 → (l : Line) → LineOf s line l → (x .clause ≡ 1) × NameOn s l (x .from) (x .to)

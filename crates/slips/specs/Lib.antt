@@ -5,6 +5,7 @@ pub mod Rules
 pub mod RulesRead
 pub mod Marks
 pub mod Strays
+pub mod Misfits
 pub mod Readings
 pub mod BlocksMet
 pub mod MeterTold

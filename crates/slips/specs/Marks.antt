@@ -2,7 +2,6 @@
 use Prim.Native.Nat.{ℕ, _+_, _<_, _≤_}
 use mathlib.Core.Path.{_≡_}
 use mathlib.Core.List.{List, [], _∷_, _++_, map}
-use lib.ListN.{length}
 use Rattle.songcode.specs.Bytes.{placed}
 use Rattle.songcode.specs.answer.Keys.{settingIn}
 use Rattle.songcode.specs.answer.Lines as songcode
@@ -10,6 +9,7 @@ use Rattle.songcode.specs.answer.Tokens.{Token, sound, remover, reference, semi
 use Rattle.text.specs.declared.lines.Line.{Line}
 use Rattle.text.specs.Spans.{part, frontBlanks, lineText}
 use Rattle.tokens.specs.Lexing.{tokensFrom}
+use Rattle.slips.specs.Places.{Whole}
 
 -- A token, the place of its first byte, and one behind its last before the next token begins.
 pub record Mark : Type 0 where
@@ -35,7 +35,7 @@ endMark stop = record { token = lineEnd; from = stop; to = stop }
 unfoldable pub MarkedLines : List ℕ → List Line → List Mark → Type 0
 MarkedLines s [] ms = ms ≡ []
 MarkedLines s (l ∷ ls) ms =
-    (here : List Mark) × (rest : List Mark) × (l .stop ≤ length s) × Marked s (l .start) (l .stop) here × MarkedLines s ls rest
+    (here : List Mark) × (rest : List Mark) × Whole s l × Marked s (l .start) (l .stop) here × MarkedLines s ls rest
     × (ms ≡ here ++ (endMark (l .stop) ∷ rest))
 
 -- The number that a text names with its first token, 0 where it names none.

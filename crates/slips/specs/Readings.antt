@@ -14,12 +14,15 @@ use Rattle.slips.specs.declared.readings.Reading.{Reading}
 use Rattle.slips.specs.declared.slip.Slip.{Slip}
 use Rattle.slips.specs.Marks.{Mark, Marked, endMark, MarkedLines, namedIn}
 use Rattle.slips.specs.Strays.{heard}
+use Rattle.slips.specs.Misfits.{fitted}
 
 -- What is found behind some tokens.
 pub record Follows (x : Reading) (ms : List Mark) (r : Reading) : Type 0 where
   pub stray : r .stray ≡ heard (x .stray) ms
   pub within : x .stray .from ≤ 65536 → r .stray .from ≤ 65536
   pub known : r .known ≡ x .known
+  pub time : r .time ≡ x .time
+  pub misfit : r .misfit ≡ fitted (x .time) (x .misfit) ms
 
 -- The tokens from one place up to another, and a line end.
 pub record ReadsLine (s : List ℕ) (from to : ℕ) (x r : Reading) : Type 0 where
@@ -39,6 +42,7 @@ pub record ReadsRun (s : List ℕ) (run : Run) (x r : Reading) : Type 0 where
 -- The setting of a modifier line: its tokens.
 pub record ReadsSide (s : List ℕ) (l : Line) (x r : Reading) : Type 0 where
   pub from : ℕ
+  pub begins : l .start ≤ from
   pub setting : settingIn (placed (l .start) (part (l .start) (l .stop) s)) ≡ placed from (part from (l .stop) s)
   pub inside : l .stop ≤ length s
   pub reads : ReadsLine s from (l .stop) x r
@@ -47,6 +51,15 @@ pub record ReadsSide (s : List ℕ) (l : Line) (x r : Reading) : Type 0 where
 pub record ToldStray (x : Reading) (r : Slip) : Type 0 where
   pub told : x .stray .found ≡ true → x .stray .from ≤ 65536 → (r .clause ≡ 1) × (r .from ≡ x .stray .from) × (r .to ≡ r .from + 1)
   pub none : x .stray .found ≡ false → r .clause ≡ 0
+
+-- A slip that tells of the measure that does not fit.
+pub record ToldMisfit (x : Reading) (time : ℕ) (r : Slip) : Type 0 where
+  pub told : x .misfit .found ≡ true → r .clause ≡ 1
+  pub none : x .misfit .found ≡ false → r .clause ≡ 0
+  pub from : r .from ≡ x .misfit .from
+  pub to : r .to ≡ x .misfit .to
+  pub positions : r .first ≡ x .misfit .positions
+  pub meter : r .second ≡ time
 
 -- A section's pattern.
 pub record ReadsPattern (s : List ℕ) (run : Run) (x r : Reading) : Type 0 where

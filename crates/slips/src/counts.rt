@@ -1,31 +1,21 @@
 // Slips in counts and lengths: refusals 14 to 17.
 use super::blocks::name_stop;
-use super::meters::parts_at;
-use super::meters::time_of;
-use super::rows::left_of;
-use super::scans::scan_in;
-use super::scans::scan_pattern;
-use super::scans::scan_plain_line;
 use super::signs::capped;
 use super::signs::minus;
 use super::signs::named_number;
 use super::slip::Slip;
 use super::slip::at_place;
 use super::slip::beside;
-use super::slip::counted;
 use super::spots::Spot;
 use super::survey::Survey;
 use super::survey::block_behind;
 use super::survey::index_of;
 use super::survey::lines_of;
 use super::survey::survey_of;
-use sections::Modifiers;
-use sections::Parts;
 use sections::Place;
 use sections::Run;
-use sections::Said;
 use sections::kind_at;
-use sections::modifiers_of;
+use sections::section_parts;
 use settings::BlockKind;
 use settings::lyric_words;
 use text::Line;
@@ -83,7 +73,7 @@ pub fn cut_slip(s: &[u8], p: Spot) -> Slip
         return at_place(0, 0, 0);
     }
     let v = survey_of(s);
-    let parts = parts_at(s, block);
+    let parts = section_parts(s, block.number, block.at);
     if is_empty(s, v, parts.pattern) {
         let late = parts.late;
         let first = line_at(s, late.number, late.at);
@@ -183,7 +173,7 @@ fn counted_line(s: &[u8], run: Run) -> usize
 fn counted_in_block(s: &[u8], v: Survey, p: Place) -> usize
     requires { ⌜ (1 ≤ p .number) × (p .number ≤ p .at + 1) × (p .at < length (now s)) × (length (now s) ≤ 65536) ⌝ }
 {
-    let parts = parts_at(s, p);
+    let parts = section_parts(s, p.number, p.at);
     match kind_at(s, p.number, p.at) {
         BlockKind::Metadata => 0,
         BlockKind::Definition => 0,
@@ -220,67 +210,7 @@ pub fn count_slip(s: &[u8], l: Line) -> Slip
     beside(bare_line(s, l), counted_in_song(s, survey_of(s)))
 }
 
-// The sum of the counts of some lyric lines.
-fn sum_of(s: &[u8], run: Run) -> usize {
-    let mut sum = 0;
-    let mut at = run.at;
-    let mut left = run.lines;
-    while at < s.len() {
-        if left == 0 {
-            return sum;
-        }
-        let l = line_at(s, 0, at);
-        let words = lyric_words(s, l.start, l.stop);
-        sum = capped(sum, words.count);
-        at = l.next;
-        left -= 1;
-    }
-    sum
-}
-
-// How many measures a lead-in or tail has.
-fn side_measures(s: &[u8], time: usize, side: Said, row: &mut [u8]) -> usize
-    requires { ⌜ length (now s) ≤ 65536 ⌝ }
-{
-    if side.line == 0 {
-        return 0;
-    }
-    if side.stop < side.start {
-        return 0;
-    }
-    if s.len() < side.stop {
-        return 0;
-    }
-    let x = scan_plain_line(s, scan_in(time), side.start, side.stop, row);
-    x.fill
-}
-
-// How many measures a section plays.
-fn measures_played(s: &[u8], v: Survey, parts: Parts, time: usize, m: Modifiers) -> usize
-    requires { ⌜ (parts .pattern .at ≤ length (now s)) × (length (now s) ≤ 65536) ⌝ }
-{
-    let mut row = [0u8; 65536];
-    let lead = side_measures(s, time, m.before, &mut row);
-    let tail = side_measures(s, time, m.after, &mut row);
-    let x = scan_pattern(s, v, scan_in(time), parts.pattern, &mut row);
-    let front = m.front;
-    let back = m.back;
-    let own = left_of(&row, x.fill, m.repeat, front, back);
-    capped(lead, capped(own, tail))
-}
-
-// The same from the section's parts.
-fn played_in(s: &[u8], v: Survey, parts: Parts) -> usize
-    requires { ⌜ (1 ≤ parts .early .number) × (parts .early .number ≤ parts .early .at + 1) × (parts .early .at ≤ length (now s)) ⌝ }
-    requires { ⌜ (1 ≤ parts .late .number) × (parts .late .number ≤ parts .late .at + 1) × (parts .late .at ≤ length (now s)) ⌝ }
-    requires { ⌜ (parts .pattern .at ≤ length (now s)) × (length (now s) ≤ 65536) ⌝ }
-{
-    let late = parts.late;
-    let time = time_of(s, v, parts.early);
-    measures_played(s, v, parts, time, modifiers_of(s, late))
-}
-
-// Refusal 17.
+// Refusal 17; its numbers are known where the section is played.
 pub fn sum_slip(s: &[u8], p: Spot) -> Slip
     requires { ⌜ (p .line .start ≤ p .line .stop) × (p .line .stop ≤ length (now s)) × (1 ≤ p .block .number)
         × (p .block .number ≤ p .block .at + 1) × (length (now s) ≤ 65536) ⌝ }
@@ -292,14 +222,7 @@ pub fn sum_slip(s: &[u8], p: Spot) -> Slip
     if s.len() <= block.at {
         return name;
     }
-    let v = survey_of(s);
-    let parts = parts_at(s, block);
+    let parts = section_parts(s, block.number, block.at);
     let lyrics = parts.lyrics;
-    let last = minus(capped(lyrics.number, lyrics.lines), 1);
-    counted(
-        beside(name, last),
-        sum_of(s, lyrics),
-        played_in(s, v, parts),
-        0,
-    )
+    beside(name, minus(capped(lyrics.number, lyrics.lines), 1))
 }

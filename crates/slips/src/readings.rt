@@ -6,7 +6,6 @@ use super::signs::REFERENCE;
 use super::signs::REMOVER;
 use super::signs::Token;
 use super::signs::capped;
-use super::signs::is_sound;
 use super::signs::minus;
 use super::signs::named_number;
 use super::signs::number_of;
@@ -21,7 +20,11 @@ ghost use mathlib.Core.Path.{_≡_};
 ghost use Prim.Native.Nat.{_+_, _≤_};
 ghost use lib.ListN.{length};
 ghost use Rattle.slips.specs.Strays.{unheard, hearingSign};
+ghost use Rattle.slips.specs.Misfits.{noMeasure, isPositionSign, oneMore, closing, beginning, fittingSign};
 ghost use Rattle.slips.specs.Readings.{ReadsLine, ReadsRun, ReadsPattern};
+
+// No line is longer.
+const LINE_MOST: usize = 65536;
 
 // Whether a chord was heard before any `%`; whether a `%` was, and where it stands.
 pub struct Stray {
@@ -50,7 +53,7 @@ pub struct Reading {
 }
 
 pub fn reading_in(time: usize) -> Reading
-    ensures { λ r. ⌜ r .stray ≡ unheard ⌝ }
+    ensures { λ r. ⌜ (r .time ≡ time) × (r .stray ≡ unheard) × (r .misfit ≡ noMeasure) ⌝ }
 {
     Reading {
         time,
@@ -66,7 +69,9 @@ pub fn reading_in(time: usize) -> Reading
     }
 }
 
-fn no_measure() -> Misfit {
+fn no_measure() -> Misfit
+    ensures { λ r. ⌜ r ≡ noMeasure ⌝ }
+{
     Misfit {
         positions: 0,
         from: 0,
@@ -102,12 +107,30 @@ fn hear(x: Stray, sign: u32, from: usize) -> Stray
     x
 }
 
-fn is_position(sign: u32) -> bool {
-    is_sound(sign) || sign == REMOVER
+// A chord, `%`, `_` or `=`.
+fn is_position(sign: u32) -> bool
+    ensures { λ r. ⌜ r ≡ isPositionSign sign ⌝ }
+{
+    if sign < CHORDS {
+        return true;
+    }
+    REMOVER <= sign
+}
+
+// A line has at most 65,536 bytes, and so many positions.
+fn one_more(positions: usize) -> usize
+    ensures { λ r. ⌜ r ≡ oneMore positions ⌝ }
+{
+    if positions < LINE_MOST {
+        return positions + 1;
+    }
+    positions
 }
 
 // The measure is over, if one was begun.
-fn close(x: Misfit, time: usize) -> Misfit {
+fn close(x: Misfit, time: usize) -> Misfit
+    ensures { λ r. ⌜ r ≡ closing time x ⌝ }
+{
     if x.positions == 0 {
         return x;
     }
@@ -122,20 +145,38 @@ fn close(x: Misfit, time: usize) -> Misfit {
     }
 }
 
-// One more token.
-fn fit(x: Misfit, time: usize, sign: u32, from: usize, to: usize) -> Misfit {
-    if x.found {
-        return x;
-    }
-    if !is_position(sign) {
-        return close(x, time);
+// One more position.
+fn begun(x: Misfit, from: usize, to: usize) -> Misfit
+    ensures { λ r. ⌜ r ≡ beginning x from to ⌝ }
+{
+    let positions = one_more(x.positions);
+    if x.positions == 0 {
+        return Misfit {
+            positions,
+            from,
+            to,
+            found: false,
+        };
     }
     Misfit {
-        positions: capped(x.positions, 1),
-        from: if x.positions == 0 { from } else { x.from },
+        positions,
+        from: x.from,
         to,
         found: false,
     }
+}
+
+// One more token.
+fn fit(x: Misfit, time: usize, sign: u32, from: usize, to: usize) -> Misfit
+    ensures { λ r. ⌜ r ≡ fittingSign time x sign from to ⌝ }
+{
+    if x.found {
+        return x;
+    }
+    if is_position(sign) {
+        return begun(x, from, to);
+    }
+    close(x, time)
 }
 
 // How many measures are closed with one more token.
@@ -168,7 +209,8 @@ fn before_stray(x: Stray, measures: usize, before: usize) -> usize {
 
 // One more token.
 fn read_token(x: Reading, sign: u32, from: usize, to: usize) -> Reading
-    ensures { λ r. ⌜ (r .stray ≡ hearingSign (x .stray) sign from) × (r .known ≡ x .known) ⌝ }
+    ensures { λ r. ⌜ (r .stray ≡ hearingSign (x .stray) sign from) × (r .known ≡ x .known) × (r .time ≡ x .time)
+        × (r .misfit ≡ fittingSign (x .time) (x .misfit) sign from to) ⌝ }
 {
     let stray = hear(x.stray, sign, from);
     let misfit = fit(x.misfit, x.time, sign, from, to);
@@ -187,7 +229,7 @@ fn read_token(x: Reading, sign: u32, from: usize, to: usize) -> Reading
 
 // The same with other counts of measures.
 fn with_counts(x: Reading, measures: usize, known: [usize; 26]) -> Reading
-    ensures { λ r. ⌜ (r .stray ≡ x .stray) × (r .known ≡ known) ⌝ }
+    ensures { λ r. ⌜ (r .stray ≡ x .stray) × (r .known ≡ known) × (r .time ≡ x .time) × (r .misfit ≡ x .misfit) ⌝ }
 {
     let stray = x.stray;
     let misfit = x.misfit;

@@ -59,10 +59,10 @@ fn slip_on(s: &[u8], p: Spot, refusal: usize) -> Slip
     }
 }
 
-// The slip of a text that is refused with this number and line.
-pub fn find_slip(s: &[u8], refusal: usize, line: usize) -> Slip
+// The slip of a text that is refused with this number and line; the time is the N of the section that the line stands in.
+pub fn find_slip(s: &[u8], refusal: usize, line: usize, time: usize) -> Slip
     requires { ⌜ length (now s) ≤ 65536 ⌝ }
-    ensures { λ r. ⌜ Finds (now (s .entry)) refusal line r ⌝ }
+    ensures { λ r. ⌜ Finds (now (s .entry)) refusal line time r ⌝ }
 {
     let p = spot_of(s, line);
     if refusal == 7 {
@@ -75,10 +75,10 @@ pub fn find_slip(s: &[u8], refusal: usize, line: usize) -> Slip
         return sum_slip(s, p);
     }
     if refusal == 12 {
-        return meter_slip(s, p.line, line, refusal);
+        return meter_slip(s, p.line, line, refusal, time);
     }
     if refusal == 13 {
-        return meter_slip(s, p.line, line, refusal);
+        return meter_slip(s, p.line, line, refusal, time);
     }
     slip_on(s, p, refusal)
 }
