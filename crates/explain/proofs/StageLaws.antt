@@ -30,8 +30,9 @@ use Rattle.songcode.specs.description.StoppedSong.{MeasureIn, AgainFirst, Taken
 use Rattle.songcode.specs.description.StoppedSong.{Stops6, uncounted, Stops7, sums-not, Stops8, keys-short, sections-short, measures-short}
 use Rattle.songcode.specs.description.StoppedSong.{beats-short}
 use Rattle.songcode.specs.description.StoppedSong.{items-short}
-use Rattle.songcode.specs.description.Refusals.{Stage, stage1, stage2, stage3, stage4, stage5, stage6, stage7, stage8, Stated, Nothing, NothingIn, complaintsIn}
+use Rattle.songcode.specs.description.Refusals.{Stage, stage1, stage2, stage3, stage4, stage5, stage6, stage7, stage8, Stated, Nothing, NothingIn}
 use Rattle.songcode.specs.description.Refusals as refusals
+use Rattle.songcode.specs.StageLists.{complaintsIn}
 use Rattle.songcode.proofs.ListLaws.{by-cases}
 use Rattle.songcode.proofs.InheritsAgree.{says-meter}
 use Rattle.songcode.proofs.MeterStops.{places-are}

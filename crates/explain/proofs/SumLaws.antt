@@ -1,23 +1,29 @@
 -- From section to section up to the header that a verdict of 17 names: its counts and its measures.
-use Prim.Native.Nat.{ℕ, _+_, _<_, _≤_}
+use Prim.Native.Nat.{ℕ, _+_, _-_, _<_, _≤_}
 use mathlib.Core.Path.{_≡_, refl, sym, ap, _∙_, subst}
 use mathlib.Core.Logic.{⊎-elim}
 use mathlib.Core.List.{List, [], _∷_, map, flatMap, List·Memᴰ, List·Memᴰ·not-nil, List·Memᴰ·cases-cons}
+use mathlib.Core.Option.{Option, Option·getD}
 use native.Mathlib.Omega.{arith}
 use borrow.Author.Tests.{eqb-true, eqb-false}
 use lib.Dec.{eqb}
 use lib.ListN.{length}
+use Rattle.songcode.specs.Bytes.{placed}
 use Rattle.songcode.specs.Complaints.{Complaint, earliest}
 use Rattle.songcode.specs.Song.{Section}
 use Rattle.songcode.specs.answer.Sections.{lyricLine}
 use Rattle.songcode.specs.answer.References.{referenceFaults}
 use Rattle.songcode.specs.answer.Playing.{played}
 use Rattle.songcode.specs.answer.Meter.{sectionMeter, meterFaults, sectionCount, lengthFaults}
-use Rattle.songcode.specs.answer.Lyrics.{counted}
+use Rattle.songcode.specs.answer.Lyrics.{wordsOf, countOf, counted}
 use Rattle.songcode.specs.answer.Answer.{songOf}
 use Rattle.songcode.proofs.ListLaws.{by-cases, append-is-nil}
 use Rattle.text.specs.declared.Refusal.{Refusal}
 use Rattle.text.specs.Refusals.{refusalOf}
+use Rattle.text.specs.declared.lines.Line.{Line}
+use Rattle.text.specs.Spans.{part, Found}
+use Rattle.settings.specs.declared.lyrics.Words.{Words}
+use Rattle.settings.specs.LyricParts.{wordsFrom}
 use Rattle.score.specs.Views.{viewOf}
 use Rattle.score.proofs.RowLaws.{row-start, row-grows}
 use Rattle.score.proofs.ViewLaws.{view-sees}
@@ -32,6 +38,8 @@ use Rattle.laying.specs.declared.definitions.Loaded.{Loaded}
 use Rattle.laying.specs.declared.texts.Opened.{Opened}
 use Rattle.laying.specs.Scores.{Begins, Loads, Opens}
 use Rattle.laying.specs.Rows.{RoomFor, Lays}
+use Rattle.laying.proofs.LyricRowLaws.{lyricsAt, lyricAt, count-or, lyrics-more}
+use Rattle.judging.proofs.LyricLaws.{count-here}
 use Rattle.judging.proofs.ArrangedLaws.{Arranges, arranged-plays, arranged-within}
 use Rattle.judging.proofs.AheadLaws.{seen-arranges}
 use Rattle.judging.proofs.PlayedLaws.{lengths-step}
@@ -142,6 +150,16 @@ module _ {s vs : List ℕ} {p : Place} (x : Opened) (o : Opens s p vs x) (line :
 pub none-ahead : (s : List ℕ) (line : ℕ) (p : Place) → length s ≤ p .at → Ahead s line p → (r : Summed) → SumsAt s line r
 none-ahead s line p h ahead r =
     record { is = λ y m e. absurd (List·Memᴰ·not-nil (subst (λ (ys : List Section). List·Memᴰ y ys) (sections-over s p h) (ahead y m e))) }
+
+-- One more lyric line is counted.
+pub counted-more : (s : List ℕ) (n at left : ℕ) {l : Line} → Found s n at l → at < length s → (left ≡ 0 → ⊥) → (w : Words)
+    → wordsOf (placed (l .start) (part (l .start) (l .stop) s)) ≡ wordsFrom w (l .start) s
+    → counted (lyricsAt s n at left) ≡ w .count + counted (lyricsAt s (n + 1) (l .next) (left - 1))
+unfolding counted
+counted-more s n at left {l} f h some-left w e =
+    let said : Option·getD (countOf (lyricAt s n l)) 0 ≡ w .count =
+    ap (λ (o : Option ℕ). Option·getD o 0) (count-here s n at left f h some-left w e) ∙ count-or (w .count) in
+    ap counted (lyrics-more s n at left f h some-left) ∙ ap (λ (k : ℕ). k + counted (lyricsAt s (n + 1) (l .next) (left - 1))) said
 
 nothing-refused : refusalOf (earliest []) .number ≡ 0
 unfolding refusalOf earliest

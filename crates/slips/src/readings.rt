@@ -111,7 +111,7 @@ fn hear(x: Stray, sign: u32, from: usize) -> Stray
 fn is_position(sign: u32) -> bool
     ensures { λ r. ⌜ r ≡ isPositionSign sign ⌝ }
 {
-    if sign < CHORDS {
+    if CHORDS > sign {
         return true;
     }
     REMOVER <= sign

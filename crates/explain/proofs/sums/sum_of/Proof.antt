@@ -5,7 +5,8 @@ use native.Mathlib.Omega.{arith}
 use lib.ListN.{length}
 use Rattle.songcode.specs.answer.Lyrics.{counted}
 use Rattle.sections.specs.Runs.{linesOf}
-use Rattle.judging.proofs.LyricLaws.{lyricsAt, lyrics-none, lyrics-over, counted-more}
+use Rattle.laying.proofs.LyricRowLaws.{lyricsAt, lyrics-none, lyrics-over}
+use Rattle.explain.proofs.SumLaws.{counted-more}
 use borrow.Author.Needs.{needs}
 use Rattle.explain.proofs.sums.sum_of.Statement.{statement}
 use Rattle.explain.proofs.sums.sum_of.Tie as tie

@@ -1,6 +1,6 @@
 -- Every section passed stands in the row and has another header.
 use Prim.Native.Nat.{_-_}
-use mathlib.Core.Path.{refl, sym, _∙_, subst}
+use mathlib.Core.Path.{_≡_, refl, sym, _∙_, subst}
 use mathlib.Core.List.{List, List·Memᴰ}
 use native.Mathlib.Omega.{arith}
 use lib.ListN.{length}
@@ -38,34 +38,33 @@ lay-section-requires c κs =
 
 measures-at-requires : tie.Need-measures-at-requires Inv-loop μ-loop
 measures-at-requires c κs =
-    let q = c .before .before .before .before in
+    let q = c .before .before .before .before .before .before in
     let w = q .lay-section .ensures in
     let i = q .before .before .before .before .loop .inv in
     let h = q .before .before .before .before .before .before .before .pre in
-    let big = rw (i .2) (h .0 .3) in
-    (omega (arith, laid-low (q .lay-section .result) (i .3) (i .1) (w .0) big (w .1)), laid-within (q .lay-section .result) (i .3) (i .1) (w .0) big (w .1))
+    let low = laid-low (q .lay-section .result) (i .3) (i .1) (w .0) (rw (i .2) (h .0 .3)) (w .1) in
+    (omega arith, laid-within (q .lay-section .result) (i .3) (i .1) (w .0) (rw (i .2) (h .0 .3)) (w .1))
 
 sum-of-requires : tie.Need-sum-of-requires Inv-loop μ-loop
 sum-of-requires c κs =
-    let q = c .before .before .before .before .before in
+    let q = c .before .before .before .before .before .before .before in
     (q .lay-section .ensures .0 .opens .met .read .lyrics-placed, q .before .before .before .before .loop .inv .1 .ready .small)
 
 same-length : tie.Need-same-length Inv-loop μ-loop
 same-length c =
-    let q = c .before .before .before .before .before .before in
+    let q = c .before .before .before .before .before .before .before .before in
     q .lay-section .ensures .1 ∙ q .before .before .before .before .loop .inv .2
 
 returns : tie.Need-returns Inv-loop μ-loop
 returns c =
-    let q = c .before .before .before .before .before .before in
+    let q = c .before .before .before .before .before .before .before .before in
     let w = q .lay-section .ensures in
     let l = q .before .before .before .before in
     let i = l .loop .inv in
     let h = l .before .before .before .pre in
-    let big = rw (i .2) (h .0 .3) in
     sums-found (q .lay-section .result) (w .0 .opens) (l .before .before .before .args .line) (i .4)
-    (c .before .before .if2 .taken) _ (c .sum-of .ensures)
-    (laid-measures (q .lay-section .result) (i .3) (i .1) (w .0) big (w .1) (c .before .measures-at .ensures))
+    (c .before .before .before .if2 .taken) _ (c .sum-of .ensures)
+    (laid-measures (q .lay-section .result) (i .3) (i .1) (w .0) (rw (i .2) (h .0 .3)) (w .1) (c .before .measures-at .ensures))
 
 loop-less : tie.Need-loop-less Inv-loop μ-loop
 loop-less c =
@@ -78,12 +77,11 @@ loop-again c =
     let w = q .lay-section .ensures in
     let l = q .before .before .before .before in
     let i = l .loop .inv in
-    let h = l .before .before .before .pre in
-    let big = rw (i .2) (h .0 .3) in (
+    let h = l .before .before .before .pre in (
       w .0 .opens .met .onward,
-      row-is-next (q .lay-section .result) (i .1) (w .0) big (w .1),
+      row-is-next (q .lay-section .result) (i .1) (w .0) (rw (i .2) (h .0 .3)) (w .1),
       w .1 ∙ i .2,
-      unrefused-next (q .lay-section .result) (i .3) (i .1) (w .0) big (w .1),
+      unrefused-next (q .lay-section .result) (i .3) (i .1) (w .0) (rw (i .2) (h .0 .3)) (w .1),
       still-ahead (q .lay-section .result) (w .0 .opens) (l .before .before .before .args .line) (i .4) (c .before .if2 .left),
     )
 
