@@ -23,8 +23,6 @@ pub use slots::slot_of;
 pub use values::Keys;
 pub use values::Modifiers;
 pub use values::keys_of;
-pub use values::modifiers_of;
-pub use values::time_said;
 pub use walking::Met;
 pub use walking::Passed;
 pub use walking::meet;
