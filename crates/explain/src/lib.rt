@@ -6,6 +6,8 @@ mod times;
 
 use clauses::cause_of;
 use reader::Answer;
+use reader::count_in;
+use score::LONG_ROW;
 use slips::Place;
 use slips::Slip;
 use slips::find_slip;
@@ -112,8 +114,8 @@ fn slip_in(text: &[u8], refusal: usize, line: usize, time: usize) -> Slip
 }
 
 // A slip with the numbers of refusal 17, if it is that.
-fn with_sums(text: &[u8], a: Answer, x: Slip) -> Slip
-    requires { ⌜ a ≡ answerOf (songAnswer (now text)) ⌝ }
+fn with_sums(text: &[u8], a: Answer, x: Slip, words: &mut [u32]) -> Slip
+    requires { ⌜ (a ≡ answerOf (songAnswer (now text))) × (65552 ≤ length (now words)) ⌝ }
     ensures { λ r. ⌜ ((time : ℕ) → Finds (now (text .entry)) (a .refusal) (a .line) time x → Finds (now (text .entry)) (a .refusal) (a .line) time r)
         × (r .from ≡ x .from) × (r .to ≡ x .to) × (r .clause ≡ x .clause)
         × (a .refusal ≡ 17 → SumsAt (now (text .entry)) (a .line) (record { sum = r .first; measures = r .second })) ⌝ }
@@ -121,7 +123,7 @@ fn with_sums(text: &[u8], a: Answer, x: Slip) -> Slip
     if a.refusal != UNSUMMED {
         return x;
     }
-    let t = sums_at(text, a.line);
+    let t = sums_at(text, a.line, words);
     Slip {
         clause: x.clause,
         from: x.from,
@@ -133,16 +135,17 @@ fn with_sums(text: &[u8], a: Answer, x: Slip) -> Slip
     }
 }
 
-// Every text of every length is explained.
+// Every text of every length is explained. One row does for the verdict and for what is asked of it.
 pub fn explain(text: &[u8]) -> Explained
     ensures { λ r. ⌜ Explains (now (text .entry)) r ⌝ }
 {
-    let a = reader::count(text);
+    let mut words = [0u32; LONG_ROW];
+    let a = count_in(text, &mut words);
     if a.line == 0 {
         return nowhere(a.refusal, cause_of(a.refusal, 1), text.len());
     }
     let found = slip_in(text, a.refusal, a.line, time_for(text, a));
-    let x = with_sums(text, a, found);
+    let x = with_sums(text, a, found, &mut words);
     let p = place_at(text, x.from, x.to);
     at_place(a.refusal, a.line, cause_of(a.refusal, x.clause), x, p)
 }

@@ -5,7 +5,6 @@ use laying::load;
 use laying::metadata_end;
 use player::arrangement_in;
 use player::count_section;
-use score::LONG_ROW;
 use score::section_at;
 use sections::Keys;
 use sections::Place;
@@ -105,7 +104,7 @@ fn sums_from(
 }
 
 // Both, with the row that the sections are laid into.
-fn sums_in(s: &[u8], line: usize, words: &mut [u32]) -> Summed
+pub fn sums_at(s: &[u8], line: usize, words: &mut [u32]) -> Summed
     requires { ⌜ Playable (now s) × (length (now s) + 16 ≤ length (now words)) ⌝ }
     ensures { λ r. ⌜ SumsAt (now (s .entry)) line r ⌝ }
 {
@@ -113,12 +112,4 @@ fn sums_in(s: &[u8], line: usize, words: &mut [u32]) -> Summed
     let song = keys_of(s, lines_before(end));
     let loaded = load(s, end, words);
     sums_from(s, loaded.mark, loaded.sections, song, line, words)
-}
-
-pub fn sums_at(s: &[u8], line: usize) -> Summed
-    requires { ⌜ Playable (now s) × (length (now s) + 16 ≤ 65552) ⌝ }
-    ensures { λ r. ⌜ SumsAt (now (s .entry)) line r ⌝ }
-{
-    let mut words = [0u32; LONG_ROW];
-    sums_in(s, line, &mut words)
 }

@@ -28,32 +28,39 @@ fn count_song(text: &[u8], words: &mut [u32]) -> Answer
     accepted(totals)
 }
 
-// The same for a chart of at most 2,048 bytes, as nearly all are: a small buffer is soon cleared.
-fn count_short(text: &[u8]) -> Answer
-    requires { ⌜ (inputFaults (now text) ≡ []) × (textFaults (blocksOf (now text)) ≡ []) × (length (now text) + 16 ≤ 2064) ⌝ }
-    ensures { λ r. ⌜ Counted (now (text .entry)) r ⌝ }
-{
-    let mut words = [0u32; SHORT_ROW];
-    count_song(text, &mut words)
-}
-
-// The same for any chart that stage 1 has passed.
-fn count_long(text: &[u8]) -> Answer
-    requires { ⌜ (inputFaults (now text) ≡ []) × (textFaults (blocksOf (now text)) ≡ []) × (length (now text) + 16 ≤ 65552) ⌝ }
-    ensures { λ r. ⌜ Counted (now (text .entry)) r ⌝ }
-{
-    let mut words = [0u32; LONG_ROW];
-    count_song(text, &mut words)
-}
-
-// Every text of every length is answered: refusal 1 to 17 with its line, or the counts, whatever their size.
-pub fn count(text: &[u8]) -> Answer
+// Every text of every length is answered, with the row that its texts are laid into if stages 1 and 2 pass it.
+pub fn count_in(text: &[u8], words: &mut [u32]) -> Answer
+    requires { ⌜ (inputFaults (now text) ≡ [] → length (now text) + 16 ≤ length (now words)) ⌝ }
     ensures { λ r. ⌜ Counted (now (text .entry)) r ⌝ }
 {
     let early = first_stages(text);
     if early.number != 0 {
         return refused(early.number, early.line);
     }
+    count_song(text, words)
+}
+
+// The same for a chart of at most 2,048 bytes, as nearly all are: a small buffer is soon cleared.
+fn count_short(text: &[u8]) -> Answer
+    requires { ⌜ length (now text) + 16 ≤ 2064 ⌝ }
+    ensures { λ r. ⌜ Counted (now (text .entry)) r ⌝ }
+{
+    let mut words = [0u32; SHORT_ROW];
+    count_in(text, &mut words)
+}
+
+// The same for any chart: what is longer than the row is refused by stage 1.
+fn count_long(text: &[u8]) -> Answer
+    ensures { λ r. ⌜ Counted (now (text .entry)) r ⌝ }
+{
+    let mut words = [0u32; LONG_ROW];
+    count_in(text, &mut words)
+}
+
+// Every text of every length is answered: refusal 1 to 17 with its line, or the counts, whatever their size.
+pub fn count(text: &[u8]) -> Answer
+    ensures { λ r. ⌜ Counted (now (text .entry)) r ⌝ }
+{
     if text.len() <= 2048 {
         return count_short(text);
     }

@@ -5,4 +5,5 @@ mod reading;
 
 pub use answers::Answer;
 pub use counting::count;
+pub use counting::count_in;
 pub use reading::read;

@@ -1,5 +1,6 @@
 use mathlib.Core.Path.{refl}
 use native.Mathlib.Omega.{arith}
+use borrow.Author.Needs.{needs}
 use Rattle.explain.proofs.StageLaws.{sum-playable}
 use Rattle.explain.proofs.FirstLaws.{as-refused}
 use Rattle.explain.proofs.with_sums.Statement.{statement}
@@ -10,14 +11,14 @@ returns c = (λ t f. f, refl, refl, refl, λ e. absurd (c .if1 .taken e))
 
 sums-at-requires : tie.Need-sums-at-requires
 sums-at-requires c κs =
-    let w = c .before .before .before in
+    let w = c .before .before .before .before .before in
     let text = w .args .text .now in
-    let p = sum-playable text (w .args .a .line) (as-refused text (w .args .a) (w .pre) 17 (c .if1 .left) (λ z. let y : ⊥ = omega arith in y)) in
-    (p, omega (arith, p .small))
+    let p = sum-playable text (w .args .a .line) (as-refused text (w .args .a) (w .pre .0) 17 (c .before .if1 .left) (λ z. let y : ⊥ = omega arith in y)) in
+    (p, omega (arith, p .small, w .pre .1))
 
 returns-2 : tie.Need-returns-2
 returns-2 c =
-    let k = c .before .if1 .left in (
+    let k = c .before .before .before .before .if1 .left in (
       λ t f.
           record {
             ruled = λ e. let z : ⊥ = omega arith in absurd z;
@@ -29,8 +30,8 @@ returns-2 c =
       refl,
       refl,
       refl,
-      λ e. c .sums-at .ensures,
+      λ e. c .before .before .sums-at .ensures,
     )
 
 pub with-sums-spec : {M : Type 1} → statement M
-with-sums-spec = tie.close (tie.spec returns sums-at-requires returns-2)
+with-sums-spec = tie.close (tie.spec returns sums-at-requires (λ c. search needs) returns-2)

@@ -7,8 +7,8 @@ use Rattle.laying.specs.Metadata.{linesBefore}
 use Rattle.judging.proofs.ClearLaws.{song-keys}
 use Rattle.explain.proofs.SumLaws.{loaded-clear}
 use borrow.Author.Needs.{needs}
-use Rattle.explain.proofs.sums.sums_in.Statement.{statement}
-use Rattle.explain.proofs.sums.sums_in.Tie as tie
+use Rattle.explain.proofs.sums.sums_at.Statement.{statement}
+use Rattle.explain.proofs.sums.sums_at.Tie as tie
 
 keys-of-requires : tie.Need-keys-of-requires
 unfolding linesBefore
@@ -32,8 +32,8 @@ sums-from-requires c κs =
     let z = loaded-clear s _ _ (loads .0) (w .pre .0 .references) in
     ((loads .0 .begins z, loads .0 .ready z, loads .0 .filled z, rw (loads .1) (w .pre .1)), (keys, w .pre .0 .meters, w .pre .0 .lengths))
 
-pub sums-in-spec : {M : Type 1} → statement M
-sums-in-spec =
+pub sums-at-spec : {M : Type 1} → statement M
+sums-at-spec =
     tie.close
     (tie.spec (λ c κs. search needs) (λ c κs. search needs) keys-of-requires load-requires sums-from-requires (λ c. search needs)
     (λ c. search needs))
