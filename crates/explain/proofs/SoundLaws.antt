@@ -13,7 +13,7 @@ use Rattle.songcode.proofs.WrittenBefore.{writeSounds, writeRemovers, writeMeas
 use Rattle.songcode.specs.description.StoppedSong.{soundsWritten, itemWritten, itemsWritten, NoChord}
 use Rattle.text.specs.declared.lines.Line as text
 use Rattle.text.specs.Spans.{part, lineText}
-use Rattle.slips.specs.Marks.{Mark, Marked, MarkedLines, endMark}
+use Rattle.slips.specs.Marks.{Mark, MarksFrom, MarkedLines, endMark}
 use Rattle.slips.specs.Strays.{Silent, AllSilent, StrayAt}
 
 unfoldable pub sounding : List Token → List Sound
@@ -88,8 +88,8 @@ tokens-behind (m ∷ ms) ns = ap (λ (ts : List Token). m .token ∷ ts) (tokens
 abbrev tokensFrom : ℕ → ℕ → List ℕ → List Token
 tokensFrom at stop s = tokens (placed at (part at stop s))
 
-pub of-marks : (s : List ℕ) (at stop : ℕ) (ms : List Mark) → Marked s at stop ms → tokensIn ms ≡ tokens (placed at (part at stop s))
-unfolding Marked
+pub of-marks : (s : List ℕ) (at stop : ℕ) (ms : List Mark) → MarksFrom s at stop ms → tokensIn ms ≡ tokens (placed at (part at stop s))
+unfolding MarksFrom
 of-marks s at stop [] h = sym h
 of-marks s at stop (m ∷ ms) h = ap (λ (ts : List Token). m .token ∷ ts) (of-marks s (m .to) stop ms (h .4)) ∙ sym (h .3)
 

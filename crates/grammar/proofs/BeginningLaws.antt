@@ -45,13 +45,13 @@ itemFor Alone = []
 itemFor Full = []
 itemFor Bad = []
 
-unfoldable pub ending : Check → List Token
+unfoldable pub endingTokens : Check → List Token
 unfolding itemFor loopEnds
-ending c = itemFor (c .place) ++ loopEnds (c .loops)
+endingTokens c = itemFor (c .place) ++ loopEnds (c .loops)
 
 -- It has no other tokens.
-pub ending-plain : (p : Token → Bool) (c : Check) → p (sound silence) ≡ false → ((n : ℕ) → p (closes n) ≡ false) → any p (ending c) ≡ false
-unfolding ending itemFor loopEnds any
+pub ending-plain : (p : Token → Bool) (c : Check) → p (sound silence) ≡ false → ((n : ℕ) → p (closes n) ≡ false) → any p (endingTokens c) ≡ false
+unfolding endingTokens itemFor loopEnds any
 ending-plain p c s k = any-append p (itemFor (c .place)) (loopEnds (c .loops)) ∙ rw (item (c .place), ends (c .loops)) refl
   where
     item : (q : Place) → any p (itemFor q) ≡ false
@@ -90,11 +90,11 @@ unfolding checkRun kindsOf kindOf loopEnds definitionFine
 closes-all zero p b h = (rw h refl, refl)
 closes-all (suc n) p b h = subst (λ (d : Check). Ends b (checkRun d (kindsOf (loopEnds n)))) (sym (closes-one p n b h)) (closes-all n Full b refl)
 
-pub ended-rightly : (c : Check) → isBad (c .place) ≡ false → Ends (c .named) (checkRun c (kindsOf (ending c)))
-unfolding ending itemFor checkRun kindsOf kindOf checkStep arrived if_then_else_
+pub ended-rightly : (c : Check) → isBad (c .place) ≡ false → Ends (c .named) (checkRun c (kindsOf (endingTokens c)))
+unfolding endingTokens itemFor checkRun kindsOf kindOf checkStep arrived if_then_else_
 ended-rightly c h = go (c .place) (c .loops) (c .named) h
   where
-    go : (p : Place) (n : ℕ) (b : Bool) → isBad p ≡ false → Ends b (checkRun (check p n b) (kindsOf (ending (check p n b))))
+    go : (p : Place) (n : ℕ) (b : Bool) → isBad p ≡ false → Ends b (checkRun (check p n b) (kindsOf (endingTokens (check p n b))))
     go Fresh n b h = closes-all n Sounds b refl
     go Wants n b h = closes-all n Sounds b refl
     go Joins n b h = closes-all n Sounds b refl

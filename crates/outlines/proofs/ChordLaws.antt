@@ -20,7 +20,7 @@ use Rattle.score.specs.Standing.{ChordFits, ChordsFit, ItemFits, ItemsFit}
 use Rattle.songcode.proofs.GlueLaws.{last-glue}
 use Rattle.outlines.specs.declared.readings.Outline.{Outline}
 use Rattle.outlines.specs.declared.readings.Reading.{Reading}
-use Rattle.outlines.specs.Readings.{sounded, measured, closed, opened, shut, referred}
+use Rattle.outlines.specs.Readings.{sounded, measured, closed, opened, loopShut, referred}
 use Rattle.outlines.specs.Told.{Told}
 use Rattle.outlines.proofs.TreeLaws.{heardIn, heardAll, removed, afterItem, after}
 use Rattle.tokens.proofs.KindLaws.{chord-kind}
@@ -162,7 +162,7 @@ all-wants (also xs x) s h = heard-wants (lastSounds none xs) x (heardAll xs s) (
 
 module _ (find : ℕ → Outline) (f : ℕ → Option Items) where
   mutual
-    unfolding after afterItem putIn putInItem referencesI references Each ItemFits ItemsFit lastItem lastItems shut opened referred Told
+    unfolding after afterItem putIn putInItem referencesI references Each ItemFits ItemsFit lastItem lastItems loopShut opened referred Told
 
     item-chord : (i : Item) (s : Reading) → ItemFits i → Each (Told find f) (referencesI i)
         → afterItem find i s .chord ≡ (s .chord || isSome (lastItems none (putInItem f i)))
@@ -181,7 +181,7 @@ module _ (find : ℕ → Outline) (f : ℕ → Option Items) where
         ∙ ap (λ b. s .chord || b) (sym (ap isSome (last-glue none (putIn f r) u (putInItem f i)) ∙ items-last (lastItems none (putIn f r)) (putInItem f i)))
 
   mutual
-    unfolding after afterItem putIn putInItem referencesI references Each ItemFits ItemsFit stray strayItem shut opened referred Told
+    unfolding after afterItem putIn putInItem referencesI references Each ItemFits ItemsFit stray strayItem loopShut opened referred Told
 
     item-wants : (i : Item) (s : Reading) → ItemFits i → Each (Told find f) (referencesI i)
         → afterItem find i s .wants ≡ (s .wants || (stray none (putInItem f i) && not (s .chord)))

@@ -11,7 +11,7 @@ use Rattle.songcode.specs.answer.Meter.{countItem, count}
 use Rattle.songcode.proofs.ListLaws.{Each, append-each}
 use Rattle.outlines.specs.declared.readings.Outline.{Outline}
 use Rattle.outlines.specs.declared.readings.Reading.{Reading}
-use Rattle.outlines.specs.Readings.{closed, opened, shut, referred}
+use Rattle.outlines.specs.Readings.{closed, opened, loopShut, referred}
 use Rattle.outlines.specs.Told.{Told}
 use Rattle.outlines.proofs.SizeLaws.{min-times}
 use Rattle.outlines.proofs.TreeLaws.{afterItem, after}
@@ -77,7 +77,7 @@ module _ (find : ℕ → Outline) (f : ℕ → Option Items) where
         (count-glue (putIn f r) u (putInItem f i))
 
   mutual
-    unfolding after afterItem putIn putInItem referencesI references Each count countItem depth depthI shut opened
+    unfolding after afterItem putIn putInItem referencesI references Each count countItem depth depthI loopShut opened
 
     item-plays : (i : Item) (s : Reading) → depthI i ≤ 1 → s .positions ≡ 0 → Each (Told find f) (referencesI i)
         → Plays s (closed (afterItem find i s)) (count (putInItem f i))
@@ -86,7 +86,7 @@ module _ (find : ℕ → Outline) (f : ℕ → Option Items) where
         let o = opened s in
         let c = closed (after find r o) in
         let a = items-adds r o (omega arith) e t in
-        rw (closed-same (shut k c) (closed-none (after find r o)))
+        rw (closed-same (loopShut k c) (closed-none (after find r o)))
         (loop-sum (c .before) (c .row) (count (putIn f r)) k (k * count (putIn f r)) (s .before + s .row) (a .before) (a .row) refl)
     item-plays (refer k) s d e t = plays-added s (closed (afterItem find (refer k) s)) (count (putInItem f (refer k))) (refer-adds k s e (t .0))
 

@@ -20,7 +20,7 @@ use Rattle.tokens.specs.Signs.{kindOf}
 use Rattle.outlines.specs.declared.readings.Outline.{Outline}
 use Rattle.outlines.specs.declared.readings.Reading.{Reading}
 use Rattle.outlines.specs.Sizes.{divides, joined}
-use Rattle.outlines.specs.Readings.{sounded, measured, closed, opened, shut, referred}
+use Rattle.outlines.specs.Readings.{sounded, measured, closed, opened, loopShut, referred}
 use Rattle.outlines.specs.Told.{Told}
 use Rattle.outlines.proofs.FitLaws.{joined-fits, capped-fits}
 use Rattle.outlines.proofs.TreeLaws.{heardIn, heardAll, removed, afterItem, after}
@@ -95,7 +95,7 @@ count-glue r t (next q u i) = rw (count-glue r t q) (omega arith)
 
 module _ (find : ℕ → Outline) (f : ℕ → Option Items) (n : ℕ) (low : 1 ≤ n) (high : n ≤ 32) where
   mutual
-    unfolding after afterItem putIn putInItem referencesI references Each allFit allFitItem fits divides shut opened referred Told
+    unfolding after afterItem putIn putInItem referencesI references Each allFit allFitItem fits divides loopShut opened referred Told
 
     item-sizes : (i : Item) (s : Reading) → s .positions ≡ 0 → Each (Told find f) (referencesI i)
         → divides (closed (afterItem find i s) .sizes) n ≡ (divides (s .sizes) n && allFit n (putInItem f i))
@@ -104,7 +104,7 @@ module _ (find : ℕ → Outline) (f : ℕ → Option Items) (n : ℕ) (low : 1 
         ∙ joined-fits (s .sizes) (min 33 (positions m)) n low high
         ∙ ap (λ b. divides (s .sizes) n && b) (capped-fits (positions m) n low high)
     item-sizes (loop r k) s e t =
-        ap (λ (x : Reading). divides (x .sizes) n) (closed-same (shut k (closed (after find r (opened s)))) (closed-none (after find r (opened s))))
+        ap (λ (x : Reading). divides (x .sizes) n) (closed-same (loopShut k (closed (after find r (opened s)))) (closed-none (after find r (opened s))))
         ∙ items-sizes r (opened s) e t
     item-sizes (refer k) s e t =
         ap (λ (x : Reading). divides (x .sizes) n) (closed-same (referred (find k) s) e)

@@ -19,7 +19,7 @@ use Rattle.score.specs.Standing.{ItemsFit, Stands}
 use Rattle.score.proofs.StandingLaws.{stands-written}
 use Rattle.outlines.specs.declared.readings.Outline.{Outline}
 use Rattle.outlines.specs.declared.readings.Reading.{Reading}
-use Rattle.outlines.specs.Readings.{started, sounded, measured, closed, opened, shut, referred, summed, outlined}
+use Rattle.outlines.specs.Readings.{started, sounded, measured, closed, opened, loopShut, referred, summed, outlined}
 use Rattle.outlines.specs.Told.{Sketches}
 use Rattle.outlines.proofs.TreeLaws.{heardIn, heardAll, removed, afterItem, after}
 use Rattle.outlines.proofs.ChordLaws.{or-false, or-assoc}
@@ -88,7 +88,7 @@ some-of-both (x ∷ xs) ys = refl
 
 module _ (find : ℕ → Outline) where
   mutual
-    unfolding after afterItem depth depthI shut opened referred
+    unfolding after afterItem depth depthI loopShut opened referred
 
     item-loops : (i : Item) (s : Reading) → afterItem find i s .loops ≡ (s .loops || leb 1 (depthI i))
     item-loops (measure m) s = removed-loops (m .removers) (heardAll (m .sounds) s) ∙ all-loops (m .sounds) s ∙ sym (or-false (s .loops))
@@ -107,7 +107,7 @@ module _ (find : ℕ → Outline) where
         ∙ ap (λ b. s .loops || b) (sym (one-of-both 1 (depth r) (depthI i)))
 
   mutual
-    unfolding after afterItem references referencesI isEmpty shut opened referred
+    unfolding after afterItem references referencesI isEmpty loopShut opened referred
 
     item-refers : (i : Item) (s : Reading) → afterItem find i s .refers ≡ (s .refers || not (isEmpty (referencesI i)))
     item-refers (measure m) s = removed-refers (m .removers) (heardAll (m .sounds) s) ∙ all-refers (m .sounds) s ∙ sym (or-false (s .refers))

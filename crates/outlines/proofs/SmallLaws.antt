@@ -10,7 +10,7 @@ use Rattle.tokens.specs.Signs.{kindOf, numberOf, isPosition}
 use Rattle.outlines.specs.declared.readings.Outline.{Outline}
 use Rattle.outlines.specs.declared.readings.Reading.{Reading}
 use Rattle.outlines.specs.Sizes.{divides, commonBy, joined}
-use Rattle.outlines.specs.Readings.{started, sounded, measured, closed, opened, shut, referred, stepOf, wordRead, wordsRead, summed, outlined}
+use Rattle.outlines.specs.Readings.{started, sounded, measured, closed, opened, loopShut, referred, stepOf, wordRead, wordsRead, summed, outlined}
 
 common-small : (k m a b : ℕ) → commonBy k m a b ≤ m + k
 unfolding commonBy if_then_else_
@@ -28,7 +28,7 @@ unfolding closed if_then_else_ measured
 closed-small s h = by-cases (eqb (s .positions) 0) (λ e. rw e h) (λ e. rw e (joined-small (s .sizes) (s .positions) h))
 
 step-small : (s : Reading) (w : ℕ) → s .sizes ≤ 33 → stepOf s w .sizes ≤ 33
-unfolding stepOf if_then_else_ sounded opened shut
+unfolding stepOf if_then_else_ sounded opened loopShut
 step-small s w h =
     by-cases (isPosition (kindOf w))
     (λ a. rw a h)

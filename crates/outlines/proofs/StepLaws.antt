@@ -8,7 +8,7 @@ use Rattle.tokens.specs.Signs.{kindOf, numberOf, isPosition}
 use Rattle.outlines.specs.declared.readings.Outline.{Outline}
 use Rattle.outlines.specs.declared.readings.Reading.{Reading}
 use Rattle.outlines.specs.declared.faults.Faults.{Faults}
-use Rattle.outlines.specs.Readings.{sounded, closed, opened, shut, referred, stepOf, wordRead}
+use Rattle.outlines.specs.Readings.{sounded, closed, opened, loopShut, referred, stepOf, wordRead}
 use Rattle.outlines.specs.Faults.{referenceRead, bracketRead, faultsRead}
 
 -- A word of each kind.
@@ -24,13 +24,13 @@ step-open s r w k p e f h a g =
     rw (t, b) g
 
 pub step-shut : (s r q : Reading) (w k n : ℕ) (p : Bool) → k ≡ kindOf w → p ≡ isPosition k → p ≡ false → (k ≡ 57 → ⊥) → k ≡ 56 → n ≡ numberOf w
-    → q ≡ closed s → r ≡ shut n q → r ≡ stepOf s w
+    → q ≡ closed s → r ≡ loopShut n q → r ≡ stepOf s w
 unfolding stepOf if_then_else_
 step-shut s r q w k n p e f h a b m l g =
     let t : isPosition (kindOf w) ≡ false = rw (← e, ← f) h in
     let u = ne-eqb (kindOf w) 57 (λ z. a (e ∙ z)) in
     let v = eq-eqb (kindOf w) 56 (sym e ∙ b) in
-    rw (t, u, v) (g ∙ ap (λ y. shut y q) m ∙ ap (shut (numberOf w)) l)
+    rw (t, u, v) (g ∙ ap (λ y. loopShut y q) m ∙ ap (loopShut (numberOf w)) l)
 
 pub step-close : (s r : Reading) (w k : ℕ) (p : Bool) → k ≡ kindOf w → p ≡ isPosition k → p ≡ false → (k ≡ 57 → ⊥) → (k ≡ 56 → ⊥) → r ≡ closed s
     → r ≡ stepOf s w

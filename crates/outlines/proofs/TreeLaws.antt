@@ -16,7 +16,7 @@ use Rattle.tokens.specs.Signs.{kindOf, isPosition}
 use Rattle.score.specs.Standing.{ChordFits, ChordsFit, ItemFits, ItemsFit}
 use Rattle.outlines.specs.declared.readings.Outline.{Outline}
 use Rattle.outlines.specs.declared.readings.Reading.{Reading}
-use Rattle.outlines.specs.Readings.{sounded, measured, closed, opened, shut, referred, stepOf, wordRead, wordsRead}
+use Rattle.outlines.specs.Readings.{sounded, measured, closed, opened, loopShut, referred, stepOf, wordRead, wordsRead}
 use Rattle.tokens.proofs.KindLaws.{chord-kind}
 
 -- What each part of a pattern makes of a state; a measure is left open behind its last position.
@@ -35,11 +35,11 @@ removed zero s = s
 removed (suc n) s = sounded 61 (removed n s)
 
 unfoldable mutual
-  unfolding heardAll removed opened closed shut referred
+  unfolding heardAll removed opened closed loopShut referred
 
   pub afterItem : (ℕ → Outline) → Item → Reading → Reading
   afterItem find (measure m) s = removed (m .removers) (heardAll (m .sounds) s)
-  afterItem find (loop r n) s = shut n (closed (after find r (opened s)))
+  afterItem find (loop r n) s = loopShut n (closed (after find r (opened s)))
   afterItem find (refer n) s = referred (find n) s
 
   pub after : (ℕ → Outline) → Items → Reading → Reading
@@ -56,7 +56,7 @@ read-sound find (chord c) s h =
 read-sound find again s h = refl
 read-sound find silence s h = refl
 
-read-closes : (find : ℕ → Outline) (n : ℕ) (s : Reading) → n < 67108864 → wordRead find s (tokenWord (closes n)) ≡ shut n (closed s)
+read-closes : (find : ℕ → Outline) (n : ℕ) (s : Reading) → n < 67108864 → wordRead find s (tokenWord (closes n)) ≡ loopShut n (closed s)
 unfolding wordRead stepOf isPosition if_then_else_ tokenWord
 read-closes find n s h =
     let a : (56 * 2 ^ 26 + n) / 67108864 ≡ 56 = omega arith in

@@ -58,8 +58,8 @@ opened s =
       before = min 65536 (s .before + s .row);
     }
 
-unfoldable pub shut : ℕ → Reading → Reading
-shut n s =
+unfoldable pub loopShut : ℕ → Reading → Reading
+loopShut n s =
     record {
       loops = s .loops;
       refers = s .refers;
@@ -87,11 +87,11 @@ referred o s =
 
 -- Any word but a reference; what is no position and no bracket ends a measure.
 unfoldable pub stepOf : Reading → ℕ → Reading
-unfolding if_then_else_ isPosition sounded opened shut closed
+unfolding if_then_else_ isPosition sounded opened loopShut closed
 stepOf s w =
     if isPosition (kindOf w) then sounded (kindOf w) s
     else (if eqb (kindOf w) 57 then opened s
-    else (if eqb (kindOf w) 56 then shut (numberOf w) (closed s)
+    else (if eqb (kindOf w) 56 then loopShut (numberOf w) (closed s)
     else closed s))
 
 -- Each word, with the outlines that references find.

@@ -13,7 +13,7 @@ use tokens::is_position;
 use tokens::kind;
 use tokens::number;
 ghost use mathlib.Core.Path.{_≡_};
-ghost use Rattle.outlines.specs.Readings.{started, sounded, closed, opened, shut, referred, stepOf, summed};
+ghost use Rattle.outlines.specs.Readings.{started, sounded, closed, opened, loopShut, referred, stepOf, summed};
 
 // What a text says: whether it is empty, has a loop, holds a reference; then with its references put in: the sizes of its measures,
 // whether a `%` stands before every chord, whether it has a chord, and how many measures it plays, 65,536 where they are more.
@@ -107,7 +107,7 @@ pub fn open(s: Reading) -> Reading
 
 // A closing bracket behind the last measure: the row is played `n` times.
 pub fn shut_loop(n: u32, s: Reading) -> Reading
-    ensures { λ r. ⌜ r ≡ shut n s ⌝ }
+    ensures { λ r. ⌜ r ≡ loopShut n s ⌝ }
 {
     Reading {
         loops: s.loops,

@@ -22,7 +22,7 @@ use Rattle.text.specs.declared.lines.Line.{Line}
 use Rattle.text.specs.Spans.{blank, part, frontBlanks}
 use Rattle.tokens.specs.Lexing.{plainLength, tokensFrom}
 use Rattle.tokens.proofs.LexLaws.{blanks-passed, blanks-over, at-semicolon, at-colon, at-bracket, at-closing, at-word, plain-byte}
-use Rattle.slips.specs.Marks.{Mark, Marked, MarkedLines, endMark}
+use Rattle.slips.specs.Marks.{Mark, MarksFrom, MarkedLines, endMark}
 use Rattle.slips.specs.Strays.{StrayAt}
 
 abbrev NotAgain : Token → Type 0
@@ -101,8 +101,8 @@ module _ (s : List ℕ) (a stop : ℕ) (h : a < stop) (l : stop ≤ length s) (s
 abbrev pub AtAgain : List ℕ → Mark → Type 0
 AtAgain s m = m .token ≡ sound again → (m .from < length s) × (getD s (m .from) 0 ≡ 37)
 
-pub marks-at : (s : List ℕ) (at stop : ℕ) → stop ≤ length s → (ms : List Mark) → Marked s at stop ms → (m : Mark) → List·Memᴰ m ms → AtAgain s m
-unfolding Marked
+pub marks-at : (s : List ℕ) (at stop : ℕ) → stop ≤ length s → (ms : List Mark) → MarksFrom s at stop ms → (m : Mark) → List·Memᴰ m ms → AtAgain s m
+unfolding MarksFrom
 marks-at s at stop l [] h m i = absurd (List·Memᴰ·not-nil i)
 marks-at s at stop l (k ∷ ks) h m i =
     let f = frontBlanks (part at stop s) in
@@ -140,7 +140,7 @@ lines-at s (l ∷ ls) ms h m i =
     (List·Memᴰ·cases-cons j))
     (List·Memᴰ·append-cases (h .0) (subst (λ (ns : List Mark). List·Memᴰ m ns) (h .5) i))
 
-pub side-at : (s : List ℕ) (at stop : ℕ) → stop ≤ length s → (ms : List Mark) → Marked s at stop ms
+pub side-at : (s : List ℕ) (at stop : ℕ) → stop ≤ length s → (ms : List Mark) → MarksFrom s at stop ms
     → (m : Mark) → List·Memᴰ m (ms ++ (endMark stop ∷ [])) → AtAgain s m
 side-at s at stop l ms h m i =
     ⊎-elim

@@ -10,7 +10,7 @@ use Rattle.tokens.specs.Lexing.{tokensFrom}
 use Rattle.tokens.proofs.LexLaws.{tokens-over}
 use Rattle.slips.specs.declared.patterns.Whose.{Whose}
 use Rattle.slips.specs.declared.patterns.Reading.{Reading}
-use Rattle.slips.specs.Rules.{Right, textTokens, piece, Cut, before, onward, Back, Latest, Stuck, StopsAt, Told, RuledIn}
+use Rattle.slips.specs.Rules.{Right, textTokens, piece, CutAt, before, onward, Back, Latest, Stuck, StopsAt, Told, RuledIn}
 use Rattle.slips.specs.RulesRead.{upTo, Refuses}
 use Rattle.slips.proofs.ReadingLaws.{told-near}
 
@@ -53,7 +53,7 @@ module _ (s : List ℕ) (w : Whose) (passed rest : List Line) (n from to : ℕ) 
   lines = passed ++ (piece s n from to ∷ rest)
 
   module _ (at : ℕ) (a : from ≤ at) (b : at ≤ to) (split : tokensFrom from to s ≡ tokensFrom from at s ++ tokensFrom at to s) where
-    abbrev pub cut : Cut s lines at
+    abbrev pub cut : CutAt s lines at
     cut = record { passed = passed; rest = rest; number = n; start = from; stop = to; written = refl; begins = a; ends = b }
 
     pub front : before cut ≡ upTo passed ++ tokensFrom from at s

@@ -16,7 +16,7 @@ use Rattle.slips.specs.declared.patterns.Whose.{Whose}
 use Rattle.slips.specs.declared.patterns.Reading.{Reading}
 use Rattle.slips.specs.declared.signs.Token.{Token}
 use Rattle.slips.specs.Taken.{TokenAt}
-use Rattle.slips.specs.Rules.{Cut, before, OnlyEnds, LastAt, OpenAt, Latest, RuledIn}
+use Rattle.slips.specs.Rules.{CutAt, before, OnlyEnds, LastAt, OpenAt, Latest, RuledIn}
 use Rattle.slips.specs.RulesRead.{upTo, backOf, Opened, Going, Steps, Reads}
 use Rattle.slips.proofs.CutLaws.{lines, cut, front, refuses-token}
 
@@ -117,7 +117,7 @@ module _ {s : List ℕ} {w : Whose} {from to : ℕ} {r₀ r : Reading} {at : ℕ
       more = append-assoc (upTo passed) (tokensFrom from at s) (t .token ∷ []) ∙ ap (λ (ts : List songcode.Token). upTo passed ++ ts) (sym up-to-next)
 
       -- This token is the last one then.
-      abbrev cut-here : Cut s whole here
+      abbrev cut-here : CutAt s whole here
       cut-here =
           let a = i .begins in
           let b = t .begins in

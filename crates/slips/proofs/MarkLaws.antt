@@ -15,7 +15,7 @@ use Rattle.slips.specs.declared.readings.Stray.{Stray}
 use Rattle.slips.specs.declared.readings.Misfit.{Misfit}
 use Rattle.slips.specs.declared.readings.Reading.{Reading}
 use Rattle.slips.specs.declared.signs.Token as slips
-use Rattle.slips.specs.Marks.{Mark, Marked, endMark, MarkedLines}
+use Rattle.slips.specs.Marks.{Mark, MarksFrom, endMark, MarkedLines}
 use Rattle.slips.specs.Taken.{TokenAt}
 use Rattle.slips.specs.Places.{Whole}
 use Rattle.slips.specs.Strays.{heard, hearingSign}
@@ -75,12 +75,12 @@ module _ (s : List ℕ) (at to : ℕ) (u : to ≤ 65536) (t : slips.Token) (h : 
       let j = h .solid in
       follows-one (h .token) (t .from) (t .next) (omega arith) (h .fits) (subst (λ (n : ℕ). Taken x n (t .from) (t .next) r) (e ∙ i) k)
 
-  pub marked-more : (ms : List Mark) → Marked s (t .next) to ms → Marked s at to (mark ∷ ms)
-  unfolding Marked
+  pub marked-more : (ms : List Mark) → MarksFrom s (t .next) to ms → MarksFrom s at to (mark ∷ ms)
+  unfolding MarksFrom
   marked-more ms m = (h .begins, h .solid, b, h .first to b (omega arith), m)
 
-pub marked-none : (s : List ℕ) (at to : ℕ) → tokensFrom at to s ≡ [] → Marked s at to []
-unfolding Marked
+pub marked-none : (s : List ℕ) (at to : ℕ) → tokensFrom at to s ≡ [] → MarksFrom s at to []
+unfolding MarksFrom
 marked-none s at to h = h
 
 -- No line is left.
@@ -98,7 +98,7 @@ lines-past s n at left h = subst (λ (ls : List Line). MarkedLines s ls []) (sym
 
 -- One more line.
 pub lines-more : (s : List ℕ) (n at left : ℕ) {l : Line} → Found s n at l → at < length s → (left ≡ 0 → ⊥) → (here rest : List Mark)
-    → Marked s (l .start) (l .stop) here → MarkedLines s (take (left - 1) (From s (n + 1) (l .next))) rest
+    → MarksFrom s (l .start) (l .stop) here → MarkedLines s (take (left - 1) (From s (n + 1) (l .next))) rest
     → MarkedLines s (take left (From s n at)) (here ++ (endMark (l .stop) ∷ rest))
 unfolding MarkedLines
 lines-more s n at left {l} f h z here rest m r =

@@ -20,7 +20,7 @@ use Rattle.slips.specs.declared.readings.Misfit.{Misfit}
 use Rattle.slips.specs.declared.readings.Reading.{Reading}
 use Rattle.slips.specs.declared.slip.Slip.{Slip}
 use Rattle.slips.specs.Places.{Whole, OneLine}
-use Rattle.slips.specs.Marks.{Mark, Marked, endMark, MarkedLines, namedIn, PlainText, SideText}
+use Rattle.slips.specs.Marks.{Mark, MarksFrom, endMark, MarkedLines, namedIn, PlainText, SideText}
 use Rattle.slips.specs.Misfits.{isPosition, over, measuresFrom, measuresIn, firstFrom, lastTo, FirstMisfit, MisfitTold, noMeasure}
 use Rattle.slips.specs.Misfits.{fittingIf, fitted}
 use Rattle.slips.specs.Readings.{Follows, ReadsRun, ReadsPattern, ReadsSide, ToldMisfit}
@@ -28,12 +28,12 @@ use Rattle.slips.specs.BlocksMet.{BlockOf}
 use Rattle.slips.specs.MeterTold.{MisfitsTold}
 use Rattle.slips.proofs.BlockLaws.{others-later}
 use Rattle.slips.proofs.StartLaws.{line-whole}
-use Rattle.slips.proofs.MisfitLaws.{fitted-behind, kept, last-one, Outcome, both, nothing, shut, of-fresh, parted}
+use Rattle.slips.proofs.MisfitLaws.{fitted-behind, kept, last-one, Outcome, both, nothing, lineEnded, of-fresh, parted}
 use Rattle.slips.proofs.TextLaws.{map-take, block-first, block-other}
 
 -- A token takes a byte at least.
-marked-few : (s : List ℕ) (at stop : ℕ) (ms : List Mark) → Marked s at stop ms → length ms ≤ stop - at
-unfolding Marked
+marked-few : (s : List ℕ) (at stop : ℕ) (ms : List Mark) → MarksFrom s at stop ms → length ms ≤ stop - at
+unfolding MarksFrom
 marked-few s at stop [] h = omega arith
 marked-few s at stop (m ∷ ms) h =
     let a = h .0 in
@@ -70,9 +70,9 @@ met-over a at stop (m ∷ met) rows h l e =
     ((p .0, p .1, omega arith), e)
 
 -- So do all measures of a line.
-rows-spanned : (s : List ℕ) (a at stop : ℕ) (met ms : List Mark) → a ≤ at → at ≤ stop → MetIn a at met → Marked s at stop ms
+rows-spanned : (s : List ℕ) (a at stop : ℕ) (met ms : List Mark) → a ≤ at → at ≤ stop → MetIn a at met → MarksFrom s at stop ms
     → Each (Spanned a stop) (measuresFrom met ms)
-unfolding Marked measuresFrom if_then_else_ Each
+unfolding MarksFrom measuresFrom if_then_else_ Each
 rows-spanned s a at stop met [] i j h m = met-over a at stop met [] h j tt
 rows-spanned s a at stop met (k ∷ ms) i j h m =
     let x = m .0 in
@@ -102,8 +102,8 @@ each-one s l a b w (r ∷ rows) e =
     let u = w .0 in
     (record { onward = omega arith; inside = omega arith; unended = λ k i j. w .1 k (omega arith) (omega arith) }, each-one s l a b w rows (e .1))
 
-line-rows : (s : List ℕ) (l : Line) (a : ℕ) (ms : List Mark) → l .start ≤ a → Whole s l → Marked s a (l .stop) ms → Each (OnOneLine s) (measuresIn ms)
-unfolding Marked measuresFrom over Each
+line-rows : (s : List ℕ) (l : Line) (a : ℕ) (ms : List Mark) → l .start ≤ a → Whole s l → MarksFrom s a (l .stop) ms → Each (OnOneLine s) (measuresIn ms)
+unfolding MarksFrom measuresFrom over Each
 line-rows s l a [] b w m = tt
 line-rows s l a (k ∷ ms) b w m =
     let x = m .0 in
@@ -112,7 +112,7 @@ line-rows s l a (k ∷ ms) b w m =
     each-one s l a b w (measuresIn (k ∷ ms)) (rows-spanned s a a (l .stop) [] (k ∷ ms) (omega arith) (omega arith) (λ n. absurd (n refl)) m)
 
 -- What is fitted of a line, and of lines one behind the other.
-end-shuts : (n : ℕ) (x : Misfit) (ms rest : List Mark) (stop : ℕ) → fitted n x (ms ++ (endMark stop ∷ rest)) ≡ fitted n (shut n (fitted n x ms)) rest
+end-shuts : (n : ℕ) (x : Misfit) (ms rest : List Mark) (stop : ℕ) → fitted n x (ms ++ (endMark stop ∷ rest)) ≡ fitted n (lineEnded n (fitted n x ms)) rest
 unfolding fitted fittingIf if_then_else_ isPosition
 end-shuts n x ms rest stop = fitted-behind n x ms (endMark stop ∷ rest)
 
@@ -122,12 +122,12 @@ end-parts ms rest stop = parted [] ms rest (endMark stop) refl
 
 module _ (s : List ℕ) (small : length s ≤ 65536) (n : ℕ) where
   -- Tokens of a line, its end, and others of which it is known.
-  line-and : (at stop : ℕ) → stop ≤ length s → (here rest : List Mark) → Marked s at stop here → Outcome n (measuresIn rest) (fitted n noMeasure rest)
+  line-and : (at stop : ℕ) → stop ≤ length s → (here rest : List Mark) → MarksFrom s at stop here → Outcome n (measuresIn rest) (fitted n noMeasure rest)
       → Outcome n (measuresIn (here ++ (endMark stop ∷ rest))) (fitted n noMeasure (here ++ (endMark stop ∷ rest)))
   line-and at stop l here rest m o =
       let few = marked-few s at stop here m in
       let first = of-fresh n here (omega arith) in
-      let y = shut n (fitted n noMeasure here) in
+      let y = lineEnded n (fitted n noMeasure here) in
       rw (end-parts here rest stop, end-shuts n noMeasure here rest stop)
       (both first (λ t. kept n y rest t)
       (λ t. subst (λ (x : Misfit). Outcome n (measuresIn rest) (fitted n x rest)) (sym (first .none t .1)) o))

@@ -222,14 +222,14 @@ over-both [] rows = refl
 over-both (m ∷ met) rows = refl
 
 -- A line's end ends a measure.
-abbrev pub shut : ℕ → Misfit → Misfit
-shut n y = fittingIf false n y 0 0
+abbrev pub lineEnded : ℕ → Misfit → Misfit
+lineEnded n y = fittingIf false n y 0 0
 
-shut-met : (n : ℕ) (met : List Mark) → shut n (state met) ≡ closing n (state met)
+shut-met : (n : ℕ) (met : List Mark) → lineEnded n (state met) ≡ closing n (state met)
 unfolding fittingIf if_then_else_
 shut-met n met = refl
 
-shut-found : (n : ℕ) (y : Misfit) → y .found ≡ true → shut n y ≡ y
+shut-found : (n : ℕ) (y : Misfit) → y .found ≡ true → lineEnded n y ≡ y
 unfolding fittingIf if_then_else_
 shut-found n y h = rw h
 
@@ -247,7 +247,7 @@ unfolding measuresFrom if_then_else_
 rows-over met m ms p = rw p (over-both met (measuresFrom [] ms))
 
 -- Of the tokens of a line, and its end.
-of-line : (n : ℕ) (met ms : List Mark) → length met + length ms ≤ 65536 → Outcome n (measuresFrom met ms) (shut n (fitted n (state met) ms))
+of-line : (n : ℕ) (met ms : List Mark) → length met + length ms ≤ 65536 → Outcome n (measuresFrom met ms) (lineEnded n (fitted n (state met) ms))
 unfolding fitted measuresFrom
 of-line n met [] h = ended n met
 of-line n met (m ∷ ms) h =
@@ -255,18 +255,18 @@ of-line n met (m ∷ ms) h =
     (λ p.
     let e = longer met m in
     let next = of-line n (met ++ (m ∷ [])) ms (omega arith) in
-    subst (λ (r : List (List Mark)). Outcome n r (shut n (fitted n (state met) (m ∷ ms)))) (sym (rows-more met m ms p))
-    (subst (λ (x : Misfit). Outcome n (measuresFrom (met ++ (m ∷ [])) ms) (shut n (fitted n x ms))) (sym (more n met m (omega arith) p)) next))
+    subst (λ (r : List (List Mark)). Outcome n r (lineEnded n (fitted n (state met) (m ∷ ms)))) (sym (rows-more met m ms p))
+    (subst (λ (x : Misfit). Outcome n (measuresFrom (met ++ (m ∷ [])) ms) (lineEnded n (fitted n x ms))) (sym (more n met m (omega arith) p)) next))
     (λ p.
     let y = closing n (state met) in
     let rest = of-line n [] ms (omega arith) in
     let all = both (ended n met)
-    (λ t. ap (shut n) (kept n y ms t) ∙ shut-found n y t)
-    (λ t. subst (λ (x : Misfit). Outcome n (measuresFrom [] ms) (shut n (fitted n x ms))) (fresh-is ∙ sym (ended n met .none t .1)) rest) in
-    subst (λ (r : List (List Mark)). Outcome n r (shut n (fitted n (state met) (m ∷ ms)))) (sym (rows-over met m ms p))
-    (subst (λ (x : Misfit). Outcome n (over met [] ++ measuresFrom [] ms) (shut n (fitted n x ms))) (sym (by-sign n met m p)) all))
+    (λ t. ap (lineEnded n) (kept n y ms t) ∙ shut-found n y t)
+    (λ t. subst (λ (x : Misfit). Outcome n (measuresFrom [] ms) (lineEnded n (fitted n x ms))) (fresh-is ∙ sym (ended n met .none t .1)) rest) in
+    subst (λ (r : List (List Mark)). Outcome n r (lineEnded n (fitted n (state met) (m ∷ ms)))) (sym (rows-over met m ms p))
+    (subst (λ (x : Misfit). Outcome n (over met [] ++ measuresFrom [] ms) (lineEnded n (fitted n x ms))) (sym (by-sign n met m p)) all))
 
-pub of-fresh : (n : ℕ) (ms : List Mark) → length ms ≤ 65536 → Outcome n (measuresIn ms) (shut n (fitted n noMeasure ms))
+pub of-fresh : (n : ℕ) (ms : List Mark) → length ms ≤ 65536 → Outcome n (measuresIn ms) (lineEnded n (fitted n noMeasure ms))
 unfolding firstFrom lastTo
 of-fresh n ms h = of-line n [] ms (omega arith)
 

@@ -14,7 +14,7 @@ use Rattle.grammar.specs.Checks.{first, isBad, checkStep, checkRun}
 use Rattle.grammar.specs.Verdicts.{isAlone, definitionFine, unnamedFine, sectionFine}
 use Rattle.grammar.proofs.VerdictLaws.{items-fine, unnamed-fine, pattern-fine}
 use Rattle.grammar.proofs.LateLaws.{alone-is-whole}
-use Rattle.grammar.proofs.BeginningLaws.{or-true, run-on, ending, ending-plain, ended-rightly}
+use Rattle.grammar.proofs.BeginningLaws.{or-true, run-on, endingTokens, ending-plain, ended-rightly}
 use Rattle.grammar.proofs.BeginningLaws.{isRuined, never-right, never-unnamed, never-of-section, step-late}
 use Rattle.slips.specs.declared.patterns.Whose.{Whose}
 use Rattle.slips.specs.declared.patterns.Whose.the-variants.{Definition, Section, Side}
@@ -26,9 +26,9 @@ module _ (ts : List Token) where
   abbrev behind : Check
   behind = checkRun first (kindsOf ts)
 
-  ended-items : isBad (behind .place) ≡ false → (definitionFine (checkRun first (kindsOf (ts ++ ending behind))) ≡ true)
-      × (checkRun first (kindsOf (ts ++ ending behind)) .named ≡ behind .named)
-  ended-items h = rw (run-on ts (ending behind)) (ended-rightly behind h)
+  ended-items : isBad (behind .place) ≡ false → (definitionFine (checkRun first (kindsOf (ts ++ endingTokens behind))) ≡ true)
+      × (checkRun first (kindsOf (ts ++ endingTokens behind)) .named ≡ behind .named)
+  ended-items h = rw (run-on ts (endingTokens behind)) (ended-rightly behind h)
 
   alone-right : isAlone (behind .place) ≡ true → isSome (patternBy (wholeReference ts) ts) ≡ true
   unfolding isSome patternBy
@@ -38,14 +38,15 @@ module _ (ts : List Token) where
       go none e = true-is-not-false e refl
       go (some n) e = refl
 
-  ended-section : isBad (behind .place) ≡ false → behind .named ≡ false → isSome (patternBy (wholeReference (ts ++ ending behind)) (ts ++ ending behind)) ≡ true
+  ended-section : isBad (behind .place) ≡ false → behind .named ≡ false
+      → isSome (patternBy (wholeReference (ts ++ endingTokens behind)) (ts ++ endingTokens behind)) ≡ true
   unfolding sectionFine
   ended-section h n =
       let e = ended-items h in
-      let d = checkRun first (kindsOf (ts ++ ending behind)) in
-      sym (pattern-fine (ts ++ ending behind)) ∙ rw (e .0, e .1 ∙ n) (or-true (isAlone (d .place)))
+      let d = checkRun first (kindsOf (ts ++ endingTokens behind)) in
+      sym (pattern-fine (ts ++ endingTokens behind)) ∙ rw (e .0, e .1 ∙ n) (or-true (isAlone (d .place)))
 
-  ended-side : isBad (behind .place) ≡ false → behind .named ≡ false → unnamedFine (checkRun first (kindsOf (ts ++ ending behind))) ≡ true
+  ended-side : isBad (behind .place) ≡ false → behind .named ≡ false → unnamedFine (checkRun first (kindsOf (ts ++ endingTokens behind))) ≡ true
   unfolding unnamedFine
   ended-side h n = let e = ended-items h in rw (e .0, e .1 ∙ n) refl
 
@@ -64,18 +65,18 @@ module _ (ts : List Token) where
   unfolding Right isStuck misnamed barredToken
   free-begins Definition h u =
       let n = none-passes (isBad (behind .place)) (behind .named && false) h in
-      (ending behind, sym (items-fine (ts ++ ending behind)) ∙ ended-items (n .0) .0)
+      (endingTokens behind, sym (items-fine (ts ++ endingTokens behind)) ∙ ended-items (n .0) .0)
   free-begins Section h u =
       let n = none-passes (isBad (behind .place)) (behind .named && not (isAlone (behind .place))) h in
       by-cases (isAlone (behind .place))
       (λ a. ([], rw (append-nil ts) (alone-right a)))
-      (λ a. (ending behind, ended-section (n .0) (and-named behind (n .1) a)))
+      (λ a. (endingTokens behind, ended-section (n .0) (and-named behind (n .1) a)))
   free-begins Side h u =
       let n = none-passes (isBad (behind .place)) (behind .named && true) h in (
-        ending behind,
+        endingTokens behind,
         (
-          any-append isColon ts (ending behind) ∙ rw (u, ending-plain isColon behind refl (λ k. refl)) refl,
-          sym (unnamed-fine (ts ++ ending behind)) ∙ ended-side (n .0) (and-true (behind .named) (n .1)),
+          any-append isColon ts (endingTokens behind) ∙ rw (u, ending-plain isColon behind refl (λ k. refl)) refl,
+          sym (unnamed-fine (ts ++ endingTokens behind)) ∙ ended-side (n .0) (and-true (behind .named) (n .1)),
         ),
       )
 

@@ -18,14 +18,14 @@ pub record Mark : Type 0 where
   pub to : ℕ
 
 -- The tokens from one place up to another: each begins at the first byte that is no blank.
-unfoldable pub Marked : List ℕ → ℕ → ℕ → List Mark → Type 0
-Marked s at stop [] = tokensFrom at stop s ≡ []
-Marked s at stop (m ∷ ms) =
+unfoldable pub MarksFrom : List ℕ → ℕ → ℕ → List Mark → Type 0
+MarksFrom s at stop [] = tokensFrom at stop s ≡ []
+MarksFrom s at stop (m ∷ ms) =
     (m .from ≡ at + frontBlanks (part at stop s))
     × (m .from < m .to)
     × (m .to ≤ stop)
     × (tokensFrom at stop s ≡ m .token ∷ tokensFrom (m .to) stop s)
-    × Marked s (m .to) stop ms
+    × MarksFrom s (m .to) stop ms
 
 -- A line's end.
 abbrev pub endMark : ℕ → Mark
@@ -35,7 +35,7 @@ endMark stop = record { token = lineEnd; from = stop; to = stop }
 unfoldable pub MarkedLines : List ℕ → List Line → List Mark → Type 0
 MarkedLines s [] ms = ms ≡ []
 MarkedLines s (l ∷ ls) ms =
-    (here : List Mark) × (rest : List Mark) × Whole s l × Marked s (l .start) (l .stop) here × MarkedLines s ls rest
+    (here : List Mark) × (rest : List Mark) × Whole s l × MarksFrom s (l .start) (l .stop) here × MarkedLines s ls rest
     × (ms ≡ here ++ (endMark (l .stop) ∷ rest))
 
 -- The number that a text names with its first token, 0 where it names none.
@@ -67,5 +67,5 @@ pub record SideText (s : List ℕ) (l : Line) (ms : List Mark) : Type 0 where
   pub from : ℕ
   pub setting : settingIn (placed (l .start) (part (l .start) (l .stop) s)) ≡ placed from (part from (l .stop) s)
   pub marks : List Mark
-  pub marked : Marked s from (l .stop) marks
+  pub marked : MarksFrom s from (l .stop) marks
   pub all : ms ≡ marks ++ (endMark (l .stop) ∷ [])

@@ -12,7 +12,7 @@ use Rattle.sections.specs.declared.runs.Run.{Run}
 use Rattle.sections.specs.Runs.{linesOf}
 use Rattle.slips.specs.declared.readings.Reading.{Reading}
 use Rattle.slips.specs.declared.slip.Slip.{Slip}
-use Rattle.slips.specs.Marks.{Mark, Marked, endMark, MarkedLines, namedIn}
+use Rattle.slips.specs.Marks.{Mark, MarksFrom, endMark, MarkedLines, namedIn}
 use Rattle.slips.specs.Strays.{heard}
 use Rattle.slips.specs.Misfits.{fitted}
 
@@ -27,7 +27,7 @@ pub record Follows (x : Reading) (ms : List Mark) (r : Reading) : Type 0 where
 -- The tokens from one place up to another, and a line end.
 pub record ReadsLine (s : List ℕ) (from to : ℕ) (x r : Reading) : Type 0 where
   pub marks : List Mark
-  pub marked : Marked s from to marks
+  pub marked : MarksFrom s from to marks
   pub follows : Follows x (marks ++ (endMark to ∷ [])) r
 
 -- The lines of a run with their places.

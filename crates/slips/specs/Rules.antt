@@ -41,7 +41,7 @@ abbrev pub piece : List ℕ → ℕ → ℕ → ℕ → Line
 piece s n from to = record { number = n; text = placed from (part from to s) }
 
 -- A text cut at a place: the lines in front, the line that holds the place, by its first byte and its end, and the lines behind.
-pub record Cut (s : List ℕ) (lines : List Line) (at : ℕ) : Type 0 where
+pub record CutAt (s : List ℕ) (lines : List Line) (at : ℕ) : Type 0 where
   pub passed : List Line
   pub rest : List Line
   pub number : ℕ
@@ -52,10 +52,10 @@ pub record Cut (s : List ℕ) (lines : List Line) (at : ℕ) : Type 0 where
   pub ends : at ≤ stop
 
 -- The text before the place, and the text from it on.
-abbrev pub before : {s : List ℕ} {lines : List Line} {at : ℕ} → Cut s lines at → List Token
+abbrev pub before : {s : List ℕ} {lines : List Line} {at : ℕ} → CutAt s lines at → List Token
 before {s} {lines} {at} c = textTokens (c .passed ++ (piece s (c .number) (c .start) at ∷ []))
 
-abbrev pub onward : {s : List ℕ} {lines : List Line} {at : ℕ} → Cut s lines at → List Token
+abbrev pub onward : {s : List ℕ} {lines : List Line} {at : ℕ} → CutAt s lines at → List Token
 onward {s} {lines} {at} c = textTokens (piece s (c .number) at (c .stop) ∷ c .rest)
 
 -- The last token of some is at a place: nothing but line ends stands behind it.
@@ -64,7 +64,7 @@ OnlyEnds [] = Unit {0}
 OnlyEnds (t ∷ ts) = (t ≡ lineEnd) × OnlyEnds ts
 
 pub record LastAt (s : List ℕ) (lines : List Line) (ts : List Token) (from : ℕ) : Type 0 where
-  pub cut : Cut s lines from
+  pub cut : CutAt s lines from
   pub token : Token
   pub ends : List Token
   pub read : ts ≡ before cut ++ (token ∷ ends)
@@ -72,7 +72,7 @@ pub record LastAt (s : List ℕ) (lines : List Line) (ts : List Token) (from : �
 
 -- So is the last `[`: none stands behind it.
 pub record OpenAt (s : List ℕ) (lines : List Line) (ts : List Token) (from : ℕ) : Type 0 where
-  pub cut : Cut s lines from
+  pub cut : CutAt s lines from
   pub behind : List Token
   pub read : ts ≡ before cut ++ (opens ∷ behind)
   pub none : List·Memᴰ opens behind → ⊥
@@ -95,7 +95,7 @@ Stuck w ts (t ∷ us) = (more : List Token) → Right w (ts ++ (t ∷ more)) →
 -- The place at which a text stops being right: what stands before it is the beginning of a right text, and with the token at the place no longer; at
 -- the end of the text, it is not whole. Before it the last token and the last `[` are known.
 pub record StopsAt (s : List ℕ) (w : Whose) (lines : List Line) (at : ℕ) (b : Back) : Type 0 where
-  pub cut : Cut s lines at
+  pub cut : CutAt s lines at
   pub apart : textTokens lines ≡ before cut ++ onward cut
   pub begun : (more : List Token) × Right w (before cut ++ more)
   pub stuck : Stuck w (before cut) (onward cut)

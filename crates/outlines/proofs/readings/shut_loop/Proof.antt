@@ -1,10 +1,10 @@
-use Rattle.outlines.specs.Readings.{shut}
+use Rattle.outlines.specs.Readings.{loopShut}
 use borrow.Author.Needs.{needs}
 use Rattle.outlines.proofs.readings.shut_loop.Statement.{statement}
 use Rattle.outlines.proofs.readings.shut_loop.Tie as tie
 
 returns : tie.Need-returns
-unfolding shut
+unfolding loopShut
 returns c = rw (c .capped-sum .ensures, c .before .capped-times .ensures)
 
 pub shut-loop-spec : {M : Type 1} → statement M

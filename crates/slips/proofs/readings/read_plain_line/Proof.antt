@@ -4,7 +4,7 @@ use mathlib.Core.Path.{sym, subst}
 use mathlib.Core.List.{List, [], _∷_, _++_, append-assoc, append-nil}
 use native.Mathlib.Omega.{arith}
 use Rattle.tokens.proofs.LexLaws.{tokens-over}
-use Rattle.slips.specs.Marks.{Mark, Marked}
+use Rattle.slips.specs.Marks.{Mark, MarksFrom}
 use Rattle.slips.specs.Readings.{Follows}
 use Rattle.slips.proofs.MarkLaws.{follows-none, follows-both, follows-end, mark, follows-token, marked-none, marked-more}
 use borrow.Author.Needs.{needs}
@@ -13,7 +13,7 @@ use Rattle.slips.proofs.readings.read_plain_line.Tie as tie
 
 abbrev Inv-loop : tie.InvT-loop
 Inv-loop s from to reading₀ at₀ reading at =
-    (at ≤ to) × ((done : List Mark) × Follows reading₀ done reading × ((ms : List Mark) → Marked s at to ms → Marked s from to (done ++ ms)))
+    (at ≤ to) × ((done : List Mark) × Follows reading₀ done reading × ((ms : List Mark) → MarksFrom s at to ms → MarksFrom s from to (done ++ ms)))
 
 abbrev μ-loop : tie.MeasureT-loop
 μ-loop s from to reading₀ at₀ reading at = to - at
@@ -30,7 +30,7 @@ returns c =
     let n = marked-none (a .s .now) (q .loop .at) (a .to) (h .over (c .before .if1 .taken)) in
     record {
       marks = i .0;
-      marked = subst (Marked (a .s .now) (a .from) (a .to)) (append-nil (i .0)) (i .2 [] n);
+      marked = subst (MarksFrom (a .s .now) (a .from) (a .to)) (append-nil (i .0)) (i .2 [] n);
       follows = follows-both (i .1) (follows-end (a .to) (omega arith) (c .read-token .ensures));
     }
 
@@ -54,7 +54,7 @@ loop-again c =
         follows-both (i .1) (follows-token s at (a .to) (omega arith) (t .result) h k (c .before .sign-of .ensures)
             (c .read-token2 .ensures)),
         λ ms m.
-            subst (Marked s (a .from) (a .to)) (sym (append-assoc (i .0) (d ∷ []) ms))
+            subst (MarksFrom s (a .from) (a .to)) (sym (append-assoc (i .0) (d ∷ []) ms))
             (i .2 (d ∷ ms) (marked-more s at (a .to) (omega arith) (t .result) h k ms m)),
       ),
     )
@@ -67,7 +67,7 @@ returns-2 c =
     let n = marked-none (a .s .now) (q .loop .at) (a .to) (tokens-over (a .s .now) (q .loop .at) (a .to) (c .before .loop-test .left)) in
     record {
       marks = i .0;
-      marked = subst (Marked (a .s .now) (a .from) (a .to)) (append-nil (i .0)) (i .2 [] n);
+      marked = subst (MarksFrom (a .s .now) (a .from) (a .to)) (append-nil (i .0)) (i .2 [] n);
       follows = follows-both (i .1) (follows-end (a .to) (omega arith) (c .read-token3 .ensures));
     }
 
