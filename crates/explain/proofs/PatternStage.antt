@@ -1,52 +1,30 @@
 -- The stage of the verdict 7: the first states no more than 2, those behind the second no less than 10.
-use Prim.Native.Nat.{ℕ, _≤_}
+use Prim.Native.Nat.{ℕ}
 use mathlib.Core.Path.{_≡_, ap, _∙_}
 use mathlib.Core.List.{List}
 use native.Mathlib.Omega.{arith}
 use Rattle.songcode.specs.Bytes.{placed}
-use Rattle.songcode.specs.Complaints.{Complaint, complaint}
-use Rattle.songcode.specs.Song.{Items, Song}
+use Rattle.songcode.specs.Complaints.{complaint}
 use Rattle.songcode.specs.answer.Lines.{blocks}
 use Rattle.songcode.specs.answer.Answer.{blocksOf, refused, songAnswer}
 use Rattle.songcode.specs.description.StoppedText.{Stops2}
-use Rattle.songcode.specs.description.StoppedSong.{Stops3, undefined, undefined-named, too-deep, loop-in-loop, to-empty, RowStops, undivided, again-first}
-use Rattle.songcode.specs.description.StoppedSong.{Stops4, of-pattern, of-lead-in, of-tail}
 use Rattle.songcode.specs.description.Refusals.{Stage, stage1, stage2, stage3, stage4, stage5, stage6, stage7, stage8, Stated}
 use Rattle.songcode.proofs.LinesAgree.{lines-complete}
 use Rattle.songcode.proofs.BlocksAgree.{blocks-complete}
 use Rattle.songcode.proofs.RefusalsAgree.{refused-as-stated}
 use Rattle.songcode.proofs.SongAlone.{refused-with-tables}
-use Rattle.explain.proofs.StageLaws.{room, low-1, high-5, of-6, of-7, of-8}
-
-abbrev Late : Complaint → Type 0
-Late c = 10 ≤ c .number
-
-late-3 : {s : Song} {c : Complaint} → Stops3 s c → Late c
-late-3 (undefined d r xs n v i h) = omega arith
-late-3 (undefined-named x n i t h) = omega arith
-late-3 (too-deep d e r q xs n v i m h j) = omega arith
-late-3 (loop-in-loop d e r q xs v i m h l) = omega arith
-late-3 (to-empty d e r xs v i m h) = omega arith
-
-late-row : {n line : ℕ} {r : Items} {c : Complaint} → RowStops n line r c → Late c
-late-row (undivided m h u) = omega arith
-late-row (again-first a) = omega arith
-
-late-4 : {s : Song} {c : Complaint} → Stops4 s c → Late c
-late-4 (of-pattern x n r i h e t) = late-row t
-late-4 (of-lead-in x n l r i h m t) = late-row t
-late-4 (of-tail x n l r i h m t) = late-row t
+use Rattle.explain.proofs.StageLaws.{room, of-1, of-3, of-4, of-5, of-6, of-7, of-8}
 
 module _ (bs : List ℕ) (line : ℕ) where
   in-stage-2 : (k : Stage) → Stated (room bs line) bs k (complaint 7 line) → Stops2 (blocksOf bs) (complaint 7 line)
   unfolding Stated blocksOf
-  in-stage-2 stage1 h = let e = low-1 h in let z : ⊥ = omega arith in absurd z
+  in-stage-2 stage1 h = let e = of-1 h in let z : ⊥ = omega arith in absurd z
   in-stage-2 stage2 h =
       let same : blocksOf bs ≡ h .1 = ap blocks (lines-complete (placed 0 bs) (h .0) (h .2)) ∙ blocks-complete (h .3) in
       rw same (h .4)
-  in-stage-2 stage3 h = let e = late-3 (h .2) in let z : ⊥ = omega arith in absurd z
-  in-stage-2 stage4 h = let e = late-4 (h .2) in let z : ⊥ = omega arith in absurd z
-  in-stage-2 stage5 h = let e = high-5 (h .2) in let z : ⊥ = omega arith in absurd z
+  in-stage-2 stage3 h = let e = of-3 (h .2) .0 in let z : ⊥ = omega arith in absurd z
+  in-stage-2 stage4 h = let e = of-4 (h .2) .0 in let z : ⊥ = omega arith in absurd z
+  in-stage-2 stage5 h = let e = of-5 (h .2) .0 in let z : ⊥ = omega arith in absurd z
   in-stage-2 stage6 h = let e = of-6 (h .2) .0 in let z : ⊥ = omega arith in absurd z
   in-stage-2 stage7 h = let e = of-7 (h .2) .0 in let z : ⊥ = omega arith in absurd z
   in-stage-2 stage8 h = let e = of-8 (h .4) in let z : ⊥ = omega arith in absurd z

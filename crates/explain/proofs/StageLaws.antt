@@ -43,9 +43,6 @@ use Rattle.explain.specs.Sums.{Playable}
 abbrev Early : Complaint → Type 0
 Early c = c .number ≤ 11
 
-abbrev Middle : Complaint → Type 0
-Middle c = c .number ≤ 15
-
 of-key-stops : {allowed : KeyName → Type 0} {l : Line} {c : Complaint} → KeyStops allowed l c → Early c
 of-key-stops (key-unknown s h) = omega arith
 of-key-stops (key-not-allowed k t w h) = omega arith
@@ -98,43 +95,34 @@ of-text (in-metadata ms before behind l k e h) = of-metadata h
 of-text (in-definition ds before behind b k e h) = of-definition h
 of-text (in-section ss b k m h) = of-section h
 
-of-1 : {bs : List ℕ} {c : Complaint} → Stops1 bs c → Early c
+pub of-1 : {bs : List ℕ} {c : Complaint} → Stops1 bs c → c .number ≤ 2
 of-1 (over-long h) = omega arith
 of-1 (bad-bytes place w lines h k cuts) = omega arith
-
-pub low-1 : {bs : List ℕ} {c : Complaint} → Stops1 bs c → c .number ≤ 2
-low-1 (over-long h) = omega arith
-low-1 (bad-bytes place w lines h k cuts) = omega arith
 
 of-2 : {bs : List Block} {c : Complaint} → Stops2 bs c → Early c
 of-2 (stated h) = of-text h
 of-2 (no-section k n) = omega arith
 
-of-3 : {s : Song} {c : Complaint} → Stops3 s c → Early c
-of-3 (undefined d r xs n v i h) = omega arith
-of-3 (undefined-named x n i t h) = omega arith
-of-3 (too-deep d e r q xs n v i m h j) = omega arith
-of-3 (loop-in-loop d e r q xs v i m h l) = omega arith
-of-3 (to-empty d e r xs v i m h) = omega arith
+pub of-3 : {s : Song} {c : Complaint} → Stops3 s c → (10 ≤ c .number) × (c .number ≤ 11)
+of-3 (undefined d r xs n v i h) = (omega arith, omega arith)
+of-3 (undefined-named x n i t h) = (omega arith, omega arith)
+of-3 (too-deep d e r q xs n v i m h j) = (omega arith, omega arith)
+of-3 (loop-in-loop d e r q xs v i m h l) = (omega arith, omega arith)
+of-3 (to-empty d e r xs v i m h) = (omega arith, omega arith)
 
-of-row : {n line : ℕ} {r : Items} {c : Complaint} → RowStops n line r c → Middle c
-of-row (undivided m h u) = omega arith
-of-row (again-first a) = omega arith
+of-row : {n line : ℕ} {r : Items} {c : Complaint} → RowStops n line r c → (12 ≤ c .number) × (c .number ≤ 13)
+of-row (undivided m h u) = (omega arith, omega arith)
+of-row (again-first a) = (omega arith, omega arith)
 
-of-4 : {s : Song} {c : Complaint} → Stops4 s c → Middle c
+pub of-4 : {s : Song} {c : Complaint} → Stops4 s c → (12 ≤ c .number) × (c .number ≤ 13)
 of-4 (of-pattern x n r i h e t) = of-row t
 of-4 (of-lead-in x n l r i h m t) = of-row t
 of-4 (of-tail x n l r i h m t) = of-row t
 
-of-5 : {s : Song} {c : Complaint} → Stops5 s c → Middle c
-of-5 (too-long front behind x counts k w us u h j) = omega arith
-of-5 (no-beat x n r pass i h e w g) = omega arith
-of-5 (empty-modified x i e h) = omega arith
-
-pub high-5 : {s : Song} {c : Complaint} → Stops5 s c → 14 ≤ c .number
-high-5 (too-long front behind x counts k w us u h j) = omega arith
-high-5 (no-beat x n r pass i h e w g) = omega arith
-high-5 (empty-modified x i e h) = omega arith
+pub of-5 : {s : Song} {c : Complaint} → Stops5 s c → (14 ≤ c .number) × (c .number ≤ 15)
+of-5 (too-long front behind x counts k w us u h j) = (omega arith, omega arith)
+of-5 (no-beat x n r pass i h e w g) = (omega arith, omega arith)
+of-5 (empty-modified x i e h) = (omega arith, omega arith)
 
 -- 13: a row whose first `%` stands before every chord, a section's pattern or the lead-in or tail on that line.
 pub data StrayIn (s : Song) (line : ℕ) : Type 0 where
@@ -199,7 +187,7 @@ module _ (bs : List ℕ) (line : ℕ) where
 
   over-long-first : (k : Stage) (n : ℕ) → Stated room bs k (complaint n line) → NothingIn room bs (refusals.stagesBefore k) → 3 ≤ n → 65536 < length bs → ⊥
   unfolding Stated NothingIn Nothing refusals.stagesBefore
-  over-long-first stage1 n h e l o = let k = low-1 h in let z : ⊥ = omega arith in z
+  over-long-first stage1 n h e l o = let k = of-1 h in let z : ⊥ = omega arith in z
   over-long-first stage2 n h e l o = e .0 _ (over-long o)
   over-long-first stage3 n h e l o = e .0 _ (over-long o)
   over-long-first stage4 n h e l o = e .0 _ (over-long o)
@@ -221,9 +209,9 @@ module _ (bs : List ℕ) (line : ℕ) where
   unfolding Stated
   in-stage-4 stage1 n i j h = let e = of-1 h in let z : ⊥ = omega arith in absurd z
   in-stage-4 stage2 n i j h = let e = of-2 (h .4) in let z : ⊥ = omega arith in absurd z
-  in-stage-4 stage3 n i j h = let e = of-3 (h .2) in let z : ⊥ = omega arith in absurd z
+  in-stage-4 stage3 n i j h = let e = of-3 (h .2) .1 in let z : ⊥ = omega arith in absurd z
   in-stage-4 stage4 n i j h = (h .0, h .1, h .2)
-  in-stage-4 stage5 n i j h = let e = high-5 (h .2) in let z : ⊥ = omega arith in absurd z
+  in-stage-4 stage5 n i j h = let e = of-5 (h .2) .0 in let z : ⊥ = omega arith in absurd z
   in-stage-4 stage6 n i j h = let e = of-6 (h .2) .0 in let z : ⊥ = omega arith in absurd z
   in-stage-4 stage7 n i j h = let e = of-7 (h .2) .0 in let z : ⊥ = omega arith in absurd z
   in-stage-4 stage8 n i j h = let e = of-8 (h .4) in let z : ⊥ = omega arith in absurd z
@@ -245,9 +233,9 @@ module _ (bs : List ℕ) (line : ℕ) where
   unfolding Stated
   in-stage-6 stage1 h = let e = of-1 h in let z : ⊥ = omega arith in absurd z
   in-stage-6 stage2 h = let e = of-2 (h .4) in let z : ⊥ = omega arith in absurd z
-  in-stage-6 stage3 h = let e = of-3 (h .2) in let z : ⊥ = omega arith in absurd z
-  in-stage-6 stage4 h = let e = of-4 (h .2) in let z : ⊥ = omega arith in absurd z
-  in-stage-6 stage5 h = let e = of-5 (h .2) in let z : ⊥ = omega arith in absurd z
+  in-stage-6 stage3 h = let e = of-3 (h .2) .1 in let z : ⊥ = omega arith in absurd z
+  in-stage-6 stage4 h = let e = of-4 (h .2) .1 in let z : ⊥ = omega arith in absurd z
+  in-stage-6 stage5 h = let e = of-5 (h .2) .1 in let z : ⊥ = omega arith in absurd z
   in-stage-6 stage6 h = (h .0, h .1, of-6 (h .2) .1)
   in-stage-6 stage7 h = let e = of-7 (h .2) .0 in let z : ⊥ = omega arith in absurd z
   in-stage-6 stage8 h = let e = of-8 (h .4) in let z : ⊥ = omega arith in absurd z
@@ -264,9 +252,9 @@ module _ (bs : List ℕ) (line : ℕ) where
   unfolding Stated
   in-stage-7 stage1 h = let e = of-1 h in let z : ⊥ = omega arith in absurd z
   in-stage-7 stage2 h = let e = of-2 (h .4) in let z : ⊥ = omega arith in absurd z
-  in-stage-7 stage3 h = let e = of-3 (h .2) in let z : ⊥ = omega arith in absurd z
-  in-stage-7 stage4 h = let e = of-4 (h .2) in let z : ⊥ = omega arith in absurd z
-  in-stage-7 stage5 h = let e = of-5 (h .2) in let z : ⊥ = omega arith in absurd z
+  in-stage-7 stage3 h = let e = of-3 (h .2) .1 in let z : ⊥ = omega arith in absurd z
+  in-stage-7 stage4 h = let e = of-4 (h .2) .1 in let z : ⊥ = omega arith in absurd z
+  in-stage-7 stage5 h = let e = of-5 (h .2) .1 in let z : ⊥ = omega arith in absurd z
   in-stage-7 stage6 h = let e = of-6 (h .2) .0 in let z : ⊥ = omega arith in absurd z
   in-stage-7 stage7 h = (h .0, h .1, of-7 (h .2) .1)
   in-stage-7 stage8 h = let e = of-8 (h .4) in let z : ⊥ = omega arith in absurd z
@@ -281,9 +269,9 @@ module _ (bs : List ℕ) (line : ℕ) where
   unfolding Stated
   before-7 stage1 h n = let e = of-1 h in let z : ⊥ = omega arith in absurd z
   before-7 stage2 h n = let e = of-2 (h .4) in let z : ⊥ = omega arith in absurd z
-  before-7 stage3 h n = let e = of-3 (h .2) in let z : ⊥ = omega arith in absurd z
-  before-7 stage4 h n = let e = of-4 (h .2) in let z : ⊥ = omega arith in absurd z
-  before-7 stage5 h n = let e = of-5 (h .2) in let z : ⊥ = omega arith in absurd z
+  before-7 stage3 h n = let e = of-3 (h .2) .1 in let z : ⊥ = omega arith in absurd z
+  before-7 stage4 h n = let e = of-4 (h .2) .1 in let z : ⊥ = omega arith in absurd z
+  before-7 stage5 h n = let e = of-5 (h .2) .1 in let z : ⊥ = omega arith in absurd z
   before-7 stage6 h n = let e = of-6 (h .2) .0 in let z : ⊥ = omega arith in absurd z
   before-7 stage7 h n = n
   before-7 stage8 h n = let e = of-8 (h .4) in let z : ⊥ = omega arith in absurd z
