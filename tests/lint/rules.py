@@ -80,6 +80,14 @@ def places(tree):
                 yield f"{path}:{number}: {line.strip()}"
 
 
+def crowded_lets(tree):
+    """A `let` behind another one on a line."""
+    for path, text in tree.items():
+        for number, line in enumerate(text.splitlines(), 1):
+            if is_antt(path) and " in let " in line:
+                yield f"{path}:{number}: one `let` a line"
+
+
 def first_sentences(tree):
     """A file that does not begin with a sentence. A short proof of a function needs none: the function has it."""
     for path, text in tree.items():
@@ -142,6 +150,7 @@ RULES = {
     "idle-imports": idle_imports,
     "long-lines": long_lines,
     "places": places,
+    "crowded-lets": crowded_lets,
     "first-sentences": first_sentences,
     "idle-exports": idle_exports,
     "equal-statements": equal_statements,

@@ -88,7 +88,8 @@ pub minor-moved : (z : ℤ) (b r : ℕ) → b < 34 → 12 ≤ rootAt b → r ≡
 unfolding movedBase named
 minor-moved z b r h l e =
     let k = base-rooted b h in
-    let same : rootOf (spellingOf b) ≡ rootAt b - 12 = let q = k .root in let s = k .small in omega arith in
+    let same : rootOf (spellingOf b) ≡ rootAt b - 12 = let q = k .root in
+    let s = k .small in omega arith in
     let n = movedRoot z (rootAt b - 12) in
     let t = both-pass (eqb (getD majors n 0) (sharpBase n false)) (eqb (getD minors n 0) (sharpBase n true)) (each-named n (moved-below z (rootAt b - 12))) in
     rw (e, same, k .minor l) (eqb-true (getD minors n 0) (sharpBase n true) (t .1))

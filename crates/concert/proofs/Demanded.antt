@@ -55,7 +55,9 @@ twice-word a b c w s =
     (λ f.
     let n = eqb-false (baseIn w) 63 f in
     let base : baseIn (movedWord a w) ≡ movedBase a (baseIn w) = moved-base n in
-    let other : baseIn (movedWord a w) ≡ 63 → ⊥ = λ e. let l = moved-listed a (baseIn w) in let q = base in let p = e in omega arith in
+    let other : baseIn (movedWord a w) ≡ 63 → ⊥ = λ e. let l = moved-listed a (baseIn w) in
+    let q = base in
+    let p = e in omega arith in
     chord-moves b (movedWord a w) other
     ∙ ap (λ k. movedBase b k * 2 ^ 26 + behindBase (movedWord a w)) base
     ∙ ap (λ k. movedBase b (movedBase a (baseIn w)) * 2 ^ 26 + k) (behind-stays a w)
@@ -68,7 +70,10 @@ twice-word a b c w s =
 twice : (a b c : ℤ) (beats : List ℕ) → SumsTo a b c → movedTable b (movedTable a beats) ≡ movedTable c beats
 unfolding movedTable
 twice a b c [] s = refl
-twice a b c (w ∷ ws) s = let x = twice-word a b c w s in let y = twice a b c ws s in cc
+twice a b c (w ∷ ws) s =
+    let x = twice-word a b c w s in
+    let y = twice a b c ws s in
+    cc
 
 between : (a : ℤ) (beats : List ℕ) → any isOdd beats ≡ false → any isOdd (movedTable a beats) ≡ false
 unfolding movedTable any
@@ -80,7 +85,10 @@ between a (w ∷ ws) f =
 nothing-else : (a : ℤ) (beats : List ℕ) → map behindBase (movedTable a beats) ≡ map behindBase beats
 unfolding movedTable
 nothing-else a [] = refl
-nothing-else a (w ∷ ws) = let x = behind-stays a w in let y = nothing-else a ws in cc
+nothing-else a (w ∷ ws) =
+    let x = behind-stays a w in
+    let y = nothing-else a ws in
+    cc
 
 as-many : (a : ℤ) (beats : List ℕ) → length (movedTable a beats) ≡ length beats
 unfolding movedTable

@@ -88,7 +88,10 @@ module _ (root : ℕ) (z : ℤ) (h : root < 12) (a : isAllowed z ≡ true) where
 
   rest-small : mag rest ≤ 31
   unfolding rest total
-  rest-small = let k = sum-small root z h a in let m = mag-rem (pos root +ℤ z) (pos 12) in omega arith
+  rest-small =
+      let k = sum-small root z h a in
+      let m = mag-rem (pos root +ℤ z) (pos 12) in
+      omega arith
 
   pub rest-kept : toZ w32 (ofZ w32 (remZ (toZ w32 (ofZ w32 (toZ w32 root +ℤ toZ w32 (ofZ w32 z)))) (pos 12))) ≡ rest
   unfolding rest total

@@ -1,6 +1,6 @@
 -- What is found keeps the promise: where the verdict names no line, and where it names one.
 use Prim.Native.Nat.{ℕ, _≤_}
-use mathlib.Core.Path.{_≡_, refl, sym, ap, _∙_, subst}
+use mathlib.Core.Path.{_≡_, refl, sym, ap, _∙_}
 use mathlib.Core.List.{List}
 use Rattle.songcode.specs.answer.Answer as songcode
 use Rattle.songcode.specs.answer.Answer.{refused, accepted, songAnswer}
@@ -18,7 +18,7 @@ use Rattle.explain.specs.Causes.{Belongs, clauses, clauseOfCause}
 use Rattle.explain.specs.Times.{TimeAt}
 use Rattle.explain.specs.Sums.{SumsAt}
 use Rattle.explain.specs.Explained.{Explains}
-use Rattle.explain.proofs.FirstLaws.{not-line-0, Said, as-refused, stray-first, stray-named, uncounted-first, summed-first}
+use Rattle.explain.proofs.FirstLaws.{not-line-0, Said, as-refused, stray-named, uncounted-first, summed-first}
 use Rattle.explain.proofs.StrayThere.{stray-listed}
 use Rattle.explain.proofs.StoppedLaws.{text-named, first-line, stopped-first}
 use Rattle.explain.proofs.MisfitThere.{misfit-listed}
@@ -58,8 +58,7 @@ module _ (text : List ℕ) (a : Answer) (h : a ≡ answerOf (songAnswer text)) (
         placed = λ n. absurd (n (e .1));
         stopped = λ f. absurd (unlined 7 (λ w. first-line text (text-named text 0 w)) (λ y. let x : ⊥ = omega arith in x) (sym (e .0) ∙ f) z);
         misfit = λ f. absurd (unlined 12 (λ w. misfit-listed text w) (λ y. let x : ⊥ = omega arith in x) (sym (e .0) ∙ f) z);
-        stray-named = λ f. absurd (unlined 13 (λ w. stray-listed text w) (λ y. let x : ⊥ = omega arith in x) (sym (e .0) ∙ f) z);
-        stray = λ f l k. absurd (not-line-0 text l (subst (λ (i : ℕ). LineOf text i l) (e .1) k));
+        stray = λ f. absurd (unlined 13 (λ w. stray-listed text w) (λ y. let x : ⊥ = omega arith in x) (sym (e .0) ∙ f) z);
         uncounted = λ f. absurd (unlined 16 (λ w. lyric-listed text 0 w .1) (λ y. let x : ⊥ = omega arith in x) (sym (e .0) ∙ f) z);
         sums = λ f. absurd (unlined 17 (λ w. header-listed text 0 w .1) (λ y. let x : ⊥ = omega arith in x) (sym (e .0) ∙ f) z);
         summed = λ f. absurd (unlined 17 (λ w. header-listed text 0 w .1) (λ y. let x : ⊥ = omega arith in x) (sym (e .0) ∙ f) z);
@@ -80,8 +79,7 @@ module _ (text : List ℕ) (a : Answer) (h : a ≡ answerOf (songAnswer text)) (
         placed = λ _. rw (e .3) o;
         stopped = λ f. stopped-first text a h x (λ s. finds s .ruled) p begins cause told r (e .1) (e .2) (e .3) (sym (e .0) ∙ f);
         misfit = λ f. misfit-named text a h time timed x finds p covers cause told r e (sym (e .0) ∙ f);
-        stray-named = λ f. stray-named text a h time x finds p o covers cause told r e (sym (e .0) ∙ f);
-        stray = λ f. stray-first text a h time x finds p o covers cause told r e (sym (e .0) ∙ f);
+        stray = λ f. stray-named text a h time x finds p o covers cause told r e (sym (e .0) ∙ f);
         uncounted = λ f. uncounted-first text a h time x finds p o covers cause told r e (sym (e .0) ∙ f);
         sums = λ f. sum-named text a h x summed r (e .1) (e .4) (e .5) (sym (e .0) ∙ f);
         summed = λ f. summed-first text a h time x finds p o covers cause told r e (sym (e .0) ∙ f);

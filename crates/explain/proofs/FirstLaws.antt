@@ -1,5 +1,5 @@
 -- A place that is found stands there: refusals 13, 16 and 17.
-use Prim.Native.Nat.{ℕ, _+_, _<_, _≤_}
+use Prim.Native.Nat.{ℕ, _+_, _≤_}
 use mathlib.Core.Path.{_≡_, refl, sym, ap, _∙_, subst}
 use mathlib.Core.List.{List, List·Memᴰ}
 use native.Mathlib.Omega.{arith}
@@ -25,7 +25,8 @@ use Rattle.slips.proofs.StartLaws.{line-whole, line-begins, line-holds}
 use Rattle.explain.specs.declared.Explained.{Explained}
 use Rattle.explain.specs.Causes.{clauses, clauseOfCause}
 use Rattle.explain.specs.Sums.{SumsAt, SumNamed}
-use Rattle.explain.specs.Explained.{OnVerdict, StrayNamed, in-pattern, in-side}
+use Rattle.explain.specs.Explained.{OnVerdict}
+use Rattle.explain.specs.StrayNamed.{AgainNamed, StrayNamed, in-pattern, in-side}
 use Rattle.explain.proofs.StageLaws.{short-text, header-refused}
 use Rattle.explain.proofs.StrayThere.{StrayAbout, about-pattern, about-side, stray-about}
 use Rattle.explain.proofs.VerdictLines.{lyric-listed, header-listed}
@@ -88,56 +89,42 @@ module _ (text : List ℕ) (a : Answer) (h : a ≡ answerOf (songAnswer text)) w
         (ap (λ (q : Place). q .offset) d ∙ c .0, ap (λ (q : Place). q .offset + q .length) d ∙ c .1, ap (λ (q : Place). q .line) d ∙ s ∙ sym (e .1))
 
     -- A single `%` ends no line, so it is the place.
-    carried : {Text : List Mark → Type 0} → a .refusal ≡ 13 → StrayTold text Text (x .clause) (x .from) (x .to)
-        → StrayTold text Text (clauseOfCause (r .cause)) (r .place .offset) (r .place .offset + r .place .length)
-    carried {Text} f t =
-        let few = t .tells .few in
-        let c : clauseOfCause (r .cause) ≡ x .clause = rw (e .2) (told (rw f (omega arith)) (omega arith) (rw f few)) in
-        let d = e .3 in
-        let place : x .clause ≡ 1 → (r .place .offset ≡ x .from) × (r .place .offset + r .place .length ≡ x .to) =
-        λ k.
-        let b = t .byte k in
+    carried : {Text : List Mark → Type 0} → a .refusal ≡ 13 → StrayTold text Text (x .clause) (x .from) (x .to) → x .clause ≡ 1 → AgainNamed text Text r
+    carried {Text} f t one =
+        let b = t .byte one in
         let w = b .0 in
-        let u = t .tells .told k .1 in
+        let u = t .tells .told one in
+        let to = u .1 in
         let v = covers (omega arith) (omega arith) (λ n i j. let z : n ≡ x .from = omega arith in plain text n (ap (λ (m : ℕ). getD text m 0) z ∙ b .1)) in
-        (ap (λ (q : Place). q .offset) d ∙ v .0, ap (λ (q : Place). q .offset + q .length) d ∙ v .1) in
+        let begins = v .0 in
+        let ends = v .1 in
+        let few : x .clause ≤ getD clauses (a .refusal) 0 = rw f (t .tells .few) in
+        let from : r .place .offset ≡ x .from = ap (λ (q : Place). q .offset) (e .3) ∙ begins in
+        let length : p .length ≡ 1 = omega arith in
         record {
           marks = t .marks;
-          text = t .text;
-          tells =
-              record {
-                few = rw c few;
-                told = λ k.
-                    let i = sym c ∙ k in
-                    let p = place i in (
-                      subst (StrayAt (t .marks)) (sym (p .0)) (t .tells .told i .0),
-                      p .1 ∙ t .tells .told i .1 ∙ ap (λ (n : ℕ). n + 1) (sym (p .0)),
-                    );
-                none = λ n. t .tells .none (λ k. n (c ∙ k));
-              };
-          byte = λ k. subst (λ (n : ℕ). (n < length text) × (getD text n 0 ≡ 37)) (sym (place (sym c ∙ k) .0)) (t .byte (sym c ∙ k));
+          said = t .text;
+          clause = ap clauseOfCause (e .2) ∙ told (rw f (omega arith)) (omega arith) few ∙ one;
+          first = subst (StrayAt (t .marks)) (sym from) (u .0);
+          single = ap (λ (q : Place). q .length) (e .3) ∙ length;
+          byte = ap (λ (m : ℕ). getD text m 0) from ∙ b .1;
         }
 
-    pub stray-first : a .refusal ≡ 13 → (l : Line) → LineOf text (r .line) l
-        → MeterTold text (r .line) l (clauseOfCause (r .cause)) (r .place .offset) (r .place .offset + r .place .length)
-    stray-first f l k =
-        let n = as-refused 13 f (λ z. let y : ⊥ = omega arith in y) in
-        let m = finds (short-text text (a .line) 13 n (omega arith)) .stray f l (subst (λ (i : ℕ). LineOf text i l) (e .1) k) in
-        subst (λ (i : ℕ). MeterTold text i l (clauseOfCause (r .cause)) (r .place .offset) (r .place .offset + r .place .length)) (sym (e .1))
-        (record { header-stray = λ b i g z. carried f (m .header-stray b i g z); side-stray = λ g b i h. carried f (m .side-stray g b i h) })
-
     pub stray-named : a .refusal ≡ 13 → StrayNamed text r
-    stray-named f = go (stray-about text (a .line) (as-refused 13 f (λ z. let y : ⊥ = omega arith in y)))
+    stray-named f = go (stray-about text (a .line) is-refused)
       where
-        line : (l : Line) → LineOf text (a .line) l → LineOf text (r .line) l
-        line l k = subst (λ (i : ℕ). LineOf text i l) (sym (e .1)) k
+        is-refused : songAnswer text ≡ refused 13 (a .line)
+        is-refused = as-refused 13 f (λ z. let y : ⊥ = omega arith in y)
+
+        found : (l : Line) → LineOf text (a .line) l → MeterTold text (a .line) l (x .clause) (x .from) (x .to)
+        found l k = finds (short-text text (a .line) 13 is-refused (omega arith)) .stray f l k
 
         go : StrayAbout text (a .line) → StrayNamed text r
         go (about-pattern b i n l k h) =
-            let m = n ∙ sym (e .1) in
-            in-pattern b i m (λ z. h z _ _ _ (stray-first f l (line l k) .header-stray b i m z))
+            let t = found l k .header-stray b i n in in-pattern b i (n ∙ sym (e .1)) (carried f t (h _ _ _ t))
         go (about-side l k b i j h) =
-            in-side l (line l k) b i j (h _ _ _ (stray-first f l (line l k) .side-stray (line l k .number) b i j))
+            let t = found l k .side-stray (k .number) b i j in
+            in-side l (subst (λ (n : ℕ). LineOf text n l) (sym (e .1)) k) b i j (carried f t (h _ _ _ t))
 
     pub uncounted-first : a .refusal ≡ 16 → OnVerdict text r (λ l clause from to. BareOn text l clause from to)
     uncounted-first f =

@@ -4,11 +4,14 @@ pub mod PatternStage
 pub mod StoppedLaws
 pub mod StageLaws
 pub mod VerdictLines
+pub mod PutTokens
 pub mod SoundLaws
+pub mod PlayedText
 pub mod StrayThere
 pub mod SizeLaws
 pub mod MisfitThere
 pub mod TimeLaws
+pub mod CountLaws
 pub mod SumLaws
 pub mod FirstLaws
 pub mod MisfitFirst

@@ -12,7 +12,8 @@ use Rattle.reader.specs.Answers.{answerOf}
 use Rattle.slips.specs.declared.places.Place.{Place}
 use Rattle.slips.specs.declared.slip.Slip.{Slip}
 use Rattle.slips.specs.Places.{Covers}
-use Rattle.slips.specs.Marks.{Mark, PlainText, SideText}
+use Rattle.slips.specs.Marks.{Mark, SideText}
+use Rattle.slips.specs.PatternText.{PatternText}
 use Rattle.slips.specs.Misfits.{measuresIn, FirstMisfit, MisfitTold}
 use Rattle.slips.specs.Finds.{LineOf, Finds}
 use Rattle.explain.specs.declared.Explained.{Explained}
@@ -56,12 +57,11 @@ module _ (text : List ℕ) (a : Answer) (h : a ≡ answerOf (songAnswer text)) (
 
       go : MisfitAbout text (a .line) → MisfitNamed text r
       go (about-pattern b i j n l k one) =
-          in-pattern b i (n ∙ sym (e .1)) (λ z.
           let m = finds short .misfit f l k in
-          let t = m .header-misfit b j n z in
+          let t = m .header-misfit b j n in
           let is = timed f .is b i (b .first, List·Memᴰ·head refl, n) in
-          let c = one z _ _ _ _ (subst (λ (d : ℕ). MisfitTold text (PlainText text (patternRun (body b))) d (x .clause) (x .from) (x .to) (x .first)) is t) in
-          carried f is t c (m .meter c))
+          let c = one _ _ _ _ (subst (λ (d : ℕ). MisfitTold text (PatternText text (patternRun (body b))) d (x .clause) (x .from) (x .to) (x .first)) is t) in
+          in-pattern b i (n ∙ sym (e .1)) (carried f is t c (m .meter c))
       go (about-side l k b i j m one) =
           let found = finds short .misfit f l k in
           let t = found .side-misfit (k .listed) (k .number) b j m in

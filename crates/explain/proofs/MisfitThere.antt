@@ -6,7 +6,7 @@ use mathlib.Core.Option.{some}
 use borrow.Author.Tests.{eqb-true, eqb-false}
 use lib.Dec.{eqb}
 use Rattle.songcode.specs.answer.Lines.{Line, Block}
-use Rattle.songcode.specs.Song.{Items, Section, Song, Definition}
+use Rattle.songcode.specs.Song.{Items, Section, Song}
 use Rattle.songcode.specs.answer.References.{patternItems}
 use Rattle.songcode.specs.answer.Sections.{patternRun, body, sectionIn}
 use Rattle.songcode.specs.answer.SongText.{sectionBlocks, textFaults}
@@ -20,14 +20,16 @@ use Rattle.songcode.proofs.SongAgree.{song-exact}
 use Rattle.songcode.proofs.AnswerAgree.{of-chart, song-read}
 use Rattle.text.specs.declared.lines.Line as text
 use Rattle.text.specs.Spans.{lineText}
-use Rattle.slips.specs.Marks.{Mark, namedIn, PlainText, SideText}
+use Rattle.slips.specs.Marks.{Mark, SideText}
+use Rattle.slips.specs.PatternText.{PatternText}
 use Rattle.slips.specs.Misfits.{MisfitTold}
 use Rattle.slips.specs.Finds.{LineOf}
 use Rattle.explain.proofs.SoundLaws.{tokensIn, of-marks}
-use Rattle.explain.proofs.SizeLaws.{closed, sizesFrom, sizes, sizesLines, sizes-of-lines, sizes-before-end, sizes-marked-lines, itemsSizes, of-items}
+use Rattle.explain.proofs.SizeLaws.{closed, sizesFrom, sizes, sizes-before-end, itemsSizes, of-items, said-sizes}
 use Rattle.explain.proofs.SizeLaws.{apart-none, undivided-not}
 use Rattle.explain.proofs.StageLaws.{Undivided, MisfitIn, in-text, in-side, misfit-refused, stray-refused}
-use Rattle.explain.proofs.StrayThere.{SideTokens, side-line, lines-are, pattern-tokens, side-said}
+use Rattle.explain.proofs.PlayedText.{all-tied, pattern-says}
+use Rattle.explain.proofs.StrayThere.{SideTokens, side-line, side-said}
 use Rattle.explain.proofs.VerdictLines.{each-right, section-block, block-among, line-of-block, of-block}
 
 -- A text with the measures of items of which one does not fit: the clause is told.
@@ -50,19 +52,12 @@ side-misfit l r h n u s k e x =
     ∙ of-items r [] apart-none ∙ append-nil (itemsSizes r) in
     told-there s (SideText s k) n r u x same
 
-pattern-misfit : {b : Block} {x : Section} (w : WrittenSection b x) (ds : List Definition) (r : Items) (n : ℕ) → Undivided n r
-    → patternItems ds (x .pattern) ≡ some r → (s : List ℕ) → namedIn (patternRun (body b)) ≡ 0 → {clause from to positions : ℕ}
-    → MisfitTold s (PlainText s (patternRun (body b))) n clause from to positions → clause ≡ 1
-unfolding sizesFrom closed
-pattern-misfit {b} w ds r n u e s z y =
-    let m = y .text in
-    let same : sizes (tokensIn (y .marks)) ≡ itemsSizes r =
-    sizes-marked-lines s (m .lines) (y .marks) (m .marked)
-    ∙ ap sizesLines (m .same ∙ lines-are w ds r)
-    ∙ sym (sizes-of-lines (w .firstPattern) (w .morePattern))
-    ∙ ap sizes (pattern-tokens w ds r e z)
-    ∙ of-items r [] apart-none ∙ append-nil (itemsSizes r) in
-    told-there s (PlainText s (patternRun (body b))) n r u y same
+pattern-misfit : (bs : List ℕ) (s : Song) (c : WrittenSong (blocksOf bs) s) {b : Block} {x : Section} → WrittenSection b x → (r : Items) (n : ℕ)
+    → Undivided n r → patternItems (s .definitions) (x .pattern) ≡ some r → (clause from to positions : ℕ)
+    → MisfitTold bs (PatternText bs (patternRun (body b))) n clause from to positions → clause ≡ 1
+pattern-misfit bs s c {b} w r n u e clause from to positions y =
+    let says = pattern-says bs s c w r e (y .marks) (y .text) in
+    told-there bs (PatternText bs (patternRun (body b))) n r u y (said-sizes _ _ (all-tied bs s c) r _ says)
 
 -- What the verdict is about: a section's pattern, or a lead-in or tail; in each the clause is told.
 abbrev meterIn : List ℕ → Block → ℕ
@@ -71,8 +66,8 @@ meterIn bs b = timeOf (songOf bs) (sectionIn b)
 pub data MisfitAbout (bs : List ℕ) (line : ℕ) : Type 0 where
   about-pattern : (b : Block) → List·Memᴰ b (sectionBlocks (blocksOf bs)) → List·Memᴰ b (blocksOf bs) → b .first .number ≡ line
       → (l : text.Line) → LineOf bs line l
-      → (namedIn (patternRun (body b)) ≡ 0 → (clause from to positions : ℕ)
-      → MisfitTold bs (PlainText bs (patternRun (body b))) (meterIn bs b) clause from to positions → clause ≡ 1)
+      → ((clause from to positions : ℕ)
+      → MisfitTold bs (PatternText bs (patternRun (body b))) (meterIn bs b) clause from to positions → clause ≡ 1)
       → MisfitAbout bs line
   about-side : (l : text.Line) → LineOf bs line l → (b : Block) → List·Memᴰ b (sectionBlocks (blocksOf bs)) → List·Memᴰ b (blocksOf bs)
       → List·Memᴰ (lineText bs l) (b .others)
@@ -93,7 +88,7 @@ misfit-about bs line e =
         let n = sym (b .2 .headerNumber) ∙ h in
         let l = of-block bs (b .0) a (b .0 .first) (List·Memᴰ·head refl) line n in
         let v = subst (λ (k : ℕ). Undivided k r) (meter s c (b .2)) u in
-        about-pattern (b .0) (b .1) a n (l .0) (l .1) (λ z clause from to positions y. pattern-misfit (b .2) (s .definitions) r _ v p bs z y)
+        about-pattern (b .0) (b .1) a n (l .0) (l .1) (λ clause from to positions y. pattern-misfit bs s c (b .2) r _ v p clause from to positions y)
     go s c (in-side x r i o u) =
         let b = section-block bs s c x i in
         let a = block-among bs s c (b .0) (b .1) in

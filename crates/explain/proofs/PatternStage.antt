@@ -18,16 +18,37 @@ use Rattle.explain.proofs.StageLaws.{room, of-1, of-3, of-4, of-5, of-6
 module _ (bs : List ℕ) (line : ℕ) where
   in-stage-2 : (k : Stage) → Stated (room bs line) bs k (complaint 7 line) → Stops2 (blocksOf bs) (complaint 7 line)
   unfolding Stated blocksOf
-  in-stage-2 stage1 h = let e = of-1 h in let z : ⊥ = omega arith in absurd z
+  in-stage-2 stage1 h =
+      let e = of-1 h in
+      let z : ⊥ = omega arith in
+      absurd z
   in-stage-2 stage2 h =
       let same : blocksOf bs ≡ h .1 = ap blocks (lines-complete (placed 0 bs) (h .0) (h .2)) ∙ blocks-complete (h .3) in
       rw same (h .4)
-  in-stage-2 stage3 h = let e = of-3 (h .2) .0 in let z : ⊥ = omega arith in absurd z
-  in-stage-2 stage4 h = let e = of-4 (h .2) .0 in let z : ⊥ = omega arith in absurd z
-  in-stage-2 stage5 h = let e = of-5 (h .2) .0 in let z : ⊥ = omega arith in absurd z
-  in-stage-2 stage6 h = let e = of-6 (h .2) .0 in let z : ⊥ = omega arith in absurd z
-  in-stage-2 stage7 h = let e = of-7 (h .2) .0 in let z : ⊥ = omega arith in absurd z
-  in-stage-2 stage8 h = let e = of-8 (h .4) in let z : ⊥ = omega arith in absurd z
+  in-stage-2 stage3 h =
+      let e = of-3 (h .2) .0 in
+      let z : ⊥ = omega arith in
+      absurd z
+  in-stage-2 stage4 h =
+      let e = of-4 (h .2) .0 in
+      let z : ⊥ = omega arith in
+      absurd z
+  in-stage-2 stage5 h =
+      let e = of-5 (h .2) .0 in
+      let z : ⊥ = omega arith in
+      absurd z
+  in-stage-2 stage6 h =
+      let e = of-6 (h .2) .0 in
+      let z : ⊥ = omega arith in
+      absurd z
+  in-stage-2 stage7 h =
+      let e = of-7 (h .2) .0 in
+      let z : ⊥ = omega arith in
+      absurd z
+  in-stage-2 stage8 h =
+      let e = of-8 (h .4) in
+      let z : ⊥ = omega arith in
+      absurd z
 
   pub pattern-refused : songAnswer bs ≡ refused 7 line → Stops2 (blocksOf bs) (complaint 7 line)
   pattern-refused e =

@@ -4,25 +4,25 @@ use mathlib.Core.Path.{_≡_, refl, sym, ap, _∙_, subst}
 use mathlib.Core.Logic.{⊎-elim}
 use mathlib.Core.List.{List, [], _∷_, _++_, map, append-assoc, append-nil, List·Memᴰ, List·Memᴰ·head, List·Memᴰ·not-nil, List·Memᴰ·cases-cons}
 use mathlib.Core.List.{Memᴰ·append-left, Memᴰ·append-right}
+use mathlib.Core.Option.{Option, Option·getD}
 use native.Mathlib.Omega.{arith}
 use native.Mathlib.Nat.{div-add-mod'}
 use lib.ListN.{length, length-append}
 use Rattle.songcode.specs.Lists.{if_then_else_}
-use Rattle.songcode.specs.answer.Lines.{Line}
 use Rattle.songcode.specs.Song.{Sounds, only, also, nothing, aLineEnd, Separator, bySemicolon, byLineEnd, byColon, Measure}
 use Rattle.songcode.specs.Song.{Item, measure, loop, refer, Items, one, next}
-use Rattle.songcode.specs.answer.Tokens.{Token, sound, remover, lineEnd, closes, tokens, tokensOf}
+use Rattle.songcode.specs.answer.Tokens.{Token, sound, remover, lineEnd, closes}
+use Rattle.songcode.specs.answer.References.{glue, putInItem, putIn}
 use Rattle.songcode.specs.answer.Playing.{soundCount, positions}
 use Rattle.songcode.proofs.WrittenBefore.{writeSounds, writeRemovers, writeMeasure, writeBeside, writeSeparator, writeItem, writeItems}
 use Rattle.songcode.specs.description.StoppedSong.{MeasureOf, MeasureIn}
 use Rattle.songcode.proofs.ListLaws.{by-cases}
 use Rattle.songcode.proofs.PlayingAgree.{sounds-some}
-use Rattle.text.specs.declared.lines.Line as text
-use Rattle.text.specs.Spans.{lineText}
-use Rattle.slips.specs.Marks.{Mark, MarkedLines, endMark}
+use Rattle.slips.specs.Marks.{Mark, endMark}
 use Rattle.slips.specs.Misfits.{isPosition, over, measuresFrom, measuresIn, AllFit}
 use Rattle.slips.proofs.BlockLaws.{in-map}
-use Rattle.explain.proofs.SoundLaws.{tokensIn, tokens-behind, of-marks}
+use Rattle.explain.proofs.PutTokens.{meant, putTokens, ended, Tied, Says, as-written, with-put, put-measure, put-separator}
+use Rattle.explain.proofs.SoundLaws.{tokensIn, tokens-behind}
 
 unfoldable pub closed : ℕ → List ℕ → List ℕ
 closed zero ns = ns
@@ -68,28 +68,9 @@ of-measures met (m ∷ ms) =
 pub measures-sized : (ms : List Mark) → map length (measuresIn ms) ≡ sizes (tokensIn ms)
 measures-sized ms = of-measures [] ms
 
-unfoldable pub sizesLines : List Line → List ℕ
-sizesLines [] = []
-sizesLines (l ∷ ls) = sizes (tokens (l .text)) ++ sizesLines ls
-
-pub sizes-of-lines : (l : Line) (ls : List Line) → sizes (tokensOf l ls) ≡ sizesLines (l ∷ ls)
-unfolding tokensOf sizesLines
-sizes-of-lines l [] = sym (append-nil (sizes (tokens (l .text))))
-sizes-of-lines l (m ∷ ms) =
-    sizes-parted 0 (tokens (l .text)) (tokensOf m ms) ∙ ap (λ (ns : List ℕ). sizes (tokens (l .text)) ++ ns) (sizes-of-lines m ms)
-
 pub sizes-before-end : (ms : List Mark) (stop : ℕ) (rest : List Mark)
     → sizes (tokensIn (ms ++ (endMark stop ∷ rest))) ≡ sizes (tokensIn ms) ++ sizes (tokensIn rest)
 sizes-before-end ms stop rest = ap sizes (tokens-behind ms (endMark stop ∷ rest)) ∙ sizes-parted 0 (tokensIn ms) (tokensIn rest)
-
-pub sizes-marked-lines : (s : List ℕ) (ls : List text.Line) (ms : List Mark) → MarkedLines s ls ms → sizes (tokensIn ms) ≡ sizesLines (map (lineText s) ls)
-unfolding MarkedLines sizesLines sizesFrom closed
-sizes-marked-lines s [] ms h = ap (λ (ns : List Mark). sizes (tokensIn ns)) h
-sizes-marked-lines s (l ∷ ls) ms h =
-    ap (λ (ns : List Mark). sizes (tokensIn ns)) (h .5)
-    ∙ sizes-before-end (h .0) (l .stop) (h .1)
-    ∙ ap (λ (ts : List Token). sizes ts ++ sizes (tokensIn (h .1))) (of-marks s (l .start) (l .stop) (h .0) (h .3))
-    ∙ ap (λ (ns : List ℕ). sizes (tokens (lineText s l .text)) ++ ns) (sizes-marked-lines s ls (h .1) (h .4))
 
 -- Of written items.
 unfoldable mutual
@@ -161,10 +142,6 @@ apart-closes : (n : ℕ) (ts : List Token) → Apart (closes n ∷ ts)
 unfolding sizesFrom if_then_else_ isPosition closed
 apart-closes n ts k = refl
 
-passed-closes : (n : ℕ) (ts : List Token) → sizes (closes n ∷ ts) ≡ sizes ts
-unfolding sizesFrom if_then_else_ isPosition closed
-passed-closes n ts = refl
-
 mutual
   unfolding writeItem writeItems itemSizes itemsSizes sizesFrom if_then_else_ isPosition closed
 
@@ -179,6 +156,53 @@ mutual
       of-items r (writeSeparator s (writeItem i ts)) (apart-separator s (writeItem i ts))
       ∙ ap (λ (ns : List ℕ). itemsSizes r ++ ns) (of-separator s (writeItem i ts) ∙ of-item i ts a)
       ∙ sym (append-assoc (itemsSizes r) (itemSizes i) (sizes ts))
+
+-- With references put in.
+glue-sizes : (r : Items) (s : Separator) (q : Items) → itemsSizes (glue r s q) ≡ itemsSizes r ++ itemsSizes q
+unfolding glue itemsSizes itemSizes
+glue-sizes r s (one i) = refl
+glue-sizes r s (next q t i) =
+    ap (λ (ns : List ℕ). ns ++ itemSizes i) (glue-sizes r s q) ∙ append-assoc (itemsSizes r) (itemsSizes q) (itemSizes i)
+
+apart-end : (ts : List Token) → Apart (lineEnd ∷ ts)
+unfolding sizesFrom if_then_else_ isPosition closed
+apart-end ts k = refl
+
+module _ (f : ℕ → Option Items) (g : ℕ → List Token) (tied : Tied f g) where
+  put-refer : (n : ℕ) (ts : List Token) → sizes (g n ++ ts) ≡ itemsSizes (Option·getD (f n) (one (refer n))) ++ sizes ts
+  unfolding itemsSizes itemSizes sizesFrom if_then_else_ isPosition closed
+  put-refer n ts =
+      ⊎-elim
+      (λ h. rw (h .0, h .1) refl)
+      (λ h. rw (h .1, h .2, ended (h .0) ts) (of-items (h .0) (lineEnd ∷ ts) (apart-end ts)))
+      (tied n)
+
+  mutual
+    unfolding writeItem writeItems putTokens meant putIn putInItem itemSizes itemsSizes sizesFrom if_then_else_ isPosition closed
+
+    put-item : (i : Item) (ts : List Token) → Apart (putTokens g ts)
+        → sizes (putTokens g (writeItem i ts)) ≡ itemsSizes (putInItem f i) ++ sizes (putTokens g ts)
+    put-item (measure m) ts a = ap sizes (put-measure g m ts) ∙ of-measure m (putTokens g ts) a
+    put-item (loop r n) ts a = put-items r (closes n ∷ ts) (apart-closes n (putTokens g ts))
+    put-item (refer n) ts a = put-refer n (putTokens g ts)
+
+    put-items : (r : Items) (ts : List Token) → Apart (putTokens g ts)
+        → sizes (putTokens g (writeItems r ts)) ≡ itemsSizes (putIn f r) ++ sizes (putTokens g ts)
+    put-items (one i) ts a = put-item i ts a
+    put-items (next r s i) ts a =
+        let behind = writeItem i ts in
+        let between = put-separator g s behind in
+        put-items r (writeSeparator s behind) (subst Apart (sym between) (apart-separator s (putTokens g behind)))
+        ∙ ap (λ (ns : List ℕ). itemsSizes (putIn f r) ++ ns)
+        (ap sizes between ∙ of-separator s (putTokens g behind) ∙ put-item i ts a)
+        ∙ sym (append-assoc (itemsSizes (putIn f r)) (itemsSizes (putInItem f i)) (sizes (putTokens g ts)))
+        ∙ ap (λ (ns : List ℕ). ns ++ sizes (putTokens g ts)) (sym (glue-sizes (putIn f r) s (putInItem f i)))
+
+  pub said-sizes : (r : Items) (ts : List Token) → Says f g r ts → sizes ts ≡ itemsSizes r
+  unfolding putTokens meant sizesFrom if_then_else_ isPosition closed
+  said-sizes r ts (as-written e) = ap sizes e ∙ of-items r (lineEnd ∷ []) (apart-end []) ∙ append-nil (itemsSizes r)
+  said-sizes r ts (with-put q h e) =
+      ap sizes e ∙ put-items q (lineEnd ∷ []) (apart-end []) ∙ append-nil (itemsSizes (putIn f q)) ∙ ap itemsSizes (sym h)
 
 -- A measure of a row is among them.
 mutual

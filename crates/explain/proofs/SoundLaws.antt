@@ -2,19 +2,21 @@
 use Prim.Native.Nat.{ℕ, zero, suc}
 use mathlib.Core.Path.{_≡_, refl, sym, ap, _∙_, subst}
 use mathlib.Core.List.{List, [], _∷_, _++_, map, append-assoc, append-nil, tail-eq-of-cons-eq}
+use mathlib.Core.Logic.{⊎-elim}
+use mathlib.Core.Option.{Option, Option·getD}
 use native.Mathlib.Omega.{arith}
 use Rattle.songcode.specs.Bytes.{placed}
-use Rattle.songcode.specs.answer.Lines.{Line}
 use Rattle.songcode.specs.answer.Chords.{Chord}
 use Rattle.songcode.specs.Song.{Sound, chord, again, silence, Sounds, only, also, nothing, aLineEnd, Separator, bySemicolon, byLineEnd, byColon}
 use Rattle.songcode.specs.Song.{Item, measure, loop, refer, Items, one, next}
-use Rattle.songcode.specs.answer.Tokens.{Token, sound, remover, reference, semicolon, colon, lineEnd, opens, closes, wrong, tokens, tokensOf}
+use Rattle.songcode.specs.answer.Tokens.{Token, sound, remover, reference, semicolon, colon, lineEnd, opens, closes, wrong, tokens}
+use Rattle.songcode.specs.answer.References.{glue, putInItem, putIn}
 use Rattle.songcode.proofs.WrittenBefore.{writeSounds, writeRemovers, writeMeasure, writeBeside, writeSeparator, writeItem, writeItems}
 use Rattle.songcode.specs.description.StoppedSong.{soundsWritten, itemWritten, itemsWritten, NoChord}
-use Rattle.text.specs.declared.lines.Line as text
-use Rattle.text.specs.Spans.{part, lineText}
-use Rattle.slips.specs.Marks.{Mark, MarksFrom, MarkedLines, endMark}
+use Rattle.text.specs.Spans.{part}
+use Rattle.slips.specs.Marks.{Mark, MarksFrom, endMark}
 use Rattle.slips.specs.Strays.{Silent, AllSilent, StrayAt}
+use Rattle.explain.proofs.PutTokens.{meant, putTokens, ended, Tied, Says, as-written, with-put, put-measure, put-separator}
 
 unfoldable pub sounding : List Token → List Sound
 sounding [] = []
@@ -85,9 +87,6 @@ pub tokens-behind : (ms ns : List Mark) → tokensIn (ms ++ ns) ≡ tokensIn ms 
 tokens-behind [] ns = refl
 tokens-behind (m ∷ ms) ns = ap (λ (ts : List Token). m .token ∷ ts) (tokens-behind ms ns)
 
-abbrev tokensFrom : ℕ → ℕ → List ℕ → List Token
-tokensFrom at stop s = tokens (placed at (part at stop s))
-
 pub of-marks : (s : List ℕ) (at stop : ℕ) (ms : List Mark) → MarksFrom s at stop ms → tokensIn ms ≡ tokens (placed at (part at stop s))
 unfolding MarksFrom
 of-marks s at stop [] h = sym h
@@ -98,24 +97,42 @@ pub before-end : (ms : List Mark) (stop : ℕ) (rest : List Mark)
 unfolding sounding
 before-end ms stop rest = ap sounding (tokens-behind ms (endMark stop ∷ rest)) ∙ sounding-behind (tokensIn ms) (lineEnd ∷ tokensIn rest)
 
-unfoldable pub soundingLines : List Line → List Sound
-soundingLines [] = []
-soundingLines (l ∷ ls) = sounding (tokens (l .text)) ++ soundingLines ls
+-- With references put in.
+glue-written : (r : Items) (s : Separator) (q : Items) → itemsWritten (glue r s q) ≡ itemsWritten r ++ itemsWritten q
+unfolding glue itemsWritten itemWritten
+glue-written r s (one i) = refl
+glue-written r s (next q t i) =
+    ap (λ (ss : List Sound). ss ++ itemWritten i) (glue-written r s q) ∙ append-assoc (itemsWritten r) (itemsWritten q) (itemWritten i)
 
-pub of-lines : (l : Line) (ls : List Line) → sounding (tokensOf l ls) ≡ soundingLines (l ∷ ls)
-unfolding tokensOf soundingLines sounding
-of-lines l [] = sym (append-nil (sounding (tokens (l .text))))
-of-lines l (m ∷ ms) =
-    sounding-behind (tokens (l .text)) (lineEnd ∷ tokensOf m ms) ∙ ap (λ (ss : List Sound). sounding (tokens (l .text)) ++ ss) (of-lines m ms)
+module _ (f : ℕ → Option Items) (g : ℕ → List Token) (tied : Tied f g) where
+  put-refer : (n : ℕ) (ts : List Token) → sounding (g n ++ ts) ≡ itemsWritten (Option·getD (f n) (one (refer n))) ++ sounding ts
+  unfolding itemsWritten itemWritten sounding
+  put-refer n ts =
+      ⊎-elim (λ h. rw (h .0, h .1) refl) (λ h. rw (h .1, h .2, ended (h .0) ts) (of-items (h .0) (lineEnd ∷ ts))) (tied n)
 
-pub of-marked-lines : (s : List ℕ) (ls : List text.Line) (ms : List Mark) → MarkedLines s ls ms → sounding (tokensIn ms) ≡ soundingLines (map (lineText s) ls)
-unfolding MarkedLines soundingLines sounding
-of-marked-lines s [] ms h = ap (λ (ns : List Mark). sounding (tokensIn ns)) h
-of-marked-lines s (l ∷ ls) ms h =
-    ap (λ (ns : List Mark). sounding (tokensIn ns)) (h .5)
-    ∙ before-end (h .0) (l .stop) (h .1)
-    ∙ ap (λ (ts : List Token). sounding ts ++ sounding (tokensIn (h .1))) (of-marks s (l .start) (l .stop) (h .0) (h .3))
-    ∙ ap (λ (ss : List Sound). sounding (tokensFrom (l .start) (l .stop) s) ++ ss) (of-marked-lines s ls (h .1) (h .4))
+  mutual
+    unfolding writeItem writeItems putTokens meant putIn putInItem itemWritten itemsWritten sounding
+
+    put-item : (i : Item) (ts : List Token) → sounding (putTokens g (writeItem i ts)) ≡ itemsWritten (putInItem f i) ++ sounding (putTokens g ts)
+    put-item (measure m) ts = ap sounding (put-measure g m ts) ∙ of-item (measure m) (putTokens g ts)
+    put-item (loop r n) ts = put-items r (closes n ∷ ts)
+    put-item (refer n) ts = put-refer n (putTokens g ts)
+
+    put-items : (r : Items) (ts : List Token) → sounding (putTokens g (writeItems r ts)) ≡ itemsWritten (putIn f r) ++ sounding (putTokens g ts)
+    put-items (one i) ts = put-item i ts
+    put-items (next r s i) ts =
+        let behind = writeItem i ts in
+        put-items r (writeSeparator s behind)
+        ∙ ap (λ (ss : List Sound). itemsWritten (putIn f r) ++ ss)
+        (ap sounding (put-separator g s behind) ∙ of-separator s (putTokens g behind) ∙ put-item i ts)
+        ∙ sym (append-assoc (itemsWritten (putIn f r)) (itemsWritten (putInItem f i)) (sounding (putTokens g ts)))
+        ∙ ap (λ (ss : List Sound). ss ++ sounding (putTokens g ts)) (sym (glue-written (putIn f r) s (putInItem f i)))
+
+  pub said-sounding : (r : Items) (ts : List Token) → Says f g r ts → sounding ts ≡ itemsWritten r
+  unfolding putTokens meant sounding
+  said-sounding r ts (as-written e) = ap sounding e ∙ of-items r (lineEnd ∷ []) ∙ append-nil (itemsWritten r)
+  said-sounding r ts (with-put q h e) =
+      ap sounding e ∙ put-items q (lineEnd ∷ []) ∙ append-nil (itemsWritten (putIn f q)) ∙ ap itemsWritten (sym h)
 
 -- A `%` before every chord.
 abbrev pub Somewhere : List Mark → Type 0
@@ -141,17 +158,29 @@ module _ (m : Mark) (ms : List Mark) (back : List Sound)
     (others : (front : List Sound) → sounding (tokensIn ms) ≡ front ++ (again ∷ back) → NoChord front → Somewhere ms) where
   of-silence : (front : List Sound) → silence ∷ sounding (tokensIn ms) ≡ front ++ (again ∷ back) → NoChord front → m .token ≡ sound silence → Somewhere (m ∷ ms)
   unfolding NoChord Silent
-  of-silence [] g k f = let z : _≡_ {A = ℕ} 0 1 = cc in let y : ⊥ = omega arith in absurd y
+  of-silence [] g k f =
+      let z : _≡_ {A = ℕ} 0 1 = cc in
+      let y : ⊥ = omega arith in
+      absurd y
   of-silence (chord c ∷ front) g k f = absurd k
   of-silence (again ∷ front) g k f = past m ms (subst Silent (sym f) tt) (others front (tail-eq-of-cons-eq g) k)
   of-silence (silence ∷ front) g k f = past m ms (subst Silent (sym f) tt) (others front (tail-eq-of-cons-eq g) k)
 
   no-chord : (front : List Sound) (c : Chord) → chord c ∷ sounding (tokensIn ms) ≡ front ++ (again ∷ back) → NoChord front → ⊥
   unfolding NoChord
-  no-chord [] c g k = let z : _≡_ {A = ℕ} 0 1 = cc in let y : ⊥ = omega arith in y
+  no-chord [] c g k =
+      let z : _≡_ {A = ℕ} 0 1 = cc in
+      let y : ⊥ = omega arith in
+      y
   no-chord (chord d ∷ front) c g k = k
-  no-chord (again ∷ front) c g k = let z : _≡_ {A = ℕ} 0 1 = cc in let y : ⊥ = omega arith in y
-  no-chord (silence ∷ front) c g k = let z : _≡_ {A = ℕ} 0 1 = cc in let y : ⊥ = omega arith in y
+  no-chord (again ∷ front) c g k =
+      let z : _≡_ {A = ℕ} 0 1 = cc in
+      let y : ⊥ = omega arith in
+      y
+  no-chord (silence ∷ front) c g k =
+      let z : _≡_ {A = ℕ} 0 1 = cc in
+      let y : ⊥ = omega arith in
+      y
 
   one-more : (front : List Sound) (t : Token) → m .token ≡ t → sounding (t ∷ tokensIn ms) ≡ front ++ (again ∷ back) → NoChord front → Somewhere (m ∷ ms)
   unfolding sounding AllSilent Silent
@@ -169,8 +198,14 @@ module _ (m : Mark) (ms : List Mark) (back : List Sound)
   one-more front wrong f e n = past m ms (subst Silent (sym f) tt) (others front e n)
 
 nothing-sounds : (front back : List Sound) → [] ≡ front ++ (again ∷ back) → ⊥
-nothing-sounds [] back e = let z : _≡_ {A = ℕ} 0 1 = cc in let y : ⊥ = omega arith in y
-nothing-sounds (f ∷ front) back e = let z : _≡_ {A = ℕ} 0 1 = cc in let y : ⊥ = omega arith in y
+nothing-sounds [] back e =
+    let z : _≡_ {A = ℕ} 0 1 = cc in
+    let y : ⊥ = omega arith in
+    y
+nothing-sounds (f ∷ front) back e =
+    let z : _≡_ {A = ℕ} 0 1 = cc in
+    let y : ⊥ = omega arith in
+    y
 
 pub stray-among : (ms : List Mark) (front back : List Sound) → sounding (tokensIn ms) ≡ front ++ (again ∷ back) → NoChord front → Somewhere ms
 unfolding sounding

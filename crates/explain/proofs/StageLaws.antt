@@ -187,7 +187,10 @@ module _ (bs : List ℕ) (line : ℕ) where
 
   over-long-first : (k : Stage) (n : ℕ) → Stated room bs k (complaint n line) → NothingIn room bs (refusals.stagesBefore k) → 3 ≤ n → 65536 < length bs → ⊥
   unfolding Stated NothingIn Nothing refusals.stagesBefore
-  over-long-first stage1 n h e l o = let k = of-1 h in let z : ⊥ = omega arith in z
+  over-long-first stage1 n h e l o =
+      let k = of-1 h in
+      let z : ⊥ = omega arith in
+      z
   over-long-first stage2 n h e l o = e .0 _ (over-long o)
   over-long-first stage3 n h e l o = e .0 _ (over-long o)
   over-long-first stage4 n h e l o = e .0 _ (over-long o)
@@ -207,14 +210,35 @@ module _ (bs : List ℕ) (line : ℕ) where
   -- 12 and 13: a section of the chart, its pattern, lead-in or tail.
   in-stage-4 : (k : Stage) (n : ℕ) → 12 ≤ n → n ≤ 13 → Stated room bs k (complaint n line) → (s : Song) × WrittenChart bs s × Stops4 s (complaint n line)
   unfolding Stated
-  in-stage-4 stage1 n i j h = let e = of-1 h in let z : ⊥ = omega arith in absurd z
-  in-stage-4 stage2 n i j h = let e = of-2 (h .4) in let z : ⊥ = omega arith in absurd z
-  in-stage-4 stage3 n i j h = let e = of-3 (h .2) .1 in let z : ⊥ = omega arith in absurd z
+  in-stage-4 stage1 n i j h =
+      let e = of-1 h in
+      let z : ⊥ = omega arith in
+      absurd z
+  in-stage-4 stage2 n i j h =
+      let e = of-2 (h .4) in
+      let z : ⊥ = omega arith in
+      absurd z
+  in-stage-4 stage3 n i j h =
+      let e = of-3 (h .2) .1 in
+      let z : ⊥ = omega arith in
+      absurd z
   in-stage-4 stage4 n i j h = (h .0, h .1, h .2)
-  in-stage-4 stage5 n i j h = let e = of-5 (h .2) .0 in let z : ⊥ = omega arith in absurd z
-  in-stage-4 stage6 n i j h = let e = of-6 (h .2) .0 in let z : ⊥ = omega arith in absurd z
-  in-stage-4 stage7 n i j h = let e = of-7 (h .2) .0 in let z : ⊥ = omega arith in absurd z
-  in-stage-4 stage8 n i j h = let e = of-8 (h .4) in let z : ⊥ = omega arith in absurd z
+  in-stage-4 stage5 n i j h =
+      let e = of-5 (h .2) .0 in
+      let z : ⊥ = omega arith in
+      absurd z
+  in-stage-4 stage6 n i j h =
+      let e = of-6 (h .2) .0 in
+      let z : ⊥ = omega arith in
+      absurd z
+  in-stage-4 stage7 n i j h =
+      let e = of-7 (h .2) .0 in
+      let z : ⊥ = omega arith in
+      absurd z
+  in-stage-4 stage8 n i j h =
+      let e = of-8 (h .4) in
+      let z : ⊥ = omega arith in
+      absurd z
 
   refused-4 : (n : ℕ) → 12 ≤ n → n ≤ 13 → songAnswer bs ≡ refused n line → (s : Song) × WrittenChart bs s × Stops4 s (complaint n line)
   refused-4 n i j e = let r = refused-as-stated room bs n line .0 (refused-with-tables room bs n line e) in in-stage-4 (r .stage) n i j (r .stated)
@@ -231,14 +255,35 @@ module _ (bs : List ℕ) (line : ℕ) where
 
   in-stage-6 : (k : Stage) → Stated room bs k (complaint 16 line) → LyricRefused
   unfolding Stated
-  in-stage-6 stage1 h = let e = of-1 h in let z : ⊥ = omega arith in absurd z
-  in-stage-6 stage2 h = let e = of-2 (h .4) in let z : ⊥ = omega arith in absurd z
-  in-stage-6 stage3 h = let e = of-3 (h .2) .1 in let z : ⊥ = omega arith in absurd z
-  in-stage-6 stage4 h = let e = of-4 (h .2) .1 in let z : ⊥ = omega arith in absurd z
-  in-stage-6 stage5 h = let e = of-5 (h .2) .1 in let z : ⊥ = omega arith in absurd z
+  in-stage-6 stage1 h =
+      let e = of-1 h in
+      let z : ⊥ = omega arith in
+      absurd z
+  in-stage-6 stage2 h =
+      let e = of-2 (h .4) in
+      let z : ⊥ = omega arith in
+      absurd z
+  in-stage-6 stage3 h =
+      let e = of-3 (h .2) .1 in
+      let z : ⊥ = omega arith in
+      absurd z
+  in-stage-6 stage4 h =
+      let e = of-4 (h .2) .1 in
+      let z : ⊥ = omega arith in
+      absurd z
+  in-stage-6 stage5 h =
+      let e = of-5 (h .2) .1 in
+      let z : ⊥ = omega arith in
+      absurd z
   in-stage-6 stage6 h = (h .0, h .1, of-6 (h .2) .1)
-  in-stage-6 stage7 h = let e = of-7 (h .2) .0 in let z : ⊥ = omega arith in absurd z
-  in-stage-6 stage8 h = let e = of-8 (h .4) in let z : ⊥ = omega arith in absurd z
+  in-stage-6 stage7 h =
+      let e = of-7 (h .2) .0 in
+      let z : ⊥ = omega arith in
+      absurd z
+  in-stage-6 stage8 h =
+      let e = of-8 (h .4) in
+      let z : ⊥ = omega arith in
+      absurd z
 
   pub lyric-refused : songAnswer bs ≡ refused 16 line → LyricRefused
   lyric-refused e =
@@ -250,14 +295,35 @@ module _ (bs : List ℕ) (line : ℕ) where
 
   in-stage-7 : (k : Stage) → Stated room bs k (complaint 17 line) → HeaderRefused
   unfolding Stated
-  in-stage-7 stage1 h = let e = of-1 h in let z : ⊥ = omega arith in absurd z
-  in-stage-7 stage2 h = let e = of-2 (h .4) in let z : ⊥ = omega arith in absurd z
-  in-stage-7 stage3 h = let e = of-3 (h .2) .1 in let z : ⊥ = omega arith in absurd z
-  in-stage-7 stage4 h = let e = of-4 (h .2) .1 in let z : ⊥ = omega arith in absurd z
-  in-stage-7 stage5 h = let e = of-5 (h .2) .1 in let z : ⊥ = omega arith in absurd z
-  in-stage-7 stage6 h = let e = of-6 (h .2) .0 in let z : ⊥ = omega arith in absurd z
+  in-stage-7 stage1 h =
+      let e = of-1 h in
+      let z : ⊥ = omega arith in
+      absurd z
+  in-stage-7 stage2 h =
+      let e = of-2 (h .4) in
+      let z : ⊥ = omega arith in
+      absurd z
+  in-stage-7 stage3 h =
+      let e = of-3 (h .2) .1 in
+      let z : ⊥ = omega arith in
+      absurd z
+  in-stage-7 stage4 h =
+      let e = of-4 (h .2) .1 in
+      let z : ⊥ = omega arith in
+      absurd z
+  in-stage-7 stage5 h =
+      let e = of-5 (h .2) .1 in
+      let z : ⊥ = omega arith in
+      absurd z
+  in-stage-7 stage6 h =
+      let e = of-6 (h .2) .0 in
+      let z : ⊥ = omega arith in
+      absurd z
   in-stage-7 stage7 h = (h .0, h .1, of-7 (h .2) .1)
-  in-stage-7 stage8 h = let e = of-8 (h .4) in let z : ⊥ = omega arith in absurd z
+  in-stage-7 stage8 h =
+      let e = of-8 (h .4) in
+      let z : ⊥ = omega arith in
+      absurd z
 
   pub header-refused : songAnswer bs ≡ refused 17 line → HeaderRefused
   header-refused e =
@@ -267,14 +333,35 @@ module _ (bs : List ℕ) (line : ℕ) where
   before-7 : (k : Stage) → Stated room bs k (complaint 17 line) → NothingIn room bs (refusals.stagesBefore k)
       → NothingIn room bs (refusals.stagesBefore stage7)
   unfolding Stated
-  before-7 stage1 h n = let e = of-1 h in let z : ⊥ = omega arith in absurd z
-  before-7 stage2 h n = let e = of-2 (h .4) in let z : ⊥ = omega arith in absurd z
-  before-7 stage3 h n = let e = of-3 (h .2) .1 in let z : ⊥ = omega arith in absurd z
-  before-7 stage4 h n = let e = of-4 (h .2) .1 in let z : ⊥ = omega arith in absurd z
-  before-7 stage5 h n = let e = of-5 (h .2) .1 in let z : ⊥ = omega arith in absurd z
-  before-7 stage6 h n = let e = of-6 (h .2) .0 in let z : ⊥ = omega arith in absurd z
+  before-7 stage1 h n =
+      let e = of-1 h in
+      let z : ⊥ = omega arith in
+      absurd z
+  before-7 stage2 h n =
+      let e = of-2 (h .4) in
+      let z : ⊥ = omega arith in
+      absurd z
+  before-7 stage3 h n =
+      let e = of-3 (h .2) .1 in
+      let z : ⊥ = omega arith in
+      absurd z
+  before-7 stage4 h n =
+      let e = of-4 (h .2) .1 in
+      let z : ⊥ = omega arith in
+      absurd z
+  before-7 stage5 h n =
+      let e = of-5 (h .2) .1 in
+      let z : ⊥ = omega arith in
+      absurd z
+  before-7 stage6 h n =
+      let e = of-6 (h .2) .0 in
+      let z : ⊥ = omega arith in
+      absurd z
   before-7 stage7 h n = n
-  before-7 stage8 h n = let e = of-8 (h .4) in let z : ⊥ = omega arith in absurd z
+  before-7 stage8 h n =
+      let e = of-8 (h .4) in
+      let z : ⊥ = omega arith in
+      absurd z
 
   none-stated : (k : Stage) → NothingIn room bs (refusals.stagesBefore k) → Nothing room bs k → complaintsIn room bs k ≡ []
   unfolding Nothing

@@ -1,41 +1,39 @@
 -- Where the verdict is 13 a stray `%` stands in the text that it is about.
-use Prim.Native.Nat.{ℕ, _≤_}
+use Prim.Native.Nat.{ℕ}
 use mathlib.Core.Path.{_≡_, refl, sym, ap, subst, _∙_}
 use mathlib.Core.Logic.{_⊎_, inl, inr, ⊎-elim}
-use mathlib.Core.List.{List, [], _∷_, _++_, append-nil, head-eq-of-cons-eq, tail-eq-of-cons-eq, List·Memᴰ, List·Memᴰ·head, List·Memᴰ·tail}
+use mathlib.Core.List.{List, [], _∷_, _++_, append-nil, List·Memᴰ, List·Memᴰ·head, List·Memᴰ·tail}
 use mathlib.Core.List.{Memᴰ·append-left, Memᴰ·append-right}
 use mathlib.Core.Option.{some}
-use native.Mathlib.Omega.{arith}
 use borrow.Author.Tests.{eqb-true, eqb-false}
 use lib.Dec.{eqb}
 use Rattle.songcode.specs.Lists.{if_then_else_, left, every}
 use Rattle.songcode.specs.Bytes.{Byte, placed, ascii, isBlank, notBlank}
 use Rattle.songcode.specs.answer.Keys.{settingIn}
 use Rattle.songcode.specs.answer.Lines.{Line, Block}
-use Rattle.songcode.specs.Song.{Items, Pattern, items, named, Modifier, before, after, Definition, Section, Song}
+use Rattle.songcode.specs.Song.{Items, items, Modifier, before, after, Section, Song}
 use Rattle.songcode.specs.answer.References.{patternItems}
 use Rattle.songcode.specs.answer.Sections.{behindFirst, patternRun, body}
-use Rattle.songcode.specs.answer.Tokens.{Token, reference, lineEnd, tokens, tokensOf}
+use Rattle.songcode.specs.answer.Tokens.{tokens}
 use Rattle.songcode.specs.answer.Answer.{blocksOf, refused, songAnswer}
-use Rattle.songcode.specs.description.WrittenPattern.{Word, spells-again, spells-silence, spells-remover, spells-reference, spells-chord, Text, t-end, t-blank}
-use Rattle.songcode.specs.description.WrittenPattern.{t-semicolon, t-colon, t-open, t-close, t-word, TextLines, one-line, more-lines}
-use Rattle.songcode.specs.description.WrittenPattern.{WrittenPattern, WrittenSide}
+use Rattle.songcode.specs.description.WrittenPattern.{Text}
+use Rattle.songcode.specs.description.WrittenPattern.{WrittenSide}
 use Rattle.songcode.proofs.WrittenBefore.{writeItems, appended}
 use Rattle.songcode.specs.description.WrittenSong.{WrittenSong}
 use Rattle.songcode.specs.description.WrittenSection.{modifierSpelling, ModifierSetting, ModifierLine, Signed, WrittenSection}
 use Rattle.songcode.specs.description.StoppedSong.{AgainFirst, itemsWritten}
 use Rattle.songcode.proofs.ListLaws.{by-cases}
-use Rattle.songcode.proofs.TokensAgree.{text-complete, text-lines-complete}
-use Rattle.songcode.proofs.BodyAgree.{run-found, pattern-lines-kinds}
-use Rattle.songcode.proofs.SectionAgree.{body-is}
+use Rattle.songcode.proofs.TokensAgree.{text-complete}
 use Rattle.songcode.proofs.AnswerAgree.{of-chart}
 use Rattle.songcode.proofs.SignedAgree.{Unblank, signed-setting}
 use Rattle.text.specs.declared.lines.Line as text
 use Rattle.text.specs.Spans.{part, lineText}
-use Rattle.slips.specs.Marks.{Mark, namedBy, namedIn, PlainText, SideText}
+use Rattle.slips.specs.Marks.{Mark, SideText}
+use Rattle.slips.specs.PatternText.{PatternText}
 use Rattle.slips.specs.Strays.{StrayTold}
 use Rattle.slips.specs.Finds.{LineOf}
-use Rattle.explain.proofs.SoundLaws.{sounding, of-items, tokensIn, of-marks, before-end, soundingLines, of-lines, of-marked-lines}
+use Rattle.explain.proofs.SoundLaws.{sounding, of-items, tokensIn, of-marks, before-end, said-sounding}
+use Rattle.explain.proofs.PlayedText.{all-tied, pattern-says}
 use Rattle.explain.proofs.SoundLaws.{Somewhere, stray-among}
 use Rattle.explain.proofs.StageLaws.{StrayIn, in-text, in-side, stray-refused}
 use Rattle.explain.proofs.VerdictLines.{each-right, block-of, line-of-block, of-block}
@@ -109,80 +107,12 @@ side-line l m n r w o =
     (v .allowed .0, λ s k f ms q. side-tokens l r (unblank-after n r) (v .written) (v .allowed .1) s k f ms q))
     o
 
--- A reference names at least 1.
-word-names : {w : List Byte} {t : Token} → Word w t → (n : ℕ) → t ≡ reference n → 1 ≤ n
-word-names (spells-again e) n f = let z : _≡_ {A = ℕ} 0 1 = cc in let y : ⊥ = omega arith in absurd y
-word-names (spells-silence e) n f = let z : _≡_ {A = ℕ} 0 1 = cc in let y : ⊥ = omega arith in absurd y
-word-names (spells-remover e) n f = let z : _≡_ {A = ℕ} 0 1 = cc in let y : ⊥ = omega arith in absurd y
-word-names (spells-reference {n = m} b e k) n f = let g : m ≡ n = cc in let i = k .atLeast in omega arith
-word-names (spells-chord c) n f = let z : _≡_ {A = ℕ} 0 1 = cc in let y : ⊥ = omega arith in absurd y
-
-text-names : {bs : List Byte} {us : List Token} → Text bs us → (n : ℕ) (ts : List Token) → us ≡ reference n ∷ ts → 1 ≤ n
-text-names t-end n ts e = let z : _≡_ {A = ℕ} 0 1 = cc in let y : ⊥ = omega arith in absurd y
-text-names (t-blank c h) n ts e = text-names h n ts e
-text-names (t-semicolon c h) n ts e = let z : _≡_ {A = ℕ} 0 1 = cc in let y : ⊥ = omega arith in absurd y
-text-names (t-colon c h) n ts e = let z : _≡_ {A = ℕ} 0 1 = cc in let y : ⊥ = omega arith in absurd y
-text-names (t-open c h) n ts e = let z : _≡_ {A = ℕ} 0 1 = cc in let y : ⊥ = omega arith in absurd y
-text-names (t-close c p q z k h) n ts e = let z : _≡_ {A = ℕ} 0 1 = cc in let y : ⊥ = omega arith in absurd y
-text-names (t-word c p q z w h) n ts e = word-names w n (head-eq-of-cons-eq e)
-
-no-end : (ts us : List Token) → ts ++ (lineEnd ∷ us) ≡ [] → ⊥
-no-end [] us e = let z : _≡_ {A = ℕ} 0 1 = cc in let y : ⊥ = omega arith in y
-no-end (t ∷ ts) us e = let z : _≡_ {A = ℕ} 0 1 = cc in let y : ⊥ = omega arith in y
-
-alone : (ts us : List Token) (n : ℕ) → ts ++ (lineEnd ∷ us) ≡ reference n ∷ [] → ⊥
-alone [] us n e = let z : _≡_ {A = ℕ} 0 1 = cc in let y : ⊥ = omega arith in y
-alone (t ∷ ts) us n e = no-end ts us (tail-eq-of-cons-eq e)
-
--- So a pattern that is a reference names one.
-names-one : {l : Line} {ls : List Line} {us : List Token} → TextLines l ls us → (n : ℕ) → us ≡ reference n ∷ [] → namedIn (l ∷ ls) ≡ 0 → ⊥
-unfolding namedIn namedBy
-names-one (one-line {l} h) n e z =
-    let a = text-names h n [] e in
-    let b : n ≡ 0 = sym (ap namedBy (text-complete h ∙ e)) ∙ z in
-    let y : ⊥ = omega arith in
-    y
-names-one (more-lines {ts = ts} {us = us} h t v) n e z = alone ts us n (sym v ∙ e)
-
-module _ {b : Block} {x : Section} (w : WrittenSection b x) (ds : List Definition) (r : Items) where
-  pub lines-are : patternRun (body b) ≡ w .firstPattern ∷ w .morePattern
-  lines-are =
-      run-found (record {
-        keyLines = w .keyLines;
-        modifierLines = w .modifierLines;
-        written = body-is w;
-        ofKeys = w .keys;
-        ofRun = pattern-lines-kinds (w .firstPattern ∷ w .morePattern) (w .patternLines) .0;
-        ofModifiers = w .eachSays;
-      })
-
-  -- The tokens of a pattern that is no reference are those of the items that are played.
-  pub pattern-tokens : patternItems ds (x .pattern) ≡ some r → namedIn (patternRun (body b)) ≡ 0 → tokensOf (w .firstPattern) (w .morePattern) ≡ writeItems r []
-  unfolding WrittenPattern patternItems
-  pattern-tokens e z = go (x .pattern) refl
-    where
-      go : (p : Pattern) → x .pattern ≡ p → tokensOf (w .firstPattern) (w .morePattern) ≡ writeItems r []
-      go (named n) f =
-          let t = subst (λ (q : Pattern). WrittenPattern (w .firstPattern) (w .morePattern) q) f (w .pattern) in
-          absurd (names-one t n refl (ap namedIn (sym lines-are) ∙ z))
-      go (items q) f =
-          let t = subst (λ (q : Pattern). WrittenPattern (w .firstPattern) (w .morePattern) q) f (w .pattern) in
-          let g : some q ≡ some r = ap (patternItems ds) (sym f) ∙ e in
-          let i : q ≡ r = cc in
-          text-lines-complete (t .0) ∙ sym (appended q) ∙ ap (λ (y : Items). writeItems y []) i
-
-  pattern-stray : AgainFirst r → patternItems ds (x .pattern) ≡ some r → (s : List ℕ) → namedIn (patternRun (body b)) ≡ 0 → {clause from to : ℕ}
-      → StrayTold s (PlainText s (patternRun (body b))) clause from to → clause ≡ 1
-  unfolding sounding
-  pattern-stray a e s z {clause} y =
-      let m = y .text in
-      let sounds : sounding (tokensIn (y .marks)) ≡ itemsWritten r =
-      of-marked-lines s (m .lines) (y .marks) (m .marked)
-      ∙ ap soundingLines (m .same ∙ lines-are)
-      ∙ sym (of-lines (w .firstPattern) (w .morePattern))
-      ∙ ap sounding (pattern-tokens e z)
-      ∙ of-items r [] ∙ append-nil (itemsWritten r) in
-      told-there s _ y (items-stray r a (y .marks) sounds)
+pattern-stray : (bs : List ℕ) (s : Song) (c : WrittenSong (blocksOf bs) s) {b : Block} {x : Section} → WrittenSection b x → (r : Items) → AgainFirst r
+    → patternItems (s .definitions) (x .pattern) ≡ some r → (clause from to : ℕ)
+    → StrayTold bs (PatternText bs (patternRun (body b))) clause from to → clause ≡ 1
+pattern-stray bs s c w r a e clause from to y =
+    let says = pattern-says bs s c w r e (y .marks) (y .text) in
+    told-there bs _ y (items-stray r a (y .marks) (said-sounding _ _ (all-tied bs s c) r _ says))
 
 -- The modifier that says a section's lead-in or tail.
 pub side-said : {b : Block} {x : Section} (w : WrittenSection b x) (line : ℕ) (r : Items)
@@ -197,7 +127,7 @@ side-said w line r o =
 -- What the verdict is about: a section's pattern, or a lead-in or tail; in each a stray `%` is told.
 pub data StrayAbout (bs : List ℕ) (line : ℕ) : Type 0 where
   about-pattern : (b : Block) → List·Memᴰ b (blocksOf bs) → b .first .number ≡ line → (l : text.Line) → LineOf bs line l
-      → (namedIn (patternRun (body b)) ≡ 0 → (clause from to : ℕ) → StrayTold bs (PlainText bs (patternRun (body b))) clause from to → clause ≡ 1)
+      → ((clause from to : ℕ) → StrayTold bs (PatternText bs (patternRun (body b))) clause from to → clause ≡ 1)
       → StrayAbout bs line
   about-side : (l : text.Line) → LineOf bs line l → (b : Block) → List·Memᴰ b (blocksOf bs) → List·Memᴰ (lineText bs l) (b .others)
       → ((clause from to : ℕ) → StrayTold bs (SideText bs l) clause from to → clause ≡ 1) → StrayAbout bs line
@@ -212,7 +142,7 @@ stray-about bs line e =
         let b = block-of bs s c x i in
         let n = sym (b .2 .headerNumber) ∙ h in
         let l = of-block bs (b .0) (b .1) (b .0 .first) (List·Memᴰ·head refl) line n in
-        about-pattern (b .0) (b .1) n (l .0) (l .1) (λ z clause from to y. pattern-stray (b .2) (s .definitions) r a p bs z y)
+        about-pattern (b .0) (b .1) n (l .0) (l .1) (λ clause from to y. pattern-stray bs s c (b .2) r a p clause from to y)
     go s c (in-side x r i o a) =
         let b = block-of bs s c x i in
         let w = b .2 in

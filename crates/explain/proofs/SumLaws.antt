@@ -1,50 +1,43 @@
 -- From section to section up to the header that a verdict of 17 names: its counts and its measures.
-use Prim.Native.Nat.{ℕ, _+_, _-_, _<_, _≤_}
+use Prim.Native.Nat.{ℕ, _+_, _<_, _≤_}
 use mathlib.Core.Path.{_≡_, refl, sym, ap, _∙_, subst}
 use mathlib.Core.Logic.{⊎-elim}
-use mathlib.Core.List.{List, [], _∷_, map, flatMap, List·Memᴰ, List·Memᴰ·not-nil, List·Memᴰ·cases-cons}
-use mathlib.Core.Option.{Option, Option·getD}
+use mathlib.Core.List.{List, [], _∷_, flatMap, List·Memᴰ, List·Memᴰ·not-nil, List·Memᴰ·cases-cons}
 use native.Mathlib.Omega.{arith}
 use borrow.Author.Tests.{eqb-true, eqb-false}
 use lib.Dec.{eqb}
 use lib.ListN.{length}
-use Rattle.songcode.specs.Bytes.{placed}
 use Rattle.songcode.specs.Complaints.{Complaint, earliest}
 use Rattle.songcode.specs.Song.{Section}
-use Rattle.songcode.specs.answer.Sections.{lyricLine}
 use Rattle.songcode.specs.answer.References.{referenceFaults}
 use Rattle.songcode.specs.answer.Playing.{played}
 use Rattle.songcode.specs.answer.Meter.{sectionMeter, meterFaults, sectionCount, lengthFaults}
-use Rattle.songcode.specs.answer.Lyrics.{wordsOf, countOf, counted}
+use Rattle.songcode.specs.answer.Lyrics.{counted}
 use Rattle.songcode.specs.answer.Answer.{songOf}
 use Rattle.songcode.proofs.ListLaws.{by-cases, append-is-nil}
 use Rattle.text.specs.declared.Refusal.{Refusal}
 use Rattle.text.specs.Refusals.{refusalOf}
-use Rattle.text.specs.declared.lines.Line.{Line}
-use Rattle.text.specs.Spans.{part, Found}
-use Rattle.settings.specs.declared.lyrics.Words.{Words}
-use Rattle.settings.specs.LyricParts.{wordsFrom}
 use Rattle.score.specs.Views.{viewOf}
 use Rattle.score.proofs.RowLaws.{row-start, row-grows}
 use Rattle.score.proofs.ViewLaws.{view-sees}
-use Rattle.player.specs.Arrangements.{arrangementIn, arrangedRow, PlaysWithin}
+use Rattle.player.specs.Arrangements.{arrangementIn}
 use Rattle.player.proofs.SectionMeaning.{rows-length}
 use Rattle.sections.specs.declared.blocks.Place.{Place}
 use Rattle.sections.specs.declared.values.Keys.{Keys}
-use Rattle.sections.specs.Runs.{linesOf}
 use Rattle.sections.specs.Onward.{sectionsFrom, sectionAt, Later}
 use Rattle.sections.proofs.MeetLaws.{sections-over}
 use Rattle.laying.specs.declared.definitions.Loaded.{Loaded}
 use Rattle.laying.specs.declared.texts.Opened.{Opened}
 use Rattle.laying.specs.Scores.{Begins, Loads, Opens}
 use Rattle.laying.specs.Rows.{RoomFor, Lays}
-use Rattle.laying.proofs.LyricRowLaws.{lyricsAt, lyricAt, count-or, lyrics-more}
-use Rattle.judging.proofs.LyricLaws.{count-here}
+use Rattle.judging.proofs.TallyLaws.{lyrics-inside, lyrics-tallied}
 use Rattle.judging.proofs.ArrangedLaws.{Arranges, arranged-plays, arranged-within}
 use Rattle.judging.proofs.AheadLaws.{seen-arranges}
 use Rattle.judging.proofs.PlayedLaws.{lengths-step}
 use Rattle.judging.proofs.RowIsLaws.{RowIs, row-is-next}
+use Rattle.explain.specs.declared.counts.SectionCounts.{SectionCounts}
 use Rattle.explain.specs.declared.sums.Summed.{Summed}
+use Rattle.explain.specs.Counts.{sectionCounts, Summable}
 use Rattle.explain.specs.Sums.{SumsAt}
 
 -- Stages 4 and 5 have nothing against the sections from the place on, behind so many measures.
@@ -83,9 +76,12 @@ module _ {s old new : List ℕ} {mark at : ℕ} {p : Place} {song : Keys} (r : O
       append-is-nil (sectionMeter (songOf s) here) (flatMap (sectionMeter (songOf s)) (sectionsFrom s (r .next)))
       (ap (flatMap (sectionMeter (songOf s))) (sym (l .opens .met .first)) ∙ u .meters)
 
-  pub laid-low : at ≤ 65539
+  laid-low : at ≤ 65539
   unfolding RoomFor
-  laid-low = let a = i .room in let z = i .ready .small in omega arith
+  laid-low =
+      let a = i .room in
+      let z = i .ready .small in
+      omega arith
 
   arranges : Arranges (songOf s) here new (arrangementIn new (viewOf new at))
   unfolding RoomFor
@@ -99,11 +95,19 @@ module _ {s old new : List ℕ} {mark at : ℕ} {p : Place} {song : Keys} (r : O
       seen-arranges (row-is-next r i l big same .ready) here (viewOf new at) (l .fits)
       (view-sees (songOf s) new at (r .end) here [] (l .fits) row)
 
-  pub laid-within : PlaysWithin new (arrangementIn new (viewOf new at)) 0
-  laid-within = arranged-within arranges 0 (u .sofar) (here-lengths .0) (omega arith)
-
-  pub laid-measures : {k : ℕ} → k ≡ length (arrangedRow new (arrangementIn new (viewOf new at))) → k ≡ length (played (songOf s) here)
-  laid-measures e = e ∙ ap length (arranged-plays arranges (here-meters .0)) ∙ rows-length (played (songOf s) here)
+  -- It is summed up as the definitions say.
+  pub laid-summable : Summable s new at r here
+  laid-summable =
+      let a = laid-low in
+      record {
+        low = omega arith;
+        within = arranged-within arranges 0 (u .sofar) (here-lengths .0) (omega arith);
+        measures = ap length (arranged-plays arranges (here-meters .0)) ∙ rows-length (played (songOf s) here);
+        inside = lyrics-inside r l;
+        tally = lyrics-tallied r l;
+        placed = l .opens .met .read .lyrics-placed;
+        lyrics = l .opens .met .says .lyrics;
+      }
 
   pub unrefused-next : Unrefused s (r .next)
   unrefused-next =
@@ -126,15 +130,16 @@ module _ {s vs : List ℕ} {p : Place} (x : Opened) (o : Opens s p vs x) (line :
   header-is : x .section .header ≡ sectionAt s p .header
   header-is = o .met .says .header
 
-  pub sums-found : x .section .header ≡ line → (r : Summed) → r .sum ≡ counted (map lyricLine (linesOf s (x .section .lyrics)))
-      → r .measures ≡ length (played (songOf s) (sectionAt s p)) → SumsAt s line r
-  sums-found e r f g =
+  pub sums-found : x .section .header ≡ line → (c : SectionCounts) → c ≡ sectionCounts (songOf s) (sectionAt s p)
+      → SumsAt s line (record { sum = c .sum; measures = c .measures })
+  unfolding sectionCounts
+  sums-found e c f =
       record {
         is = λ y m h.
             here-or y (ahead y m h)
             (λ z. (
-              f ∙ ap counted (o .met .says .lyrics) ∙ ap (λ (w : Section). counted (w .lyrics)) (sym z),
-              g ∙ ap (λ (w : Section). length (played (songOf s) w)) (sym z),
+              ap (λ (b : SectionCounts). b .sum) f ∙ ap (λ (w : Section). counted (w .lyrics)) (sym z),
+              ap (λ (b : SectionCounts). b .measures) f ∙ ap (λ (w : Section). length (played (songOf s) w)) (sym z),
             ))
             (λ i.
             let k = later-header (sectionAt s p .header) (sectionsFrom s (x .next)) (o .met .later) y i in
@@ -150,16 +155,6 @@ module _ {s vs : List ℕ} {p : Place} (x : Opened) (o : Opens s p vs x) (line :
 pub none-ahead : (s : List ℕ) (line : ℕ) (p : Place) → length s ≤ p .at → Ahead s line p → (r : Summed) → SumsAt s line r
 none-ahead s line p h ahead r =
     record { is = λ y m e. absurd (List·Memᴰ·not-nil (subst (λ (ys : List Section). List·Memᴰ y ys) (sections-over s p h) (ahead y m e))) }
-
--- One more lyric line is counted.
-pub counted-more : (s : List ℕ) (n at left : ℕ) {l : Line} → Found s n at l → at < length s → (left ≡ 0 → ⊥) → (w : Words)
-    → wordsOf (placed (l .start) (part (l .start) (l .stop) s)) ≡ wordsFrom w (l .start) s
-    → counted (lyricsAt s n at left) ≡ w .count + counted (lyricsAt s (n + 1) (l .next) (left - 1))
-unfolding counted
-counted-more s n at left {l} f h some-left w e =
-    let said : Option·getD (countOf (lyricAt s n l)) 0 ≡ w .count =
-    ap (λ (o : Option ℕ). Option·getD o 0) (count-here s n at left f h some-left w e) ∙ count-or (w .count) in
-    ap counted (lyrics-more s n at left f h some-left) ∙ ap (λ (k : ℕ). k + counted (lyricsAt s (n + 1) (l .next) (left - 1))) said
 
 nothing-refused : refusalOf (earliest []) .number ≡ 0
 unfolding refusalOf earliest

@@ -60,7 +60,10 @@ module _ (s : List ℕ) (clean : textFaults (blocksOf s) ≡ []) (line : ℕ) {p
       )
 
   pub time-past : length s ≤ p .at → (r : ℕ) → TimeAt s line r
-  time-past h r = record { is = λ b m i. let k = o .holds b (among b m .0) i .0 in let z : ⊥ = omega arith in absurd z }
+  time-past h r = record {
+    is = λ b m i. let k = o .holds b (among b m .0) i .0 in
+        let z : ⊥ = omega arith in absurd z;
+  }
 
   pub time-found : {k : Keys} → SongKeys (songOf s) k → {x : Parts} → PartsAt s (p .number) (p .at) x → {own : Keys} → KeysAre (linesOf s (x .early)) own
       → {r : ℕ} → r ≡ meterOf (own .time) (k .time) → TimeAt s line r

@@ -1,21 +1,17 @@
 -- What is promised of every text: the reader's verdict, a cause that belongs to it, and a place on the line that it names.
 use Prim.Native.Nat.{ℕ, _+_}
 use mathlib.Core.Path.{_≡_}
-use mathlib.Core.List.{List, List·Memᴰ}
-use Rattle.songcode.specs.answer.Lines.{Block}
-use Rattle.songcode.specs.answer.Sections.{patternRun, body}
-use Rattle.songcode.specs.answer.Answer.{blocksOf, songAnswer}
+use mathlib.Core.List.{List}
+use Rattle.songcode.specs.answer.Answer.{songAnswer}
 use Rattle.reader.specs.Answers.{answerOf}
 use Rattle.text.specs.declared.lines.Line.{Line}
 use Rattle.slips.specs.Places.{OnLine}
-use Rattle.text.specs.Spans.{lineText}
-use Rattle.slips.specs.Marks.{namedIn}
-use Rattle.slips.specs.MeterTold.{MeterTold}
 use Rattle.slips.specs.Finds.{LineOf, NameOn, BareOn}
 use Rattle.explain.specs.declared.Explained.{Explained}
 use Rattle.explain.specs.Causes.{Belongs, clauseOfCause}
 use Rattle.explain.specs.Stopped.{Stopped}
 use Rattle.explain.specs.MisfitNamed.{MisfitNamed}
+use Rattle.explain.specs.StrayNamed.{StrayNamed}
 use Rattle.explain.specs.Sums.{SumNamed}
 
 -- The place stands on the line that the verdict names: bytes of it that pass a test, which is told the clause, the first byte and the end.
@@ -24,13 +20,6 @@ pub record OnVerdict (text : List ℕ) (r : Explained) (test : Line → ℕ → 
   pub listed : LineOf text (r .line) verdict
   pub same : r .place .line ≡ r .line
   pub found : test verdict (clauseOfCause (r .cause)) (r .place .offset) (r .place .offset + r .place .length)
-
--- 13: the section in whose pattern the `%` stands, or the line of the lead-in or tail; its only clause is told.
-pub data StrayNamed (text : List ℕ) (r : Explained) : Type 0 where
-  in-pattern : (b : Block) → List·Memᴰ b (blocksOf text) → b .first .number ≡ r .line
-      → (namedIn (patternRun (body b)) ≡ 0 → clauseOfCause (r .cause) ≡ 1) → StrayNamed text r
-  in-side : (l : Line) → LineOf text (r .line) l → (b : Block) → List·Memᴰ b (blocksOf text) → List·Memᴰ (lineText text l) (b .others)
-      → clauseOfCause (r .cause) ≡ 1 → StrayNamed text r
 
 pub record Explains (text : List ℕ) (r : Explained) : Type 0 where
   -- "A refusal returns its number and line": those of the reader.
@@ -45,11 +34,8 @@ pub record Explains (text : List ℕ) (r : Explained) : Type 0 where
   pub stopped : r .refusal ≡ 7 → Stopped text r
   -- "and for ... 12 ... the place is the first at which the definition fails", with "positions and N".
   pub misfit : r .refusal ≡ 12 → MisfitNamed text r
-  -- "and for ... 13 ... the place is the first at which the definition fails": in a section's pattern without references, or in the lead-in or tail on
-  -- the verdict's line, the first `%` before every chord.
-  pub stray-named : r .refusal ≡ 13 → StrayNamed text r
-  pub stray : r .refusal ≡ 13 → (l : Line) → LineOf text (r .line) l
-      → MeterTold text (r .line) l (clauseOfCause (r .cause)) (r .place .offset) (r .place .offset + r .place .length)
+  -- "and for ... 13 ... the place is the first at which the definition fails".
+  pub stray : r .refusal ≡ 13 → StrayNamed text r
   -- "and for ... 16 and 17 the place is the first at which the definition fails": on the first taken lyric line without a count, from where its count
   -- should stand; on the first header of a section whose counts do not sum, its name.
   pub uncounted : r .refusal ≡ 16 → OnVerdict text r (λ l clause from to. BareOn text l clause from to)

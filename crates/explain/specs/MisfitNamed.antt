@@ -9,7 +9,8 @@ use Rattle.songcode.specs.answer.Playing.{timeOf}
 use Rattle.songcode.specs.answer.Answer.{blocksOf, songOf}
 use Rattle.text.specs.declared.lines.Line.{Line}
 use Rattle.text.specs.Spans.{lineText}
-use Rattle.slips.specs.Marks.{Mark, namedIn, PlainText, SideText}
+use Rattle.slips.specs.Marks.{Mark, SideText}
+use Rattle.slips.specs.PatternText.{PatternText}
 use Rattle.slips.specs.Misfits.{measuresIn, FirstMisfit}
 use Rattle.slips.specs.Finds.{LineOf}
 use Rattle.explain.specs.declared.Explained.{Explained}
@@ -23,11 +24,10 @@ pub record MeasureNamed (Text : List Mark → Type 0) (n : ℕ) (r : Explained) 
   pub first : FirstMisfit n (measuresIn marks) (r .place .offset) (r .place .offset + r .place .length) (r .first)
   pub meter : r .second ≡ n
 
--- "header; lead-in, tail: own": the text is the pattern of the section whose header the verdict names, or the lead-in or tail on its line; N is that
--- section's.
+-- "header; lead-in, tail: own": the text is what the pattern of the section says whose header the verdict names, references put in, or the lead-in or
+-- tail on its line; N is that section's.
 pub data MisfitNamed (text : List ℕ) (r : Explained) : Type 0 where
   in-pattern : (b : Block) → List·Memᴰ b (sectionBlocks (blocksOf text)) → b .first .number ≡ r .line
-      → (namedIn (patternRun (body b)) ≡ 0 → MeasureNamed (PlainText text (patternRun (body b))) (timeOf (songOf text) (sectionIn b)) r)
-      → MisfitNamed text r
+      → MeasureNamed (PatternText text (patternRun (body b))) (timeOf (songOf text) (sectionIn b)) r → MisfitNamed text r
   in-side : (l : Line) → LineOf text (r .line) l → (b : Block) → List·Memᴰ b (sectionBlocks (blocksOf text))
       → List·Memᴰ (lineText text l) (b .others) → MeasureNamed (SideText text l) (timeOf (songOf text) (sectionIn b)) r → MisfitNamed text r

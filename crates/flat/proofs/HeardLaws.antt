@@ -30,7 +30,10 @@ how-many = refl
 
 module _ (s : List ℕ) (small : length s ≤ 65536) where
   base-small : (c : Chord) → Known (placed 0 s) c → c .base ≤ 33
-  base-small c k = let h = get-before bases (c .base) _ (k .spelt .spelled .numbered) in let e = how-many in omega arith
+  base-small c k =
+      let h = get-before bases (c .base) _ (k .spelt .spelled .numbered) in
+      let e = how-many in
+      omega arith
 
   base-at : (b o l h : ℕ) → b < 64 → o < 65536 → l < 32 → h < 2 → field 26 6 (b * 2 ^ 26 + o * 2 ^ 10 + l * 2 ^ 5 + h * 2 ^ 4) ≡ b
   unfolding field

@@ -41,16 +41,20 @@ take-least : {A : Type 0} (s : List A) (k : ℕ) → take (min k (length s)) s �
 take-least s k =
     by-cases
     (leb (length s) k)
-    (λ t. let h : length s ≤ k = leb-true _ _ t in let e : min k (length s) ≡ length s = omega arith in
+    (λ t. let h : length s ≤ k = leb-true _ _ t in
+    let e : min k (length s) ≡ length s = omega arith in
     rw (e, take-all k s h) (take-all (length s) s (omega arith)))
-    (λ t. let h : k < length s = leb-false _ _ t in let e : min k (length s) ≡ k = omega arith in rw e)
+    (λ t. let h : k < length s = leb-false _ _ t in
+    let e : min k (length s) ≡ k = omega arith in rw e)
 
 drop-least : {A : Type 0} (s : List A) (f : ℕ) → drop (min f (length s)) s ≡ drop f s
 drop-least s f =
     by-cases
     (leb (length s) f)
-    (λ t. let h : length s ≤ f = leb-true _ _ t in let e : min f (length s) ≡ length s = omega arith in rw (e, drop-of-length-le s h) (drop-length s))
-    (λ t. let h : f < length s = leb-false _ _ t in let e : min f (length s) ≡ f = omega arith in rw e)
+    (λ t. let h : length s ≤ f = leb-true _ _ t in
+    let e : min f (length s) ≡ length s = omega arith in rw (e, drop-of-length-le s h) (drop-length s))
+    (λ t. let h : f < length s = leb-false _ _ t in
+    let e : min f (length s) ≡ f = omega arith in rw e)
 
 pub stretch-part : {A : Type 0} (s : List A) (f k : ℕ) → take (min (f + k) (length s) - min f (length s)) (drop (min f (length s)) s) ≡ take k (drop f s)
 stretch-part s f k =

@@ -198,7 +198,10 @@ module _ (s : List ℕ) (n : ℕ) (row : List (List ℕ)) (filled : Filled row) 
       two = part-goes-on from room row short (omega arith) full
 
       later : h .measure + (k - 1) < length row
-      later = let p = the-part from x goal h .inside in let t = two in omega arith
+      later =
+          let p = the-part from x goal h .inside in
+          let t = two in
+          omega arith
 
       rest-next : puts (restLines s n (h .measure + (k - 1)) row) y ≡ goal
       rest-next =

@@ -36,7 +36,10 @@ left-first (x ∷ xs) l h = record { first = x; others = xs; left = l }
 module _ {s ws : List ℕ} {mark at end : ℕ} {x : Section} {xs : List Section} (ready : Ready s ws mark) (l : Left s ws at end (x ∷ xs))
     {v : View} (is : v ≡ viewOf ws at) where
   pub left-further : at < v .next
-  left-further = let h = ahead-further ready (l .ahead) in let e = ap (λ (u : View). u .next) is in omega arith
+  left-further =
+      let h = ahead-further ready (l .ahead) in
+      let e = ap (λ (u : View). u .next) is in
+      omega arith
 
   here : {r : Bool} → r ≡ isEmptyText ws (v .pattern) → playsNothing (songOf s) x ≡ r
   unfolding Each

@@ -5,6 +5,7 @@ use Rattle.songcode.specs.Lists.{if_then_else_}
 use Rattle.grammar.specs.declared.kinds.Kind.{Kind}
 use Rattle.grammar.specs.declared.kinds.Kind.the-variants.{Sound, Remover, Reference, Semicolon, Colon, LineEnd, Opens, Closes, Wrong}
 use Rattle.grammar.specs.declared.checks.Place.{Place}
+use Rattle.grammar.specs.declared.checks.Place.the-variants.{Fresh, Wants, Joins, Sounds, Removed, Alone, Full, Ended, Bad}
 use Rattle.grammar.specs.declared.checks.Check.{Check}
 use Rattle.grammar.specs.Places.{nextPlace}
 use Rattle.grammar.specs.Checks.{spoiled, isBad, arrived, checkStep}
@@ -32,6 +33,18 @@ of-kind P s r n c d e o z w LineEnd = e
 of-kind P s r n c d e o z w Opens = o
 of-kind P s r n c d e o z w Closes = z
 of-kind P s r n c d e o z w Wrong = w
+
+-- What holds of each place.
+pub of-place : (P : Place → Type 0) → P Fresh → P Wants → P Joins → P Sounds → P Removed → P Alone → P Full → P Ended → P Bad → (p : Place) → P p
+of-place P f w j s r a u e b Fresh = f
+of-place P f w j s r a u e b Wants = w
+of-place P f w j s r a u e b Joins = j
+of-place P f w j s r a u e b Sounds = s
+of-place P f w j s r a u e b Removed = r
+of-place P f w j s r a u e b Alone = a
+of-place P f w j s r a u e b Full = u
+of-place P f w j s r a u e b Ended = e
+of-place P f w j s r a u e b Bad = b
 
 -- A check that is spoiled stays so.
 pub stays-spoiled : (k : Kind) → spoiled ≡ checkStep spoiled k

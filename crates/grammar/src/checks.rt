@@ -5,7 +5,7 @@ ghost use Prim.Native.Nat.{_<_};
 ghost use lib.ListN.{getD};
 ghost use Rattle.grammar.specs.declared.checks.Place.the-variants.{Fresh};
 ghost use Rattle.grammar.specs.Checks.{first, spoiled, moved, referred, opened, closed, arrived, isBad, checkStep};
-ghost use Rattle.grammar.specs.Places.{column, row, nextPlace};
+ghost use Rattle.grammar.specs.Places.{row, nextPlace};
 
 // "No loop in a loop": so many loops are open at once.
 pub const LOOPS_DEEP: usize = 1;
@@ -117,49 +117,46 @@ const ENDED: Place = Place::Ended;
 
 const BAD: Place = Place::Bad;
 
-// Where a token leads to: a row for each place, a column for each kind, in the order in which they are declared.
-// Where an item is to come: a measure, a `$n` or a loop begins. At the very beginning a `$n` may be the whole text.
-const FROM_FRESH: [Place; 9] = [SOUNDS, BAD, ALONE, BAD, BAD, BAD, WANTS, BAD, BAD];
+// Where a token of each kind leads to, from each place in the order in which the places are declared.
+// A measure begins where an item is to come, and goes on with "one or more positions".
+const BY_SOUND: [Place; 9] = [SOUNDS, SOUNDS, SOUNDS, SOUNDS, BAD, BAD, BAD, SOUNDS, BAD];
 
-const FROM_WANTS: [Place; 9] = [SOUNDS, BAD, FULL, BAD, BAD, BAD, WANTS, BAD, BAD];
+// Removers "stand only at the end" of a measure.
+const BY_REMOVER: [Place; 9] = [BAD, BAD, BAD, REMOVED, REMOVED, BAD, BAD, BAD, BAD];
 
-// Behind a `:` one line end counts with it.
-const FROM_JOINS: [Place; 9] = [SOUNDS, BAD, FULL, BAD, BAD, WANTS, WANTS, BAD, BAD];
+// A `$n` or a loop begins where an item is to come; at the very beginning a `$n` may be the whole text. Nothing may be added to either.
+const BY_REFERENCE: [Place; 9] = [ALONE, FULL, FULL, BAD, BAD, BAD, BAD, FULL, BAD];
 
-// Behind an item: a separator, or the end of the loop around it. In a measure, "one or more positions".
-const FROM_SOUNDS: [Place; 9] = [SOUNDS, REMOVED, BAD, WANTS, JOINS, ENDED, BAD, FULL, BAD];
+const BY_OPENS: [Place; 9] = [WANTS, WANTS, WANTS, BAD, BAD, BAD, BAD, WANTS, BAD];
 
-// The same in a measure with removers, which "stand only at the end".
-const FROM_REMOVED: [Place; 9] = [BAD, REMOVED, BAD, WANTS, JOINS, ENDED, BAD, FULL, BAD];
+// Behind an item stands a separator, or the end of the loop around it.
+const BY_SEMICOLON: [Place; 9] = [BAD, BAD, BAD, WANTS, WANTS, WANTS, WANTS, BAD, BAD];
 
-// Nothing may be added to a `$n`, or to a loop.
-const FROM_ALONE: [Place; 9] = [BAD, BAD, BAD, WANTS, JOINS, ENDED, BAD, FULL, BAD];
+const BY_CLOSES: [Place; 9] = [BAD, BAD, BAD, FULL, FULL, FULL, FULL, BAD, BAD];
 
-const FROM_FULL: [Place; 9] = [BAD, BAD, BAD, WANTS, JOINS, ENDED, BAD, FULL, BAD];
+// A line end counts with a `:` in front of it, and with one behind it.
+const BY_LINE_END: [Place; 9] = [BAD, BAD, WANTS, ENDED, ENDED, ENDED, ENDED, BAD, BAD];
 
-// Where an item is to come behind a line end, which counts with a `:` behind it.
-const FROM_ENDED: [Place; 9] = [SOUNDS, BAD, FULL, BAD, JOINS, BAD, WANTS, BAD, BAD];
+const BY_COLON: [Place; 9] = [BAD, BAD, BAD, JOINS, JOINS, JOINS, JOINS, JOINS, BAD];
 
-const FROM_BAD: [Place; 9] = [BAD, BAD, BAD, BAD, BAD, BAD, BAD, BAD, BAD];
-
-// The place in a row at a kind's column.
-fn at_kind(leads: [Place; 9], kind: Kind) -> Place
-    ensures { λ r. ⌜ r ≡ getD leads (column kind) Fresh ⌝ }
+// Where such a token leads to from a place.
+fn at_place(leads: [Place; 9], place: Place) -> Place
+    ensures { λ r. ⌜ r ≡ getD leads (row place) Fresh ⌝ }
 {
-    match kind {
-        Kind::Sound => leads[0],
-        Kind::Remover => leads[1],
-        Kind::Reference => leads[2],
-        Kind::Semicolon => leads[3],
-        Kind::Colon => leads[4],
-        Kind::LineEnd => leads[5],
-        Kind::Opens => leads[6],
-        Kind::Closes => leads[7],
-        Kind::Wrong => leads[8],
+    match place {
+        Place::Fresh => leads[0],
+        Place::Wants => leads[1],
+        Place::Joins => leads[2],
+        Place::Sounds => leads[3],
+        Place::Removed => leads[4],
+        Place::Alone => leads[5],
+        Place::Full => leads[6],
+        Place::Ended => leads[7],
+        Place::Bad => leads[8],
     }
 }
 
-// The number of a place's row.
+// The number of a place, in the order in which they are declared.
 pub fn row(place: Place) -> usize
     ensures { λ r. ⌜ r ≡ row place ⌝ }
     ensures { λ r. ⌜ r < 9 ⌝ }
@@ -177,27 +174,27 @@ pub fn row(place: Place) -> usize
     }
 }
 
-fn next_place(place: Place, kind: Kind) -> Place
-    ensures { λ r. ⌜ r ≡ nextPlace place kind ⌝ }
-{
-    match place {
-        Place::Fresh => at_kind(FROM_FRESH, kind),
-        Place::Wants => at_kind(FROM_WANTS, kind),
-        Place::Joins => at_kind(FROM_JOINS, kind),
-        Place::Sounds => at_kind(FROM_SOUNDS, kind),
-        Place::Removed => at_kind(FROM_REMOVED, kind),
-        Place::Alone => at_kind(FROM_ALONE, kind),
-        Place::Full => at_kind(FROM_FULL, kind),
-        Place::Ended => at_kind(FROM_ENDED, kind),
-        Place::Bad => at_kind(FROM_BAD, kind),
-    }
-}
-
-// The last row's place.
+// The last place.
 pub fn is_bad(place: Place) -> bool
     ensures { λ r. ⌜ r ≡ isBad place ⌝ }
 {
     row(place) == 8
+}
+
+fn next_place(place: Place, kind: Kind) -> Place
+    ensures { λ r. ⌜ r ≡ nextPlace place kind ⌝ }
+{
+    match kind {
+        Kind::Sound => at_place(BY_SOUND, place),
+        Kind::Remover => at_place(BY_REMOVER, place),
+        Kind::Reference => at_place(BY_REFERENCE, place),
+        Kind::Semicolon => at_place(BY_SEMICOLON, place),
+        Kind::Colon => at_place(BY_COLON, place),
+        Kind::LineEnd => at_place(BY_LINE_END, place),
+        Kind::Opens => at_place(BY_OPENS, place),
+        Kind::Closes => at_place(BY_CLOSES, place),
+        Kind::Wrong => BAD,
+    }
 }
 
 // The check at its new place, with the loops and the `$n` counted.

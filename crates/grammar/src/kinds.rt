@@ -1,6 +1,14 @@
 // What a token is to the rules of pattern text, told by its word.
+use tokens::AGAIN;
 use tokens::CHORDS;
+use tokens::CLOSES;
+use tokens::COLON;
+use tokens::LINE_END;
+use tokens::OPENS;
 use tokens::REFERENCE;
+use tokens::REMOVER;
+use tokens::SEMICOLON;
+use tokens::SILENCE;
 use tokens::kind;
 ghost use mathlib.Core.Path.{_≡_};
 ghost use Rattle.grammar.specs.Kinds.{wordKind};
@@ -17,19 +25,6 @@ pub enum Kind {
     Wrong,
 }
 
-// The kinds of the signs from that of a reference on.
-const SIGNS: [Kind; 9] = [
-    Kind::Reference,
-    Kind::Closes,
-    Kind::Opens,
-    Kind::LineEnd,
-    Kind::Colon,
-    Kind::Semicolon,
-    Kind::Remover,
-    Kind::Sound,
-    Kind::Sound,
-];
-
 // A word that is no token's counts as a wrong one.
 pub fn kind_of(word: u32) -> Kind
     ensures { λ r. ⌜ r ≡ wordKind word ⌝ }
@@ -38,8 +33,16 @@ pub fn kind_of(word: u32) -> Kind
     if sign < CHORDS {
         return Kind::Sound;
     }
-    if sign < REFERENCE {
-        return Kind::Wrong;
+    match sign {
+        REFERENCE => Kind::Reference,
+        CLOSES => Kind::Closes,
+        OPENS => Kind::Opens,
+        LINE_END => Kind::LineEnd,
+        COLON => Kind::Colon,
+        SEMICOLON => Kind::Semicolon,
+        REMOVER => Kind::Remover,
+        AGAIN => Kind::Sound,
+        SILENCE => Kind::Sound,
+        _ => Kind::Wrong,
     }
-    SIGNS[(sign - REFERENCE) as usize]
 }

@@ -1,6 +1,6 @@
 -- The sections that are ahead in the row, of a song that stages 4 and 5 accept: each plays what the definitions say, and the tables have room.
 use Prim.Native.Nat.{ℕ, _+_, _*_, _<_, _≤_}
-use mathlib.Core.Path.{_≡_, refl, ap, _∙_}
+use mathlib.Core.Path.{_≡_, refl, sym, ap, _∙_}
 use mathlib.Core.List.{List, [], _∷_, flatMap}
 use mathlib.Core.Bool.{not}
 use mathlib.Core.Option.{Option, none, some}
@@ -19,8 +19,9 @@ use Rattle.songcode.proofs.ListLaws.{append-is-nil}
 use Rattle.songcode.proofs.SectionPlays.{pass-of}
 use Rattle.score.specs.declared.stretches.Stretch.{Stretch}
 use Rattle.score.specs.declared.views.View.{View}
-use Rattle.score.specs.Places.{stretchOf, playedText}
+use Rattle.score.specs.Places.{playedText}
 use Rattle.score.specs.Standing.{Stands}
+use Rattle.score.specs.Even.{evenMeasures, evenPattern}
 use Rattle.score.specs.Sections.{itemsRow, sideRow, patternRow}
 use Rattle.score.specs.Fitting.{PlainFits, SideFits, PatternFits, CutSmall, SectionFits, SectionsFit}
 use Rattle.score.specs.Views.{viewBy, viewOf}
@@ -34,8 +35,10 @@ use Rattle.player.specs.Arrangements.{arrangementIn, arrangedRow, PlaysWithin}
 use Rattle.player.proofs.Meaning.{row-meaning}
 use Rattle.player.proofs.SectionMeaning.{rows-length, rows-total}
 use Rattle.player.proofs.Walkables.{plain-walkable, empty-row}
-use Rattle.laying.specs.Scores.{namedText, isEmptyText, Carries, Ready}
+use Rattle.laying.specs.Scores.{namedText, isEmptyText, Ready}
+use Rattle.laying.proofs.ReadyLaws.{ready-told, ready-carries}
 use Rattle.laying.proofs.EmptyLaws.{empty-pattern}
+use Rattle.judging.proofs.CarriedLaws.{carried}
 use Rattle.judging.proofs.ArrangedLaws.{Arranges, arranged-plays, arranged-within, arranged-beats}
 use Rattle.judging.proofs.PlayedLaws.{played-short, lengths-step}
 
@@ -53,20 +56,14 @@ module _ (ws : List ℕ) (n : ℕ) (t : Stretch) where
   side-row none f h = let e = h .size in empty-row n ws t (omega arith)
   side-row (some x) f h = plain-row (x .items) f (h .words)
 
--- A definition's row.
-carried-row : (ws : List ℕ) (n k : ℕ) (o : Option Items) → Carries ws (namedText ws k) o → rowOf n ws (stretchOf ws k) ≡ rowWords (pass-of n o)
-unfolding Carries namedText pass-of rowWords
-carried-row ws n k none h = h .1 n
-carried-row ws n k (some r) h = h .2 n
-
 module _ {s ws : List ℕ} {mark : ℕ} (ready : Ready s ws mark) where
   pattern-row : (n : ℕ) (t : Stretch) (p : Pattern) → PatternFits p → Holds ws t (patternRow p)
       → rowOf n ws (playedText ws t) ≡ rowWords (pass-of n (patternItems (songOf s .definitions) p))
-  unfolding PatternFits patternRow itemsRow patternItems pass-of Stands
+  unfolding PatternFits patternRow itemsRow patternItems pass-of Stands namedText
   pattern-row n t (items r) f h = rw (plain-played ws t r f (h .words)) (plain-row ws n t r f (h .words))
   pattern-row n t (named k) f h =
       rw (named-played ws t k (f .1) (h .words))
-      (carried-row ws n k (patternItems (songOf s .definitions) (named k)) (ready .carries k ws refl))
+      (carried ws n (namedText ws k) (patternItems (songOf s .definitions) (named k)) (ready-carries ready k))
 
   cut-taken : (o : Option song.Cut) → cutTaken o ≡ cutSaid o
   unfolding cutTaken cutSaid
@@ -80,13 +77,14 @@ module _ {s ws : List ℕ} {mark : ℕ} (ready : Ready s ws mark) where
 
   -- A section that is seen.
   pub seen-arranges : (x : Section) (v : View) → SectionFits (songOf s) x → Sees (songOf s) ws x v → Arranges (songOf s) x ws (arrangementIn ws v)
-  unfolding arrangementIn
+  unfolding arrangementIn evenPattern
   seen-arranges x v f w =
       record {
         meter = w .meter;
         repeat = w .repeat;
         front = w .front ∙ cut-taken (x .modifiers .cutStart);
         back = w .back ∙ cut-taken (x .modifiers .cutEnd);
+        even = w .even ∙ ap (λ (n : ℕ). evenMeasures n (patternItems (songOf s .definitions) (x .pattern))) (sym (w .meter));
         few = rw (w .front) (cut-few (x .modifiers .cutStart) (f .front));
         lead = side-row ws (v .meter) (v .lead) (x .modifiers .before) (f .lead) (w .lead);
         pattern = pattern-row (v .meter) (v .pattern) (x .pattern) (f .pattern) (w .pattern);
@@ -146,7 +144,10 @@ ahead-alone a =
 
 -- The place is low.
 pub ahead-low : {s ws : List ℕ} {at end m b : ℕ} {xs : List Section} → Ahead s ws at end m b xs → at ≤ 100000
-ahead-low a = let e = a .row .size in let f = a .row .few in omega arith
+ahead-low a =
+    let e = a .row .size in
+    let f = a .row .few in
+    omega arith
 
 -- The next section is seen and played.
 module _ {s ws : List ℕ} {mark at end m b : ℕ} {x : Section} {xs : List Section} (ready : Ready s ws mark) (a : Ahead s ws at end m b (x ∷ xs)) where
@@ -174,7 +175,7 @@ module _ {s ws : List ℕ} {mark at end m b : ℕ} {x : Section} {xs : List Sect
   ahead-row = arranged-plays arranges (here-meters .0)
 
   pub ahead-empty : isEmptyText ws (viewOf ws at .pattern) ≡ not (isSome (patternItems (songOf s .definitions) (x .pattern)))
-  ahead-empty = empty-pattern ws (viewOf ws at .pattern) (ready .told ws refl) (x .pattern) (ahead-fits .pattern) (ahead-sees .pattern)
+  ahead-empty = empty-pattern ws (viewOf ws at .pattern) (ready-told ready) (x .pattern) (ahead-fits .pattern) (ahead-sees .pattern)
 
   pub ahead-further : at < viewOf ws at .next
   ahead-further = view-further (songOf s) ws at end x xs ahead-fits (a .row)
@@ -202,7 +203,10 @@ module _ {s ws : List ℕ} {mark at end m b : ℕ} {x : Section} {xs : List Sect
       (omega (arith, f .last), omega (arith, a .measures, a .few), omega arith, omega (arith, f .meter), omega (arith, f .tempo))
 
   pub ahead-few : m + length (played (songOf s) x) ≤ 65535
-  ahead-few = let few = played-short (songOf s) x in let long = here-lengths .0 in omega (arith, a .measures)
+  ahead-few =
+      let few = played-short (songOf s) x in
+      let long = here-lengths .0 in
+      omega (arith, a .measures)
 
   -- The counts of the row that the code plays.
   pub ahead-measures : (k : ℕ) → k ≡ length (arrangedRow ws (arrangementIn ws (viewOf ws at))) → k ≡ length (played (songOf s) x)

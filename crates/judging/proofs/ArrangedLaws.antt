@@ -18,6 +18,7 @@ use Rattle.songcode.proofs.ListLaws.{append-is-nil, times-length}
 use Rattle.songcode.proofs.RowLaws.{filled-items}
 use Rattle.songcode.proofs.SectionPlays.{meter-some, pass-of}
 use Rattle.songcode.proofs.MeterAgree.{length-side, length-pass}
+use Rattle.score.specs.Even.{evenMeasures}
 use Rattle.player.specs.declared.playing.Arrangement.{Arrangement}
 use Rattle.player.specs.Texts.{rowWords}
 use Rattle.player.specs.Walks.{rowOf}
@@ -27,6 +28,7 @@ use Rattle.player.proofs.SectionLaws.{section-beats}
 use Rattle.player.proofs.SectionMeaning.{rows-length, section-words}
 use Rattle.player.proofs.ShortLaws.{short-row}
 use Rattle.laying.proofs.MeterLaws.{meter-range}
+use Rattle.judging.proofs.CarriedLaws.{even-pass}
 use Rattle.judging.proofs.OpenedLaws.{row-fits}
 use Rattle.judging.proofs.PlayedLaws.{cut-short}
 
@@ -37,6 +39,7 @@ pub record Arranges (s : Song) (x : Section) (ws : List ℕ) (a : Arrangement) :
   pub front : a .front ≡ cutSaid (x .modifiers .cutStart)
   pub back : a .back ≡ cutSaid (x .modifiers .cutEnd)
   pub few : a .front .beats .0 ≤ 9999
+  pub even : a .even ≡ evenMeasures (a .n) (patternItems (s .definitions) (x .pattern))
   pub lead : rowOf (a .n) ws (a .lead) ≡ rowWords (sideMeasures (a .n) (x .modifiers .before))
   pub pattern : rowOf (a .n) ws (a .pattern) ≡ rowWords (pass-of (a .n) (patternItems (s .definitions) (x .pattern)))
   pub tail : rowOf (a .n) ws (a .tail) ≡ rowWords (sideMeasures (a .n) (x .modifiers .after))
@@ -99,7 +102,10 @@ module _ {s : Song} {x : Section} {ws : List ℕ} {a : Arrangement} (h : Arrange
       times-length (a .repeat) (rowOf (a .n) ws (a .pattern)) ∙ rw (one, h .repeat)
 
   few-beats : a .n ≤ 32
-  few-beats = let m = h .meter in let r = meter-range s x .1 in omega arith
+  few-beats =
+      let m = h .meter in
+      let r = meter-range s x .1 in
+      omega arith
 
   pub arranged-within : (base sofar : ℕ) → sofar + sectionCount s x ≤ 65535 → base ≤ 32 * sofar → PlaysWithin ws a base
   unfolding sectionCount
@@ -107,7 +113,17 @@ module _ {s : Song} {x : Section} {ws : List ℕ} {a : Arrangement} (h : Arrange
       let l = lead-length in
       let p = pattern-length in
       let q = tail-length in
-      record { countable = record { meter = few-beats; cuts = h .few; measures = omega arith }; room = omega arith }
+      let even = even-pass (a .n) (patternItems (s .definitions) (x .pattern)) in
+      record {
+        countable =
+            record {
+              meter = few-beats;
+              cuts = h .few;
+              measures = omega arith;
+              even = λ z. rw (h .even, h .pattern) (even (λ y. z (h .even ∙ y)));
+            };
+        room = omega arith;
+      }
 
   pub arranged-beats : total (arrangedRow ws a) ≤ 32 * sectionCount s x
   unfolding sectionCount

@@ -61,7 +61,8 @@ sides-counted a q b =
 all-counted : (k a p b : ℕ) → 1 ≤ k → Counted (min 65536 a + k * min 65536 p + min 65536 b) (a + k * p + b)
 all-counted k a p b h =
     by-cases (leb p 65536)
-    (λ e. let l = leb-true p 65536 e in let m : min 65536 p ≡ p = omega arith in rw m (sides-counted a (k * p) b))
+    (λ e. let l = leb-true p 65536 e in
+    let m : min 65536 p ≡ p = omega arith in rw m (sides-counted a (k * p) b))
     (λ e.
     let l = leb-false p 65536 e in
     let m : min 65536 p ≡ 65536 = omega arith in

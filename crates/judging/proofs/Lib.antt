@@ -7,6 +7,7 @@ pub mod CountLaws
 pub mod ModifierLaws
 pub mod CutLaws
 pub mod LengthLaws
+pub mod CarriedLaws
 pub mod OpenedLaws
 pub mod LengthsAreLaws
 pub mod ClearLaws
@@ -17,10 +18,10 @@ pub mod PlayLaws
 pub mod AheadLaws
 pub mod SumLaws
 pub mod TallyLaws
-pub mod NumberLaws
 pub mod TakenLaws
 pub mod OffLaws
-pub mod SoonerLaws
+pub mod SmallMeters
 pub mod VerdictLaws
 pub mod RowIsLaws
+pub mod WholeLaws
 pub mod WalkLaws

@@ -1,26 +1,28 @@
--- The lyric lines of a run, line by line: their texts, their counts and their prompter items.
-use Prim.Native.Nat.{ℕ, suc, _+_, _<_}
+-- The counts of lyric lines and their prompter items.
+use Prim.Native.Nat.{ℕ, zero, suc, _+_}
 use mathlib.Core.Path.{_≡_, refl, ap}
 use mathlib.Core.List.{List, [], _∷_, map}
-use mathlib.Core.Option.{Option·getD}
+use mathlib.Core.Option.{Option, none, some, Option·getD}
+use native.Mathlib.Omega.{arith}
 use lib.ListN.{length}
-use Rattle.songcode.specs.Bytes.{placed}
 use Rattle.songcode.specs.Song.{LyricLine}
-use Rattle.songcode.specs.answer.Lyrics as songcode
-use Rattle.songcode.specs.answer.Lyrics.{wordsOf, countOf, promptsFrom}
+use Rattle.songcode.specs.answer.Lyrics.{countOf, promptsFrom}
 use Rattle.songcode.specs.answer.Tables.{itemWord}
-use Rattle.text.specs.declared.lines.Line.{Line}
-use Rattle.text.specs.Spans.{part, Found}
-use Rattle.settings.specs.declared.lyrics.Words.{Words}
-use Rattle.settings.specs.LyricParts.{countFrom, wordsFrom}
-use Rattle.laying.proofs.LyricRowLaws.{lyricAt}
+use Rattle.songcode.proofs.LyricLineAgree.{count-exact}
+use Rattle.settings.specs.LyricParts.{countFrom}
 
-module _ (s : List ℕ) (n at left : ℕ) where
-  module _ {l : Line} (f : Found s n at l) (h : at < length s) (some-left : left ≡ 0 → ⊥) where
-    module _ (w : Words) (e : wordsOf (placed (l .start) (part (l .start) (l .stop) s)) ≡ wordsFrom w (l .start) s) where
-      pub count-here : countOf (lyricAt s n l) ≡ countFrom (w .count)
-      unfolding countOf
-      count-here = ap (λ (x : songcode.Words). x .count) e
+-- A count is never 0.
+pub count-said : (l : LyricLine) → countOf l ≡ countFrom (Option·getD (countOf l) 0)
+unfolding countOf countFrom
+count-said l = by (countOf l) refl
+  where
+    by : (o : Option ℕ) → countOf l ≡ o → o ≡ countFrom (Option·getD o 0)
+    by none e = refl
+    by (some zero) e =
+        let low = count-exact (l .text) 0 .0 e .1 .number .atLeast in
+        let z : ⊥ = omega arith in
+        absurd z
+    by (some (suc k)) e = refl
 
 pub prompts-length : (m : ℕ) (ls : List LyricLine) → length (map itemWord (promptsFrom m ls)) ≡ length ls
 unfolding promptsFrom

@@ -58,7 +58,9 @@ off-next {s} {ws} {p} x o w off b e =
     ⊎-elim
     (λ a. rw (eq-eqb off 0 (a .0)) (by-cases b
     (λ t. rw t (inr (
-      (λ z. let h = o .met .read .header in let n = w .number in let q : ⊥ = omega arith in q),
+      (λ z. let h = o .met .read .header in
+          let n = w .number in
+          let q : ⊥ = omega arith in q),
       ap (λ (cs : List Complaint). refusalOf (earliest cs)) (sym (a .1) ∙ ap (flatMap (sumFault (songOf s))) (o .met .first))
           ∙ faults-stop (songOf s) (sectionAt s p) (sectionsFrom s (x .next)) (sym e ∙ t) (o .met .later)
           ∙ ap (λ (k : ℕ). record { number = 17; line = k }) (sym (o .met .says .header)),

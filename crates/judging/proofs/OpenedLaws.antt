@@ -26,6 +26,7 @@ use Rattle.laying.specs.Rows.{meterOf}
 use Rattle.judging.specs.Lengths.{countOfTexts, cutAway, Measurable}
 use Rattle.laying.proofs.MeterLaws.{meter-is, meter-range}
 use Rattle.sections.proofs.MeetLaws.{sections-over}
+use Rattle.judging.proofs.CarriedLaws.{even-text}
 use Rattle.judging.proofs.CountLaws.{Counted, carried-fits, played-length, section-counted, pattern-within}
 use Rattle.judging.proofs.ModifierLaws.{modified-is}
 use Rattle.judging.proofs.CutLaws.{cut-away-is}
@@ -80,7 +81,8 @@ module _ (s ws : List ℕ) (p : Place) (r : Opened) (w : Opens s p ws r) where
 
   -- Where the measures are few enough, all are counted.
   pub all-counted : (k : ℕ) → k + countOfTexts m (r .texts) ≤ 65535 → countOfTexts m (r .texts) ≡ sectionCount song x
-  all-counted k h = ⊎-elim (λ e. e) (λ e. let q = e .0 in let z : ⊥ = omega arith in absurd z) counted
+  all-counted k h = ⊎-elim (λ e. e) (λ e. let q = e .0 in
+      let z : ⊥ = omega arith in absurd z) counted
 
   too-many : (k : ℕ) → 65535 < k + countOfTexts m (r .texts) → 65535 < k + sectionCount song x
   too-many k h = ⊎-elim (λ e. omega arith) (λ e. let q = e .1 in omega arith) counted
@@ -109,6 +111,10 @@ module _ (s ws : List ℕ) (p : Place) (r : Opened) (w : Opens s p ws r) where
               let often = ap (λ (j : ℕ). j * measuresIn (patternItems (song .definitions) (x .pattern))) (w .met .says .repeat) in
               let within = pattern-within song x in
               omega arith;
+          even =
+              let range = meter-range song x in
+              even-text ws n (r .texts .pattern) (patternItems (song .definitions) (x .pattern)) (w .texts .pattern)
+              (subst (λ (j : ℕ). 1 ≤ j) (sym n-is) (range .0)) (subst (λ (j : ℕ). j ≤ 32) (sym n-is) (range .1));
         }
 
     module _ (o : Onward s p) (inside : p .at < length s) (k : ℕ) (small : k ≤ 65535) (measured : Measured s p k) where

@@ -2,11 +2,10 @@
 use Prim.Native.Nat.{ℕ, _+_, _*_, _≤_}
 use mathlib.Core.Path.{_≡_, _∙_}
 use mathlib.Core.List.{List, [], _++_}
-use mathlib.Core.Option.{Option, none, some, bind}
 use native.Mathlib.Omega.{arith}
 use lib.ListN.{length}
 use Rattle.songcode.specs.Lists.{times}
-use Rattle.songcode.specs.Song.{Items, Section, Song, Side}
+use Rattle.songcode.specs.Song.{Section, Song}
 use Rattle.songcode.specs.answer.References.{patternItems}
 use Rattle.songcode.specs.answer.Playing.{repeats}
 use Rattle.songcode.specs.answer.Playing.{sideMeasures, timeOf, played}
@@ -21,27 +20,15 @@ use Rattle.player.proofs.SectionLaws.{section-beats}
 use Rattle.player.proofs.SectionMeaning.{rows-length, section-words}
 use Rattle.player.proofs.ShortLaws.{short-row}
 use Rattle.sections.specs.declared.values.Modifiers.{Modifiers}
-use Rattle.laying.specs.declared.texts.Text.{Text}
 use Rattle.laying.specs.declared.texts.Texts.{Texts}
-use Rattle.laying.specs.Scores.{Carries, sideItems, TextsAre}
+use Rattle.laying.specs.Scores.{TextsAre}
 use Rattle.judging.specs.Lengths.{cutOrNone}
 use Rattle.judging.specs.Sums.{rowOfTexts, TextsWithin}
+use Rattle.judging.proofs.CarriedLaws.{carried, carried-side, even-text}
 use Rattle.judging.proofs.ArrangedLaws.{pass-filled, side-filled, kept-pass}
 use Rattle.judging.proofs.CountLaws.{played-length}
 use Rattle.judging.proofs.CutLaws.{cut-said, cut-fits}
 use Rattle.songcode.proofs.MeterAgree.{length-side}
-
--- The row of a text in the buffer.
-module _ (ws : List ℕ) (n : ℕ) where
-  carried : (t : Text) (o : Option Items) → Carries ws t o → rowOf n ws (t .at) ≡ rowWords (pass-of n o)
-  unfolding Carries pass-of rowWords
-  carried t none h = h .1 n
-  carried t (some r) h = h .2 n
-
-  carried-side : (t : Text) (o : Option Side) → Carries ws t (sideItems o) → rowOf n ws (t .at) ≡ rowWords (sideMeasures n o)
-  unfolding Carries sideItems bind sideMeasures rowWords
-  carried-side t none h = h .1 n
-  carried-side t (some x) h = h .2 n
 
 -- A section whose texts stand in the buffer.
 module _ (s : Song) (x : Section) (ws : List ℕ) (t : Texts) (m : Modifiers) (h : TextsAre (s .definitions) x ws t)
@@ -89,13 +76,22 @@ module _ (s : Song) (x : Section) (ws : List ℕ) (t : Texts) (m : Modifiers) (h
       rw again (played-length ws (t .pattern) (patternItems (s .definitions) (x .pattern)) n (repeats (x .modifiers))
       (h .pattern))
 
-  pub texts-within : (n base sofar : ℕ) → n ≤ 32 → CutFits (m .front) → sofar + sectionCount s x ≤ 65535 → base ≤ 32 * sofar → TextsWithin ws n t m base
+  pub texts-within : (n base sofar : ℕ) → 1 ≤ n → n ≤ 32 → CutFits (m .front) → sofar + sectionCount s x ≤ 65535 → base ≤ 32 * sofar → TextsWithin ws n t m base
   unfolding sectionCount
-  texts-within n base sofar few c long b =
+  texts-within n base sofar some few c long b =
       let l = lead-length n in
       let p = pattern-length n in
       let q = tail-length n in
-      record { countable = record { meter = few; cuts = cut-fits _ c; measures = omega arith }; room = omega arith }
+      record {
+        countable =
+            record {
+              meter = few;
+              cuts = cut-fits _ c;
+              measures = omega arith;
+              even = even-text ws n (t .pattern) (patternItems (s .definitions) (x .pattern)) (h .pattern) some few;
+            };
+        room = omega arith;
+      }
 
   pub texts-beats : (n : ℕ) → n ≤ 32 → total (rowOfTexts ws n t m) ≤ 32 * sectionCount s x
   unfolding rowOfTexts sectionCount

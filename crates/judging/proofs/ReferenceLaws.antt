@@ -5,33 +5,41 @@ use mathlib.Core.List.{List, [], _∷_, flatMap}
 use mathlib.Core.Bool.{Bool, true, false, not}
 use mathlib.Core.Option.{Option, none, some}
 use native.Mathlib.Omega.{arith}
+use borrow.Author.Tests.{eqb-true, eqb-false}
+use lib.Dec.{eqb}
 use lib.ListN.{length}
-use Rattle.songcode.specs.Lists.{isSome}
+use Rattle.songcode.specs.Lists.{if_then_else_, isSome}
 use Rattle.songcode.specs.Complaints.{Complaint, complaint, earlier, earliest}
 use Rattle.songcode.specs.Song.{Pattern, items, named, Definition, Section}
-use Rattle.songcode.specs.answer.Sections.{patternIn}
 use Rattle.songcode.specs.answer.References.{definitionOf, namedFault, sectionReference, definitionsReferences, referenceFaults}
 use Rattle.songcode.specs.answer.Answer.{songOf}
-use Rattle.songcode.proofs.ListLaws.{true-is-not-false, Each, each-map}
+use Rattle.songcode.proofs.ListLaws.{by-cases, true-is-not-false, Each, each-map}
 use Rattle.text.specs.declared.Refusal.{Refusal}
 use Rattle.text.specs.Refusals.{refusalOf, nothingRefused}
+use Rattle.outlines.specs.Words.{isMissing}
 use Rattle.sections.specs.declared.blocks.Place.{Place}
-use Rattle.sections.specs.Runs.{linesOf}
+use Rattle.sections.specs.declared.values.Keys.{Keys}
 use Rattle.sections.specs.Onward.{sectionsFrom, sectionAt, Later}
 use Rattle.sections.proofs.MeetLaws.{sections-over}
 use Rattle.laying.specs.declared.texts.Opened.{Opened}
 use Rattle.laying.specs.Laying.{Names}
-use Rattle.laying.specs.Scores.{Begins, Opens}
+use Rattle.laying.specs.Scores.{Told, Begins, Opens}
+use Rattle.laying.specs.Rows.{Lays}
 use Rattle.laying.proofs.ComplaintLaws.{UpTo, Numbered, first-wins, gather-behind, refused-none}
 use Rattle.laying.proofs.FaultLineLaws.{section-line}
+use Rattle.judging.specs.References.{nameFault}
 use Rattle.judging.proofs.StageLaws.{numbered-gather}
 
 module _ (ds : List Definition) (header : ℕ) where
   -- A pattern of its own.
-  pub own-pattern : (x : Pattern) (k : ℕ) → Names x k → k ≡ 0 → nothingRefused ≡ refusalOf (earliest (sectionReference ds x header))
+  own-pattern : (x : Pattern) (k : ℕ) → Names x k → k ≡ 0 → nothingRefused ≡ refusalOf (earliest (sectionReference ds x header))
   unfolding Names sectionReference refusalOf earliest
   own-pattern (items r) k w e = refl
-  own-pattern (named n) k w e = let p = w .0 in let q = w .1 in let z : ⊥ = omega arith in absurd z
+  own-pattern (named n) k w e =
+      let p = w .0 in
+      let q = w .1 in
+      let z : ⊥ = omega arith in
+      absurd z
 
   named-fault : (x : Pattern) (k : ℕ) → Names x k → (k ≡ 0 → ⊥) → sectionReference ds x header ≡ namedFault (definitionOf k ds) header
   unfolding Names sectionReference
@@ -49,15 +57,28 @@ module _ (ds : List Definition) (header : ℕ) where
   fault-none (some d) e = refl
 
   -- A name that no definition has, and one that a definition has.
-  pub missing-name : (x : Pattern) (k : ℕ) (b : Bool) → Names x k → (k ≡ 0 → ⊥) → b ≡ not (isSome (definitionOf k ds)) → b ≡ true
+  missing-name : (x : Pattern) (k : ℕ) (b : Bool) → Names x k → (k ≡ 0 → ⊥) → b ≡ not (isSome (definitionOf k ds)) → b ≡ true
       → record { number = 10; line = header } ≡ refusalOf (earliest (sectionReference ds x header))
   unfolding refusalOf earliest earlier
   missing-name x k b w n e t = rw (named-fault x k w n, fault-there (definitionOf k ds) (sym e ∙ t))
 
-  pub found-name : (x : Pattern) (k : ℕ) (b : Bool) → Names x k → (k ≡ 0 → ⊥) → b ≡ not (isSome (definitionOf k ds)) → b ≡ false
+  found-name : (x : Pattern) (k : ℕ) (b : Bool) → Names x k → (k ≡ 0 → ⊥) → b ≡ not (isSome (definitionOf k ds)) → b ≡ false
       → nothingRefused ≡ refusalOf (earliest (sectionReference ds x header))
   unfolding refusalOf earliest
   found-name x k b w n e t = rw (named-fault x k w n, fault-none (definitionOf k ds) (sym e ∙ t))
+
+  -- What the code finds of a name.
+  pub name-fault : {s ws : List ℕ} → Told s ws → ds ≡ songOf s .definitions → (x : Pattern) (k : ℕ) → Names x k
+      → nameFault ws k header ≡ refusalOf (earliest (sectionReference ds x header))
+  unfolding nameFault if_then_else_
+  name-fault {s} {ws} told e x k names =
+      let there : isMissing ws k ≡ not (isSome (definitionOf k ds)) = told .missing k ∙ ap (λ (d : List Definition). not (isSome (definitionOf k d))) (sym e) in
+      by-cases (eqb k 0)
+      (λ t. rw t (own-pattern x k names (eqb-true k 0 t)))
+      (λ t.
+      by-cases (isMissing ws k)
+      (λ u. rw (t, u) (missing-name x k (isMissing ws k) names (eqb-false k 0 t) there u))
+      (λ u. rw (t, u) (found-name x k (isMissing ws k) names (eqb-false k 0 t) there u)))
 
 -- Every complaint of a section stands on its header.
 module _ (ds : List Definition) where
@@ -103,14 +124,14 @@ module _ (ds : List Definition) where
   unfolding flatMap
   next-section x xs r e z = rw (refused-none (sectionFault x) (numbered x) (ap (λ (q : Refusal). q .number) (sym e) ∙ z)) refl
 
-  -- The fault of a section that is opened.
-  pub fault-at : {s ws : List ℕ} {p : Place} {m : Opened} (r : Refusal) → Opens s p ws m
-      → ((x : Pattern) → patternIn (linesOf s (m .section .pattern)) ≡ some x → r ≡ refusalOf (earliest (sectionReference ds x (m .section .header))))
-      → r ≡ refusalOf (earliest (sectionFault (sectionAt s p)))
-  unfolding sectionFault
-  fault-at {s} {ws} {p} {m} r w f =
-      f (sectionAt s p .pattern) (w .met .written) ∙ ap (λ (h : ℕ). refusalOf (earliest (sectionReference ds (sectionAt s p .pattern) h)))
-      (w .met .says .header)
+-- The fault of a section that is laid.
+pub fault-at : {s old ws : List ℕ} {p : Place} {song : Keys} {at : ℕ} (m : Opened) → Lays s p song at old ws m → Told s ws → {r : Refusal}
+    → r ≡ nameFault ws (m .named) (m .section .header) → r ≡ refusalOf (earliest (sectionFault (songOf s .definitions) (sectionAt s p)))
+unfolding sectionFault
+fault-at {s} {old} {ws} {p} m w told e =
+    let ds = songOf s .definitions in
+    e ∙ name-fault ds (m .section .header) told refl (sectionAt s p .pattern) (m .named) (w .names)
+    ∙ ap (λ (h : ℕ). refusalOf (earliest (sectionReference ds (sectionAt s p .pattern) h))) (w .opens .met .says .header)
 
 -- Stage 3 from section to section, where nothing is wrong with the definitions: what is left of it is all of it.
 unfoldable pub ReferencesLeft : List ℕ → Place → Type 0

@@ -3,13 +3,15 @@ use Prim.Native.Nat.{ℕ, _+_, _<_, _≤_}
 use mathlib.Core.Path.{_≡_, sym, ap, _∙_, subst}
 use mathlib.Core.List.{List, [], _∷_, _++_, append-assoc, append-nil}
 use native.Mathlib.Omega.{arith}
-use lib.ListN.{length, take}
+use lib.ListN.{length, take, drop, length-append, take-append-drop}
+use lib.Seq.{take-at}
 use Rattle.songcode.specs.Song.{Section}
 use Rattle.songcode.specs.answer.Answer.{songOf}
-use Rattle.score.specs.Sections.{sectionRow}
+use Rattle.score.specs.Sections.{sectionRow, sectionsRow}
 use Rattle.score.specs.Fitting.{SectionsFit}
 use Rattle.score.specs.Seen.{RowFrom}
 use Rattle.score.proofs.RowLaws.{fits-append, row-start, row-grows}
+use Rattle.outlines.specs.Rows.{definitionsRow, blocksRow}
 use Rattle.sections.specs.declared.blocks.Place.{Place}
 use Rattle.sections.specs.declared.values.Keys.{Keys}
 use Rattle.sections.specs.Onward.{sectionsFrom, sectionAt}
@@ -17,6 +19,7 @@ use Rattle.sections.proofs.MeetLaws.{sections-over}
 use Rattle.laying.specs.declared.texts.Opened.{Opened}
 use Rattle.laying.specs.Scores.{Ready, Begins}
 use Rattle.laying.specs.Rows.{RoomFor, Before, Lays}
+use Rattle.judging.specs.Charts.{Sized}
 use Rattle.laying.proofs.LaidLaws.{laid-before}
 use Rattle.laying.proofs.BulkLaws.{room-start}
 use Rattle.laying.proofs.SectionLaidLaws.{ready-kept}
@@ -72,11 +75,49 @@ row-is-next {s} {old} {new} {mark} {at} {p} r i l big same =
           ∙ ap (λ (xs : List Section). i .done ++ xs) (sym (l .opens .met .first)) ∙ i .all;
     }
 
--- Behind the last section all of them stand there.
-pub row-is-end : {s ws : List ℕ} {mark at : ℕ} {p : Place} → RowIs s ws mark at p → length s ≤ p .at
-    → RowFrom (songOf s) ws (mark + 1) at (songOf s .sections) × SectionsFit (songOf s) (songOf s .sections)
-row-is-end {s} {ws} {mark} {at} {p} i over =
-    let e : i .done ≡ songOf s .sections = sym (append-nil (i .done)) ∙ ap (λ (xs : List Section). i .done ++ xs) (sym (sections-over s p over)) ∙ i .all in (
-      subst (λ (xs : List Section). RowFrom (songOf s) ws (mark + 1) at xs) e (i .row),
-      subst (SectionsFit (songOf s)) e (i .fits),
-    )
+-- Behind the last section all definitions and sections of the song stand there.
+module _ {s ws : List ℕ} {mark at : ℕ} {p : Place} (i : RowIs s ws mark at p) (over : length s ≤ p .at) where
+  all-done : i .done ≡ songOf s .sections
+  all-done = sym (append-nil (i .done)) ∙ ap (λ (xs : List Section). i .done ++ xs) (sym (sections-over s p over)) ∙ i .all
+
+  all-row : RowFrom (songOf s) ws (mark + 1) at (songOf s .sections)
+  all-row = subst (λ (xs : List Section). RowFrom (songOf s) ws (mark + 1) at xs) all-done (i .row)
+
+  abbrev front : List ℕ
+  front = definitionsRow (songOf s .definitions) (songOf s .definitions)
+
+  abbrev rows : List ℕ
+  rows = sectionsRow (songOf s) (songOf s .sections)
+
+  row-long : length (blocksRow (songOf s)) ≡ at
+  unfolding blocksRow
+  row-long =
+      let a = all-row .size in
+      let b = i .ready .front .size in
+      let c = length-append front (0 ∷ rows) in
+      omega arith
+
+  pub row-is-blocks : take at ws ≡ blocksRow (songOf s)
+  unfolding blocksRow
+  row-is-blocks =
+      let split : ws ≡ (front ++ (0 ∷ rows)) ++ drop at ws =
+      sym (take-append-drop (mark + 1) ws)
+      ∙ ap (λ (l : List ℕ). l ++ drop (mark + 1) ws) (i .ready .front .words)
+      ∙ ap (λ (l : List ℕ). (front ++ (0 ∷ [])) ++ l) (all-row .words)
+      ∙ append-assoc front (0 ∷ []) (rows ++ drop at ws)
+      ∙ sym (append-assoc front (0 ∷ rows) (drop at ws)) in
+      ap (take at) split ∙ take-at (front ++ (0 ∷ rows)) (drop at ws) at row-long
+
+  pub row-is-sized : Sized s ws (record { from = mark + 1; to = at })
+  unfolding RoomFor
+  row-is-sized =
+      record {
+        small = i .ready .small;
+        room = i .ready .room;
+        from = ap (λ (n : ℕ). n + 1) (i .ready .front .size);
+        to = sym row-long;
+        short = let a = i .room in omega arith;
+        few = i .ready .front .few;
+        defined = i .ready .front .fits;
+        fits = subst (SectionsFit (songOf s)) all-done (i .fits);
+      }

@@ -6,7 +6,7 @@ use mathlib.Core.Bool.{Bool, true, false, not, _&&_, Bool·not-not, and-true, an
 use mathlib.Core.Option.{Option, none, some}
 use native.Mathlib.Omega.{arith}
 use lib.Dec.{eqb, ltb}
-use lib.ListN.{length, length-map, length-append, length-take}
+use lib.ListN.{length, length-map, length-append}
 use borrow.Author.Tests.{ne-eqb}
 use Rattle.songcode.specs.Lists.{if_then_else_, isEmpty, isSome, every}
 use Rattle.songcode.specs.Song.{Items, LyricLine, Section, Song, Beat}
@@ -19,10 +19,9 @@ use Rattle.songcode.specs.description.WrittenTables.{lyricsOf}
 use Rattle.songcode.specs.answer.Answer.{songOf}
 use Rattle.songcode.proofs.ListLaws.{by-cases, both-pass, Each}
 use Rattle.songcode.proofs.TurnedRows.{total-append}
-use Rattle.songcode.specs.answer.Sections.{lyricLine}
 use Rattle.outlines.specs.Words.{vacant}
+use Rattle.score.specs.Fitting.{LyricFits, LyricsFit}
 use Rattle.player.specs.declared.playing.Counts.{Counts}
-use Rattle.sections.specs.Runs.{textLines, linesOf}
 use Rattle.sections.specs.declared.blocks.Place.{Place}
 use Rattle.sections.specs.Onward.{sectionAt, sectionsFrom}
 use Rattle.laying.specs.declared.texts.Text.{Text}
@@ -33,8 +32,7 @@ use Rattle.laying.specs.Scores.{Carries, Opens}
 use Rattle.judging.specs.Lyrics.{firstLine, bareLine, tallied}
 use Rattle.judging.specs.Sums.{hasLines, hasPrompts, sumDiffers, withSection, totalsOf, Holds}
 use Rattle.judging.proofs.LyricLaws.{prompts-length}
-use Rattle.judging.proofs.NumberLaws.{Numbered, lyrics-numbered}
-use Rattle.judging.proofs.TakenLaws.{takenFrom}
+use Rattle.judging.proofs.TakenLaws.{Numbered, takenFrom}
 
 -- A text is empty where there are no items.
 empty-is : (ws : List ℕ) (t : Text) (o : Option Items) → Carries ws t o → t .outline .empty ≡ not (isSome o)
@@ -99,41 +97,31 @@ module _ (s : Song) (x : Section) (empty : Bool) (t : Tally) (e : empty ≡ not 
       let w : t .sum ≡ counted (x .lyrics) = ap (λ (y : Tally). y .sum) u ∙ tallied-sum (x .lyrics) in
       rw (lines-said, w, h)
 
--- The tally of the lyric lines of a section that is opened.
-module _ {s vs : List ℕ} {p : Place} (x : Opened) (o : Opens s p vs x) (t : Tally)
-    (u : t ≡ tallied (map lyricLine (linesOf s (x .section .lyrics)))) where
-  pub opened-empty : x .texts .pattern .outline .empty ≡ not (isPlayed (songOf s) (sectionAt s p))
-  unfolding isPlayed
-  opened-empty = empty-is vs (x .texts .pattern) (patternItems (songOf s .definitions) (sectionAt s p .pattern)) (o .texts .pattern)
+pub opened-empty : {s vs : List ℕ} {p : Place} (x : Opened) → Opens s p vs x
+    → x .texts .pattern .outline .empty ≡ not (isPlayed (songOf s) (sectionAt s p))
+unfolding isPlayed
+opened-empty {s} {vs} {p} x o =
+    empty-is vs (x .texts .pattern) (patternItems (songOf s .definitions) (sectionAt s p .pattern)) (o .texts .pattern)
 
-  pub opened-tally : t ≡ tallied (sectionAt s p .lyrics)
-  opened-tally = u ∙ ap tallied (o .met .says .lyrics)
+pub lines-numbered : (ls : List LyricLine) → LyricsFit ls → Numbered ls
+unfolding LyricsFit LyricFits Each
+lines-numbered [] f = tt
+lines-numbered (l ∷ ls) f = (f .0 .first, lines-numbered ls (f .1))
 
-  pub opened-lined : Numbered (sectionAt s p .lyrics)
-  unfolding linesOf
-  opened-lined =
-      subst (λ ls. Numbered ls) (o .met .says .lyrics) (lyrics-numbered s (x .section .lyrics .number) (x .section .lyrics .at)
-      (x .section .lyrics .lines) (o .met .read .lyrics-placed .number))
-
+-- The tally of the lyric lines of a section that is opened, and whose words fit.
+module _ {s vs : List ℕ} {p : Place} (x : Opened) (o : Opens s p vs x) (f : LyricsFit (sectionAt s p .lyrics)) (t : Tally)
+    (u : t ≡ tallied (sectionAt s p .lyrics)) where
   opened-prompts : hasPrompts (x .texts .pattern .outline .empty) t ≡ isPrompted (songOf s) (sectionAt s p)
-  opened-prompts = prompts-said (songOf s) (sectionAt s p) _ t opened-empty opened-tally opened-lined
+  opened-prompts =
+      prompts-said (songOf s) (sectionAt s p) _ t (opened-empty x o) u (lines-numbered (sectionAt s p .lyrics) f)
 
   pub opened-differs : (k : ℕ) → k ≡ length (played (songOf s) (sectionAt s p))
       → sumDiffers (x .texts .pattern .outline .empty) t k ≡ offSum (songOf s) (sectionAt s p)
-  opened-differs k e = differs-said (songOf s) (sectionAt s p) _ t opened-empty opened-tally k e
+  opened-differs k e = differs-said (songOf s) (sectionAt s p) _ t (opened-empty x o) u k e
 
-  opened-lines : t .lines ≡ length (sectionAt s p .lyrics)
+  pub opened-lines : t .lines ≡ length (sectionAt s p .lyrics)
   unfolding tallied
-  opened-lines = ap (λ (y : Tally). y .lines) opened-tally
-
-  pub opened-few : length s ≤ 65536 → t .lines ≤ 65536
-  unfolding tallied linesOf
-  opened-few h =
-      let r = x .section .lyrics in
-      let w = o .met .read .lyrics-placed in
-      let e : t .lines ≡ length (linesOf s r) = ap (λ (y : Tally). y .lines) u ∙ length-map (linesOf s r) lyricLine in
-      let f = length-take (r .lines) (textLines s (r .number) (r .at)) in
-      omega (arith, w .number, w .behind, w .ends)
+  opened-lines = ap (λ (y : Tally). y .lines) u
 
 -- The sums so far, and what the sections that are left add to them.
 pub record Summed (s : Song) (rest : List Section) (x : Sums) : Type 0 where
@@ -181,8 +169,8 @@ summed-next s y rest x c l b m t e p h =
     }
 
 -- A section that is opened.
-module _ {s vs : List ℕ} {p : Place} (x : Opened) (o : Opens s p vs x) (t : Tally)
-    (u : t ≡ tallied (map lyricLine (linesOf s (x .section .lyrics)))) where
+module _ {s vs : List ℕ} {p : Place} (x : Opened) (o : Opens s p vs x) (f : LyricsFit (sectionAt s p .lyrics)) (t : Tally)
+    (u : t ≡ tallied (sectionAt s p .lyrics)) where
   pub opened-summed : (y z : Sums) (c : Counts) (b : Bool) → z ≡ withSection y c (t .lines) b
       → b ≡ hasPrompts (x .texts .pattern .outline .empty) t → c .measures ≡ length (played (songOf s) (sectionAt s p))
       → c .beats ≡ total (played (songOf s) (sectionAt s p))
@@ -190,8 +178,8 @@ module _ {s vs : List ℕ} {p : Place} (x : Opened) (o : Opens s p vs x) (t : Ta
   opened-summed y z c b w e m d h =
       let g : Summed (songOf s) (sectionAt s p ∷ sectionsFrom s (x .next)) y = subst (λ xs. Summed (songOf s) xs y) (o .met .first) h in
       subst (λ v. Summed (songOf s) (sectionsFrom s (x .next)) v) (sym w)
-      (summed-next (songOf s) (sectionAt s p) (sectionsFrom s (x .next)) y c (t .lines) b m d (opened-lines x o t u)
-      (e ∙ opened-prompts x o t u) g)
+      (summed-next (songOf s) (sectionAt s p) (sectionsFrom s (x .next)) y c (t .lines) b m d (opened-lines x o f t u)
+      (e ∙ opened-prompts x o f t u) g)
 
 -- The words of the tables are as many.
 pub section-words-length : (s : Song) (first : ℕ) (xs : List Section) → length (sectionWords s first xs) ≡ length xs
@@ -207,7 +195,10 @@ measure-words-length first (m ∷ row) = ap suc (measure-words-length (first + l
 pub beat-words-length : (row : List (List Beat)) → length (flatMap (map beatWord) row) ≡ total row
 unfolding flatMap total
 beat-words-length [] = refl
-beat-words-length (m ∷ row) = let h = beat-words-length row in let a = length-map m beatWord in rw length-append (omega arith)
+beat-words-length (m ∷ row) =
+    let h = beat-words-length row in
+    let a = length-map m beatWord in
+    rw length-append (omega arith)
 
 -- Where all sections have items, all their lines are taken.
 pub prompted-parts : (s : Song) (x : Section) → isPrompted s x ≡ true

@@ -17,7 +17,10 @@ use Rattle.judging.specs.declared.lyrics.Tally.{Tally}
 use Rattle.judging.specs.declared.lyrics.Taken.{Taken}
 use Rattle.judging.specs.Lyrics.{firstLine, bareLine, tallied, takenWith, countFault}
 use Rattle.judging.proofs.TallyLaws.{first-zero, first-two, first-assoc}
-use Rattle.judging.proofs.NumberLaws.{Numbered}
+
+-- Lyric lines with a number.
+abbrev pub Numbered : List LyricLine → Type 0
+Numbered ls = Each (λ (l : LyricLine). 1 ≤ l .number) ls
 
 bare-append : (xs ys : List LyricLine) → bareLine (xs ++ ys) ≡ firstLine (bareLine xs) (bareLine ys)
 unfolding bareLine if_then_else_ firstLine
@@ -70,11 +73,13 @@ first-is : (n m : ℕ) → earlier (complaint 16 (suc n)) (some (complaint 16 (s
 unfolding earlier goesFirst if_then_else_
 first-is n m =
     by-cases (ltb (suc n) (suc m))
-    (λ e. let h = ltb-true (suc n) (suc m) e in let z : n ≡ min n m = omega arith in rw e (ap (λ (k : ℕ). complaint 16 (suc k)) z))
+    (λ e. let h = ltb-true (suc n) (suc m) e in
+    let z : n ≡ min n m = omega arith in rw e (ap (λ (k : ℕ). complaint 16 (suc k)) z))
     (λ e.
     let h = ltb-false (suc n) (suc m) e in
     by-cases (eqb (suc n) (suc m))
-    (λ f. let g = eqb-true (suc n) (suc m) f in let z : n ≡ min n m = omega arith in rw (e, f) (ap (λ (k : ℕ). complaint 16 (suc k)) z))
+    (λ f. let g = eqb-true (suc n) (suc m) f in
+    let z : n ≡ min n m = omega arith in rw (e, f) (ap (λ (k : ℕ). complaint 16 (suc k)) z))
     (λ f. let z : m ≡ min n m = omega arith in rw (e, f) (ap (λ (k : ℕ). complaint 16 (suc k)) z)))
 
 earlier-bare : (n m : ℕ) → 1 ≤ n → some (earlier (complaint 16 n) (bareOf m)) ≡ bareOf (firstLine n m)

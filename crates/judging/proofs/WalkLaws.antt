@@ -12,7 +12,7 @@ use Rattle.songcode.specs.Lists.{if_then_else_, any}
 use Rattle.songcode.specs.Complaints.{verdict, earliest, stageOr}
 use Rattle.songcode.specs.Song.{Section, Song}
 use Rattle.songcode.specs.answer.References.{referenceFaults}
-use Rattle.songcode.specs.answer.Playing.{timeAmong, timeOf, played}
+use Rattle.songcode.specs.answer.Playing.{timeAmong, played}
 use Rattle.songcode.specs.description.Performance.{total}
 use Rattle.songcode.specs.answer.Meter.{sectionMeter, meterFaults, sectionCount, lengthFaults}
 use Rattle.songcode.specs.answer.Lyrics.{isCounted, linesTaken, hasCounts, countFaults, sumFaults}
@@ -24,34 +24,35 @@ use Rattle.text.specs.Refusals.{refusalOf, firstGiven}
 use Rattle.player.specs.Texts.{rowWords}
 use Rattle.player.proofs.SectionMeaning.{rows-length, rows-total}
 use Rattle.sections.specs.declared.blocks.Place.{Place}
+use Rattle.sections.specs.declared.values.Keys.{Keys}
 use Rattle.sections.specs.Onward.{Onward, sectionsFrom, sectionAt}
 use Rattle.sections.proofs.MeetLaws.{sections-over}
 use Rattle.outlines.proofs.ChordLaws.{or-false}
 use Rattle.laying.specs.declared.texts.Opened.{Opened}
 use Rattle.laying.specs.Scores.{Begins, Opens}
-use Rattle.laying.proofs.ComplaintLaws.{refused-none}
 use Rattle.judging.specs.declared.measures.Metered.{Metered}
+use Rattle.judging.specs.declared.lyrics.Tally.{Tally}
 use Rattle.judging.specs.declared.singing.Sung.{Sung}
-use Rattle.laying.specs.Rows.{meterOf}
+use Rattle.laying.specs.Rows.{Lays}
 use Rattle.judging.specs.Meters.{meterFault}
 use Rattle.judging.specs.Measures.{withMeasures, meteredRefusal}
-use Rattle.judging.specs.Lyrics.{firstLine, bareLine}
+use Rattle.judging.specs.Lyrics.{firstLine, tallyIn, bareLine}
 use Rattle.judging.specs.Sums.{rowOfTexts, countsOf, withSection, totalsOf, Holds}
-use Rattle.judging.specs.Singing.{sungWith, tallyOf, Singable, lyricRefusal}
+use Rattle.judging.specs.Singing.{sungWith, Singable, lyricRefusal}
 use Rattle.judging.specs.Walking.{nothingMetered, nothingSung, walkRefusal, outcomeOf}
 use Rattle.judging.specs.Stages.{lyricFaults, playingFaults, laterFaults}
-use Rattle.judging.proofs.FaultLaws.{numbered-section}
-use Rattle.judging.proofs.SoonerLaws.{sooner-none}
-use Rattle.laying.proofs.MeterLaws.{meter-is, meter-range}
-use Rattle.judging.proofs.JudgedLaws.{Judged, judged-start, judged-next, judged-end, opened-fault}
+use Rattle.text.specs.Ranks.{least, refusalAt}
+use Rattle.text.proofs.RankLaws.{earliest-least}
+use Rattle.judging.proofs.SmallMeters.{meters-small}
+use Rattle.laying.proofs.MeterLaws.{meter-range}
+use Rattle.judging.proofs.JudgedLaws.{Judged, judged-start, judged-next, judged-clear, judged-end, opened-fault}
 use Rattle.judging.proofs.OpenedLaws.{all-counted}
 use Rattle.judging.proofs.LengthsAreLaws.{LengthsAre, lengths-start, lengths-small, lengths-added, lengths-next, lengths-end}
 use Rattle.judging.proofs.PlayedLaws.{played-short}
 use Rattle.judging.proofs.PlayLaws.{texts-play, texts-within, texts-beats}
-use Rattle.judging.proofs.NumberLaws.{Numbered}
-use Rattle.judging.proofs.TallyLaws.{first-zero}
-use Rattle.judging.proofs.TakenLaws.{takenFrom, taken-numbered, taken-counted, taken-bare, count-refusal}
-use Rattle.judging.proofs.SumLaws.{opened-empty, opened-tally, opened-lined, opened-few, opened-differs, opened-summed, Summed, summed-from, summed-end}
+use Rattle.judging.proofs.TallyLaws.{first-zero, lyrics-inside, lyrics-tallied}
+use Rattle.judging.proofs.TakenLaws.{Numbered, takenFrom, taken-numbered, taken-counted, taken-bare, count-refusal}
+use Rattle.judging.proofs.SumLaws.{opened-empty, lines-numbered, opened-lines, opened-differs, opened-summed, Summed, summed-from, summed-end}
 use Rattle.judging.proofs.OffLaws.{OffIs, off-start, off-next, off-refusal}
 use Rattle.judging.proofs.StageLaws.{stage-passed, given-none, two-stages, groups-given, numbered-meters, numbered-counts}
 use Rattle.judging.proofs.ClearLaws.{measures-clear, song-clear, clear-none}
@@ -92,45 +93,60 @@ sung-start s p b =
 pub walked-start : {s : List ℕ} {p : Place} → Begins s p → Walked s p nothingMetered nothingSung
 walked-start {s} {p} b = record { meters = judged-start s p b; lengths = lengths-start s p b; sung = λ z. sung-start s p b }
 
--- One more section is opened, and played in n.
-module _ {s ws : List ℕ} {p : Place} (r : Opened) (w : Opens s p ws r) (o : Onward s p) (inside : p .at < length s) (small : length s ≤ 65536)
-    {time : ℕ} (t : time ≡ Option·getD (timeAmong (songOf s .keys)) 0) {n : ℕ} (own : n ≡ meterOf (r .section .keys .time) time) where
+-- One more section is laid and opened, and played in its N.
+module _ {s old ws : List ℕ} {p : Place} {keys : Keys} {at : ℕ} (r : Opened) (l : Lays s p keys at old ws r) (o : Onward s p) (inside : p .at < length s)
+    (t : keys .time ≡ Option·getD (timeAmong (songOf s .keys)) 0) where
   abbrev song : Song
   song = songOf s
 
   abbrev here : Section
   here = sectionAt s p
 
-  n-is : n ≡ timeOf song here
-  n-is = own ∙ meter-is song here (w .met .says .time) t
+  abbrev w : Opens s p ws r
+  w = l .opens
+
+  abbrev n : ℕ
+  n = r .meter
+
+  abbrev lines : Tally
+  lines = tallyIn ws (r .lyrics)
+
+  some-beat : 1 ≤ n
+  some-beat =
+      let h = meter-range song here .0 in
+      let e = l .meter in
+      omega arith
 
   few-beats : n ≤ 32
-  few-beats = let h = meter-range song here .1 in let e = n-is in omega arith
+  few-beats =
+      let h = meter-range song here .1 in
+      let e = l .meter in
+      omega arith
 
   module _ (x : Metered) (y : Sung) (before : Walked s p x y) where
     abbrev next : Metered
     next = withMeasures ws n r x
 
-    fault : meterFault (r .section .header) (r .section .modifiers) (r .texts) n ≡ refusalOf (earliest (sectionMeter song here))
-    fault = opened-fault s ws p r w t own refl
+    fault : meterFault (r .section .header) (r .section .modifiers) (r .texts) n ≡ least (sectionMeter song here)
+    fault = opened-fault s ws p r w t (l .said) refl
 
     next-meters : Judged s (r .next) (next .meters)
     unfolding withMeasures
-    next-meters = judged-next s p (r .next) (x .meters) _ (w .met .first) fault (before .meters)
+    next-meters = judged-next s p (x .meters) _ fault (before .meters) (r .next) (w .met .first)
 
     next-lengths : LengthsAre s (r .next) (next .lengths)
     unfolding withMeasures
-    next-lengths = rw own (lengths-next s ws p r w t o inside (x .lengths) (before .lengths))
+    next-lengths = rw (l .said) (lengths-next s ws p r w t o inside (x .lengths) (before .lengths))
 
     -- Stages 4 and 5 refuse nothing up to its end.
     module _ (clear : meteredRefusal next .number ≡ 0) where
-      unrefused : (next .meters .number ≡ 0) × (next .lengths .refusal .number ≡ 0)
+      unrefused : (refusalAt (next .meters) .number ≡ 0) × (next .lengths .refusal .number ≡ 0)
       unfolding meteredRefusal
-      unrefused = given-none (next .meters) (next .lengths .refusal) clear
+      unrefused = given-none (refusalAt (next .meters)) (next .lengths .refusal) clear
 
-      unrefused-meters : (x .meters .number ≡ 0) × (meterFault (r .section .header) (r .section .modifiers) (r .texts) n .number ≡ 0)
+      unrefused-meters : (refusalAt (x .meters) .number ≡ 0) × (sectionMeter song here ≡ [])
       unfolding withMeasures
-      unrefused-meters = sooner-none (x .meters) _ (unrefused .0)
+      unrefused-meters = judged-clear s p (x .meters) _ fault (before .meters) (unrefused .0)
 
       added : (x .lengths .refusal .number ≡ 0) × (next .lengths .measures ≡ x .lengths .measures + sectionCount song here)
       unfolding withMeasures
@@ -145,14 +161,13 @@ module _ {s ws : List ℕ} {p : Place} (r : Opened) (w : Opens s p ws r) (o : On
 
       is : SungIs s p (x .lengths .measures) y
       unfolding meteredRefusal firstGiven if_then_else_
-      is = before .sung (rw (eq-eqb (x .meters .number) 0 (unrefused-meters .0)) (added .0))
+      is = before .sung (rw (eq-eqb (refusalAt (x .meters) .number) 0 (unrefused-meters .0)) (added .0))
 
       row : rowOfTexts ws n (r .texts) (r .section .modifiers) ≡ rowWords (played song here)
       row =
-          rw n-is
+          rw (l .meter)
           (texts-play song here ws (r .texts) (r .section .modifiers) (w .texts) (w .met .says .repeat) (w .met .says .front) (w .met .says .back)
-          (refused-none (sectionMeter song here) (numbered-section song here)
-          (ap (λ (q : Refusal). q .number) (sym fault) ∙ unrefused-meters .1)))
+          (unrefused-meters .1))
 
       measures-are : length (rowOfTexts ws n (r .texts) (r .section .modifiers)) ≡ length (played song here)
       measures-are = ap length row ∙ rows-length (played song here)
@@ -161,16 +176,21 @@ module _ {s ws : List ℕ} {p : Place} (r : Opened) (w : Opens s p ws r) (o : On
       beats-are = ap total row ∙ rows-total (played song here)
 
       few-measures : length (rowOfTexts ws n (r .texts) (r .section .modifiers)) ≤ sectionCount song here
-      few-measures = let a = measures-are in let b = played-short song here in omega arith
+      few-measures =
+          let a = measures-are in
+          let b = played-short song here in
+          omega arith
 
       beats-short : total (rowOfTexts ws n (r .texts) (r .section .modifiers)) ≤ 32 * sectionCount song here
       beats-short = texts-beats song here ws (r .texts) (r .section .modifiers) (w .texts) (w .met .says .repeat) n few-beats
 
-      few-lines : tallyOf s r .lines ≤ 65536
-      unfolding tallyOf
-      few-lines = opened-few r w (tallyOf s r) refl small
+      few-lines : lines .lines ≤ 65536
+      few-lines =
+          let e = opened-lines r w (l .fits .lyrics) lines (lyrics-tallied r l) in
+          let h = l .fits .lyrics-few in
+          omega arith
 
-      sings : Singable s ws n r y
+      sings : Singable ws n r y
       unfolding countsOf
       sings =
           let a = few-measures in
@@ -178,11 +198,10 @@ module _ {s ws : List ℕ} {p : Place} (r : Opened) (w : Opens s p ws r) (o : On
           let d = few-lines in
           let f = few in
           record {
-            small = small;
-            lyrics = w .met .read .lyrics-placed;
+            lyrics = lyrics-inside r l;
             plays =
                 texts-within song here ws (r .texts) (r .section .modifiers) (w .texts) (w .met .says .repeat) n 0 (x .lengths .measures)
-                few-beats (w .met .read .modifiers .front-fits) few (omega arith);
+                some-beat few-beats (w .met .read .modifiers .front-fits) few (omega arith);
             sums =
                 record {
                   sections = omega (arith, is .sections);
@@ -193,16 +212,18 @@ module _ {s ws : List ℕ} {p : Place} (r : Opened) (w : Opens s p ws r) (o : On
           }
 
       abbrev sung : Sung
-      sung = sungWith (r .texts .pattern .outline .empty) (r .section .header) (tallyOf s r) (countsOf ws n (r .texts) (r .section .modifiers)) y
+      sung = sungWith (r .texts .pattern .outline .empty) (r .section .header) lines (countsOf ws n (r .texts) (r .section .modifiers)) y
 
       sung-next : SungIs s (r .next) (next .lengths .measures) sung
-      unfolding sungWith withSection countsOf tallyOf
+      unfolding sungWith withSection countsOf
       sung-next =
           let a = few-measures in
           let b = beats-short in
           let d = few-lines in
-          let f = added .1 in
-          let e = opened-empty r w (tallyOf s r) refl in
+          let g = added .1 in
+          let e = opened-empty r w in
+          let f = l .fits .lyrics in
+          let u = lyrics-tallied r l in
           let first = sym (w .met .first) in
           let rest = sectionsFrom s (r .next) in
           record {
@@ -210,17 +231,17 @@ module _ {s ws : List ℕ} {p : Place} (r : Opened) (w : Opens s p ws r) (o : On
             measures = omega (arith, is .measures);
             beats = omega (arith, is .beats);
             lines = omega (arith, is .lines);
-            summed = opened-summed r w (tallyOf s r) refl (y .sums) _ _ _ refl refl measures-are beats-are (is .summed);
+            summed = opened-summed r w f lines u (y .sums) _ _ _ refl refl measures-are beats-are (is .summed);
             counted =
-                taken-counted song here rest e (y .taken) (opened-tally r w (tallyOf s r) refl)
+                taken-counted song here rest e (y .taken) u
                 ∙ ap (λ (ys : List Section). y .taken .counted || any isCounted (takenFrom song ys)) first ∙ is .counted;
             bare =
-                taken-bare song here rest e (y .taken) (opened-tally r w (tallyOf s r) refl)
+                taken-bare song here rest e (y .taken) u
                 ∙ ap (λ (ys : List Section). firstLine (y .taken .bare) (bareLine (takenFrom song ys))) first ∙ is .bare;
             numbered = λ h.
                 is .numbered (subst (λ (ys : List Section). Numbered (takenFrom song ys)) first
-                (taken-numbered song here rest e (opened-lined r w (tallyOf s r) refl) h));
-            off = off-next r w o (y .off) _ (opened-differs r w (tallyOf s r) refl _ measures-are) (is .off);
+                (taken-numbered song here rest e (lines-numbered (here .lyrics) f) h));
+            off = off-next r w o (y .off) _ (opened-differs r w f lines u _ measures-are) (is .off);
           }
 
       walked-sung : Walked s (r .next) next sung
@@ -234,10 +255,10 @@ module _ {s ws : List ℕ} {p : Place} (r : Opened) (w : Opens s p ws r) (o : On
     unrefused-yet : q .number ≡ 0 → meteredRefusal (withMeasures ws n r x) .number ≡ 0
     unrefused-yet h = ap (λ (m : Metered). meteredRefusal m .number) (sym e) ∙ ap (λ (m : Refusal). m .number) (sym f) ∙ h
 
-    pub walk-sings : q .number ≡ 0 → Singable s ws n r y
+    pub walk-sings : q .number ≡ 0 → Singable ws n r y
     walk-sings h = sings x y before (unrefused-yet h)
 
-    pub walk-on : (h : q .number ≡ 0) {v : Sung} → v ≡ sungWith (r .texts .pattern .outline .empty) (r .section .header) (tallyOf s r)
+    pub walk-on : (h : q .number ≡ 0) {v : Sung} → v ≡ sungWith (r .texts .pattern .outline .empty) (r .section .header) lines
         (countsOf ws n (r .texts) (r .section .modifiers)) y → Walked s (r .next) z v
     walk-on h g = rw (e, g) (walked-sung x y before (unrefused-yet h))
 
@@ -247,15 +268,16 @@ module _ {s ws : List ℕ} {p : Place} (r : Opened) (w : Opens s p ws r) (o : On
         (λ a. h (ap (λ (m : Refusal). m .number) f ∙ ap (λ (m : Metered). meteredRefusal m .number) e ∙ a)))
 
 -- Behind the last section.
-module _ {s : List ℕ} {p : Place} (over : length s ≤ p .at) (x : Metered) (y : Sung) (w : Walked s p x y) where
+module _ {s : List ℕ} {p : Place} (small : length s ≤ 65536) (over : length s ≤ p .at) (x : Metered) (y : Sung) (w : Walked s p x y) where
   abbrev all : Song
   all = songOf s
 
   metered-verdict : meteredRefusal x ≡ refusalOf (verdict (meterFaults all ∷ lengthFaults all 0 (all .sections) ∷ []))
   unfolding meteredRefusal
   metered-verdict =
-      two-stages (meterFaults all) (lengthFaults all 0 (all .sections)) (x .meters) (x .lengths .refusal) (numbered-meters all)
-      (judged-end s p (x .meters) over (w .meters)) (lengths-end s p (x .lengths) over (w .lengths))
+      two-stages (meterFaults all) (lengthFaults all 0 (all .sections)) (refusalAt (x .meters)) (x .lengths .refusal) (numbered-meters all)
+      (ap refusalAt (judged-end s p (x .meters) over (w .meters)) ∙ earliest-least (meterFaults all) (meters-small s small))
+      (lengths-end s p (x .lengths) over (w .lengths))
 
   lyric-verdict : meteredRefusal x .number ≡ 0 → lyricRefusal y ≡ refusalOf (verdict (lyricFaults all))
   unfolding lyricRefusal lyricFaults Each flatMap any bareLine

@@ -1,8 +1,8 @@
 -- A chart that stages 3 to 7 have judged.
-use Prim.Native.Nat.{ℕ, _≤_}
+use Prim.Native.Nat.{ℕ, _+_, _<_, _≤_}
 use mathlib.Core.Path.{_≡_}
 use mathlib.Core.List.{List, []}
-use lib.ListN.{length}
+use lib.ListN.{length, take}
 use Rattle.songcode.specs.Complaints.{verdict}
 use Rattle.songcode.specs.Song.{Song}
 use Rattle.songcode.specs.answer.References.{referenceFaults}
@@ -13,12 +13,12 @@ use Rattle.songcode.specs.answer.Answer.{songOf}
 use Rattle.text.specs.Refusals.{refusalOf}
 use Rattle.score.specs.declared.stretches.Stretch.{Stretch}
 use Rattle.score.specs.Fitting.{SectionsFit}
-use Rattle.score.specs.Seen.{RowFrom}
+use Rattle.outlines.specs.Rows.{definitionsRow, blocksRow, scoreOf}
 use Rattle.judging.specs.declared.charts.Chart.{Chart}
 use Rattle.judging.specs.declared.walking.Outcome.{Outcome}
 use Rattle.laying.specs.declared.definitions.Loaded.{Loaded}
-use Rattle.laying.specs.Metadata.{MetadataEnds}
-use Rattle.laying.specs.Scores.{Ready, Begins}
+use Rattle.laying.specs.Fronts.{DefinitionsFit}
+use Rattle.laying.specs.Scores.{Begins}
 use Rattle.judging.specs.Sums.{Holds}
 use Rattle.judging.specs.Stages.{laterFaults}
 
@@ -30,25 +30,32 @@ pub record Clear (song : Song) : Type 0 where
   pub counts : countFaults song ≡ []
   pub sums : sumFaults song ≡ []
 
--- The row holds the song's definitions and then all its sections, and nothing is wrong with the song.
-pub record Laid (s ws : List ℕ) (rows : Stretch) : Type 0 where
-  pub mark : ℕ
-  pub ready : Ready s ws mark
-  pub row : RowFrom (songOf s) ws (rows .from) (rows .to) (songOf s .sections)
+-- Where the sections of the song stand in its row, and that every field has room.
+pub record Sized (s ws : List ℕ) (rows : Stretch) : Type 0 where
+  pub small : length s ≤ 65536
+  pub room : length s < length ws
+  pub from : rows .from ≡ length (definitionsRow (songOf s .definitions) (songOf s .definitions)) + 1
+  pub to : rows .to ≡ length (blocksRow (songOf s))
+  pub short : rows .to ≤ length s + 3
+  pub few : length (songOf s .definitions) ≤ 26
+  pub defined : DefinitionsFit (songOf s .definitions) (songOf s .definitions)
   pub fits : SectionsFit (songOf s) (songOf s .sections)
+
+-- The row begins with the whole song, and nothing is wrong with the song.
+pub record Laid (s ws : List ℕ) (rows : Stretch) : Type 0 where
+  pub whole : take (length (scoreOf (songOf s))) ws ≡ scoreOf (songOf s)
+  pub sized : Sized s ws rows
   pub clear : Clear (songOf s)
 
--- Nothing is refused: the row holds the definitions and behind them the sections, and so many words the tables take.
+-- Nothing is refused: the row begins with the definitions and sections of the song, and so many words the tables take.
 pub record LaidOut (s : List ℕ) (ws : List ℕ) (l : Loaded) (r : Outcome) : Type 0 where
   pub early : l .refusal .number ≡ 0
-  pub ready : Ready s ws (l .mark)
-  pub row : RowFrom (songOf s) ws (r .rows .from) (r .rows .to) (songOf s .sections)
-  pub fits : SectionsFit (songOf s) (songOf s .sections)
+  pub blocks : take (r .rows .to) ws ≡ blocksRow (songOf s)
+  pub sized : Sized s ws (r .rows)
   pub holds : Holds (tables (songOf s)) (r .totals)
 
--- The song can be written: the row holds its definitions and its sections, and nothing is wrong with it.
+-- The song can be written: it is laid, and so many words its tables take.
 pub record Writable (s : List ℕ) (ws : List ℕ) (r : Chart) : Type 0 where
-  pub ends : MetadataEnds s (r .end)
   pub begins : Begins s (r .first)
   pub laid : Laid s ws (r .rows)
   pub holds : Holds (tables (songOf s)) (r .totals)

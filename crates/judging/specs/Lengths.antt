@@ -1,5 +1,6 @@
 -- What stage 5 finds of a section: its measures before cuts, and whether its cuts leave a beat.
 use Prim.Native.Nat.{ℕ, _+_, _-_, _*_, _≤_}
+use mathlib.Core.Path.{_≡_}
 use mathlib.Core.Bool.{Bool, not, _||_}
 use mathlib.Core.List.{List}
 use lib.Dec.{eqb, ltb}
@@ -14,7 +15,10 @@ use Rattle.settings.specs.declared.cuts.CutRead.the-variants as read
 use Rattle.player.specs.declared.playing.Arrangement.{Arrangement}
 use Rattle.player.specs.Walks.{rowOf}
 use Rattle.player.specs.Windows.{firstBeat, lastBeat}
+use Rattle.player.specs.Even.{Even}
+use Rattle.outlines.specs.Even.{evenIn}
 use Rattle.sections.specs.declared.values.Modifiers.{Modifiers}
+use Rattle.laying.specs.declared.texts.Text.{Text}
 use Rattle.laying.specs.declared.texts.Texts.{Texts}
 use Rattle.laying.specs.Rows.{hasCut}
 use Rattle.judging.specs.declared.lengths.Lengths.{Lengths}
@@ -34,6 +38,7 @@ arrangementOf n t m =
       repeat = m .repeat;
       front = cutOrNone (m .front);
       back = cutOrNone (m .back);
+      even = evenIn (t .pattern .outline) n;
     }
 
 unfoldable pub countOfTexts : Modifiers → Texts → ℕ
@@ -72,6 +77,10 @@ withLengths ws n header m t x =
     }
     else x
 
+-- Where its outline tells so, each measure of a text has n beats.
+abbrev pub EvenText : List ℕ → ℕ → Text → Type 0
+EvenText ws n t = (evenIn (t .outline) n ≡ 0 → ⊥) → Even n (evenIn (t .outline) n) (rowOf n ws (t .at))
+
 -- The numbers of a section are small, and where its measures are few enough, all that its pattern plays are counted.
 pub record Measurable (ws : List ℕ) (n : ℕ) (m : Modifiers) (t : Texts) : Type 0 where
   pub meter : n ≤ 32
@@ -81,3 +90,4 @@ pub record Measurable (ws : List ℕ) (n : ℕ) (m : Modifiers) (t : Texts) : Ty
   pub pattern : t .pattern .outline .measures ≤ 65536
   pub tail : t .tail .outline .measures ≤ 65536
   pub played : countOfTexts m t ≤ 65535 → length (times (m .repeat) (rowOf n ws (t .pattern .at))) ≤ 65535
+  pub even : EvenText ws n (t .pattern)

@@ -1,4 +1,5 @@
 -- What the contracts of stages 3 to 7 say, over the definitions of songcode.
+pub mod References
 pub mod Meters
 pub mod Lengths
 pub mod Measures

@@ -1,14 +1,17 @@
 -- Lyric lines summed up: how many they are, their counts, and the first line without one.
-use Prim.Native.Nat.{ℕ, _+_}
-use mathlib.Core.Bool.{Bool, true, not, _||_, _&&_}
+use Prim.Native.Nat.{ℕ, _+_, _≤_}
+use mathlib.Core.Path.{_≡_}
+use mathlib.Core.Bool.{Bool, true, false, not, _||_, _&&_}
 use mathlib.Core.List.{List, [], _∷_}
 use lib.Dec.{eqb, ltb}
-use lib.ListN.{length}
+use lib.ListN.{length, take, drop}
 use Rattle.songcode.specs.Lists.{if_then_else_, any}
 use Rattle.songcode.specs.Song.{LyricLine}
 use Rattle.songcode.specs.answer.Lyrics.{isCounted, counted}
 use Rattle.text.specs.declared.Refusal.{Refusal}
 use Rattle.text.specs.Refusals.{nothingRefused}
+use Rattle.score.specs.declared.stretches.Stretch.{Stretch}
+use Rattle.score.specs.LyricLines.{lyricIn}
 use Rattle.judging.specs.declared.lyrics.Tally.{Tally}
 use Rattle.judging.specs.declared.lyrics.Taken.{Taken}
 
@@ -22,6 +25,25 @@ unfolding if_then_else_ firstLine
 withLine t number count =
     if eqb count 0 then record { lines = t .lines + 1; sum = t .sum; counted = t .counted; bare = firstLine (t .bare) number }
     else record { lines = t .lines + 1; sum = t .sum + count; counted = true; bare = t .bare }
+
+abbrev pub noLines : Tally
+noLines = record { lines = 0; sum = 0; counted = false; bare = 0 }
+
+-- With the lines whose words in the row these are, two words a line.
+unfoldable pub tallyWords : Tally → List ℕ → Tally
+unfolding withLine
+tallyWords t [] = t
+tallyWords t (a ∷ []) = t
+tallyWords t (a ∷ b ∷ ws) = tallyWords (withLine t (lyricIn a b .number) (lyricIn a b .count)) ws
+
+unfoldable pub tallyIn : List ℕ → Stretch → Tally
+unfolding tallyWords
+tallyIn ws t = tallyWords noLines (drop (t .from) (take (t .to) ws))
+
+-- The stretch lies in the row.
+pub record Inside (ws : List ℕ) (t : Stretch) : Type 0 where
+  pub low : t .to ≤ 1000000
+  pub size : t .to ≡ t .from + length (drop (t .from) (take (t .to) ws))
 
 -- The least number of a line without a count; 0 if all have one.
 unfoldable pub bareLine : List LyricLine → ℕ

@@ -1,8 +1,9 @@
 -- What stages 4 and 5 find from section to section.
-use Prim.Native.Nat.{ℕ}
+use Prim.Native.Nat.{ℕ, min}
 use mathlib.Core.List.{List}
 use Rattle.text.specs.declared.Refusal.{Refusal}
-use Rattle.text.specs.Refusals.{firstGiven, soonerOf}
+use Rattle.text.specs.Refusals.{firstGiven}
+use Rattle.text.specs.Ranks.{refusalAt}
 use Rattle.laying.specs.declared.texts.Opened.{Opened}
 use Rattle.judging.specs.declared.measures.Metered.{Metered}
 use Rattle.judging.specs.Meters.{meterFault}
@@ -10,13 +11,13 @@ use Rattle.judging.specs.Lengths.{withLengths}
 
 -- With one more section, played in n.
 unfoldable pub withMeasures : List ℕ → ℕ → Opened → Metered → Metered
-unfolding soonerOf meterFault withLengths
+unfolding meterFault withLengths
 withMeasures ws n x y =
     record {
-      meters = soonerOf (y .meters) (meterFault (x .section .header) (x .section .modifiers) (x .texts) n);
+      meters = min (y .meters) (meterFault (x .section .header) (x .section .modifiers) (x .texts) n);
       lengths = withLengths ws n (x .section .header) (x .section .modifiers) (x .texts) (y .lengths);
     }
 
 unfoldable pub meteredRefusal : Metered → Refusal
-unfolding firstGiven
-meteredRefusal x = firstGiven (x .meters) (x .lengths .refusal)
+unfolding firstGiven refusalAt
+meteredRefusal x = firstGiven (refusalAt (x .meters)) (x .lengths .refusal)

@@ -1,21 +1,17 @@
 -- What stages 6 and 7 sum up from section to section, where the stages before refuse nothing.
 use Prim.Native.Nat.{ℕ, _+_, _≤_}
 use mathlib.Core.Bool.{Bool, not, _&&_}
-use mathlib.Core.List.{List, map}
+use mathlib.Core.List.{List}
 use lib.Dec.{eqb}
-use lib.ListN.{length}
 use Rattle.songcode.specs.Lists.{if_then_else_}
-use Rattle.songcode.specs.answer.Sections.{lyricLine}
 use Rattle.text.specs.declared.Refusal.{Refusal}
 use Rattle.text.specs.Refusals.{firstGiven, nothingRefused}
 use Rattle.player.specs.declared.playing.Counts.{Counts}
-use Rattle.sections.specs.Runs.{linesOf}
-use Rattle.sections.specs.BlockParts.{Placed}
 use Rattle.laying.specs.declared.texts.Opened.{Opened}
 use Rattle.judging.specs.declared.lyrics.Tally.{Tally}
 use Rattle.judging.specs.declared.sums.Sums.{Sums}
 use Rattle.judging.specs.declared.singing.Sung.{Sung}
-use Rattle.judging.specs.Lyrics.{tallied, takenWith, countFault}
+use Rattle.judging.specs.Lyrics.{Inside, tallyIn, takenWith, countFault}
 use Rattle.judging.specs.Sums.{TextsWithin, countsOf, hasPrompts, sumDiffers, withSection}
 
 -- The first header whose section's counts do not sum to its measures; 0 is none.
@@ -33,11 +29,6 @@ sungWith empty header t c y =
       sums = withSection (y .sums) c (t .lines) (hasPrompts empty t);
     }
 
--- The tally of the lyric lines of a section that is opened.
-unfoldable pub tallyOf : List ℕ → Opened → Tally
-unfolding tallied
-tallyOf s x = tallied (map lyricLine (linesOf s (x .section .lyrics)))
-
 -- The sums stay small.
 pub record Addable (x : Sums) (c : Counts) (t : Tally) : Type 0 where
   pub sections : x .sections ≤ 65536
@@ -46,11 +37,10 @@ pub record Addable (x : Sums) (c : Counts) (t : Tally) : Type 0 where
   pub lines : x .lines + t .lines ≤ 4295032832
 
 -- The section that is opened can be counted.
-pub record Singable (s ws : List ℕ) (n : ℕ) (x : Opened) (y : Sung) : Type 0 where
-  pub small : length s ≤ 65536
-  pub lyrics : Placed s (x .section .lyrics)
+pub record Singable (ws : List ℕ) (n : ℕ) (x : Opened) (y : Sung) : Type 0 where
+  pub lyrics : Inside ws (x .lyrics)
   pub plays : TextsWithin ws n (x .texts) (x .section .modifiers) 0
-  pub sums : Addable (y .sums) (countsOf ws n (x .texts) (x .section .modifiers)) (tallyOf s x)
+  pub sums : Addable (y .sums) (countsOf ws n (x .texts) (x .section .modifiers)) (tallyIn ws (x .lyrics))
 
 -- What stage 7 refuses, where the lines have counts.
 unfoldable pub offFault : Bool → ℕ → Refusal

@@ -4,6 +4,7 @@ use lib.Dec.{eqb}
 use Rattle.songcode.specs.Lists.{if_then_else_}
 use Rattle.text.specs.declared.Refusal.{Refusal}
 use Rattle.text.specs.Refusals.{firstGiven, nothingRefused}
+use Rattle.text.specs.Ranks.{none}
 use Rattle.judging.specs.declared.measures.Metered.{Metered}
 use Rattle.judging.specs.declared.sums.Totals.{Totals}
 use Rattle.judging.specs.declared.singing.Sung.{Sung}
@@ -12,7 +13,7 @@ use Rattle.judging.specs.Sums.{refusedWith, totalsOf}
 use Rattle.judging.specs.Singing.{lyricRefusal}
 
 abbrev pub nothingMetered : Metered
-nothingMetered = record { meters = nothingRefused; lengths = record { refusal = nothingRefused; measures = 0 } }
+nothingMetered = record { meters = none; lengths = record { refusal = nothingRefused; measures = 0 } }
 
 abbrev pub nothingSung : Sung
 nothingSung =

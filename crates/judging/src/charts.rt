@@ -1,6 +1,8 @@
 // A chart judged by stages 3 to 7: what the writers of the tables need to know of it.
 use super::stages::later_stages;
 use super::sums::Totals;
+use super::walking::Outcome;
+use laying::lay_keys;
 use laying::lines_before;
 use laying::load;
 use laying::metadata_end;
@@ -10,17 +12,38 @@ use sections::keys_of;
 ghost use mathlib.Core.Path.{_≡_};
 ghost use mathlib.Core.List.{[]};
 ghost use Prim.Native.Nat.{_+_, _≤_};
-ghost use lib.ListN.{length};
-ghost use Rattle.songcode.specs.answer.Answer.{inputFaults, blocksOf};
+ghost use lib.ListN.{length, take};
+ghost use Rattle.songcode.specs.answer.Answer.{inputFaults, blocksOf, songOf};
 ghost use Rattle.songcode.specs.answer.SongText.{textFaults};
-ghost use Rattle.judging.specs.Charts.{Judges};
+ghost use Rattle.packing.specs.Written.{written};
+ghost use Rattle.outlines.specs.Rows.{blocksRow, scoreOf};
+ghost use Rattle.laying.specs.Metadata.{MetadataEnds};
+ghost use Rattle.judging.specs.Charts.{Sized, Judges};
 
-// Where the metadata ends, where its sections begin in the text, where they stand in the row, and what its tables will hold.
+// Where its sections begin in the text, where they stand in the row, and what its tables will hold. The words of the keys stand behind the sections.
 pub struct Chart {
-    pub end: Place,
     pub first: Place,
     pub rows: Stretch,
     pub totals: Totals,
+}
+
+// Where nothing is refused, the words of the keys behind the sections.
+fn add_keys(s: &[u8], end: Place, outcome: Outcome, words: &mut [u32])
+    requires text { ⌜ (inputFaults (now s) ≡ []) × (length (now s) ≤ 65536) × (textFaults (blocksOf (now s)) ≡ []) × MetadataEnds (now s) end
+        × (length (now s) + 16 ≤ length (now words)) ⌝ }
+    requires row { ⌜ (outcome .totals .refusal .number ≡ 0
+        → (take (outcome .rows .to) (now words) ≡ blocksRow (songOf (now s))) × Sized (now s) (now words) (outcome .rows)) ⌝ }
+    ensures { λ _. ⌜ (outcome .totals .refusal .number ≡ 0 → (now (words .exit) ≡ written (scoreOf (songOf (now (s .entry)))) (now (words .entry)))
+        × (length (now (words .exit)) ≡ length (now (words .entry)))) ⌝ }
+{
+    let totals = outcome.totals;
+    let refusal = totals.refusal;
+    if refusal.number != 0 {
+        return;
+    }
+    let rows = outcome.rows;
+    let at = rows.to;
+    lay_keys(s, end, &mut words[at..]);
 }
 
 pub fn judge(s: &[u8], words: &mut [u32]) -> Chart
@@ -31,11 +54,11 @@ pub fn judge(s: &[u8], words: &mut [u32]) -> Chart
     let song = keys_of(s, lines_before(end));
     let loaded = load(s, end, words);
     let outcome = later_stages(s, loaded, song, words);
+    add_keys(s, end, outcome, words);
     let first = loaded.sections;
     let rows = outcome.rows;
     let totals = outcome.totals;
     Chart {
-        end,
         first,
         rows,
         totals,

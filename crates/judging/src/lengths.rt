@@ -1,6 +1,7 @@
 // Stage 5 of a section: the song's measures up to its end, and cuts that leave a beat.
 use laying::Texts;
 use laying::has_cut;
+use outlines::even_measures;
 use player::Arrangement;
 use player::planned;
 use sections::Modifiers;
@@ -18,7 +19,7 @@ ghost use lib.ListN.{length};
 ghost use Rattle.songcode.specs.Lists.{times};
 ghost use Rattle.settings.specs.Cuts.{CutFits};
 ghost use Rattle.player.specs.Walks.{rowOf};
-ghost use Rattle.judging.specs.Lengths.{cutOrNone, arrangementOf, countOfTexts, isModified, cutAway, lengthFault, Measurable, withLengths};
+ghost use Rattle.judging.specs.Lengths.{cutOrNone, arrangementOf, countOfTexts, isModified, cutAway, lengthFault, EvenText, Measurable, withLengths};
 
 // A cut that takes nothing where there is none.
 fn cut_or_none(c: CutRead) -> Cut
@@ -55,6 +56,7 @@ pub fn arrangement(n: usize, t: Texts, m: Modifiers) -> Arrangement
         repeat: m.repeat,
         front: start,
         back: end,
+        even: even_measures(own.outline, n),
     }
 }
 
@@ -92,7 +94,8 @@ fn is_modified(m: Modifiers) -> bool
 
 // Whether no beat is left, or a modifier stands on an empty pattern.
 fn is_cut_away(words: &[u32], n: usize, m: Modifiers, t: Texts) -> bool
-    requires { ⌜ (n ≤ 32) × CutFits (m .front) × (length (times (m .repeat) (rowOf n (now words) (t .pattern .at))) ≤ 65535) ⌝ }
+    requires { ⌜ (n ≤ 32) × CutFits (m .front) × (length (times (m .repeat) (rowOf n (now words) (t .pattern .at))) ≤ 65535)
+        × EvenText (now words) n (t .pattern) ⌝ }
     ensures { λ r. ⌜ r ≡ cutAway (now (words .entry)) n m t ⌝ }
 {
     let pattern = t.pattern;

@@ -12,5 +12,6 @@ mod walking;
 
 pub use charts::Chart;
 pub use charts::judge;
+pub use lyrics::tally_lyrics;
 pub use stages::first_stages;
 pub use sums::Totals;

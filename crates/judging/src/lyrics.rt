@@ -1,18 +1,13 @@
 // Stage 6: if one of the lyric lines taken has a count, all have.
-use sections::Run;
-use settings::lyric_words;
+use score::LYRIC;
+use score::Stretch;
+use score::lyric_at;
 use text::COUNT_MISSING;
 use text::NOTHING;
 use text::Refusal;
-use text::line_at;
 ghost use mathlib.Core.Path.{_≡_};
-ghost use mathlib.Core.List.{map};
 ghost use Prim.Native.Nat.{_+_, _≤_, _<_, _*_};
-ghost use lib.ListN.{length};
-ghost use Rattle.songcode.specs.answer.Sections.{lyricLine};
-ghost use Rattle.sections.specs.Runs.{linesOf};
-ghost use Rattle.sections.specs.BlockParts.{Placed};
-ghost use Rattle.judging.specs.Lyrics.{firstLine, withLine, tallied, takenWith, countFault};
+ghost use Rattle.judging.specs.Lyrics.{firstLine, withLine, Inside, tallyIn, takenWith, countFault};
 
 // Of some lyric lines: how many they are, the sum of their counts, whether one has a count, and the least number of a line that has none, 0 if all have.
 pub struct Tally {
@@ -37,7 +32,7 @@ fn first_line(a: usize, b: usize) -> usize
 
 // With one more line; a count of 0 is none.
 fn with_line(t: Tally, number: usize, count: usize) -> Tally
-    requires { ⌜ (t .lines ≤ 65536) × (t .sum ≤ 9999 * 65536) × (count ≤ 9999) ⌝ }
+    requires { ⌜ (t .lines ≤ 1000000) × (t .sum ≤ 16383 * 1000000) × (count ≤ 16383) ⌝ }
     ensures { λ r. ⌜ r ≡ withLine t number count ⌝ }
 {
     if count != 0 {
@@ -56,30 +51,23 @@ fn with_line(t: Tally, number: usize, count: usize) -> Tally
     }
 }
 
-// The lyric lines of a run.
-pub fn tally_lyrics(s: &[u8], run: Run) -> Tally
-    requires { ⌜ Placed (now s) run × (length (now s) ≤ 65536) ⌝ }
-    ensures { λ r. ⌜ r ≡ tallied (map lyricLine (linesOf (now (s .entry)) run)) ⌝ }
+// The lyric lines of a stretch of the row, two words a line.
+pub fn tally_lyrics(words: &[u32], lines: Stretch) -> Tally
+    requires { ⌜ Inside (now words) lines ⌝ }
+    ensures { λ r. ⌜ r ≡ tallyIn (now (words .entry)) lines ⌝ }
 {
-    let mut number = run.number;
-    let mut at = run.at;
-    let mut left = run.lines;
+    let end = lines.to;
+    let mut at = lines.from;
     let mut t = Tally {
         lines: 0,
         sum: 0,
         counted: false,
         bare: 0,
     };
-    while at < s.len() {
-        if left == 0 {
-            return t;
-        }
-        let line = line_at(s, number, at);
-        let words = lyric_words(s, line.start, line.stop);
-        t = with_line(t, number, words.count);
-        number += 1;
-        at = line.next;
-        left -= 1;
+    while at + 1 < end {
+        let line = lyric_at(words, at);
+        t = with_line(t, line.number, line.count);
+        at += LYRIC;
     }
     t
 }

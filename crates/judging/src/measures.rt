@@ -5,15 +5,16 @@ use super::meters::meter_fault;
 use laying::Opened;
 use text::Refusal;
 use text::first_given;
-use text::sooner;
+use text::least_of;
+use text::refusal_at;
 ghost use mathlib.Core.Path.{_≡_};
 ghost use Prim.Native.Nat.{_≤_};
 ghost use Rattle.judging.specs.Lengths.{Measurable};
 ghost use Rattle.judging.specs.Measures.{withMeasures, meteredRefusal};
 
-// What stage 4 refuses of the sections so far, number 0 if nothing, and what stage 5 found in them.
+// What stage 4 complains of first in the sections so far, and what stage 5 found in them.
 pub struct Metered {
-    pub meters: Refusal,
+    pub meters: usize,
     pub lengths: Lengths,
 }
 
@@ -24,7 +25,7 @@ pub fn with_measures(words: &[u32], n: usize, x: Opened, y: Metered) -> Metered
 {
     let section = x.section;
     let fault = meter_fault(section.header, section.modifiers, x.texts, n);
-    let meters = sooner(y.meters, fault);
+    let meters = least_of(y.meters, fault);
     let lengths = with_lengths(
         words,
         n,
@@ -41,5 +42,5 @@ pub fn metered_refusal(x: Metered) -> Refusal
     ensures { λ r. ⌜ r ≡ meteredRefusal x ⌝ }
 {
     let lengths = x.lengths;
-    first_given(x.meters, lengths.refusal)
+    first_given(refusal_at(x.meters), lengths.refusal)
 }

@@ -5,33 +5,21 @@ use outlines::sizes_fit;
 use sections::Modifiers;
 use text::DIVISION;
 use text::NO_CHORD_BEFORE;
-use text::NOTHING;
-use text::Refusal;
-use text::sooner;
+use text::complain_if;
+use text::least_of;
 ghost use mathlib.Core.Path.{_≡_};
 ghost use Rattle.judging.specs.Meters.{textFault, meterFault};
 
-// What is wrong with a text in N, on that line.
-fn text_fault(o: Outline, n: usize, line: usize) -> Refusal
+// What a text is complained of in N, on that line.
+fn text_fault(o: Outline, n: usize, line: usize) -> usize
     ensures { λ r. ⌜ r ≡ textFault o n line ⌝ }
 {
-    if !sizes_fit(o.sizes, n) {
-        return Refusal {
-            number: DIVISION,
-            line,
-        };
-    }
-    if o.wants {
-        return Refusal {
-            number: NO_CHORD_BEFORE,
-            line,
-        };
-    }
-    NOTHING
+    let twelve = complain_if(!sizes_fit(o.sizes, n), DIVISION, line);
+    least_of(twelve, complain_if(o.wants, NO_CHORD_BEFORE, line))
 }
 
 // A section's pattern names the header, its lead-in and tail their own lines.
-pub fn meter_fault(header: usize, m: Modifiers, t: Texts, n: usize) -> Refusal
+pub fn meter_fault(header: usize, m: Modifiers, t: Texts, n: usize) -> usize
     ensures { λ r. ⌜ r ≡ meterFault header m t n ⌝ }
 {
     let before = m.before;
@@ -39,9 +27,9 @@ pub fn meter_fault(header: usize, m: Modifiers, t: Texts, n: usize) -> Refusal
     let pattern = t.pattern;
     let lead = t.lead;
     let tail = t.tail;
-    let sides = sooner(
+    let sides = least_of(
         text_fault(lead.outline, n, before.line),
         text_fault(tail.outline, n, after.line),
     );
-    sooner(text_fault(pattern.outline, n, header), sides)
+    least_of(text_fault(pattern.outline, n, header), sides)
 }

@@ -16,8 +16,9 @@ use text::NOTHING;
 use text::Refusal;
 use text::first_given;
 ghost use mathlib.Core.Path.{_≡_};
+ghost use Rattle.judging.specs.Lyrics.{tallyIn};
 ghost use Rattle.judging.specs.Sums.{countsOf};
-ghost use Rattle.judging.specs.Singing.{offWith, sungWith, tallyOf, Addable, Singable, offFault, lyricRefusal};
+ghost use Rattle.judging.specs.Singing.{offWith, sungWith, Addable, Singable, offFault, lyricRefusal};
 
 // Of the sections so far: the lyric lines taken, the header of the first whose counts do not sum to its measures, 0 if there is none,
 // and what they hold.
@@ -48,16 +49,16 @@ fn sung_with(empty: bool, header: usize, t: Tally, c: Counts, y: Sung) -> Sung
 }
 
 // The section that is opened, played in n and counted.
-pub fn sing(s: &[u8], words: &[u32], n: usize, x: Opened, y: Sung) -> Sung
-    requires { ⌜ Singable (now s) (now words) n x y ⌝ }
+pub fn sing(words: &[u32], n: usize, x: Opened, y: Sung) -> Sung
+    requires { ⌜ Singable (now words) n x y ⌝ }
     ensures { λ r. ⌜ r ≡ sungWith (x .texts .pattern .outline .empty) (x .section .header)
-        (tallyOf (now (s .entry)) x) (countsOf (now (words .entry)) n (x .texts) (x .section .modifiers)) y ⌝ }
+        (tallyIn (now (words .entry)) (x .lyrics)) (countsOf (now (words .entry)) n (x .texts) (x .section .modifiers)) y ⌝ }
 {
     let section = x.section;
     let texts = x.texts;
     let pattern = texts.pattern;
     let outline = pattern.outline;
-    let t = tally_lyrics(s, section.lyrics);
+    let t = tally_lyrics(words, x.lyrics);
     let c = counts_of(words, n, texts, section.modifiers);
     sung_with(outline.empty, section.header, t, c, y)
 }

@@ -16,21 +16,22 @@ use laying::lay_section;
 use score::Stretch;
 use sections::Keys;
 use sections::Place;
+use text::NO_COMPLAINT;
 use text::NOTHING;
 use text::first_given;
 ghost use mathlib.Core.Path.{_≡_};
 ghost use mathlib.Core.List.{[]};
 ghost use Prim.Native.Nat.{_+_, _≤_};
-ghost use lib.ListN.{length};
+ghost use lib.ListN.{length, take};
 ghost use Rattle.songcode.specs.Complaints.{verdict};
 ghost use Rattle.songcode.specs.answer.References.{definitionsReferences};
 ghost use Rattle.songcode.specs.answer.Tables.{tables};
 ghost use Rattle.songcode.specs.answer.Answer.{songOf};
 ghost use Rattle.text.specs.Refusals.{refusalOf};
-ghost use Rattle.score.specs.Fitting.{SectionsFit};
-ghost use Rattle.score.specs.Seen.{RowFrom};
+ghost use Rattle.outlines.specs.Rows.{blocksRow};
 ghost use Rattle.laying.specs.Scores.{Begins, Ready};
 ghost use Rattle.laying.specs.Rows.{SongKeys};
+ghost use Rattle.judging.specs.Charts.{Sized};
 ghost use Rattle.judging.specs.Sums.{Holds};
 ghost use Rattle.judging.specs.Stages.{laterFaults};
 ghost use Rattle.judging.specs.Walking.{nothingMetered, nothingSung, outcomeOf};
@@ -39,7 +40,7 @@ fn nothing_metered() -> Metered
     ensures { λ r. ⌜ r ≡ nothingMetered ⌝ }
 {
     Metered {
-        meters: NOTHING,
+        meters: NO_COMPLAINT,
         lengths: Lengths {
             refusal: NOTHING,
             measures: 0,
@@ -90,9 +91,8 @@ pub fn walk(s: &[u8], song: Keys, mark: usize, first: Place, words: &mut [u32]) 
     ensures refusal { λ r. ⌜ r .totals .refusal ≡ refusalOf (verdict (laterFaults (songOf (now (s .entry))))) ⌝ }
     ensures holds { λ r. ⌜ (r .totals .refusal .number ≡ 0 → Holds (tables (songOf (now (s .entry)))) (r .totals)) ⌝ }
     ensures row { λ r. ⌜ (r .totals .refusal .number ≡ 0
-        → RowFrom (songOf (now (s .entry))) (now (words .exit)) (r .rows .from) (r .rows .to) (songOf (now (s .entry)) .sections)
-        × SectionsFit (songOf (now (s .entry))) (songOf (now (s .entry)) .sections)) ⌝ }
-    ensures ready { λ r. ⌜ Ready (now (s .entry)) (now (words .exit)) mark × (length (now (words .exit)) ≡ length (now (words .entry))) ⌝ }
+        → (take (r .rows .to) (now (words .exit)) ≡ blocksRow (songOf (now (s .entry)))) × Sized (now (s .entry)) (now (words .exit)) (r .rows)) ⌝ }
+    ensures length { λ r. ⌜ length (now (words .exit)) ≡ length (now (words .entry)) ⌝ }
 {
     let mut place = first;
     let from = mark + 1;
@@ -102,7 +102,7 @@ pub fn walk(s: &[u8], song: Keys, mark: usize, first: Place, words: &mut [u32]) 
     while place.at < s.len() {
         let x = lay_section(s, place, song, at, words);
         let section = x.section;
-        let fault = name_fault(s, words, section.pattern, section.header);
+        let fault = name_fault(words, x.named, section.header);
         if fault.number != 0 {
             return Outcome {
                 totals: refused(fault),
@@ -112,7 +112,7 @@ pub fn walk(s: &[u8], song: Keys, mark: usize, first: Place, words: &mut [u32]) 
         metered = with_measures(words, x.meter, x, metered);
         let refusal = metered_refusal(metered);
         if refusal.number == 0 {
-            sung = sing(s, words, x.meter, x, sung);
+            sung = sing(words, x.meter, x, sung);
         }
         at = x.end;
         place = x.next;

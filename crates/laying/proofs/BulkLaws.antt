@@ -47,7 +47,10 @@ module _ where
 
   pub blocks-bulk : (ls : List Line) → bulk (blocks ls) ≤ weight ls + 1
   unfolding blocks
-  blocks-bulk ls = let h = runs-bulk ls in let k = shut-bulk (runs ls .front) (runs ls .rest) in omega arith
+  blocks-bulk ls =
+      let h = runs-bulk ls in
+      let k = shut-bulk (runs ls .front) (runs ls .rest) in
+      omega arith
 
   shut-solid : (ls : List Line) (bs : List Block) → Each Solid ls → Each SolidBlock bs → Each SolidBlock (shut ls bs)
   unfolding shut Each SolidBlock
@@ -78,7 +81,10 @@ module _ where
 solid-two : (ls : List Line) → Each Solid ls → 2 * length ls ≤ weight ls
 unfolding weight Each Solid
 solid-two [] h = omega arith
-solid-two (l ∷ ls) h = let k = solid-two ls (h .1) in let m = h .0 in omega arith
+solid-two (l ∷ ls) h =
+    let k = solid-two ls (h .1) in
+    let m = h .0 in
+    omega arith
 
 -- A line that says a setting is not blank.
 slot-solid : (l : Line) (k : ℕ) → k < 13 → slotOf l ≡ k → 1 ≤ length (l .text)
@@ -86,7 +92,10 @@ unfolding slotOf slotBy kindOfLine kindOf
 slot-solid l k h e = go (l .text) refl
   where
     go : (bs : List Byte) → l .text ≡ bs → 1 ≤ length bs
-    go [] z = let y : slotOf l ≡ 13 = rw z in let x : ⊥ = omega arith in absurd x
+    go [] z =
+        let y : slotOf l ≡ 13 = rw z in
+        let x : ⊥ = omega arith in
+        absurd x
     go (b ∷ bs) z = omega arith
 
 -- The modifiers of a section: a lead-in and a tail on lines of their own, and cuts on others.
@@ -117,10 +126,12 @@ modifiers-weight (l ∷ ls) =
     (λ e. by-cases (eqb (slotOf l) 12)
     (λ f. let k = eqb-true (slotOf l) 12 f in rw (e, f, k) (omega arith))
     (λ f. by-cases (eqb (slotOf l) 9)
-    (λ g. let k = eqb-true (slotOf l) 9 g in let s = slot-solid l 9 (omega arith) k in
+    (λ g. let k = eqb-true (slotOf l) 9 g in
+    let s = slot-solid l 9 (omega arith) k in
     let most = cuts-most (some said) (settingAmong 10 ls) in rw (e, f, g, k) (omega arith))
     (λ g. by-cases (eqb (slotOf l) 10)
-    (λ i. let k = eqb-true (slotOf l) 10 i in let s = slot-solid l 10 (omega arith) k in
+    (λ i. let k = eqb-true (slotOf l) 10 i in
+    let s = slot-solid l 10 (omega arith) k in
     let most = cuts-most (settingAmong 9 ls) (some said) in rw (e, f, g, i) (omega arith))
     (λ i. rw (e, f, g, i) (omega arith)))))
 

@@ -45,6 +45,8 @@ no-metadata t (b ∷ bs) e =
     let a = append-is-nil (complainIf (ltb (turn (blockKind b)) (suc t)) 3 (b .first .number)) (blockOrder (max (suc t) (turn (blockKind b))) bs) e in
     by-kind (blockKind b)
     (λ k. true-is-not-false (lt-ltb 0 (suc t) (omega arith)) (complainIf-nil (ltb 0 (suc t)) 3 (b .first .number) (rw k at (a .0))))
-    (λ k. let m : max (suc t) 1 ≡ suc t = omega arith in let g : blockOrder (max (suc t) 1) bs ≡ [] = rw k at (a .1) in rw k (no-metadata t bs (rw m at g)))
-    (λ k. let m : max (suc t) 2 ≡ suc (max t 1) = omega arith in let g : blockOrder (max (suc t) 2) bs ≡ [] = rw k at (a .1) in rw k
+    (λ k. let m : max (suc t) 1 ≡ suc t = omega arith in
+    let g : blockOrder (max (suc t) 1) bs ≡ [] = rw k at (a .1) in rw k (no-metadata t bs (rw m at g)))
+    (λ k. let m : max (suc t) 2 ≡ suc (max t 1) = omega arith in
+    let g : blockOrder (max (suc t) 2) bs ≡ [] = rw k at (a .1) in rw k
     (no-metadata (max t 1) bs (rw m at g)))

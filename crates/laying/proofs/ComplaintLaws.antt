@@ -29,7 +29,11 @@ unfolding Before
 before-trans c d e p q =
     ⊎-elim
     (λ a. ⊎-elim (λ b. inl (omega arith)) (λ b. inl (let h = b .0 in omega arith)) q)
-    (λ a. ⊎-elim (λ b. inl (let h = a .0 in omega arith)) (λ b. inr (a .0 ∙ b .0, let h = a .1 in let k = b .1 in omega arith)) q)
+    (λ a. ⊎-elim (λ b. inl (let h = a .0 in omega arith)) (λ b. inr (
+      a .0 ∙ b .0,
+      let h = a .1 in
+          let k = b .1 in omega arith,
+    )) q)
     p
 
 -- One that goes behind a second, which goes behind a third, does not go before the third.
@@ -102,7 +106,10 @@ refused-none xs h e = of (earliest xs) refl e
   where
     of : (o : Option Complaint) → earliest xs ≡ o → refusalOf o .number ≡ 0 → xs ≡ []
     of none q r = earliest-none xs q
-    of (some c) q r = let w = earliest-each (λ c. 1 ≤ c .number) xs c h q in let z : ⊥ = omega arith in absurd z
+    of (some c) q r =
+        let w = earliest-each (λ c. 1 ≤ c .number) xs c h q in
+        let z : ⊥ = omega arith in
+        absurd z
 
 -- A complaint on a line goes before all on later lines.
 unfoldable pub UpTo : ℕ → Complaint → Type 0

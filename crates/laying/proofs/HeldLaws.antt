@@ -6,7 +6,7 @@ use mathlib.Core.Bool.{Bool, not}
 use mathlib.Core.Option.{Option, none, some, bind}
 use native.Mathlib.Omega.{arith}
 use lib.ListN.{length, take, drop, length-take}
-use lib.Seq.{take-take, take-at, drop-at, take-append-add}
+use lib.Seq.{take-at, drop-at, take-append-add}
 use Rattle.songcode.specs.Complaints.{earliest}
 use Rattle.songcode.specs.Lists.{if_then_else_, isSome}
 use Rattle.songcode.specs.answer.Lines.{Line}
@@ -16,10 +16,12 @@ use Rattle.songcode.specs.answer.References.{definitionOf, itemsOf, putInItem, 
 use Rattle.songcode.specs.description.Fits.{Refers, ReferAll}
 use Rattle.songcode.proofs.ListLaws.{Each, each-map, append-is-nil, gather-nil}
 use Rattle.songcode.proofs.ReferencesAgree.{refers-sound}
+use Rattle.songcode.proofs.WrittenBefore.{appended}
 use Rattle.tokens.specs.TokenWords.{tokenWords}
 use Rattle.tokens.specs.Lexing.{laid}
 use Rattle.score.specs.declared.stretches.Stretch.{Stretch}
 use Rattle.score.specs.Places.{stretchOf}
+use Rattle.score.specs.Sections.{itemsRow}
 use Rattle.score.specs.Standing.{ItemsFit, Stands}
 use Rattle.score.proofs.StandingLaws.{written-stands}
 use Rattle.songcode.proofs.GlueLaws.{putIn-same}
@@ -29,25 +31,21 @@ use Rattle.player.proofs.Walkables.{refers-walkable, empty-row}
 use Rattle.outlines.specs.declared.readings.Outline.{Outline}
 use Rattle.outlines.specs.Words.{vacant, lookUp, isMissing}
 use Rattle.outlines.specs.Readings.{outlined}
+use Rattle.outlines.specs.Rows.{outlineOf, textRow}
 use Rattle.outlines.specs.Faults.{allFaults, faultless, faultNumber, faultIn}
 use Rattle.outlines.specs.Told.{refusal, Tells, Told, KnowsItems, Knows, Known}
 use Rattle.outlines.proofs.OutlineAgree.{outline-tells}
 use Rattle.outlines.proofs.SketchLaws.{outline-sketches}
 use Rattle.outlines.proofs.KnownLaws.{empty-known}
+use Rattle.outlines.proofs.SmallLaws.{outlined-small}
+use Rattle.outlines.proofs.DescribedLaws.{tells-described}
 use Rattle.outlines.proofs.FaultAgree.{fault-given}
 use Rattle.laying.specs.Laying.{runTokens}
 use Rattle.laying.specs.Scores.{namedText, Carries}
+use Rattle.laying.specs.Fronts.{TextFits}
 use Rattle.laying.specs.Loading.{HeldText, HeldItems, Held}
 use Rattle.laying.proofs.FitLaws.{Good, items-fit}
-use Rattle.laying.proofs.NumberedLaws.{Alike}
 use Rattle.laying.proofs.DefinitionLaws as definitions
-
--- The words of a stretch stay where the first words of the buffer do.
-pub stands-kept : (ws vs : List ℕ) (fill : ℕ) (at : Stretch) (r : Items) → at .to ≤ fill → take fill vs ≡ take fill ws → Stands ws at r → Stands vs at r
-unfolding Stands
-stands-kept ws vs fill at r h e p =
-    let same : take (at .to) vs ≡ take (at .to) ws = sym (take-take (at .to) fill vs h) ∙ ap (take (at .to)) e ∙ take-take (at .to) fill ws h in
-    ap (drop (at .from)) same ∙ p
 
 -- New words stand in their stretch, and the words before it stay.
 pub laid-there : (fill : ℕ) (new ws : List ℕ) → fill ≤ length ws → drop fill (take (fill + length new) (laid fill new ws)) ≡ new
@@ -64,51 +62,29 @@ laid-there fill new ws h =
 pub laid-before : (fill : ℕ) (new ws : List ℕ) → fill ≤ length ws → take fill (laid fill new ws) ≡ take fill ws
 laid-before fill new ws h = take-at (take fill ws) (new ++ drop (fill + length new) ws) fill (length-take fill ws ∙ omega arith)
 
-module _ (ds : List Definition) (ws : List ℕ) (fill : ℕ) where
+module _ (ds : List Definition) (ws : List ℕ) where
   -- What is held is known.
-  pub items-known : (i : Option Items) (at : Stretch) (o : Outline) → HeldItems ds ws fill at o i → KnowsItems i o
+  items-known : (i : Option Items) (at : Stretch) (o : Outline) → HeldItems ds ws at o i → KnowsItems i o
   unfolding HeldItems KnowsItems
   items-known none at o h = h .1
-  items-known (some r) at o h = (h .sketched, h .shallow, λ e. rw (putIn-same (itemsOf ds) r e) at (h .tells))
+  items-known (some r) at o h = (h .sketched, h .fits .shallow, λ e. rw (putIn-same (itemsOf ds) r e) at (h .tells))
 
-  pub held-known : (c : Option Definition) (m : Bool) (at : Stretch) (o : Outline) → Held ds ws fill c m at o → Knows c m o
+  held-known : (c : Option Definition) (m : Bool) (at : Stretch) (o : Outline) → Held ds ws c m at o → Knows c m o
   unfolding Held Knows
   held-known none m at o h = (h .0, h .2)
   held-known (some d) m at o h = (h .0, items-known (d .items) at o (h .1))
 
-  -- It stays held in more words.
-  module _ (vs : List ℕ) (more : ℕ) (wider : fill ≤ more) (same : take fill vs ≡ take fill ws) where
-    items-kept : (i : Option Items) (at : Stretch) (o : Outline) → HeldItems ds ws fill at o i → HeldItems ds vs more at o i
-    unfolding HeldItems
-    items-kept none at o h = h
-    items-kept (some r) at o h =
-        let k = h .within in
-        record {
-          within = omega arith;
-          stands = stands-kept ws vs fill at r (h .within) same (h .stands);
-          fits = h .fits;
-          shallow = h .shallow;
-          sketched = h .sketched;
-          refers = h .refers;
-          tells = h .tells;
-        }
-
-    pub held-kept : (c : Option Definition) (m : Bool) (at : Stretch) (o : Outline) → Held ds ws fill c m at o → Held ds vs more c m at o
-    unfolding Held
-    held-kept none m at o h = h
-    held-kept (some d) m at o h = (h .0, items-kept (d .items) at o (h .1))
-
   -- A definition that is found is held, and so are its items.
-  pub found-held : (c : Option Definition) (m : Bool) (at : Stretch) (o : Outline) (d : Definition) (q : Items) → Held ds ws fill c m at o
-      → c ≡ some d → d .items ≡ some q → HeldText ds ws fill at o q
+  found-held : (c : Option Definition) (m : Bool) (at : Stretch) (o : Outline) (d : Definition) (q : Items) → Held ds ws c m at o
+      → c ≡ some d → d .items ≡ some q → HeldText ds ws at o q
   unfolding Held HeldItems
   found-held c m at o d q h e f = items (d .items) f (held c e h)
     where
-      held : (b : Option Definition) → b ≡ some d → Held ds ws fill b m at o → HeldItems ds ws fill at o (d .items)
-      held b g w = let z : Held ds ws fill (some d) m at o = rw g at w in z .1
+      held : (b : Option Definition) → b ≡ some d → Held ds ws b m at o → HeldItems ds ws at o (d .items)
+      held b g w = let z : Held ds ws (some d) m at o = rw g at w in z .1
 
-      items : (i : Option Items) → i ≡ some q → HeldItems ds ws fill at o i → HeldText ds ws fill at o q
-      items i g w = let z : HeldItems ds ws fill at o (some q) = rw g at w in z
+      items : (i : Option Items) → i ≡ some q → HeldItems ds ws at o i → HeldText ds ws at o q
+      items i g w = let z : HeldItems ds ws at o (some q) = rw g at w in z
 
 pub references-right : (ds : List Definition) (r : Items) (head : ℕ) → definitionReferences ds (some r) head ≡ [] → Each (Refers ds) (references r)
 unfolding definitionReferences
@@ -118,12 +94,12 @@ references-right ds r head e =
     (append-is-nil (flatMap (λ n. referenceFault (definitionOf n ds) head) (references r)) (depthFault ds r head) e .0))
 
 -- A new definition, where the earlier ones among all are held.
-module _ (ds earlier : List Definition) (ws : List ℕ) (fill : ℕ)
-    (held : (n : ℕ) → Held ds ws fill (definitionOf n earlier) (isMissing ws n) (stretchOf ws n) (lookUp ws n))
+module _ (ds earlier : List Definition) (ws : List ℕ)
+    (held : (n : ℕ) → Held ds ws (definitionOf n earlier) (isMissing ws n) (stretchOf ws n) (lookUp ws n))
     (agree : (n : ℕ) (x : Definition) → definitionOf n earlier ≡ some x → definitionOf n ds ≡ some x) where
-  pub earlier-known : Known earlier (isMissing ws) (lookUp ws)
+  earlier-known : Known earlier (isMissing ws) (lookUp ws)
   unfolding Known
-  earlier-known n = held-known ds ws fill (definitionOf n earlier) (isMissing ws n) (stretchOf ws n) (lookUp ws n) (held n)
+  earlier-known n = held-known ds ws (definitionOf n earlier) (isMissing ws n) (stretchOf ws n) (lookUp ws n) (held n)
 
   refers-all : (ns : List ℕ) → Each (Refers earlier) ns → ReferAll ds ns
   unfolding Each ReferAll
@@ -143,65 +119,66 @@ module _ (ds earlier : List Definition) (ws : List ℕ) (fill : ℕ)
   refer-told : (n : ℕ) → Refers earlier n → Told (lookUp ws) (itemsOf ds) n
   unfolding Told putInItem itemsOf bind
   refer-told n w =
-      let t = found-held ds ws fill (definitionOf n earlier) (isMissing ws n) (stretchOf ws n) (lookUp ws n) (w .definition) (w .items)
+      let t = found-held ds ws (definitionOf n earlier) (isMissing ws n) (stretchOf ws n) (lookUp ws n) (w .definition) (w .items)
       (held n) (w .found) (w .filled) .tells in
       let k : Tells (lookUp ws n) (w .items) = rw (putIn-same (itemsOf ds) (w .items) (w .plain)) at t in
       rw (agree n (w .definition) (w .found), w .filled) k
 
   -- The words of its lines stand in its stretch.
-  module _ (vs : List ℕ) (at : Stretch) (ls : List Line) (good : Each Good (runTokens ls))
-      (there : drop (at .from) (take (at .to) vs) ≡ tokenWords (runTokens ls))
-      (size : at .to ≡ at .from + length (tokenWords (runTokens ls))) (head : ℕ) where
-    stands : (r : Items) → definitions.Says ls (some r) → Stands vs at r
+  module _ (at : Stretch) (ls : List Line) (good : Each Good (runTokens ls))
+      (there : drop (at .from) (take (at .to) ws) ≡ tokenWords (runTokens ls)) (head : ℕ) where
+    stands : (r : Items) → definitions.Says ls (some r) → Stands ws at r
     unfolding definitions.Says
-    stands r w = written-stands vs at r (there ∙ ap tokenWords (w .0))
+    stands r w = written-stands ws at r (there ∙ ap tokenWords (w .0))
 
     fits : (r : Items) → definitions.Says ls (some r) → ItemsFit r
     unfolding definitions.Says
     fits r w = items-fit r (runTokens ls) (w .0) good
 
-    nothing-there : definitions.Says ls none → drop (at .from) (take (at .to) vs) ≡ []
+    nothing-there : definitions.Says ls none → drop (at .from) (take (at .to) ws) ≡ []
     unfolding definitions.Says tokenWords
     nothing-there w = there ∙ rw w
 
     -- Its fault is what stage 3 says of it.
     pub fault-is : (i : Option Items) → definitions.Says ls i
-        → refusal (faultIn (isMissing ws) (lookUp ws) (drop (at .from) (take (at .to) vs))) head
+        → refusal (faultIn (isMissing ws) (lookUp ws) (drop (at .from) (take (at .to) ws))) head
         ≡ earliest (definitionReferences earlier i head)
     unfolding faultIn allFaults faultless faultNumber refusal earliest definitionReferences if_then_else_ definitions.Says
     fault-is none w = rw (nothing-there w) refl
-    fault-is (some r) w = fault-given earlier (isMissing ws) (lookUp ws) earlier-known head vs at r (stands r w) (fits r w) (w .1)
+    fault-is (some r) w = fault-given earlier (isMissing ws) (lookUp ws) earlier-known head ws at r (stands r w) (fits r w) (w .1)
 
-    pub items-new : (i : Option Items) → definitions.Says ls i → definitionReferences earlier i head ≡ []
-        → HeldItems ds vs (at .to) at (outlined (lookUp ws) (drop (at .from) (take (at .to) vs))) i
-    unfolding HeldItems KnowsItems definitions.Says tokenWords
-    items-new none w e = (let z : length (tokenWords (runTokens ls)) ≡ 0 = rw w in omega arith, empty-known (lookUp ws) vs at (nothing-there w))
-    items-new (some r) w e =
-        let right = references-right earlier r head e in
-        record {
-          within = omega arith;
-          stands = stands r w;
-          fits = fits r w;
-          shallow = w .1;
-          sketched = outline-sketches (lookUp ws) vs at r (stands r w) (fits r w);
-          refers = refers-all (references r) right;
-          tells = outline-tells (lookUp ws) (itemsOf ds) vs at r (stands r w) (fits r w) (w .1) (each-map refer-told (references r) right);
-        }
+    -- Its words are those of the definition's row: its text, and where stage 3 complains of nothing, its outline.
+    pub text-is : (i : Option Items) → definitions.Says ls i → tokenWords (runTokens ls) ≡ textRow i
+    unfolding definitions.Says tokenWords textRow itemsRow
+    text-is none w = rw w refl
+    text-is (some r) w = ap tokenWords (w .0 ∙ appended r)
 
--- What is found alike in another buffer, the same before the mark, is held there.
-pub held-alike : (ds : List Definition) (vs ws : List ℕ) (mark n : ℕ) (c : Option Definition) → Alike vs ws n → take mark vs ≡ take mark ws
-    → Held ds ws mark c (isMissing ws n) (stretchOf ws n) (lookUp ws n) → Held ds vs mark c (isMissing vs n) (stretchOf vs n) (lookUp vs n)
-held-alike ds vs ws mark n c a same h =
-    rw (a .missing-same, a .at-same, a .outline-same) (held-kept ds ws mark vs mark (omega arith) same c (isMissing ws n) (stretchOf ws n) (lookUp ws n) h)
+    pub text-fits : (i : Option Items) → definitions.Says ls i → definitionReferences earlier i head ≡ [] → TextFits ds i
+    unfolding TextFits definitions.Says
+    text-fits none w e = tt
+    text-fits (some r) w e =
+        record { words = fits r w; shallow = w .1; refers = refers-all (references r) (references-right earlier r head e) }
+
+    pub outline-is : (i : Option Items) → definitions.Says ls i → definitionReferences earlier i head ≡ []
+        → outlined (lookUp ws) (drop (at .from) (take (at .to) ws)) ≡ outlineOf (itemsOf ds) i
+    unfolding KnowsItems outlineOf definitions.Says
+    outline-is none w e = empty-known (lookUp ws) ws at (nothing-there w)
+    outline-is (some r) w e =
+        let small = outlined-small (lookUp ws) (drop (at .from) (take (at .to) ws)) .0 in
+        tells-described (itemsOf ds) (outlined (lookUp ws) (drop (at .from) (take (at .to) ws))) r
+        (outline-sketches (lookUp ws) ws at r (stands r w) (fits r w))
+        (outline-tells (lookUp ws) (itemsOf ds) ws at r (stands r w) (fits r w) (w .1)
+        (each-map refer-told (references r) (references-right earlier r head e)))
+        (small .0)
+        (small .1)
 
 -- Where all definitions are held, each number says what the song does.
-module _ (ds : List Definition) (ws : List ℕ) (mark : ℕ)
-    (held : (n : ℕ) → Held ds ws mark (definitionOf n ds) (isMissing ws n) (stretchOf ws n) (lookUp ws n)) where
+module _ (ds : List Definition) (ws : List ℕ) (held : (n : ℕ) → Held ds ws (definitionOf n ds) (isMissing ws n) (stretchOf ws n) (lookUp ws n)) where
   pub missing-told : (n : ℕ) → isMissing ws n ≡ not (isSome (definitionOf n ds))
   unfolding Held isSome
   missing-told n = of (definitionOf n ds) (held n)
     where
-      of : (c : Option Definition) → Held ds ws mark c (isMissing ws n) (stretchOf ws n) (lookUp ws n) → isMissing ws n ≡ not (isSome c)
+      of : (c : Option Definition) → Held ds ws c (isMissing ws n) (stretchOf ws n) (lookUp ws n) → isMissing ws n ≡ not (isSome c)
       of none h = h .0
       of (some x) h = h .0
 
@@ -209,12 +186,12 @@ module _ (ds : List Definition) (ws : List ℕ) (mark : ℕ)
   unfolding Held HeldItems isSome patternItems itemsOf bind vacant namedText
   filled-told n = of (definitionOf n ds) (held n)
     where
-      items : (i : Option Items) → HeldItems ds ws mark (stretchOf ws n) (lookUp ws n) i
+      items : (i : Option Items) → HeldItems ds ws (stretchOf ws n) (lookUp ws n) i
           → lookUp ws n .empty ≡ not (isSome (bind i (λ r. some (putIn (itemsOf ds) r))))
       items none h = rw (h .1)
       items (some r) h = h .sketched .filled
 
-      of : (c : Option Definition) → Held ds ws mark c (isMissing ws n) (stretchOf ws n) (lookUp ws n)
+      of : (c : Option Definition) → Held ds ws c (isMissing ws n) (stretchOf ws n) (lookUp ws n)
           → lookUp ws n .empty ≡ not (isSome (bind (bind c (λ x. x .items)) (λ r. some (putIn (itemsOf ds) r))))
       of none h = rw (h .2)
       of (some x) h = items (x .items) (h .1)
@@ -222,9 +199,9 @@ module _ (ds : List Definition) (ws : List ℕ) (mark : ℕ)
   refers : (n : ℕ) → Refers ds n → walkables.Refers ws (itemsOf ds) n
   unfolding itemsOf bind
   refers n w =
-      let t = found-held ds ws mark (definitionOf n ds) (isMissing ws n) (stretchOf ws n) (lookUp ws n) (w .definition)
+      let t = found-held ds ws (definitionOf n ds) (isMissing ws n) (stretchOf ws n) (lookUp ws n) (w .definition)
       (w .items) (held n) (w .found) (w .filled) in
-      let k = t .shallow in
+      let k = t .fits .shallow in
       record {
         items = w .items;
         says =
@@ -233,7 +210,7 @@ module _ (ds : List Definition) (ws : List ℕ) (mark : ℕ)
               plain = w .plain;
               stands = t .stands;
             };
-        fits = t .fits;
+        fits = t .fits .words;
         shallow = omega arith;
       }
 
@@ -246,20 +223,20 @@ module _ (ds : List Definition) (ws : List ℕ) (mark : ℕ)
   unfolding Held HeldItems patternItems itemsOf bind Carries namedText
   carries-all n = of (definitionOf n ds) (held n)
     where
-      items : (i : Option Items) → HeldItems ds ws mark (stretchOf ws n) (lookUp ws n) i
+      items : (i : Option Items) → HeldItems ds ws (stretchOf ws n) (lookUp ws n) i
           → Carries ws (namedText ws n) (bind i (λ r. some (putIn (itemsOf ds) r)))
       items none h = (h .1, λ k. empty-row k ws (stretchOf ws n) (h .0))
       items (some r) h =
-          let z = h .shallow in (
+          let z = h .fits .shallow in (
             h .sketched .filled,
             h .tells,
             λ k.
                 row-meaning ws (itemsOf ds) k r (stretchOf ws n)
-                (refers-walkable ws (itemsOf ds) r (h .fits) (omega arith) (refers-each (references r) (h .refers)))
+                (refers-walkable ws (itemsOf ds) r (h .fits .words) (omega arith) (refers-each (references r) (h .fits .refers)))
                 (h .stands),
           )
 
-      of : (c : Option Definition) → Held ds ws mark c (isMissing ws n) (stretchOf ws n) (lookUp ws n)
+      of : (c : Option Definition) → Held ds ws c (isMissing ws n) (stretchOf ws n) (lookUp ws n)
           → Carries ws (namedText ws n) (bind (bind c (λ x. x .items)) (λ r. some (putIn (itemsOf ds) r)))
       of none h = (h .2, λ k. empty-row k ws (stretchOf ws n) (h .1))
       of (some x) h = items (x .items) (h .1)

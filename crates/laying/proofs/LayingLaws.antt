@@ -42,10 +42,6 @@ unfolding tokensOf moreTokens
 tokens-more l [] = sym (append-nil (tokens (l .text)))
 tokens-more l (m ∷ ms) = ap (λ (ts : List Token). tokens (l .text) ++ (lineEnd ∷ ts)) (tokens-more m ms)
 
-pub run-tokens : (l : songcode.Line) (ls : List songcode.Line) → runTokens (l ∷ ls) ≡ tokens (l .text) ++ moreTokens ls
-unfolding runTokens
-run-tokens l ls = tokens-more l ls
-
 pub words-append : (ts us : List Token) → tokenWords (ts ++ us) ≡ tokenWords ts ++ tokenWords us
 unfolding tokenWords
 words-append [] us = refl
@@ -64,13 +60,17 @@ text-length s l h = length-placed (l .start) (part (l .start) (l .stop) s) ∙ p
 
 module _ {s : List ℕ} {n at : ℕ} {l : Line} (f : Found s n at l) (left : ℕ) (some-left : left ≡ 0 → ⊥) where
   -- The first line of a run, and the lines behind it.
-  pub take-first : at < length s → take left (textLines s n at) ≡ lineText s l ∷ take (left - 1) (textLines s (n + 1) (l .next))
+  take-first : at < length s → take left (textLines s n at) ≡ lineText s l ∷ take (left - 1) (textLines s (n + 1) (l .next))
   take-first h =
       let e : left ≡ suc (left - 1) = omega arith in
       ap (λ (k : ℕ). take k (textLines s n at)) e ∙ rw (lines-found f h)
 
 pub lines-less : {s : List ℕ} {n at : ℕ} {l : Line} → Found s n at l → at < length s → length s - l .next < length s - at
-lines-less {s} {n} {at} {l} f h = let onward = f .onward in let over = f .over in let k : at < l .next = omega arith in omega arith
+lines-less {s} {n} {at} {l} f h =
+    let onward = f .onward in
+    let over = f .over in
+    let k : at < l .next = omega arith in
+    omega arith
 
 -- The first line of a run is laid, if there is one; its line end is counted to it.
 pub record First (s : List ℕ) (run : Run) (l : Line) : Type 0 where

@@ -18,9 +18,13 @@ pub mod EmptyLaws
 pub mod CleanLaws
 pub mod LineNumberLaws
 pub mod MetadataLaws
-pub mod NumberedLaws
+pub mod GoodLaws
+pub mod SettingLaws
+pub mod KeyLaws
+pub mod NotedLaws
+pub mod FrontLaws
 pub mod DefinitionLaws
 pub mod HeldLaws
+pub mod ReadyLaws
 pub mod FaultLineLaws
-pub mod EnteredLaws
 pub mod LoadLaws

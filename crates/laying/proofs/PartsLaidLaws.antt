@@ -36,7 +36,10 @@ done-next {at} {held} {done} {words} {fill} new d e f r =
     }
 
 pub done-length : {at : ℕ} {held done words : List ℕ} {fill : ℕ} → Done at held done words fill → length words ≡ length held
-done-length {at} {held} {done} d = let f = d .filled in let i = d .inside in ap length (d .there) ∙ laid-length at done held (omega arith)
+done-length {at} {held} {done} d =
+    let f = d .filled in
+    let i = d .inside in
+    ap length (d .there) ∙ laid-length at done held (omega arith)
 
 cuts-few : (b : Bool) (v w : ℕ) → length (cutsBy b v w) ≤ 2
 unfolding cutsBy
@@ -64,29 +67,51 @@ module _ (s : List ℕ) (r : SectionRead) (at : ℕ) (held : List ℕ)
 
   lyrics-are : length (lyricsSaid s r) ≡ 2 * length (linesOf s (r .lyrics))
   unfolding lyricsSaid
-  lyrics-are = let a = lyrics-size (map lyricLine (linesOf s (r .lyrics))) in let b = length-map (linesOf s (r .lyrics)) lyricLine in omega arith
+  lyrics-are =
+      let a = lyrics-size (map lyricLine (linesOf s (r .lyrics))) in
+      let b = length-map (linesOf s (r .lyrics)) lyricLine in
+      omega arith
 
   module _ {one : List ℕ} {from : ℕ} (one-laid : one ≡ laid at (cutsSaid (r .modifiers)) held) (one-fill : from ≡ at + length (cutsSaid (r .modifiers))) where
     first : Done at held (cutsSaid (r .modifiers)) one from
     first = let c = cuts-small in record { there = one-laid; filled = one-fill; inside = omega arith }
 
     pub room-lead : from + saidWeight (settingAt s (r .modifiers .before)) ≤ length one
-    room-lead = let c = cuts-small in let l = done-length first in omega arith
+    room-lead =
+        let c = cuts-small in
+        let l = done-length first in
+        omega arith
 
     module _ {two : List ℕ} {begun : ℕ} (two-laid : two ≡ laid from (leadSaid s r) one) (two-fill : begun ≡ from + length (leadSaid s r)) where
       second : Done at held (cutsSaid (r .modifiers) ++ leadSaid s r) two begun
-      second = let c = cuts-small in let a = lead-small in done-next (leadSaid s r) first two-laid two-fill (omega arith)
+      second =
+          let c = cuts-small in
+          let a = lead-small in
+          done-next (leadSaid s r) first two-laid two-fill (omega arith)
 
       pub room-lines : begun + weight (linesOf s (r .pattern)) ≤ length two
-      room-lines = let c = cuts-small in let a = lead-small in let l = done-length second in omega arith
+      room-lines =
+          let c = cuts-small in
+          let a = lead-small in
+          let l = done-length second in
+          omega arith
 
       module _ {three : List ℕ} {ended : ℕ} (three-laid : three ≡ laid begun (patternSaid s r) two)
           (three-fill : ended ≡ begun + length (patternSaid s r)) where
         third : Done at held ((cutsSaid (r .modifiers) ++ leadSaid s r) ++ patternSaid s r) three ended
-        third = let c = cuts-small in let a = lead-small in let b = pattern-small in done-next (patternSaid s r) second three-laid three-fill (omega arith)
+        third =
+            let c = cuts-small in
+            let a = lead-small in
+            let b = pattern-small in
+            done-next (patternSaid s r) second three-laid three-fill (omega arith)
 
         pub room-tail : ended + saidWeight (settingAt s (r .modifiers .after)) ≤ length three
-        room-tail = let c = cuts-small in let a = lead-small in let b = pattern-small in let l = done-length third in omega arith
+        room-tail =
+            let c = cuts-small in
+            let a = lead-small in
+            let b = pattern-small in
+            let l = done-length third in
+            omega arith
 
         module _ {four : List ℕ} {last : ℕ} (four-laid : four ≡ laid ended (tailSaid s r) three) (four-fill : last ≡ ended + length (tailSaid s r)) where
           fourth : Done at held (((cutsSaid (r .modifiers) ++ leadSaid s r) ++ patternSaid s r) ++ tailSaid s r) four last

@@ -39,7 +39,8 @@ whole-next b bs h =
     by-ending b
     (λ e. rw e (omega arith))
     (λ e. let z : 1 < 0 + 1 = rw (e, e) at h in absurd (omega arith))
-    (λ e. let z : 1 < 0 + breakWidth cr (end (getD bs 0 0)) = rw (e, e) at h in let y = cr-then bs (omega arith) in rw (e, e) (omega arith))
+    (λ e. let z : 1 < 0 + breakWidth cr (end (getD bs 0 0)) = rw (e, e) at h in
+    let y = cr-then bs (omega arith) in rw (e, e) (omega arith))
 
 abbrev after : List ℕ → ℕ → ℕ
 after s at = at + whole (drop at s)
@@ -112,7 +113,8 @@ many-past s a b h k m =
         let e = after-same (b - a) s a b (omega arith) (omega arith) l in
         let z : many s (after s b) ≡ many s (after s a) = rw e refl in
         omega arith)
-        (λ t. let p = leb-false a b t in let q = many-less (length s) s b a (omega arith) (omega arith) (omega arith) in omega arith)
+        (λ t. let p = leb-false a b t in
+        let q = many-less (length s) s b a (omega arith) (omega arith) (omega arith) in omega arith)
 
 -- The first of the lines from a place on, and the others.
 record FirstLine (s : List ℕ) (n a : ℕ) (l : Line) (ls : List Line) : Type 0 where

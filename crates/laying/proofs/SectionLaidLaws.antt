@@ -1,17 +1,17 @@
 -- A section laid into the row: it has room, its words are those of the definitions, and its texts are carried.
 use Prim.Native.Nat.{ℕ, _+_, _-_, _*_, _/_, _^_, _<_, _≤_}
 use mathlib.Core.Path.{_≡_, refl, sym, ap, _∙_, subst}
-use mathlib.Core.List.{List, [], _∷_, _++_, append-assoc, flatMap, map}
+use mathlib.Core.List.{List, [], _∷_, _++_, append-assoc, append-nil, flatMap, map}
 use mathlib.Core.Bool.{Bool, true, false, _||_}
 use mathlib.Core.Option.{Option, none, some, bind}
 use native.Mathlib.Omega.{arith}
-use borrow.Author.Tests.{eqb-true, eqb-false}
-use lib.Dec.{eqb}
+use borrow.Author.Tests.{eqb-true, eqb-false, ltb-true, ltb-false}
+use lib.Dec.{eqb, ltb}
 use lib.ListN.{length, take, drop, set, length-append, length-map}
-use lib.Seq.{take-take}
+use lib.Seq.{take-take, take-set-le, take-set-lt, drop-set-lt}
 use Rattle.songcode.specs.Lists.{if_then_else_, isSome}
 use Rattle.songcode.specs.answer.Lines.{Line, Block, blocks}
-use Rattle.songcode.specs.Song.{LyricLine, Pattern, Section}
+use Rattle.songcode.specs.Song.{LyricLine, named, Section}
 use Rattle.songcode.specs.answer.Modifiers.{ofBefore, ofAfter, modifierPlace, beforeSaid, afterSaid}
 use Rattle.songcode.specs.answer.Sections.{patternIn, patternRun, body, fromDashes, sectionFaults, lyricLine}
 use Rattle.songcode.specs.answer.References.{patternItems}
@@ -23,7 +23,9 @@ use Rattle.tokens.specs.TokenWords.{tokenWords}
 use Rattle.tokens.specs.Lexing.{laid}
 use Rattle.tokens.proofs.LaidLaws.{laid-length}
 use Rattle.settings.specs.Cuts.{cutIs, CutFits}
+use Rattle.outlines.specs.declared.readings.Outline.{Outline}
 use Rattle.outlines.specs.Words.{lookUp}
+use Rattle.outlines.specs.Even.{evenIn}
 use Rattle.sections.specs.declared.blocks.Place.{Place}
 use Rattle.sections.specs.declared.blocks.SectionRead.{SectionRead}
 use Rattle.sections.specs.declared.values.Keys.{Keys}
@@ -36,24 +38,33 @@ use Rattle.sections.specs.SectionSays.{sideSaid}
 use Rattle.sections.specs.Onward.{Onward, sectionAt, Meets}
 use Rattle.sections.proofs.SectionLaws.{clean-order}
 use Rattle.sections.proofs.TellLaws.{before-tells, after-tells}
+use Rattle.score.specs.declared.stretches.Stretch.{Stretch}
+use Rattle.score.specs.Places.{playedText}
+use Rattle.score.specs.Even.{evenPattern}
 use Rattle.score.specs.Sections.{sideRow, patternRow, isCut, cutsBy, cutsRow, lyricRow, partsRow, bit, sectionRow}
 use Rattle.score.specs.Fitting.{SideFits, PatternFits, LyricsFit, SectionFits}
+use Rattle.score.specs.Seen.{Holds}
+use Rattle.laying.specs.declared.rows.Heads.{Heads}
 use Rattle.laying.specs.declared.rows.Places.{Places}
-use Rattle.laying.specs.Laying.{runTokens, saidTokens, weight, saidWeight, Names}
+use Rattle.laying.specs.declared.texts.Text.{Text}
+use Rattle.laying.specs.declared.texts.Texts.{Texts}
+use Rattle.laying.specs.Laying.{runTokens, saidTokens, weight, saidWeight, Names, namedAt}
 use Rattle.laying.specs.Scores.{namedText, Carries, Ready, sideItems}
 use Rattle.laying.specs.Rows.{meterOf, tempoOf, readCut, hasCut, cutsSaid, leadSaid, patternSaid, tailSaid, lyricsSaid, partsSaid, PlacesAre}
-use Rattle.laying.specs.Rows.{aboutSection, textAt, patternText, toldTexts, bulk, RoomFor, Before, SongKeys, Lays}
+use Rattle.laying.specs.Rows.{aboutSection, outlineBy, textAt, toldTexts, bulk, RoomFor, Before, SongKeys, Lays}
 use Rattle.laying.proofs.LaidLaws.{laid-part, laid-before, laid-front}
+use Rattle.laying.proofs.FrontLaws.{front-kept}
+use Rattle.laying.proofs.ReadyLaws.{ready-carries}
 use Rattle.laying.proofs.WeightLaws.{run-few, said-words}
 use Rattle.laying.proofs.BulkLaws.{SolidBlock, blocks-solid, cutsThere, section-weight}
 use Rattle.score.proofs.ViewLaws.{lyrics-size}
 use Rattle.laying.proofs.LyricRowLaws.{lyrics-behind}
 use Rattle.laying.proofs.MeterLaws.{meter-is, meter-range, tempo-is, tempo-few}
 use Rattle.laying.proofs.FitLaws.{said-good, run-good}
-use Rattle.laying.proofs.NamedLaws.{pattern-shape, named-some}
+use Rattle.laying.proofs.NamedLaws.{pattern-shape, name-there, named-some, plays-itself, plays-named}
 use Rattle.laying.proofs.SideLaws.{nothing-there}
 use Rattle.laying.proofs.SideRowLaws.{side-row, pattern-row, cut-there, cut-words, cut-small}
-use Rattle.laying.proofs.TextLaws.{side-carries, items-carries}
+use Rattle.laying.proofs.TextLaws.{side-carries, items-carries, carries-either, carries-even}
 
 -- A cut that is read is said on a line.
 cuts-said : (a b : Option Setting) (v w : ℕ) → length (cutsBy (readCut (cutSaid a) || readCut (cutSaid b)) v w) ≤ cutsThere a b
@@ -88,19 +99,19 @@ heads-laid at d c b a parts held h =
     ∙ ap (λ (ws : List ℕ). set ws at a) z
     ∙ laid-front at a (b ∷ c ∷ d ∷ parts) held (omega arith)
 
+-- What stands behind a word that is stored.
+set-behind : (l : List ℕ) (i v from to : ℕ) → i < from → drop from (take to (set l i v)) ≡ drop from (take to l)
+set-behind l i v from to h =
+    by-cases (ltb i to)
+    (λ e. ap (drop from) (take-set-lt to l i v (ltb-true i to e)) ∙ drop-set-lt from (take to l) i v h)
+    (λ e. ap (drop from) (take-set-le to l i v (ltb-false i to e)))
+
 -- The definitions stand as before where all words behind them are new.
 pub ready-kept : {s held words : List ℕ} {mark at : ℕ} → Ready s held mark → mark < at → take at words ≡ take at held → length words ≡ length held
     → Ready s words mark
 ready-kept {s} {held} {words} {mark} {at} b c kept n =
     let h = b .room in
-    let k : take (mark + 1) words ≡ take (mark + 1) held =
-    sym (take-take (mark + 1) at words (omega arith)) ∙ ap (take (mark + 1)) kept ∙ take-take (mark + 1) at held (omega arith) in
-    record {
-      small = b .small;
-      room = omega arith;
-      told = λ vs e. b .told vs (e ∙ k);
-      carries = λ i vs e. b .carries i vs (e ∙ k);
-    }
+    record { small = b .small; room = omega arith; front = front-kept (b .front) c kept }
 
 -- The same words, one by one.
 five-same : (at : ℕ) (held : List ℕ) {a a' b b' c c' d d' : ℕ} {ps ps' : List ℕ} → a ≡ a' → b ≡ b' → c ≡ c' → d ≡ d' → ps ≡ ps'
@@ -172,10 +183,16 @@ module _ {s : List ℕ} {p : Place} {at : ℕ} {held : List ℕ} {met : Met} {so
   block-fits = let b = bulk-here in omega arith
 
   pub parts-room : at + 4 + (2 + (saidWeight lead + weight lines + saidWeight tail + 2 * length lyrics)) ≤ length held
-  parts-room = let w = weighed in let b = block-fits in omega arith
+  parts-room =
+      let w = weighed in
+      let b = block-fits in
+      omega arith
 
   pub lyrics-second : 0 < length lyrics → 2 ≤ r .lyrics .number
-  lyrics-second h = let a = lyrics-behind s (p .number) (p .at) (r .lyrics) (m .read .lyrics) h in let b = o .number in omega arith
+  lyrics-second h =
+      let a = lyrics-behind s (p .number) (p .at) (r .lyrics) (m .read .lyrics) h in
+      let b = o .number in
+      omega arith
 
   -- Its lead-in and its tail have items, since the section has no fault.
   clean : sectionFaults block ≡ []
@@ -259,7 +276,10 @@ module _ {s : List ℕ} {p : Place} {at : ℕ} {held : List ℕ} {met : Met} {so
 
   lyrics-length : length (lyricsSaid s r) ≡ 2 * length lyrics
   unfolding lyricsSaid
-  lyrics-length = let a = lyrics-size (map lyricLine lyrics) in let b = length-map lyrics lyricLine in omega arith
+  lyrics-length =
+      let a = lyrics-size (map lyricLine lyrics) in
+      let b = length-map lyrics lyricLine in
+      omega arith
 
   parts-length : length (partsSaid s r)
       ≡ length (cutsSaid (r .modifiers)) + (length (leadSaid s r) + (length (patternSaid s r) + (length (tailSaid s r) + 2 * length lyrics)))
@@ -357,13 +377,6 @@ module _ {s : List ℕ} {p : Place} {at : ℕ} {held : List ℕ} {met : Met} {so
         let y = below in
         (omega arith, omega arith, omega arith, omega arith, omega arith, omega arith, omega arith, omega arith, omega arith)
 
-    pub end-inside : {ws : List ℕ} → ws ≡ laid (at + 4) (partsSaid s r) held → q .end ≤ length ws
-    end-inside e =
-        let l = end-is in
-        let k = asked .8 in
-        let n = ap length e ∙ laid-length (at + 4) (partsSaid s r) held (omega arith) in
-        omega arith
-
     pub header-asked : (1 ≤ r .header) × (r .header ≤ 65536) × (r .modifiers .repeat ≤ 9999)
     header-asked =
         let n = m .read .header in
@@ -372,178 +385,285 @@ module _ {s : List ℕ} {p : Place} {at : ℕ} {held : List ℕ} {met : Met} {so
         let z = small in
         (omega arith, omega arith, m .read .modifiers .repeat-fits .1)
 
-    module _ {meter tempo : ℕ} (meter-said : meter ≡ meterOf (r .keys .time) (song .time)) (tempo-said : tempo ≡ tempoOf (r .keys .bpm) (song .bpm))
-        {words : List ℕ} (entered : words ≡ aboutSection r meter tempo at q (laid (at + 4) (partsSaid s r) held)) where
-      pub meter-here : meter ≡ timeOf (songOf s) x
-      meter-here = meter-said ∙ meter-is (songOf s) x (m .says .time) (keys .time)
+    abbrev text : Stretch
+    text = record { from = q .begun; to = q .ended }
 
-      tempo-here : tempo ≡ bpmOf (songOf s) x
-      tempo-here = tempo-said ∙ tempo-is (songOf s) x (m .says .bpm) (keys .bpm)
+    -- The parts are laid.
+    module _ {mid : List ℕ} (there : mid ≡ laid (at + 4) (partsSaid s r) held) where
+      heads-inside : at + 4 ≤ length held
+      heads-inside =
+          let k = asked .4 in
+          let l = asked .8 in
+          omega arith
 
-      pub row-laid : words ≡ laid at (sectionRow (songOf s) x) held
-      unfolding aboutSection sectionRow
-      row-laid =
+      pub end-inside : q .end ≤ length mid
+      end-inside =
+          let l = end-is in
+          let k = asked .8 in
+          let n = ap length there ∙ laid-length (at + 4) (partsSaid s r) held (omega arith) in
+          omega arith
+
+      -- They stand in their stretches.
+      part-there : (a y z : List ℕ) (from to : ℕ) → partsSaid s r ≡ a ++ (y ++ z) → from ≡ at + 4 + length a → to ≡ from + length y
+          → drop from (take to mid) ≡ y
+      part-there a y z from to e f t =
+          ap (λ (ws : List ℕ). drop from (take to ws)) there ∙ laid-part (at + 4) (partsSaid s r) held heads-inside a y z from to e f t
+
+      abbrev cuts : List ℕ
+      cuts = cutsSaid (r .modifiers)
+
+      abbrev behind-lead : List ℕ
+      behind-lead = patternSaid s r ++ (tailSaid s r ++ lyricsSaid s r)
+
+      lead-there : drop (q .from) (take (q .begun) mid) ≡ leadSaid s r
+      unfolding partsSaid
+      lead-there = part-there cuts (leadSaid s r) behind-lead (q .from) (q .begun) refl (places .from) (places .begun)
+
+      pattern-there : drop (q .begun) (take (q .ended) mid) ≡ patternSaid s r
+      unfolding partsSaid
+      pattern-there =
+          let a = places .from in
+          let b = places .begun in
+          let k = length-append cuts (leadSaid s r) in
+          part-there (cuts ++ leadSaid s r) (patternSaid s r) (tailSaid s r ++ lyricsSaid s r) (q .begun) (q .ended)
+          (sym (append-assoc cuts (leadSaid s r) behind-lead)) (omega arith) (places .ended)
+
+      tail-there : drop (q .ended) (take (q .last) mid) ≡ tailSaid s r
+      unfolding partsSaid
+      tail-there =
+          let a = places .from in
+          let b = places .begun in
+          let c = places .ended in
+          let k = length-append cuts (leadSaid s r) in
+          let l = length-append (cuts ++ leadSaid s r) (patternSaid s r) in
+          part-there ((cuts ++ leadSaid s r) ++ patternSaid s r) (tailSaid s r) (lyricsSaid s r) (q .ended) (q .last)
+          (sym (append-assoc (cuts ++ leadSaid s r) (patternSaid s r) (tailSaid s r ++ lyricsSaid s r)
+          ∙ append-assoc cuts (leadSaid s r) behind-lead))
+          (omega arith) (places .last)
+
+      lyrics-there : drop (q .last) (take (q .end) mid) ≡ lyricsSaid s r
+      unfolding partsSaid
+      lyrics-there =
           let a = places .from in
           let b = places .begun in
           let c = places .ended in
           let d = places .last in
           let e = places .end in
-          let l = end-is in
-          let k = asked in
-          let k4 = k .4 in
-          let k8 = k .8 in
-          let f : q .end - at ≡ 4 + length (partsRow x) = let z = ap length parts-same in omega arith in
-          let g : q .begun - q .from ≡ length (sideRow (x .modifiers .before)) = let z = ap length lead-same in omega arith in
-          let h : q .last - q .ended ≡ length (sideRow (x .modifiers .after)) = let z = ap length tail-same in omega arith in
-          let i : (q .end - q .last) / 2 * 65536 + 0 ≡ length (x .lyrics) * 65536 = let z = lines-same in omega arith in
-          let wa : (q .end - at) * 32768 + meter * 512 + tempo ≡ (4 + length (partsRow x)) * 32768 + timeOf (songOf s) x * 512 + bpmOf (songOf s) x =
-          sized f meter-here tempo-here in
-          let wb : (r .header - 1) * 65536 + r .modifiers .repeat * 4 + bit (hasCut (r .modifiers)) * 2
-          ≡ (x .header - 1) * 65536 + repeats (x .modifiers) * 4 + bit (isCut (x .modifiers)) * 2 =
-          headed (m .says .header) (m .says .repeat) cut-same in
-          let wc : (q .begun - q .from) * 65536 + (q .last - q .ended)
-          ≡ length (sideRow (x .modifiers .before)) * 65536 + length (sideRow (x .modifiers .after)) = omega arith in
-          entered ∙ heads-laid at _ _ _ _ (partsSaid s r) held (omega arith) ∙ five-same at held wa wb wc i parts-same
+          let f = lyrics-length in
+          let k = length-append cuts (leadSaid s r) in
+          let l = length-append (cuts ++ leadSaid s r) (patternSaid s r) in
+          let n = length-append ((cuts ++ leadSaid s r) ++ patternSaid s r) (tailSaid s r) in
+          part-there (((cuts ++ leadSaid s r) ++ patternSaid s r) ++ tailSaid s r) (lyricsSaid s r) [] (q .last) (q .end)
+          (sym (ap (λ (ys : List ℕ). (((cuts ++ leadSaid s r) ++ patternSaid s r) ++ tailSaid s r) ++ ys) (append-nil (lyricsSaid s r))
+          ∙ append-assoc ((cuts ++ leadSaid s r) ++ patternSaid s r) (tailSaid s r) (lyricsSaid s r)
+          ∙ append-assoc (cuts ++ leadSaid s r) (patternSaid s r) (tailSaid s r ++ lyricsSaid s r)
+          ∙ append-assoc cuts (leadSaid s r) behind-lead))
+          (omega arith) (omega arith)
 
-      pub row-end : q .end ≡ at + length (sectionRow (songOf s) x)
-      unfolding sectionRow
-      row-end = let l = end-is in let z = ap length parts-same in omega arith
+      pub names : Names (x .pattern) (namedAt mid text)
+      names = name-there mid text (x .pattern) (pattern-said .1) (pattern-there ∙ pattern-same)
 
-      pub room-next : RoomFor s (met .next) (q .end)
-      unfolding RoomFor
-      room-next =
-          let l = end-is in
-          let n = section-size in
-          let b = bulk-here in
-          omega arith
+      -- The four words in front of them, of which the last says any number.
+      module _ (h : Heads) (meter-said : h .meter ≡ meterOf (r .keys .time) (song .time)) (tempo-said : h .tempo ≡ tempoOf (r .keys .bpm) (song .bpm))
+          {words : List ℕ} (entered : words ≡ aboutSection r h at q mid) where
+        pub meter-here : h .meter ≡ timeOf (songOf s) x
+        meter-here = meter-said ∙ meter-is (songOf s) x (m .says .time) (keys .time)
 
-      inside : at ≤ length held
-      inside = let b = block-fits in omega arith
+        tempo-here : h .tempo ≡ bpmOf (songOf s) x
+        tempo-here = tempo-said ∙ tempo-is (songOf s) x (m .says .bpm) (keys .bpm)
 
-      kept : take at words ≡ take at held
-      kept = ap (take at) row-laid ∙ laid-before at (sectionRow (songOf s) x) held inside
+        abbrev rowWith : ℕ → List ℕ
+        rowWith even =
+            ((4 + length (partsRow x)) * 2 ^ 15 + timeOf (songOf s) x * 2 ^ 9 + bpmOf (songOf s) x)
+            ∷ ((x .header - 1) * 2 ^ 16 + repeats (x .modifiers) * 2 ^ 2 + bit (isCut (x .modifiers)) * 2)
+            ∷ (length (sideRow (x .modifiers .before)) * 2 ^ 16 + length (sideRow (x .modifiers .after)))
+            ∷ (length (x .lyrics) * 2 ^ 16 + even)
+            ∷ partsRow x
 
-      pub same-length : length words ≡ length held
-      same-length =
-          let l = row-end in
-          let k = asked .8 in
-          ap length row-laid ∙ laid-length at (sectionRow (songOf s) x) held (omega arith)
+        row-with : words ≡ laid at (rowWith (h .even)) held
+        unfolding aboutSection
+        row-with =
+            let a = places .from in
+            let b = places .begun in
+            let c = places .ended in
+            let d = places .last in
+            let e = places .end in
+            let l = end-is in
+            let k = asked in
+            let k4 = k .4 in
+            let k8 = k .8 in
+            let f : q .end - at ≡ 4 + length (partsRow x) = let z = ap length parts-same in omega arith in
+            let g : q .begun - q .from ≡ length (sideRow (x .modifiers .before)) = let z = ap length lead-same in omega arith in
+            let n : q .last - q .ended ≡ length (sideRow (x .modifiers .after)) = let z = ap length tail-same in omega arith in
+            let i : (q .end - q .last) / 2 * 65536 + h .even ≡ length (x .lyrics) * 65536 + h .even = let z = lines-same in omega arith in
+            let wa : (q .end - at) * 32768 + h .meter * 512 + h .tempo ≡ (4 + length (partsRow x)) * 32768 + timeOf (songOf s) x * 512 + bpmOf (songOf s) x =
+            sized f meter-here tempo-here in
+            let wb : (r .header - 1) * 65536 + r .modifiers .repeat * 4 + bit (hasCut (r .modifiers)) * 2
+            ≡ (x .header - 1) * 65536 + repeats (x .modifiers) * 4 + bit (isCut (x .modifiers)) * 2 =
+            headed (m .says .header) (m .says .repeat) cut-same in
+            let wc : (q .begun - q .from) * 65536 + (q .last - q .ended)
+            ≡ length (sideRow (x .modifiers .before)) * 65536 + length (sideRow (x .modifiers .after)) = omega arith in
+            entered ∙ ap (λ (ws : List ℕ). aboutSection r h at q ws) there
+            ∙ heads-laid at _ _ _ _ (partsSaid s r) held (omega arith) ∙ five-same at held wa wb wc i parts-same
 
-      pub before-again : Before s words (q .end)
-      before-again =
-          let c = before .below in
-          let l = row-end in
-          record { mark = before .mark; ready = ready-kept (before .ready) c kept same-length; below = omega arith }
+        pub row-end : q .end ≡ at + length (sectionRow (songOf s) x)
+        unfolding sectionRow
+        row-end =
+            let l = end-is in
+            let z = ap length parts-same in
+            omega arith
 
-      -- The parts stand in their stretches.
-      part-there : (a y z : List ℕ) (from to : ℕ) → sectionRow (songOf s) x ≡ a ++ (y ++ z) → from ≡ at + length a → to ≡ from + length y
-          → drop from (take to words) ≡ y
-      part-there a y z from to e f t =
-          ap (λ (ws : List ℕ). drop from (take to ws)) row-laid ∙ laid-part at (sectionRow (songOf s) x) held inside a y z from to e f t
+        pub room-next : RoomFor s (met .next) (q .end)
+        unfolding RoomFor
+        room-next =
+            let l = end-is in
+            let n = section-size in
+            let b = bulk-here in
+            omega arith
 
-      abbrev cuts : List ℕ
-      cuts = cutsSaid (r .modifiers)
+        inside : at ≤ length held
+        inside = let b = block-fits in omega arith
 
-      -- The four words, and the parts behind them.
-      record Front : Type 0 where
-        heads : List ℕ
-        four : length heads ≡ 4
-        whole : sectionRow (songOf s) x ≡ heads ++ (cuts ++ (leadSaid s r ++ (patternSaid s r ++ (tailSaid s r ++ lyricsSaid s r))))
+        kept : take at words ≡ take at held
+        kept = ap (take at) row-with ∙ laid-before at (rowWith (h .even)) held inside
 
-      front : Front
-      unfolding sectionRow partsSaid
-      front =
-          record {
-            heads =
-                ((4 + length (partsRow x)) * 2 ^ 15 + timeOf (songOf s) x * 2 ^ 9 + bpmOf (songOf s) x)
-                ∷ ((x .header - 1) * 2 ^ 16 + repeats (x .modifiers) * 2 ^ 2 + bit (isCut (x .modifiers)) * 2)
-                ∷ (length (sideRow (x .modifiers .before)) * 2 ^ 16 + length (sideRow (x .modifiers .after)))
-                ∷ (length (x .lyrics) * 2 ^ 16)
-                ∷ [];
-            four = refl;
-            whole = rw (sym parts-same) refl;
-          }
+        pub same-length : length words ≡ length held
+        same-length =
+            let l = end-is in
+            let z = ap length parts-same in
+            let k = asked .8 in
+            ap length row-with ∙ laid-length at (rowWith (h .even)) held (omega arith)
 
-      abbrev heads : List ℕ
-      heads = front .heads
+        pub before-again : Before s words (q .end)
+        before-again =
+            let c = before .below in
+            let l = row-end in
+            record { mark = before .mark; ready = ready-kept (before .ready) c kept same-length; below = omega arith }
 
-      lead-there : drop (q .from) (take (q .begun) words) ≡ leadSaid s r
-      lead-there =
-          let f = front .four in
-          let a = places .from in
-          let k = length-append heads cuts in
-          part-there (heads ++ cuts) (leadSaid s r) (patternSaid s r ++ (tailSaid s r ++ lyricsSaid s r)) (q .from) (q .begun)
-          (front .whole ∙ sym (append-assoc heads cuts (leadSaid s r ++ (patternSaid s r ++ (tailSaid s r ++ lyricsSaid s r)))))
-          (omega arith) (places .begun)
+        -- The parts stand there as before.
+        behind : (from to : ℕ) → at + 4 ≤ from → drop from (take to words) ≡ drop from (take to mid)
+        unfolding aboutSection
+        behind from to f =
+            ap (λ (ws : List ℕ). drop from (take to ws)) entered
+            ∙ set-behind _ at _ from to (omega arith)
+            ∙ set-behind _ (at + 1) _ from to (omega arith)
+            ∙ set-behind _ (at + 2) _ from to (omega arith)
+            ∙ set-behind mid (at + 3) _ from to (omega arith)
 
-      pattern-there : drop (q .begun) (take (q .ended) words) ≡ patternSaid s r
-      pattern-there =
-          let f = front .four in
-          let a = places .from in
-          let b = places .begun in
-          let k = length-append heads cuts in
-          let l = length-append (heads ++ cuts) (leadSaid s r) in
-          part-there ((heads ++ cuts) ++ leadSaid s r) (patternSaid s r) (tailSaid s r ++ lyricsSaid s r) (q .begun) (q .ended)
-          (front .whole ∙ sym (append-assoc (heads ++ cuts) (leadSaid s r) (patternSaid s r ++ (tailSaid s r ++ lyricsSaid s r))
-          ∙ append-assoc heads cuts (leadSaid s r ++ (patternSaid s r ++ (tailSaid s r ++ lyricsSaid s r)))))
-          (omega arith) (places .ended)
+        lead-again : drop (q .from) (take (q .begun) words) ≡ leadSaid s r
+        lead-again = let a = places .from in behind (q .from) (q .begun) (omega arith) ∙ lead-there
 
-      tail-there : drop (q .ended) (take (q .last) words) ≡ tailSaid s r
-      tail-there =
-          let f = front .four in
-          let a = places .from in
-          let b = places .begun in
-          let c = places .ended in
-          let k = length-append heads cuts in
-          let l = length-append (heads ++ cuts) (leadSaid s r) in
-          let n = length-append ((heads ++ cuts) ++ leadSaid s r) (patternSaid s r) in
-          part-there (((heads ++ cuts) ++ leadSaid s r) ++ patternSaid s r) (tailSaid s r) (lyricsSaid s r) (q .ended) (q .last)
-          (front .whole ∙ sym (append-assoc ((heads ++ cuts) ++ leadSaid s r) (patternSaid s r) (tailSaid s r ++ lyricsSaid s r)
-          ∙ append-assoc (heads ++ cuts) (leadSaid s r) (patternSaid s r ++ (tailSaid s r ++ lyricsSaid s r))
-          ∙ append-assoc heads cuts (leadSaid s r ++ (patternSaid s r ++ (tailSaid s r ++ lyricsSaid s r)))))
-          (omega arith) (places .last)
+        pattern-again : drop (q .begun) (take (q .ended) words) ≡ patternSaid s r
+        pattern-again =
+            let a = places .from in
+            let b = places .begun in
+            behind (q .begun) (q .ended) (omega arith) ∙ pattern-there
 
-      lead-carries : Carries words (textAt words (q .from) (q .begun)) (sideItems (x .modifiers .before))
-      unfolding textAt leadSaid
-      lead-carries =
-          side-carries words (lookUp words) (record { from = q .from; to = q .begun }) lead (x .modifiers .before) (m .says .before) lead-clean
-          (said-good s small (r .modifiers .before)) (places .begun) lead-there
+        tail-again : drop (q .ended) (take (q .last) words) ≡ tailSaid s r
+        tail-again =
+            let a = places .from in
+            let b = places .begun in
+            let c = places .ended in behind (q .ended) (q .last) (omega arith) ∙ tail-there
 
-      tail-carries : Carries words (textAt words (q .ended) (q .last)) (sideItems (x .modifiers .after))
-      unfolding textAt tailSaid
-      tail-carries =
-          side-carries words (lookUp words) (record { from = q .ended; to = q .last }) tail (x .modifiers .after) (m .says .after) tail-clean
-          (said-good s small (r .modifiers .after)) (places .last) tail-there
+        pub lyrics-hold : Holds words (record { from = q .last; to = q .end }) (flatMap lyricRow (x .lyrics))
+        lyrics-hold =
+            let a = places .from in
+            let b = places .begun in
+            let c = places .ended in
+            let d = places .last in
+            let e = places .end in
+            let f = lyrics-length in
+            let g = ap length lyrics-same in
+            record { words = behind (q .last) (q .end) (omega arith) ∙ lyrics-there ∙ lyrics-same; size = omega arith }
 
-      module _ (n : ℕ) (names : (y : Pattern) → patternIn lines ≡ some y → Names y n) where
-        items-pattern : n ≡ 0 → Carries words (textAt words (q .begun) (q .ended)) (patternItems (songOf s .definitions) (x .pattern))
-        unfolding textAt patternSaid
+        lead-carries : Carries words (textAt words (q .from) (q .begun)) (sideItems (x .modifiers .before))
+        unfolding textAt leadSaid
+        lead-carries =
+            side-carries words (lookUp words) (record { from = q .from; to = q .begun }) lead (x .modifiers .before) (m .says .before) lead-clean
+            (said-good s small (r .modifiers .before)) (places .begun) lead-again
+
+        tail-carries : Carries words (textAt words (q .ended) (q .last)) (sideItems (x .modifiers .after))
+        unfolding textAt tailSaid
+        tail-carries =
+            side-carries words (lookUp words) (record { from = q .ended; to = q .last }) tail (x .modifiers .after) (m .says .after) tail-clean
+            (said-good s small (r .modifiers .after)) (places .last) tail-again
+
+        -- The pattern says what it said before the four words were entered.
+        abbrev patternText : Text
+        patternText = record { at = playedText words text; outline = outlineBy mid text (namedAt mid text) }
+
+        mark-kept : take (before .mark + 1) mid ≡ take (before .mark + 1) held
+        mark-kept =
+            let c = before .below in
+            sym (take-take (before .mark + 1) (at + 4) mid (omega arith))
+            ∙ ap (take (before .mark + 1)) (ap (take (at + 4)) there ∙ laid-before (at + 4) (partsSaid s r) held heads-inside)
+            ∙ take-take (before .mark + 1) (at + 4) held (omega arith)
+
+        mid-length : length mid ≡ length held
+        mid-length =
+            let l = end-is in
+            let k = asked .8 in
+            ap length there ∙ laid-length (at + 4) (partsSaid s r) held (omega arith)
+
+        items-pattern : eqb (namedAt mid text) 0 ≡ true → Carries words patternText (patternItems (songOf s .definitions) (x .pattern))
+        unfolding outlineBy if_then_else_ patternSaid
         items-pattern e =
-            let h : Names (x .pattern) 0 = rw e at (names (x .pattern) (m .written)) in
-            items-carries words (lookUp words) (record { from = q .begun; to = q .ended }) (songOf s .definitions) (x .pattern) (runTokens lines) h
-            (pattern-shape lines (x .pattern) (m .written)) (run-good s small (r .pattern)) pattern-there
+            let h : Names (x .pattern) 0 = rw (eqb-true (namedAt mid text) 0 e) at names in
+            rw (e, plays-itself words text (x .pattern) (pattern-said .1) (pattern-again ∙ pattern-same) h, pattern-there, ← pattern-again)
+            (items-carries words (lookUp mid) text (songOf s .definitions) (x .pattern) (runTokens lines) h
+            (pattern-shape lines (x .pattern) (m .written)) (run-good s small (r .pattern)) pattern-again)
 
-        named-pattern : (n ≡ 0 → ⊥) → Carries words (namedText words n) (patternItems (songOf s .definitions) (x .pattern))
-        named-pattern e = rw (named-some (x .pattern) n (names (x .pattern) (m .written)) e) (before-again .ready .carries n words refl)
+        named-pattern : eqb (namedAt mid text) 0 ≡ false → Carries words patternText (patternItems (songOf s .definitions) (x .pattern))
+        unfolding outlineBy if_then_else_ namedText
+        named-pattern e =
+            let n = namedAt mid text in
+            let k = eqb-false n 0 e in
+            rw (e, plays-named words text (x .pattern) (pattern-said .1) (pattern-again ∙ pattern-same) n names k, named-some (x .pattern) n names k)
+            (carries-either mid words (patternItems (songOf s .definitions) (named n)) (namedText mid n) (namedText words n)
+            (ready-carries (ready-kept {at = before .mark + 1} (before .ready) (omega arith) mark-kept mid-length) n) (ready-carries (before-again .ready) n))
 
-        pattern-carries : Carries words (patternText words q n) (patternItems (songOf s .definitions) (x .pattern))
-        unfolding patternText if_then_else_
-        pattern-carries =
-            by-cases (eqb n 0)
-            (λ e. rw e (items-pattern (eqb-true n 0 e)))
-            (λ e. rw e (named-pattern (eqb-false n 0 e)))
+        pattern-carries : Carries words patternText (patternItems (songOf s .definitions) (x .pattern))
+        pattern-carries = by-cases (eqb (namedAt mid text) 0) items-pattern named-pattern
 
-        pub lays : LyricsFit (map lyricLine lyrics)
-            → Lays s p song at held words (record { section = r; meter = meter; texts = toldTexts words q n; end = q .end; next = met .next })
-        unfolding toldTexts
-        lays h =
-            record {
-              opens = record { met = m; texts = record { lead = lead-carries; pattern = pattern-carries; tail = tail-carries } };
-              said = meter-said;
-              meter = meter-here;
-              words = row-laid;
-              end = row-end;
-              fits = fits h;
-              room = room-next;
-              before = before-again;
-            }
+        -- As the code finds it; with the number of its measures, if each has N beats.
+        module _ {n : ℕ} (named : n ≡ namedAt mid text) {says : Outline} (said : says ≡ outlineBy mid text n)
+            (even : h .even ≡ evenIn says (h .meter)) where
+          said-there : says ≡ outlineBy mid text (namedAt mid text)
+          said-there = said ∙ ap (outlineBy mid text) named
+
+          even-here : h .even ≡ evenPattern (songOf s) x
+          unfolding evenPattern
+          even-here =
+              let range = meter-range (songOf s) x in
+              even ∙ ap (λ (u : Outline). evenIn u (h .meter)) said-there ∙ ap (evenIn (patternText .outline)) meter-here
+              ∙ carries-even words patternText (patternItems (songOf s .definitions) (x .pattern)) (timeOf (songOf s) x) pattern-carries (range .0) (range .1)
+
+          row-laid : words ≡ laid at (sectionRow (songOf s) x) held
+          unfolding sectionRow
+          row-laid = row-with ∙ ap (λ (k : ℕ). laid at (rowWith k) held) even-here
+
+          pub lays : {t : Texts} → t ≡ toldTexts words q says → LyricsFit (map lyricLine lyrics)
+              → Lays s p song at held words (record {
+                section = r;
+                meter = h .meter;
+                named = n;
+                texts = t;
+                lyrics = record { from = q .last; to = q .end };
+                end = q .end;
+                next = met .next;
+              })
+          unfolding toldTexts
+          lays told f =
+              rw told (record {
+                opens = record { met = m; texts = record { lead = lead-carries; pattern = rw said-there pattern-carries; tail = tail-carries } };
+                names = rw named names;
+                lyrics = lyrics-hold;
+                lyrics-end = refl;
+                said = meter-said;
+                meter = meter-here;
+                words = row-laid;
+                end = row-end;
+                fits = fits f;
+                room = room-next;
+                before = before-again;
+              })

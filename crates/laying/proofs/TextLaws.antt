@@ -1,30 +1,39 @@
 -- When a stretch of the buffer carries the items of a text: where their words stand there, or no words.
-use Prim.Native.Nat.{ℕ, _+_, _≤_}
+use Prim.Native.Nat.{ℕ, _+_, _<_, _≤_}
 use mathlib.Core.Path.{_≡_, refl, sym, ap, _∙_, subst}
 use mathlib.Core.List.{List, []}
+use mathlib.Core.Bool.{_&&_}
 use mathlib.Core.Option.{Option, none, some, bind}
 use native.Mathlib.Omega.{arith}
+use borrow.Author.Tests.{leb-true}
+use lib.Dec.{leb}
 use lib.ListN.{length, take, drop}
+use Rattle.songcode.specs.Lists.{if_then_else_}
 use Rattle.songcode.specs.Song.{Items, Pattern, items, Definition, Side}
 use Rattle.songcode.specs.answer.Tokens.{Token, tokens}
 use Rattle.songcode.specs.answer.PatternText.{depth, loopsDeep, references, sideText}
 use Rattle.songcode.specs.answer.References.{patternItems}
 use Rattle.songcode.specs.answer.Playing.{measuresOf}
 use Rattle.songcode.proofs.WrittenBefore.{writeItems, appended}
-use Rattle.songcode.proofs.ListLaws.{Each}
+use Rattle.songcode.proofs.ListLaws.{by-cases, Each, and-false}
 use Rattle.songcode.proofs.PatternLaws.{none-some}
 use Rattle.songcode.proofs.SideAgree.{side-references, side-sound}
 use Rattle.songcode.proofs.TokensAgree.{text-complete}
 use Rattle.tokens.specs.TokenWords.{tokenWords}
 use Rattle.score.specs.declared.stretches.Stretch.{Stretch}
+use Rattle.score.specs.Even.{evenMeasures}
 use Rattle.score.proofs.StandingLaws.{written-stands}
 use Rattle.player.specs.Texts.{rowWords}
 use Rattle.player.proofs.Meaning.{row-meaning}
 use Rattle.songcode.proofs.GlueLaws.{putIn-same}
 use Rattle.player.proofs.Walkables.{plain-walkable, empty-row}
 use Rattle.outlines.specs.declared.readings.Outline.{Outline}
+use Rattle.outlines.specs.Sizes.{divides}
 use Rattle.outlines.specs.Readings.{outlined}
+use Rattle.outlines.specs.Words.{vacant}
+use Rattle.outlines.specs.Even.{evenIn}
 use Rattle.outlines.specs.Told.{KnowsItems}
+use Rattle.outlines.proofs.WholeLaws.{tells-even}
 use Rattle.outlines.proofs.KnownLaws.{items-known, empty-known}
 use Rattle.sections.specs.Slots.{Setting}
 use Rattle.sections.specs.SectionSays.{sideOn, sideSaid}
@@ -84,3 +93,25 @@ module _ (ws : List ℕ) (find : ℕ → Outline) (t : Stretch) where
       let e = r .1 in
       let g : Shape ts (items (r .0)) = subst (Shape ts) e h in
       rw e (plain-carries (r .0) ts (g .0) good (g .1) (g .2) stands)
+
+-- What a text says may be known from another row.
+pub carries-either : (vs ws : List ℕ) (i : Option Items) (t u : Text) → Carries vs t i → Carries ws u i
+    → Carries ws (record { at = u .at; outline = t .outline }) i
+unfolding Carries
+carries-either vs ws none t u a b = (a .0, b .1)
+carries-either vs ws (some r) t u a b = (a .0, a .1, b .2)
+
+-- How many measures it has, if each has N beats.
+pub carries-even : (ws : List ℕ) (t : Text) (i : Option Items) (n : ℕ) → Carries ws t i → 1 ≤ n → n ≤ 32 → evenIn (t .outline) n ≡ evenMeasures n i
+unfolding Carries evenMeasures evenIn vacant if_then_else_
+carries-even ws t none n c low high = rw (c .0) (by-cases (divides 1 n) (λ e. rw e) (λ e. rw e))
+carries-even ws t (some r) n c low high = tells-even (t .outline) r n (c .1) low high
+
+pub even-few : (o : Outline) (n : ℕ) → evenIn o n < 65536
+unfolding evenIn if_then_else_
+even-few o n =
+    by-cases (leb (o .measures) 65535)
+    (λ e.
+    let h = leb-true (o .measures) 65535 e in
+    by-cases (o .whole && (divides (o .sizes) n && leb (o .measures) 65535)) (λ f. rw f (omega arith)) (λ f. rw f (omega arith)))
+    (λ e. rw (e, and-false (divides (o .sizes) n), and-false (o .whole)) (omega arith))

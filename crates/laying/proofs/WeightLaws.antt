@@ -107,7 +107,8 @@ line-there s n at h =
     let frontmost = length-take len bs in
     let next = next-is s n at in
     let bytes : length (placed a (part a (a + k) s)) ≤ k =
-    let e = length-placed a (part a (a + k) s) in let t = length-take (a + k - a) (drop a s) in omega arith in
+    let e = length-placed a (part a (a + k) s) in
+    let t = length-take (a + k - a) (drop a s) in omega arith in
     let small : f + k ≤ len = omega arith in
     record {
       further = next-further s n at h;
@@ -132,7 +133,8 @@ weight-from (suc fuel) s n at f h =
     let c = l .text in
     rw (lines-next s n at k)
     (by-cases (ltb m (length s))
-    (λ g. let d = l .ended (ltb-true m (length s) g) in let r = weight-from fuel s (n + 1) m (omega arith) b in omega arith)
+    (λ g. let d = l .ended (ltb-true m (length s) g) in
+    let r = weight-from fuel s (n + 1) m (omega arith) b in omega arith)
     (λ g. rw (lines-over s (n + 1) m (ltb-false m (length s) g)) (omega arith))))
     (λ e. rw (lines-over s n at (ltb-false at (length s) e)) (omega arith))
 
@@ -238,11 +240,17 @@ lexed-by-few plain b l = omega arith
 lexed-few : (bs : List Byte) → length (lexed bs .front) + length (lexed bs .rest) ≤ length bs
 unfolding lexed
 lexed-few [] = omega arith
-lexed-few (b ∷ bs) = let h = lexed-few bs in let k = lexed-by-few (class b) b (lexed bs) in omega arith
+lexed-few (b ∷ bs) =
+    let h = lexed-few bs in
+    let k = lexed-by-few (class b) b (lexed bs) in
+    omega arith
 
 pub tokens-few : (bs : List Byte) → length (tokens bs) ≤ length bs
 unfolding tokens
-tokens-few bs = let h = lexed-few bs in let k = word-few (lexed bs .front) (lexed bs .rest) in omega arith
+tokens-few bs =
+    let h = lexed-few bs in
+    let k = word-few (lexed bs .front) (lexed bs .rest) in
+    omega arith
 
 pub words-length : (ts : List Token) → length (tokenWords ts) ≡ length ts
 unfolding tokenWords
@@ -252,7 +260,10 @@ words-length (t ∷ ts) = ap suc (words-length ts)
 lines-few : (l : Line) (ls : List Line) → length (tokensOf l ls) < weight (l ∷ ls)
 unfolding tokensOf weight
 lines-few l [] = let h = tokens-few (l .text) in omega arith
-lines-few l (m ∷ ms) = let h = tokens-few (l .text) in let k = lines-few m ms in rw length-append (omega arith)
+lines-few l (m ∷ ms) =
+    let h = tokens-few (l .text) in
+    let k = lines-few m ms in
+    rw length-append (omega arith)
 
 -- The words of a run and of a setting.
 pub run-few : (l : Line) (ls : List Line) → length (tokenWords (runTokens (l ∷ ls))) < weight (l ∷ ls)

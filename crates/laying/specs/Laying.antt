@@ -1,12 +1,17 @@
--- The tokens of some lines, as they are laid into the buffer; the number that a pattern names.
+-- The tokens of some lines, as they are laid into the buffer; the number that a pattern names, and a text of the row.
 use Prim.Native.Nat.{ℕ, _+_, _≤_}
 use mathlib.Core.Path.{_≡_}
 use mathlib.Core.List.{List, [], _∷_}
 use mathlib.Core.Option.{Option, none, some}
+use lib.Dec.{eqb}
 use lib.ListN.{length}
+use Rattle.songcode.specs.Lists.{if_then_else_}
 use Rattle.songcode.specs.answer.Lines.{Line}
 use Rattle.songcode.specs.Song.{Pattern, items, named}
 use Rattle.songcode.specs.answer.Tokens.{Token, tokens, tokensOf}
+use Rattle.tokens.specs.Signs.{kindOf, numberOf}
+use Rattle.score.specs.declared.stretches.Stretch.{Stretch}
+use Rattle.score.specs.Places.{wordOf}
 use Rattle.sections.specs.Slots.{Setting}
 
 -- A line end stands between neighbours.
@@ -33,3 +38,8 @@ saidWeight (some x) = length (x .text)
 unfoldable pub Names : Pattern → ℕ → Type 0
 Names (items r) k = k ≡ 0
 Names (named n) k = (k ≡ n) × (1 ≤ n) × (n ≤ 9999)
+
+-- The first word of a text that names a definition is a reference.
+unfoldable pub namedAt : List ℕ → Stretch → ℕ
+unfolding if_then_else_ wordOf
+namedAt ws t = if eqb (kindOf (wordOf ws (t .to) (t .from))) 55 then numberOf (wordOf ws (t .to) (t .from)) else 0

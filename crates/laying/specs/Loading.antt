@@ -1,61 +1,52 @@
 -- The definitions before a place are loaded: what the buffer holds of them, and what is left.
-use Prim.Native.Nat.{ℕ, zero, suc, _+_, _-_, _<_, _≤_}
+use Prim.Native.Nat.{ℕ, _+_, _-_, _<_, _≤_}
 use mathlib.Core.Path.{_≡_}
-use mathlib.Core.List.{List, [], _∷_, map, flatMap}
+use mathlib.Core.List.{List, [], _∷_, _++_, map, flatMap}
 use mathlib.Core.Bool.{Bool, true, false}
-use mathlib.Core.Option.{Option, none, some, orElse}
+use mathlib.Core.Option.{Option, none, some}
 use lib.ListN.{length, set}
 use Rattle.songcode.specs.Complaints.{earliest}
 use Rattle.songcode.specs.answer.Lines.{Block, blocks}
 use Rattle.songcode.specs.Song.{Items, Definition}
 use Rattle.songcode.specs.answer.Sections.{twice}
 use Rattle.songcode.specs.answer.SongText.{blockOrder, definitionBlocks, sectionBlocks, headIn, headsFaults, firstLine, definitionFaults, definitionIn}
-use Rattle.songcode.specs.answer.PatternText.{depth, references}
 use Rattle.songcode.specs.answer.References.{definitionOf, itemsOf, putIn, definitionsReferences, referenceFaults}
-use Rattle.songcode.specs.description.Fits.{ReferAll}
 use Rattle.songcode.specs.description.WrittenSong.{idOf}
 use Rattle.songcode.specs.answer.Answer.{blocksOf, songOf}
 use Rattle.text.specs.Refusals.{refusalOf}
 use Rattle.score.specs.declared.stretches.Stretch.{Stretch}
-use Rattle.score.specs.Places.{lengthAt, headWord, stretchOf}
-use Rattle.score.specs.Standing.{ItemsFit, Stands}
+use Rattle.score.specs.Places.{headWord}
+use Rattle.score.specs.Standing.{Stands}
 use Rattle.outlines.specs.declared.readings.Outline.{Outline}
-use Rattle.outlines.specs.Words.{outlineWord, vacant, lookUp, isMissing}
+use Rattle.outlines.specs.Words.{outlineWord, vacant}
 use Rattle.outlines.specs.Told.{Sketches, Tells}
 use Rattle.sections.specs.declared.blocks.Place.{Place}
 use Rattle.sections.specs.Runs.{textLines}
 use Rattle.sections.specs.BlockParts.{blockAt, linesPast}
 use Rattle.laying.specs.declared.definitions.Loaded.{Loaded}
+use Rattle.laying.specs.Fronts.{DefinedFits, Front}
 
--- The text of a definition in the first words of the buffer, and its outline; its references are right among all definitions.
-pub record HeldText (ds : List Definition) (ws : List ℕ) (fill : ℕ) (at : Stretch) (o : Outline) (r : Items) : Type 0 where
-  pub within : at .to ≤ fill
+-- The text of a definition in the row, and its outline; its references are right among all definitions.
+pub record HeldText (ds : List Definition) (ws : List ℕ) (at : Stretch) (o : Outline) (r : Items) : Type 0 where
   pub stands : Stands ws at r
-  pub fits : ItemsFit r
-  pub shallow : depth r ≤ 1
+  pub fits : DefinedFits ds r
   pub sketched : Sketches o r
-  pub refers : ReferAll ds (references r)
   pub tells : Tells o (putIn (itemsOf ds) r)
 
-unfoldable pub HeldItems : List Definition → List ℕ → ℕ → Stretch → Outline → Option Items → Type 0
-HeldItems ds ws fill at o none = (at .to ≤ at .from) × (o ≡ vacant)
-HeldItems ds ws fill at o (some r) = HeldText ds ws fill at o r
+unfoldable pub HeldItems : List Definition → List ℕ → Stretch → Outline → Option Items → Type 0
+HeldItems ds ws at o none = (at .to ≤ at .from) × (o ≡ vacant)
+HeldItems ds ws at o (some r) = HeldText ds ws at o r
 
 -- What is found of a number: whether a definition is missing, where its words stand, and its outline.
-unfoldable pub Held : List Definition → List ℕ → ℕ → Option Definition → Bool → Stretch → Outline → Type 0
+unfoldable pub Held : List Definition → List ℕ → Option Definition → Bool → Stretch → Outline → Type 0
 unfolding HeldItems
-Held ds ws fill none missing at o = (missing ≡ true) × (at .to ≤ at .from) × (o ≡ vacant)
-Held ds ws fill (some d) missing at o = (missing ≡ false) × HeldItems ds ws fill at o (d .items)
-
--- So many definitions one behind the other, from a place up to the mark.
-unfoldable pub Chain : ℕ → List ℕ → ℕ → ℕ → Type 0
-Chain zero ws at mark = at ≡ mark
-Chain (suc k) ws at mark = (2 ≤ lengthAt ws at) × Chain k ws (at + lengthAt ws at) mark
+Held ds ws none missing at o = (missing ≡ true) × (at .to ≤ at .from) × (o ≡ vacant)
+Held ds ws (some d) missing at o = (missing ≡ false) × HeldItems ds ws at o (d .items)
 
 -- The two words in front of a definition's text that stands from the mark's second next place up to an end, and the new mark there.
 unfoldable pub entered : ℕ → ℕ → ℕ → Outline → List ℕ → List ℕ
 unfolding outlineWord
-entered mark end id o ws = set (set (set ws mark (headWord (end - mark) id)) (mark + 1) (outlineWord o)) end 0
+entered mark end id o ws = set (set (set ws (mark + 1) (outlineWord o)) mark (headWord (end - mark) id)) end 0
 
 -- The blocks from a place on, and the definitions among them.
 unfoldable pub blocksFrom : List ℕ → Place → List Block
@@ -77,20 +68,18 @@ pub record Leaves (s : List ℕ) (count : ℕ) (seen : List ℕ) (p : Place) : T
   pub fresh : twice 6 headIn seen (map firstLine (definitionBlocks (blocksFrom s p))) ≡ []
   pub texts : flatMap (λ b. definitionFaults (b .others)) (definitionBlocks (blocksFrom s p)) ≡ []
 
--- The definitions before the place, the last one first; stage 3 complains of none of them.
+-- The definitions before the place stand at the row's front, in their order; the last one first they are the earlier ones. Stage 3 complains of none.
 pub record Loading (s ws : List ℕ) (mark : ℕ) (p : Place) : Type 0 where
   pub small : length s ≤ 65536
   pub room : length s < length ws
   pub filled : mark ≤ p .at
-  pub count : ℕ
-  pub few : count ≤ 26
-  pub chained : Chain count ws 0 mark
-  pub marked : lengthAt ws mark ≡ 0
+  pub done : List Definition
+  pub front : Front (songOf s .definitions) done ws mark
+  pub all : songOf s .definitions ≡ done ++ definitionsFrom s p
   pub earlier : List Definition
-  pub leaves : Leaves s count (map idOf earlier) p
-  pub found : (n : ℕ) → definitionOf n (songOf s .definitions) ≡ orElse (definitionOf n earlier) (definitionOf n (definitionsFrom s p))
+  pub same : (n : ℕ) → definitionOf n earlier ≡ definitionOf n done
+  pub leaves : Leaves s (length done) (map idOf earlier) p
   pub clear : definitionsReferences [] (songOf s .definitions) ≡ definitionsReferences earlier (definitionsFrom s p)
-  pub held : (n : ℕ) → Held (songOf s .definitions) ws mark (definitionOf n earlier) (isMissing ws n) (stretchOf ws n) (lookUp ws n)
 
 -- One more definition is loaded, or stage 3 refuses it.
 pub record LoadsOne (s ws : List ℕ) (p : Place) (r : Loaded) : Type 0 where

@@ -16,8 +16,11 @@ use Rattle.settings.specs.declared.cuts.CutRead.{CutRead}
 use Rattle.settings.specs.declared.cuts.CutRead.the-variants as read
 use Rattle.tokens.specs.TokenWords.{tokenWords}
 use Rattle.tokens.specs.Lexing.{laid}
+use Rattle.score.specs.declared.stretches.Stretch.{Stretch}
+use Rattle.score.specs.Places.{playedText}
 use Rattle.score.specs.Sections.{cutsBy, lyricRow, bit, sectionRow}
 use Rattle.score.specs.Fitting.{SectionFits}
+use Rattle.score.specs.Seen.{Holds}
 use Rattle.sections.specs.declared.values.Keys.{Keys}
 use Rattle.sections.specs.declared.values.Modifiers.{Modifiers}
 use Rattle.sections.specs.declared.blocks.Place.{Place}
@@ -25,14 +28,16 @@ use Rattle.sections.specs.declared.blocks.SectionRead.{SectionRead}
 use Rattle.sections.specs.Runs.{textLines, linesOf}
 use Rattle.sections.specs.Slots.{settingAt}
 use Rattle.sections.specs.Onward.{sectionAt}
+use Rattle.laying.specs.declared.rows.Heads.{Heads}
 use Rattle.laying.specs.declared.rows.Places.{Places}
 use Rattle.laying.specs.declared.texts.Opened.{Opened}
 use Rattle.laying.specs.declared.texts.Text.{Text}
 use Rattle.laying.specs.declared.texts.Texts.{Texts}
+use Rattle.outlines.specs.declared.readings.Outline.{Outline}
 use Rattle.outlines.specs.Readings.{outlined}
 use Rattle.outlines.specs.Words.{lookUp}
-use Rattle.laying.specs.Laying.{runTokens, saidTokens, weight}
-use Rattle.laying.specs.Scores.{namedText, Ready, Opens}
+use Rattle.laying.specs.Laying.{runTokens, saidTokens, weight, Names}
+use Rattle.laying.specs.Scores.{Ready, Opens}
 
 -- "N is the section's time, else the song's"; 0 is no time. "bpm (section's, else song's, else 511)"
 unfoldable pub meterOf : ℕ → ℕ → ℕ
@@ -95,26 +100,32 @@ pub record PlacesAre (s : List ℕ) (r : SectionRead) (at : ℕ) (p : Places) : 
   pub end : p .end ≡ p .last + 2 * length (linesOf s (r .lyrics))
 
 -- The four words about a section, stored from the last to the first.
-unfoldable pub aboutSection : SectionRead → ℕ → ℕ → ℕ → Places → List ℕ → List ℕ
+unfoldable pub aboutSection : SectionRead → Heads → ℕ → Places → List ℕ → List ℕ
 unfolding hasCut bit
-aboutSection r meter tempo at p ws =
-    set (set (set (set ws (at + 3) ((p .end - p .last) / 2 * 65536 + 0))
+aboutSection r h at p ws =
+    set (set (set (set ws (at + 3) ((p .end - p .last) / 2 * 65536 + h .even))
     (at + 2) ((p .begun - p .from) * 65536 + (p .last - p .ended)))
     (at + 1) ((r .header - 1) * 65536 + r .modifiers .repeat * 4 + bit (hasCut (r .modifiers)) * 2))
-    at ((p .end - at) * 32768 + meter * 512 + tempo)
+    at ((p .end - at) * 32768 + h .meter * 512 + h .tempo)
 
--- The texts at these places, with what they say; a pattern that names a definition is that definition's text.
+-- What a text says; one that names a definition says what that definition does.
+unfoldable pub outlineBy : List ℕ → Stretch → ℕ → Outline
+unfolding if_then_else_ outlined lookUp
+outlineBy ws t n = if eqb n 0 then outlined (lookUp ws) (drop (t .from) (take (t .to) ws)) else lookUp ws n
+
+-- The texts at these places, with what they say; a pattern that names a definition plays that definition's text.
 unfoldable pub textAt : List ℕ → ℕ → ℕ → Text
 unfolding outlined lookUp
 textAt ws from to = record { at = record { from = from; to = to }; outline = outlined (lookUp ws) (drop from (take to ws)) }
 
-unfoldable pub patternText : List ℕ → Places → ℕ → Text
-unfolding if_then_else_ textAt namedText
-patternText ws p n = if eqb n 0 then textAt ws (p .begun) (p .ended) else namedText ws n
-
-unfoldable pub toldTexts : List ℕ → Places → ℕ → Texts
-unfolding textAt patternText
-toldTexts ws p n = record { lead = textAt ws (p .from) (p .begun); pattern = patternText ws p n; tail = textAt ws (p .ended) (p .last) }
+unfoldable pub toldTexts : List ℕ → Places → Outline → Texts
+unfolding textAt playedText
+toldTexts ws p o =
+    record {
+      lead = textAt ws (p .from) (p .begun);
+      pattern = record { at = playedText ws (record { from = p .begun; to = p .ended }); outline = o };
+      tail = textAt ws (p .ended) (p .last);
+    }
 
 -- The bytes of some blocks, with one for each line end and one for the blank line behind each: as many words are enough for their sections.
 unfoldable pub bulk : List Block → ℕ
@@ -143,6 +154,9 @@ pub record SongKeys (song : Song) (k : Keys) : Type 0 where
 -- The section at the place is laid from a place of the row on, and opened.
 pub record Lays (s : List ℕ) (p : Place) (song : Keys) (at : ℕ) (old new : List ℕ) (r : Opened) : Type 0 where
   pub opens : Opens s p new r
+  pub names : Names (sectionAt s p .pattern) (r .named)
+  pub lyrics : Holds new (r .lyrics) (flatMap lyricRow (sectionAt s p .lyrics))
+  pub lyrics-end : r .lyrics .to ≡ r .end
   pub said : r .meter ≡ meterOf (r .section .keys .time) (song .time)
   pub meter : r .meter ≡ timeOf (songOf s) (sectionAt s p)
   pub words : new ≡ laid at (sectionRow (songOf s) (sectionAt s p)) old

@@ -1,11 +1,11 @@
 -- When the buffer holds the definitions of a song, and the texts of a section.
-use Prim.Native.Nat.{ℕ, _+_, _<_, _≤_}
+use Prim.Native.Nat.{ℕ, _<_, _≤_}
 use mathlib.Core.Path.{_≡_}
 use mathlib.Core.List.{List, []}
 use mathlib.Core.Bool.{Bool, false, not}
 use mathlib.Core.Option.{Option, none, some, bind}
 use lib.Dec.{eqb}
-use lib.ListN.{length, take}
+use lib.ListN.{length}
 use Rattle.songcode.specs.Lists.{if_then_else_, isSome}
 use Rattle.songcode.specs.Complaints.{earliest}
 use Rattle.songcode.specs.answer.Lines.{blocks}
@@ -15,9 +15,8 @@ use Rattle.songcode.specs.answer.Playing.{measuresOf}
 use Rattle.songcode.specs.answer.SongText.{sectionBlocks}
 use Rattle.songcode.specs.answer.Answer.{blocksOf, songOf}
 use Rattle.text.specs.Refusals.{refusalOf}
-use Rattle.tokens.specs.Signs.{kindOf, numberOf}
 use Rattle.score.specs.declared.stretches.Stretch.{Stretch}
-use Rattle.score.specs.Places.{wordOf, stretchOf}
+use Rattle.score.specs.Places.{stretchOf}
 use Rattle.player.specs.Walks.{rowOf}
 use Rattle.player.specs.Texts.{rowWords}
 use Rattle.outlines.specs.Words.{vacant, lookUp, isMissing}
@@ -29,6 +28,8 @@ use Rattle.laying.specs.declared.definitions.Loaded.{Loaded}
 use Rattle.laying.specs.declared.texts.Text.{Text}
 use Rattle.laying.specs.declared.texts.Texts.{Texts}
 use Rattle.laying.specs.declared.texts.Opened.{Opened}
+use Rattle.laying.specs.Laying.{namedAt}
+use Rattle.laying.specs.Fronts.{Front}
 
 -- The text of the definition of that number, as it is found.
 unfoldable pub namedText : List ℕ → ℕ → Text
@@ -37,8 +38,8 @@ namedText ws n = record { at = stretchOf ws n; outline = lookUp ws n }
 
 -- Whether a text names an empty definition.
 unfoldable pub isEmptyText : List ℕ → Stretch → Bool
-unfolding if_then_else_ wordOf lookUp
-isEmptyText ws t = if eqb (kindOf (wordOf ws (t .to) (t .from))) 55 then lookUp ws (numberOf (wordOf ws (t .to) (t .from))) .empty else false
+unfolding if_then_else_ namedAt lookUp
+isEmptyText ws t = if eqb (namedAt ws t) 0 then false else lookUp ws (namedAt ws t) .empty
 
 -- A text in the buffer that plays these items, references put in, and whose outline tells of them; no items are an empty text.
 unfoldable pub Carries : List ℕ → Text → Option Items → Type 0
@@ -51,13 +52,11 @@ pub record Told (s ws : List ℕ) : Type 0 where
   pub missing : (n : ℕ) → isMissing ws n ≡ not (isSome (definitionOf n (songOf s .definitions)))
   pub filled : (n : ℕ) → namedText ws n .outline .empty ≡ not (isSome (patternItems (songOf s .definitions) (named n)))
 
--- The definitions of the song stand in the first words of the buffer, up to the mark, whatever stands behind it.
+-- All definitions of the song stand at the front of the row, up to the mark.
 pub record Ready (s ws : List ℕ) (mark : ℕ) : Type 0 where
   pub small : length s ≤ 65536
   pub room : length s < length ws
-  pub told : (vs : List ℕ) → take (mark + 1) vs ≡ take (mark + 1) ws → Told s vs
-  pub carries : (n : ℕ) (vs : List ℕ) → take (mark + 1) vs ≡ take (mark + 1) ws
-      → Carries vs (namedText vs n) (patternItems (songOf s .definitions) (named n))
+  pub front : Front (songOf s .definitions) (songOf s .definitions) ws mark
 
 -- All sections of the song stand from the place on.
 pub record Begins (s : List ℕ) (p : Place) : Type 0 where

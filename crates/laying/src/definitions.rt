@@ -39,8 +39,8 @@ fn enter(words: &mut [u32], mark: usize, end: usize, id: usize, o: Outline)
 {
     let head = head_word(end - mark, id);
     let outline = outline_word(o);
-    words[mark] = head;
     words[mark + 1] = outline;
+    words[mark] = head;
     words[end] = 0;
 }
 

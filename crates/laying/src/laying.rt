@@ -1,27 +1,19 @@
-// Pattern text into the buffer of token words: the lines of a run, a lead-in or tail; and the number that a section's pattern names.
+// Pattern text into the buffer of token words: the lines of a run, a lead-in or tail.
 use sections::Run;
 use sections::Said;
 use text::line_at;
-use tokens::Lexed;
-use tokens::REFERENCE;
 use tokens::end_line;
-use tokens::kind;
 use tokens::lex_line;
-use tokens::next_token;
-use tokens::number;
 ghost use mathlib.Core.Path.{_≡_};
-ghost use mathlib.Core.Option.{some};
-ghost use Prim.Native.Nat.{_+_, _≤_, _-_};
+ghost use Prim.Native.Nat.{_+_, _≤_};
 ghost use lib.ListN.{length};
-ghost use Rattle.songcode.specs.Song.{Pattern};
-ghost use Rattle.songcode.specs.answer.Sections.{patternIn};
 ghost use Rattle.tokens.specs.TokenWords.{tokenWords};
 ghost use Rattle.tokens.specs.Lexing.{laid};
 ghost use Rattle.sections.specs.Runs.{linesOf};
 ghost use Rattle.sections.specs.BlockParts.{Placed};
 ghost use Rattle.sections.specs.Slots.{settingAt};
 ghost use Rattle.sections.specs.Values.{Inside};
-ghost use Rattle.laying.specs.Laying.{runTokens, saidTokens, weight, saidWeight, Names};
+ghost use Rattle.laying.specs.Laying.{runTokens, saidTokens, weight, saidWeight};
 
 // The words of the lines of a run from n on, a line end between neighbours; the new fill is returned.
 pub fn lay_run(s: &[u8], run: Run, words: &mut [u32], n: usize) -> usize
@@ -61,20 +53,4 @@ pub fn lay_said(s: &[u8], said: Said, words: &mut [u32], n: usize) -> usize
         return n;
     }
     lex_line(s, said.start, said.stop, words, n)
-}
-
-// The number that a section's pattern names; 0 where it names none.
-pub fn named_in(s: &[u8], run: Run) -> u32
-    requires { ⌜ Placed (now s) run × (length (now s) ≤ 65536) ⌝ }
-    ensures { λ r. ⌜ ((x : Pattern) → patternIn (linesOf (now (s .entry)) run) ≡ some x → Names x r) ⌝ }
-{
-    let first = line_at(s, run.number, run.at);
-    let Lexed::Token(word, next) = next_token(s, first.start, first.stop) else {
-        return 0;
-    };
-    if kind(word) == REFERENCE {
-        number(word)
-    } else {
-        0
-    }
 }

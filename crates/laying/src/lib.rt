@@ -1,17 +1,19 @@
 // The pattern texts of a chart as token words: those of the definitions are laid into a buffer once, a section's behind them.
 mod definitions;
-mod empty;
+mod keys;
 mod laying;
 mod metadata;
+mod names;
 mod rows;
 mod texts;
 
 pub use definitions::Loaded;
 pub use definitions::load;
-pub use empty::is_empty;
-pub use laying::named_in;
+pub use keys::KEYS;
+pub use keys::lay_keys;
 pub use metadata::lines_before;
 pub use metadata::metadata_end;
+pub use names::is_empty;
 pub use rows::has_cut;
 pub use rows::meter_of;
 pub use texts::Opened;

@@ -225,25 +225,25 @@ fn header_word(header: usize, repeat: usize, cut: bool) -> u32
     (header as u32 - 1) * 65536 + (repeat as u32) * 4 + bit_of(cut) * 2
 }
 
+// What the section's words say besides its own settings: its N, its bpm, and how many measures its pattern has if each has N beats (else 0).
+pub struct Heads {
+    pub meter: usize,
+    pub tempo: usize,
+    pub even: usize,
+}
+
 // The four words in front of a section's parts.
-pub fn enter_section(
-    words: &mut [u32],
-    at: usize,
-    r: SectionRead,
-    meter: usize,
-    tempo: usize,
-    p: Places,
-)
-    requires header { ⌜ (1 ≤ r .header) × (r .header ≤ 65536) × (r .modifiers .repeat ≤ 9999) × (meter ≤ 32) × (tempo ≤ 511) ⌝ }
+pub fn enter_section(words: &mut [u32], at: usize, r: SectionRead, h: Heads, p: Places)
+    requires header { ⌜ (1 ≤ r .header) × (r .header ≤ 65536) × (r .modifiers .repeat ≤ 9999) × (h .meter ≤ 32) × (h .tempo ≤ 511) × (h .even < 65536) ⌝ }
     requires places { ⌜ (p .from ≤ p .begun) × (p .begun - p .from < 65536) × (p .ended ≤ p .last) × (p .last - p .ended < 65536) × (at + 3 < p .end)
         × (p .last ≤ p .end) × (p .end - p .last < 131072) × (p .end ≤ 131071) × (p .end ≤ length (now words)) ⌝ }
-    ensures { λ _. ⌜ now (words .exit) ≡ aboutSection r meter tempo at p (now (words .entry)) ⌝ }
+    ensures { λ _. ⌜ now (words .exit) ≡ aboutSection r h at p (now (words .entry)) ⌝ }
 {
     let modifiers = r.modifiers;
-    let a = size_word(p.end - at, meter, tempo);
+    let a = size_word(p.end - at, h.meter, h.tempo);
     let b = header_word(r.header, modifiers.repeat, has_cut(modifiers));
     let c = halves(p.begun - p.from, p.last - p.ended);
-    let d = halves((p.end - p.last) / 2, 0);
+    let d = halves((p.end - p.last) / 2, h.even);
     words[at + 3] = d;
     words[at + 2] = c;
     words[at + 1] = b;

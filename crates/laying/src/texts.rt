@@ -1,16 +1,18 @@
 // A section opened: what it says, and its three texts in the buffer behind the definitions, each with its outline.
-use super::laying::named_in;
+use super::names::named_at;
+use super::names::outline_by;
+use super::rows::Heads;
 use super::rows::Places;
 use super::rows::enter_section;
 use super::rows::lay_parts;
 use super::rows::meter_of;
 use super::rows::tempo_of;
 use outlines::Outline;
-use outlines::outline_for;
+use outlines::even_measures;
 use outlines::outline_of;
 use score::SECTION_HEADS;
 use score::Stretch;
-use score::stretch_of;
+use score::played_text;
 use sections::Keys;
 use sections::Place;
 use sections::SectionRead;
@@ -22,7 +24,6 @@ ghost use Rattle.songcode.specs.answer.Answer.{songOf};
 ghost use Rattle.outlines.specs.Readings.{outlined};
 ghost use Rattle.outlines.specs.Words.{lookUp};
 ghost use Rattle.sections.specs.Onward.{Onward};
-ghost use Rattle.laying.specs.Scores.{namedText};
 ghost use Rattle.laying.specs.Rows.{toldTexts, RoomFor, Before, SongKeys, Lays};
 
 // A text in the buffer, and what it says.
@@ -37,11 +38,14 @@ pub struct Texts {
     pub tail: Text,
 }
 
-// A section, its N, its texts, where its words end in the row, and where the next begins.
+// A section, its N, the number of the definition that its pattern names (0 if none), its texts, where its lyric lines stand in the row, where its
+// words end there, and where the next begins.
 pub struct Opened {
     pub section: SectionRead,
     pub meter: usize,
+    pub named: u32,
     pub texts: Texts,
+    pub lyrics: Stretch,
     pub end: usize,
     pub next: Place,
 }
@@ -59,19 +63,9 @@ fn plain_text(words: &[u32], at: Stretch) -> Text
     }
 }
 
-// The text of the definition of that number.
-fn named_text(words: &[u32], x: u32) -> Text
-    ensures { λ r. ⌜ r ≡ namedText (now (words .entry)) x ⌝ }
-{
-    Text {
-        at: stretch_of(words, x),
-        outline: outline_for(words, x),
-    }
-}
-
-// The texts of a section whose words stand at these places; its pattern may be the text of a definition.
-fn told_texts(words: &[u32], p: Places, named: u32) -> Texts
-    ensures { λ r. ⌜ r ≡ toldTexts (now (words .entry)) p named ⌝ }
+// The texts of a section whose words stand at these places and whose pattern says so much; it may play the text of a definition.
+fn told_texts(words: &[u32], p: Places, o: Outline) -> Texts
+    ensures { λ r. ⌜ r ≡ toldTexts (now (words .entry)) p o ⌝ }
 {
     let lead = plain_text(
         words,
@@ -87,17 +81,14 @@ fn told_texts(words: &[u32], p: Places, named: u32) -> Texts
             to: p.last,
         },
     );
-    let pattern = if named == 0 {
-        plain_text(
-            words,
-            Stretch {
-                from: p.begun,
-                to: p.ended,
-            },
-        )
-    } else {
-        named_text(words, named)
-    };
+    let at = played_text(
+        words,
+        Stretch {
+            from: p.begun,
+            to: p.ended,
+        },
+    );
+    let pattern = Text { at, outline: o };
     Texts {
         lead,
         pattern,
@@ -115,17 +106,29 @@ pub fn lay_section(s: &[u8], p: Place, song: Keys, at: usize, words: &mut [u32])
     let met = meet(s, p);
     let section = met.section;
     let keys = section.keys;
-    let named = named_in(s, section.pattern);
     let meter = meter_of(keys.time, song.time);
     let tempo = tempo_of(keys.bpm, song.bpm);
     let places = lay_parts(s, section, words, at + SECTION_HEADS);
-    enter_section(words, at, section, meter, tempo, places);
-    let texts = told_texts(words, places, named);
+    let text = Stretch {
+        from: places.begun,
+        to: places.ended,
+    };
+    let named = named_at(words, text);
+    let outline = outline_by(words, text, named);
+    let even = even_measures(outline, meter);
+    enter_section(words, at, section, Heads { meter, tempo, even }, places);
+    let texts = told_texts(words, places, outline);
+    let lyrics = Stretch {
+        from: places.last,
+        to: places.end,
+    };
     let next = met.next;
     Opened {
         section,
         meter,
+        named,
         texts,
+        lyrics,
         end: places.end,
         next,
     }

@@ -33,7 +33,10 @@ abbrev Plays : Reading → Reading → ℕ → Type 0
 Plays s t k = min 65536 (t .before + t .row) ≡ min 65536 (s .before + s .row + k)
 
 plays-added : (s t : Reading) (k : ℕ) → Adds s t k → Plays s t k
-plays-added s t k a = let p = a .row in let q = a .before in rw (p, q) (omega arith)
+plays-added s t k a =
+    let p = a .row in
+    let q = a .before in
+    rw (p, q) (omega arith)
 
 sums : (x y z j k : ℕ) → min 65536 x ≡ min 65536 (z + j) → min 65536 y ≡ min 65536 (x + k) → min 65536 y ≡ min 65536 (z + (j + k))
 sums x y z j k a b = omega arith

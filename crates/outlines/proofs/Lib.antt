@@ -7,6 +7,7 @@ pub mod TreeLaws
 pub mod ChordLaws
 pub mod MeterLaws
 pub mod CountLaws
+pub mod WholeLaws
 pub mod OutlineAgree
 pub mod SketchLaws
 pub mod FaultTrees
@@ -16,3 +17,5 @@ pub mod FaultAgree
 pub mod KnownLaws
 pub mod WordLaws
 pub mod SmallLaws
+pub mod DescribedLaws
+pub mod ShownProved

@@ -79,7 +79,7 @@ measure-closed find m s h =
     let g : t .positions ≡ min 33 (soundCount (m .sounds) + m .removers) = omega arith in
     rw (closed-one t (omega arith)) (record { sizes = rw (w .sizes, g); row = rw (w .row); before = w .before })
 
-and-assoc : (a b c : Bool) → ((a && b) && c) ≡ (a && (b && c))
+pub and-assoc : (a b c : Bool) → ((a && b) && c) ≡ (a && (b && c))
 and-assoc true b c = refl
 and-assoc false b c = refl
 

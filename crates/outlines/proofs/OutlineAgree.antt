@@ -27,6 +27,7 @@ use Rattle.outlines.proofs.TreeLaws.{after, items-read}
 use Rattle.outlines.proofs.ChordLaws.{closed-chord, closed-wants, items-chord, items-wants}
 use Rattle.outlines.proofs.MeterLaws.{items-sizes}
 use Rattle.outlines.proofs.CountLaws.{items-plays}
+use Rattle.outlines.proofs.WholeLaws.{closed-whole, items-whole}
 
 divides-one : (n : ℕ) → divides 1 n ≡ true
 unfolding divides
@@ -42,6 +43,7 @@ sum-tells find f e r h d t =
       sizes = λ n low high. items-sizes find f n low high r started refl t ∙ ap (λ b. b && allFit n (putIn f r)) (divides-one n);
       wants = closed-wants (after find r started) ∙ items-wants find f r started h t ∙ and-true (stray none (putIn f r));
       chord = closed-chord (after find r started) ∙ items-chord find f r started h t;
+      whole = closed-whole (after find r started) ∙ items-whole find f r started h t;
       measures = p ∙ omega arith;
     }
 

@@ -31,8 +31,10 @@ common-over m a b h = let e : 33 - m ≡ 0 = omega arith in rw e
 -- A product is capped after its factor.
 pub min-times : (n a : ℕ) → min 65536 (n * min 65536 a) ≡ min 65536 (n * a)
 min-times n a = by-cases (leb a 65536)
-    (λ e. let h = leb-true a 65536 e in let m : min 65536 a ≡ a = omega arith in rw m)
-    (λ e. let h = leb-false a 65536 e in let m : min 65536 a ≡ 65536 = omega arith in rw m (many n a (omega arith)))
+    (λ e. let h = leb-true a 65536 e in
+    let m : min 65536 a ≡ a = omega arith in rw m)
+    (λ e. let h = leb-false a 65536 e in
+    let m : min 65536 a ≡ 65536 = omega arith in rw m (many n a (omega arith)))
   where
     many : (k b : ℕ) → 65536 ≤ b → min 65536 (k * 65536) ≡ min 65536 (k * b)
     many zero b l = omega arith

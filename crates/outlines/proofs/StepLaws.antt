@@ -1,8 +1,9 @@
 -- Steps of a word that is read.
-use Prim.Native.Nat.{ℕ}
+use Prim.Native.Nat.{ℕ, _<_}
 use mathlib.Core.Path.{_≡_, sym, ap, _∙_}
 use mathlib.Core.Bool.{Bool, true, false}
-use borrow.Author.Tests.{eq-eqb, ne-eqb}
+use native.Mathlib.Omega.{arith}
+use borrow.Author.Tests.{eq-eqb, ne-eqb, lt-ltb}
 use Rattle.songcode.specs.Lists.{if_then_else_}
 use Rattle.tokens.specs.Signs.{kindOf, numberOf, isPosition}
 use Rattle.outlines.specs.declared.readings.Outline.{Outline}
@@ -40,6 +41,16 @@ step-close s r w k p e f h a b g =
     let u = ne-eqb (kindOf w) 57 (λ z. a (e ∙ z)) in
     let v = ne-eqb (kindOf w) 56 (λ z. b (e ∙ z)) in
     rw (t, u, v) g
+
+-- A chord's kind does not matter.
+pub read-chord : (find : ℕ → Outline) (s r : Reading) (w k : ℕ) → k ≡ kindOf w → k < 34 → r ≡ sounded 0 s → r ≡ wordRead find s w
+unfolding wordRead stepOf isPosition sounded if_then_else_
+read-chord find s r w k e h g =
+    let a = ne-eqb (kindOf w) 55 (λ z. omega arith) in
+    let b = lt-ltb (kindOf w) 34 (omega arith) in
+    let c = ne-eqb (kindOf w) 62 (λ z. omega arith) in
+    let d = ne-eqb (kindOf w) 61 (λ z. omega arith) in
+    rw (a, b, c, d) g
 
 pub read-reference : (find : ℕ → Outline) (s r : Reading) (o : Outline) (w k n : ℕ) → k ≡ kindOf w → k ≡ 55 → n ≡ numberOf w → o ≡ find n
     → r ≡ referred o s → r ≡ wordRead find s w

@@ -4,3 +4,6 @@ pub mod Readings
 pub mod Words
 pub mod Faults
 pub mod Told
+pub mod Even
+pub mod Rows
+pub mod Shown

@@ -10,7 +10,7 @@ use Rattle.outlines.specs.declared.readings.Reading.{Reading}
 use Rattle.outlines.specs.Sizes.{joined}
 
 unfoldable pub started : Reading
-started = record { loops = false; refers = false; sizes = 1; wants = false; chord = false; positions = 0; row = 0; before = 0 }
+started = record { loops = false; refers = false; sizes = 1; wants = false; chord = false; whole = true; positions = 0; row = 0; before = 0 }
 
 -- A position of that kind.
 unfoldable pub sounded : ℕ → Reading → Reading
@@ -21,6 +21,7 @@ sounded k s =
       sizes = s .sizes;
       wants = s .wants || (eqb k 62 && not (s .chord));
       chord = s .chord || ltb k 34;
+      whole = s .whole && not (eqb k 61);
       positions = min 33 (s .positions + 1);
       row = s .row;
       before = s .before;
@@ -35,6 +36,7 @@ measured s =
       sizes = joined (s .sizes) (s .positions);
       wants = s .wants;
       chord = s .chord;
+      whole = s .whole;
       positions = 0;
       row = min 65536 (s .row + 1);
       before = s .before;
@@ -53,6 +55,7 @@ opened s =
       sizes = s .sizes;
       wants = s .wants;
       chord = s .chord;
+      whole = s .whole;
       positions = s .positions;
       row = 0;
       before = min 65536 (s .before + s .row);
@@ -66,6 +69,7 @@ loopShut n s =
       sizes = s .sizes;
       wants = s .wants;
       chord = s .chord;
+      whole = s .whole;
       positions = s .positions;
       row = 0;
       before = min 65536 (s .before + min 65536 (n * s .row));
@@ -80,6 +84,7 @@ referred o s =
       sizes = joined (s .sizes) (o .sizes);
       wants = s .wants || (o .wants && not (s .chord));
       chord = s .chord || o .chord;
+      whole = s .whole && o .whole;
       positions = s .positions;
       row = min 65536 (s .row + o .measures);
       before = s .before;
@@ -113,6 +118,7 @@ summed e s =
       sizes = s .sizes;
       wants = s .wants;
       chord = s .chord;
+      whole = s .whole;
       measures = min 65536 (s .before + s .row);
     }
 

@@ -7,11 +7,16 @@ use Rattle.songcode.specs.Lists.{if_then_else_}
 unfoldable pub divides : ℕ → ℕ → Bool
 divides p n = eqb (n % p) 0
 
--- The first of k numbers from m on that both divide, or the number behind them.
+-- The first of k numbers from m on that passes a test, or the number behind them.
+unfoldable pub firstFrom : (ℕ → Bool) → ℕ → ℕ → ℕ
+unfolding if_then_else_
+firstFrom test zero m = m
+firstFrom test (suc k) m = if test m then m else firstFrom test k (m + 1)
+
+-- That both divide.
 unfoldable pub commonBy : ℕ → ℕ → ℕ → ℕ → ℕ
-unfolding if_then_else_ divides
-commonBy zero m a b = m
-commonBy (suc k) m a b = if divides a m && divides b m then m else commonBy k (m + 1) a b
+unfolding firstFrom divides
+commonBy k m a b = firstFrom (λ n. divides a n && divides b n) k m
 
 -- 33 is that of sizes which no number up to 32 has.
 unfoldable pub joined : ℕ → ℕ → ℕ

@@ -12,15 +12,18 @@ use Rattle.songcode.specs.answer.PatternText.{depth, references}
 use Rattle.songcode.specs.answer.References.{definitionOf, putInItem}
 use Rattle.songcode.specs.answer.Playing.{lastItems}
 use Rattle.songcode.specs.answer.Meter.{allFit, stray, count}
+use Rattle.score.specs.Even.{isWhole}
 use Rattle.outlines.specs.declared.readings.Outline.{Outline}
 use Rattle.outlines.specs.Sizes.{divides}
 use Rattle.outlines.specs.Words.{vacant}
 
--- Which N up to 32 its measures fit, whether a `%` stands before every chord, whether there is a chord, and how many measures there are.
+-- Which N up to 32 its measures fit, whether a `%` stands before every chord, whether there is a chord, whether there is no remover, and how many
+-- measures there are.
 pub record Tells (o : Outline) (r : Items) : Type 0 where
   pub sizes : (n : ℕ) → 1 ≤ n → n ≤ 32 → divides (o .sizes) n ≡ allFit n r
   pub wants : o .wants ≡ stray none r
   pub chord : o .chord ≡ isSome (lastItems none r)
+  pub whole : o .whole ≡ isWhole r
   pub measures : o .measures ≡ min 65536 (count r)
 
 -- The outline that is found tells what stands in the reference's place.

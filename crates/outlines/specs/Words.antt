@@ -11,13 +11,14 @@ use Rattle.outlines.specs.declared.readings.Outline.{Outline}
 
 -- The outline of an empty text.
 unfoldable pub vacant : Outline
-vacant = record { empty = true; loops = false; refers = false; sizes = 1; wants = false; chord = false; measures = 0 }
+vacant = record { empty = true; loops = false; refers = false; sizes = 1; wants = false; chord = false; whole = true; measures = 0 }
 
 -- From the top bit down: measures 17, sizes 6, and a bit for each answer.
 unfoldable pub outlineWord : Outline → ℕ
 unfolding bit
 outlineWord o =
     o .measures * 32768 + o .sizes * 512 + bit (o .wants) * 256 + bit (o .empty) * 128 + bit (o .chord) * 64 + bit (o .refers) * 32 + bit (o .loops) * 4
+    + bit (o .whole) * 2
 
 unfoldable pub isSet : ℕ → ℕ → Bool
 isSet w weight = eqb (w / weight % 2) 1
@@ -32,6 +33,7 @@ outlineIn w =
       sizes = w / 512 % 64;
       wants = isSet w 256;
       chord = isSet w 64;
+      whole = isSet w 2;
       measures = w / 32768;
     }
 

@@ -1,4 +1,5 @@
 // What a definition's text says, summed up once: for its references, its measures' sizes, its `%` and its length.
+mod even;
 mod faults;
 mod outlining;
 mod readings;
@@ -6,6 +7,7 @@ mod signs;
 mod sizes;
 mod words;
 
+pub use even::even_measures;
 pub use faults::reference_fault;
 pub use outlining::outline_of;
 pub use readings::Outline;

@@ -3,12 +3,14 @@ use super::readings::Outline;
 use super::readings::Reading;
 use super::readings::advance;
 use super::readings::refer;
+use super::readings::sound_chord;
 use super::readings::start;
 use super::readings::sum_up;
 use super::words::outline_for;
 use score::Stretch;
 use score::least;
 use score::word_at;
+use tokens::CHORDS;
 use tokens::REFERENCE;
 use tokens::kind;
 use tokens::number;
@@ -18,11 +20,15 @@ ghost use lib.ListN.{take, drop};
 ghost use Rattle.outlines.specs.Readings.{wordRead, outlined};
 ghost use Rattle.outlines.specs.Words.{lookUp};
 
-// One word; a reference says what the outline of its definition says.
+// One word, most often a chord; a reference says what the outline of its definition says.
 pub fn follow(words: &[u32], s: Reading, w: u32) -> Reading
     ensures { λ r. ⌜ r ≡ wordRead (lookUp (now (words .entry))) s w ⌝ }
 {
-    if kind(w) == REFERENCE {
+    let k = kind(w);
+    if k < CHORDS {
+        return sound_chord(s);
+    }
+    if k == REFERENCE {
         return refer(outline_for(words, number(w)), s);
     }
     advance(s, w)

@@ -1,4 +1,5 @@
 // The outline of a text, and the state in which it is read, word by word.
+use super::signs::both;
 use super::signs::capped_sum;
 use super::signs::capped_times;
 use super::signs::either;
@@ -9,6 +10,7 @@ use tokens::AGAIN;
 use tokens::CHORDS;
 use tokens::CLOSES;
 use tokens::OPENS;
+use tokens::REMOVER;
 use tokens::is_position;
 use tokens::kind;
 use tokens::number;
@@ -16,7 +18,8 @@ ghost use mathlib.Core.Path.{_≡_};
 ghost use Rattle.outlines.specs.Readings.{started, sounded, closed, opened, loopShut, referred, stepOf, summed};
 
 // What a text says: whether it is empty, has a loop, holds a reference; then with its references put in: the sizes of its measures,
-// whether a `%` stands before every chord, whether it has a chord, and how many measures it plays, 65,536 where they are more.
+// whether a `%` stands before every chord, whether it has a chord, whether it has no remover, and how many measures it plays, 65,536 where
+// they are more.
 pub struct Outline {
     pub empty: bool,
     pub loops: bool,
@@ -24,6 +27,7 @@ pub struct Outline {
     pub sizes: usize,
     pub wants: bool,
     pub chord: bool,
+    pub whole: bool,
     pub measures: usize,
 }
 
@@ -31,9 +35,10 @@ pub struct Outline {
 pub struct Reading {
     pub loops: bool,
     pub refers: bool,
-    pub sizes: usize,
     pub wants: bool,
     pub chord: bool,
+    pub whole: bool,
+    pub sizes: usize,
     pub positions: usize,
     pub row: usize,
     pub before: usize,
@@ -48,6 +53,7 @@ pub fn start() -> Reading
         sizes: 1,
         wants: false,
         chord: false,
+        whole: true,
         positions: 0,
         row: 0,
         before: 0,
@@ -64,6 +70,24 @@ pub fn sound(k: u32, s: Reading) -> Reading
         sizes: s.sizes,
         wants: either(s.wants, unless(k == AGAIN, s.chord)),
         chord: either(s.chord, k < CHORDS),
+        whole: unless(s.whole, k == REMOVER),
+        positions: one_more(s.positions),
+        row: s.row,
+        before: s.before,
+    }
+}
+
+// A chord, of whichever kind.
+pub fn sound_chord(s: Reading) -> Reading
+    ensures { λ r. ⌜ r ≡ sounded 0 s ⌝ }
+{
+    Reading {
+        loops: s.loops,
+        refers: s.refers,
+        sizes: s.sizes,
+        wants: s.wants,
+        chord: true,
+        whole: s.whole,
         positions: one_more(s.positions),
         row: s.row,
         before: s.before,
@@ -83,6 +107,7 @@ pub fn close(s: Reading) -> Reading
         sizes: join(s.sizes, s.positions),
         wants: s.wants,
         chord: s.chord,
+        whole: s.whole,
         positions: 0,
         row: capped_sum(s.row, 1),
         before: s.before,
@@ -99,6 +124,7 @@ pub fn open(s: Reading) -> Reading
         sizes: s.sizes,
         wants: s.wants,
         chord: s.chord,
+        whole: s.whole,
         positions: s.positions,
         row: 0,
         before: capped_sum(s.before, s.row),
@@ -115,6 +141,7 @@ pub fn shut_loop(n: u32, s: Reading) -> Reading
         sizes: s.sizes,
         wants: s.wants,
         chord: s.chord,
+        whole: s.whole,
         positions: s.positions,
         row: 0,
         before: capped_sum(s.before, capped_times(n, s.row)),
@@ -131,6 +158,7 @@ pub fn refer(o: Outline, s: Reading) -> Reading
         sizes: join(s.sizes, o.sizes),
         wants: either(s.wants, unless(o.wants, s.chord)),
         chord: either(s.chord, o.chord),
+        whole: both(s.whole, o.whole),
         positions: s.positions,
         row: capped_sum(s.row, o.measures),
         before: s.before,
@@ -166,6 +194,7 @@ pub fn sum_up(empty: bool, s: Reading) -> Outline
         sizes: c.sizes,
         wants: c.wants,
         chord: c.chord,
+        whole: c.whole,
         measures: capped_sum(c.before, c.row),
     }
 }

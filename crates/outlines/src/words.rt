@@ -23,6 +23,8 @@ const REFERS: usize = 32;
 
 const LOOPS: usize = 4;
 
+const WHOLE: usize = 2;
+
 // How many sizes there are.
 const SIZES_MOST: usize = 64;
 
@@ -43,7 +45,15 @@ pub fn outline_word(o: Outline) -> u32
     let chord = weighed(o.chord, CHORD);
     let refers = weighed(o.refers, REFERS);
     let loops = weighed(o.loops, LOOPS);
-    (o.measures * MEASURES + o.sizes * SIZES + wants + empty + chord + refers + loops) as u32
+    let whole = weighed(o.whole, WHOLE);
+    (o.measures * MEASURES
+        + o.sizes * SIZES
+        + wants
+        + empty
+        + chord
+        + refers
+        + loops
+        + whole) as u32
 }
 
 fn is_set(w: usize, weight: usize) -> bool
@@ -65,6 +75,7 @@ fn outline_in(word: u32) -> Outline
         sizes: w / SIZES % SIZES_MOST,
         wants: is_set(w, WANTS),
         chord: is_set(w, CHORD),
+        whole: is_set(w, WHOLE),
         measures: w / MEASURES,
     }
 }
@@ -88,6 +99,7 @@ pub fn outline_for(words: &[u32], x: u32) -> Outline
             sizes: 1,
             wants: false,
             chord: false,
+            whole: true,
             measures: 0,
         };
     }

@@ -152,11 +152,18 @@ copied-again row p q r ms bs ms' bs' f t c e g h =
     let n = played row (page q ms bs) in
     let w = window 0 (p .left) row in
     let d = q .b - p .b in
-    let x-measures = x .measures in let x-beats = x .beats in let x-m = x .m in let x-b = x .b in let x-base = x .base in
-    let c-measures = c .measures in let c-beats = c .beats in let fits = f .fits in
+    let x-measures = x .measures in
+    let x-beats = x .beats in
+    let x-m = x .m in
+    let x-b = x .b in
+    let x-base = x .base in
+    let c-measures = c .measures in
+    let c-beats = c .beats in
+    let fits = f .fits in
     let all : take (q .todo) row ≡ row = take-all (q .todo) row (omega arith) in
     let v : window (q .skip) (q .left) (take (q .todo) row) ≡ w = rw (all, x .skip) (window-large (q .left) (p .left) row (omega arith) (x .fits)) in
-    let tw : total w ≡ total row = let o = total-window 0 (p .left) row in let i = x .fits in omega arith in
+    let tw : total w ≡ total row = let o = total-window 0 (p .left) row in
+    let i = x .fits in omega arith in
     let s : play row (page q ms bs) .pen .skip ≡ q .skip - total row = rw all at (n .skip) in
     let l : play row (page q ms bs) .pen .left ≡ q .left - (total row - q .skip) = rw all at (n .left) in
     let m : play row (page q ms bs) .pen .m ≡ q .m + length w = rw v at (n .m) in

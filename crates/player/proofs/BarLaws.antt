@@ -4,7 +4,7 @@ use mathlib.Core.Path.{_≡_, refl, sym, ap, _∙_}
 use mathlib.Core.List.{List, [], _∷_, _++_}
 use native.Mathlib.Omega.{arith}
 use native.Mathlib.Numerals.{add-one}
-use borrow.Author.Tests.{eq-eqb, ne-eqb}
+use borrow.Author.Tests.{eq-eqb, ne-eqb, lt-ltb}
 use lib.ListN.{length, take, drop, getD, replicate, set, length-take}
 use lib.Seq.{sets, take-all}
 use Rattle.songcode.specs.Lists.{if_then_else_}
@@ -47,6 +47,11 @@ pub bar-removed : (share last w k b : ℕ) (t : List ℕ) → k ≡ kindOf w →
     → (b ≡ b + share * soundsAs (kindOf w)) × (t ≡ sets t b (partOf share last w))
 unfolding partOf soundsAs if_then_else_
 bar-removed share last w k b t e h = let z = eq-eqb (kindOf w) 61 (sym e ∙ h) in (simp z (omega arith), simp z)
+
+-- A chord sounds itself.
+pub chord-voice : (last w k : ℕ) → k ≡ kindOf w → k < 34 → w ≡ voiceOf last w
+unfolding voiceOf if_then_else_
+chord-voice last w k e h = simp (lt-ltb (kindOf w) 34 (omega arith))
 
 pub bar-place : (share w k b : ℕ) → k ≡ kindOf w → (k ≡ 61 → ⊥) → b + share ≡ b + share * soundsAs (kindOf w)
 unfolding soundsAs if_then_else_

@@ -145,8 +145,12 @@ skip-after s s' n t e = omega arith
 left-after : (s s' l l' n t : ℕ) → s ≡ s' - n → l ≡ l' - (n - s') → l - (t - s) ≡ l' - (n + t - s')
 left-after s s' l l' n t e f =
     by-cases (leb n s')
-    (λ q. let h = leb-true n s' q in let a : l ≡ l' = omega arith in let b : t - s ≡ n + t - s' = omega arith in rw (a, b))
-    (λ q. let h = leb-false n s' q in let a : s ≡ 0 = omega arith in let b : n + t - s' ≡ n - s' + t = omega arith in rw (a, b, f) (both l' (n - s') t))
+    (λ q. let h = leb-true n s' q in
+    let a : l ≡ l' = omega arith in
+    let b : t - s ≡ n + t - s' = omega arith in rw (a, b))
+    (λ q. let h = leb-false n s' q in
+    let a : s ≡ 0 = omega arith in
+    let b : n + t - s' ≡ n - s' + t = omega arith in rw (a, b, f) (both l' (n - s') t))
   where
     both : (l n t : ℕ) → l - n - (t - 0) ≡ l - (n + t)
     both l n t = omega arith

@@ -57,7 +57,8 @@ pub copy-over : (f : ℕ → ℕ) (t goal : List ℕ) (from to n i : ℕ) → n 
 unfolding copying
 copy-over f t goal from to n i e h g =
     by-cases (leb (to - from) i)
-    (λ q. let l = leb-true (to - from) i q in let k : to - from - i ≡ 0 = omega arith in rw k at g)
+    (λ q. let l = leb-true (to - from) i q in
+    let k : to - from - i ≡ 0 = omega arith in rw k at g)
     (λ q. let l = leb-false (to - from) i q in sym (sets-out t (map f (take (to - from - i) (drop (from + i) t))) (to + i) (omega arith)) ∙ g)
 
 -- A copy of words that were stored is the same words stored again.

@@ -9,7 +9,10 @@ pub mod ContentLaws
 pub mod BarLaws
 pub mod ShortLaws
 pub mod WindowLaws
+pub mod EvenLaws
+pub mod WholeRows
 pub mod SectionLaws
+pub mod CountingLaws
 pub mod CutLaws
 pub mod SoundLaws
 pub mod RowWordLaws

@@ -5,7 +5,7 @@ use mathlib.Core.List.{List, [], _∷_, _++_}
 use mathlib.Core.Bool.{Bool, true, false}
 use native.Mathlib.Omega.{arith}
 use native.Mathlib.Nat.{div-mul-le-self, mul-le-mul}
-use borrow.Author.Tests.{eq-eqb, ne-eqb}
+use borrow.Author.Tests.{eq-eqb, ne-eqb, lt-ltb, le-ltb}
 use lib.ListN.{length}
 use Rattle.songcode.specs.Lists.{if_then_else_}
 use Rattle.score.specs.Places.{wordOf}
@@ -19,6 +19,24 @@ use Rattle.player.proofs.PageLaws.{inked-append, moved-inked}
 pub test-of : (ws : List ℕ) (to i w k : ℕ) (r t : Bool) → w ≡ wordOf ws to i → k ≡ kindOf w → r ≡ isPosition k → r ≡ t
     → isPosition (kindOf (wordOf ws to i)) ≡ t
 test-of ws to i w k r t a b d e = rw (← a, ← b, ← d) e
+
+-- A chord: a position that sounds, and the last chord behind it.
+pub chord-test : (ws : List ℕ) (to i w k : ℕ) → w ≡ wordOf ws to i → k ≡ kindOf w → k < 34 → isPosition (kindOf (wordOf ws to i)) ≡ true
+unfolding isPosition
+chord-test ws to i w k a b h = rw (← a, ← b, lt-ltb k 34 h)
+
+pub chord-sounds : (k : ℕ) → k < 34 → 1 ≡ soundsAs k
+unfolding soundsAs if_then_else_
+chord-sounds k h = rw (ne-eqb k 61 (λ z. omega arith))
+
+pub chord-taken : (l w k : ℕ) → k ≡ kindOf w → k < 34 → w ≡ chordOf l w
+unfolding chordOf if_then_else_
+chord-taken l w k e h = simp (← e, lt-ltb k 34 h)
+
+-- No other position changes the last chord.
+pub chord-kept : (l w k : ℕ) → k ≡ kindOf w → 34 ≤ k → l ≡ chordOf l w
+unfolding chordOf if_then_else_
+chord-kept l w k e h = simp (← e, le-ltb k 34 h)
 
 pub look-done : (ws : List ℕ) (to i s l a b d : ℕ) → isPosition (kindOf (wordOf ws to i)) ≡ false
     → i + length (positionsAt ws to i) ≡ a → s + soundingOf (positionsAt ws to i) ≡ b → chordsOf l (positionsAt ws to i) ≡ d → (i ≡ a) × (s ≡ b) × (l ≡ d)

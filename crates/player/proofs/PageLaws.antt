@@ -262,7 +262,8 @@ close-fine : (t : Bool) (from : ℕ) (g : Page) → eqb from (g .pen .b) ≡ t �
 unfolding closeBy
 close-fine true from g e f h k = f
 close-fine false from g e f h k =
-    let n : (from ≡ g .pen .b → ⊥) = λ q. let z : true ≡ false = sym (eq-eqb from (g .pen .b) q) ∙ e in let y : _≡_ {A = ℕ} 0 1 = cc in omega arith in
+    let n : (from ≡ g .pen .b → ⊥) = λ q. let z : true ≡ false = sym (eq-eqb from (g .pen .b) q) ∙ e in
+    let y : _≡_ {A = ℕ} 0 1 = cc in omega arith in
     let lt : from < g .pen .b = ne-lt from (g .pen .b) n k in
     record { few = omega (arith, f .few); fits = f .fits }
   where

@@ -28,8 +28,12 @@ minus-minus s l t = omega arith
 left-behind : (n s l t : ℕ) → n - (l - s) - (t - (s - l)) ≡ n - (l + t - s)
 left-behind n s l t =
     by-cases (leb l s)
-    (λ q. let h = leb-true l s q in let a : l - s ≡ 0 = omega arith in let b : t - (s - l) ≡ l + t - s = omega arith in rw (a, b) (zero-less n (l + t - s)))
-    (λ q. let h = leb-false l s q in let a : s - l ≡ 0 = omega arith in let b : l + t - s ≡ l - s + (t - 0) = omega arith in rw (a, b)
+    (λ q. let h = leb-true l s q in
+    let a : l - s ≡ 0 = omega arith in
+    let b : t - (s - l) ≡ l + t - s = omega arith in rw (a, b) (zero-less n (l + t - s)))
+    (λ q. let h = leb-false l s q in
+    let a : s - l ≡ 0 = omega arith in
+    let b : l + t - s ≡ l - s + (t - 0) = omega arith in rw (a, b)
     (minus-minus n (l - s) (t - 0)))
   where
     zero-less : (n t : ℕ) → n - 0 - t ≡ n - t
@@ -37,7 +41,10 @@ left-behind n s l t =
 
 -- Of a measure of l beats y are kept when s are passed over and n written; then t of these are passed over and m written.
 skips : (s t l y n : ℕ) → y ≡ min n (l - s) → 1 ≤ y → l - s ≤ n → s - l + (t - y) ≡ s + t - l
-skips s t l y n e h k = let a : y ≡ l - s = omega arith in let b : s - l ≡ 0 = omega arith in rw (a, b) (omega arith)
+skips s t l y n e h k =
+    let a : y ≡ l - s = omega arith in
+    let b : s - l ≡ 0 = omega arith in
+    rw (a, b) (omega arith)
 
 less : (m n d : ℕ) → min (m - d) (n - d) ≡ min m n - d
 less m n d = omega arith
@@ -52,7 +59,8 @@ left-of : (m n d t : ℕ) → min (m - (d - t)) (n - d - (t - d)) ≡ min m (n -
 left-of m n d t =
     by-cases (leb t d)
     (λ q. rw (past n d t (leb-true t d q)) (less m (n - t) (d - t)))
-    (λ q. let h = leb-false t d q in let a : d - t ≡ 0 = omega arith in rw (a, short n d t (omega arith)) (same m (n - t)))
+    (λ q. let h = leb-false t d q in
+    let a : d - t ≡ 0 = omega arith in rw (a, short n d t (omega arith)) (same m (n - t)))
   where
     same : (m n : ℕ) → min (m - 0) n ≡ min m n - 0
     same m n = omega arith
@@ -95,8 +103,11 @@ module _ {A : Type 0} where
   take-min : (m n : ℕ) (l : List A) → take m (take n l) ≡ take (min m n) l
   take-min m n l =
       by-cases (leb m n)
-      (λ q. let h = leb-true m n q in let e : min m n ≡ m = omega arith in rw e (take-take m n l h))
-      (λ q. let h = leb-false m n q in let e : min m n ≡ n = omega arith in let k = length-take n l in rw e (take-all m (take n l) (omega arith)))
+      (λ q. let h = leb-true m n q in
+      let e : min m n ≡ m = omega arith in rw e (take-take m n l h))
+      (λ q. let h = leb-false m n q in
+      let e : min m n ≡ n = omega arith in
+      let k = length-take n l in rw e (take-all m (take n l) (omega arith)))
 
   taken-part : (s n t m : ℕ) (x : List A) → take m (drop t (take n (drop s x))) ≡ take (min m (n - t)) (drop (s + t) x)
   taken-part s n t m x = rw (drop-take t n (drop s x), drop-drop t s x) (take-min m (n - t) (drop (s + t) x))
@@ -115,8 +126,11 @@ module _ {A : Type 0} where
       skips-on : l - s ≤ n → s - l + (t - y) ≡ s + t - l
       skips-on k =
           by-cases (leb l s)
-          (λ q. let h = leb-true l s q in let a : y ≡ 0 = omega arith in rw a (omega arith))
-          (λ q. let h = leb-false l s q in let a : y ≡ l - s = omega arith in let b : s - l ≡ 0 = omega arith in rw (a, b) (omega arith))
+          (λ q. let h = leb-true l s q in
+          let a : y ≡ 0 = omega arith in rw a (omega arith))
+          (λ q. let h = leb-false l s q in
+          let a : y ≡ l - s = omega arith in
+          let b : s - l ≡ 0 = omega arith in rw (a, b) (omega arith))
 
   -- A window of a window is one window.
   pub window-window : (t m s n : ℕ) (row : List (List A)) → window t m (window s n row) ≡ window (s + t) (min m (n - t)) row
@@ -148,7 +162,8 @@ module _ {A : Type 0} where
   window-capped s n row =
       by-cases (leb (total row - s) n)
       (λ q. let h = leb-true (total row - s) n q in window-enough s (min n (total row - s)) n row (omega arith) h)
-      (λ q. let h = leb-false (total row - s) n q in let e : min n (total row - s) ≡ n = omega arith in rw e)
+      (λ q. let h = leb-false (total row - s) n q in
+      let e : min n (total row - s) ≡ n = omega arith in rw e)
 
   window-whole : (s n : ℕ) (row : List (List A)) → window s n (wholeOf row) ≡ window s n row
   unfolding wholeOf
@@ -201,7 +216,8 @@ module _ {A : Type 0} where
   pub window-room : (s n m : ℕ) (row : List (List A)) → total row ≤ m → window s (min n m) row ≡ window s n row
   window-room s n m row h =
       by-cases (leb n m)
-      (λ q. let k = leb-true n m q in let e : min n m ≡ n = omega arith in rw e)
+      (λ q. let k = leb-true n m q in
+      let e : min n m ≡ n = omega arith in rw e)
       (λ q. let k = leb-false n m q in window-enough s (min n m) n row (omega arith) (omega arith))
 
   -- What a window keeps has a beat in each measure, whatever the row.

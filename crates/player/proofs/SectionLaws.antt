@@ -41,8 +41,10 @@ tallied row k q ms ms' bs bs' f h e =
 take-capped : (m : ℕ) (row : List (List ℕ)) → length row ≤ 65535 → take (min m 65536) row ≡ take m row
 take-capped m row h =
     by-cases (leb m 65536)
-    (λ e. let l = leb-true m 65536 e in let z : min m 65536 ≡ m = omega arith in rw z)
-    (λ e. let l = leb-false m 65536 e in let z : min m 65536 ≡ 65536 =
+    (λ e. let l = leb-true m 65536 e in
+    let z : min m 65536 ≡ m = omega arith in rw z)
+    (λ e. let l = leb-false m 65536 e in
+    let z : min m 65536 ≡ 65536 =
     omega arith in rw z (take-all 65536 row (omega arith) ∙ sym (take-all m row (omega arith))))
 
 -- All measures, counted up to 65,536 of them.
@@ -71,12 +73,12 @@ pub record Wrote (base : ℕ) (ms bs : List ℕ) (row : List (List ℕ)) (q : Pe
   pub measureTable : ms' ≡ sets ms 0 (heads base row)
   pub beatTable : bs' ≡ sets bs 0 (flat row)
 
-wrote-none : (p : Pen) (ms bs : List ℕ) → p .m ≡ 0 → p .b ≡ 0 → Wrote (p .base) ms bs [] p ms bs
+pub wrote-none : (p : Pen) (ms bs : List ℕ) → p .m ≡ 0 → p .b ≡ 0 → Wrote (p .base) ms bs [] p ms bs
 unfolding total heads flat
 wrote-none p ms bs e k = record { first = refl; measures = e; beats = k; measureTable = refl; beatTable = refl }
 
 -- A row behind it, begun with the pen o.
-wrote-more : (base : ℕ) (ms bs : List ℕ) (w row v : List (List ℕ)) (p o q : Pen) (ms1 bs1 ms2 bs2 : List ℕ) → Wrote base ms bs w p ms1 bs1
+pub wrote-more : (base : ℕ) (ms bs : List ℕ) (w row v : List (List ℕ)) (p o q : Pen) (ms1 bs1 ms2 bs2 : List ℕ) → Wrote base ms bs w p ms1 bs1
     → (o .base ≡ p .base) × (o .m ≡ p .m) × (o .b ≡ p .b) → v ≡ window (o .skip) (o .left) (take (o .todo) row) → page q ms2 bs2 ≡ play row (page o ms1 bs1)
     → Wrote base ms bs (w ++ v) q ms2 bs2
 wrote-more base ms bs w row v p o q ms1 bs1 ms2 bs2 h same e k =
@@ -104,7 +106,7 @@ wrote-more base ms bs w row v p o q ms1 bs1 ms2 bs2 h same e k =
       beatTable = rw (bs3, h .beatTable, flat-append w v) (sym ab);
     }
 
-times-one : (row : List (List ℕ)) → times 1 row ≡ row
+pub times-one : (row : List (List ℕ)) → times 1 row ≡ row
 unfolding times
 times-one row = append-nil row
 
@@ -249,7 +251,10 @@ opening-fine p o = record { few = omega (arith, o .measures); fits = omega (arit
 -- A pen behind another writes no more than that one would.
 pub fine-pattern : (plan : Plan) (a o : Pen) → Fine a → AtPattern plan a o → Fine o
 fine-pattern plan a o f i =
-    let base = i .0 .0 in let m = i .0 .1 in let b = i .0 .2 in let l = i .1 .1 .0 in
+    let base = i .0 .0 in
+    let m = i .0 .1 in
+    let b = i .0 .2 in
+    let l = i .1 .1 .0 in
     record { few = omega (arith, f .few); fits = omega (arith, f .fits) }
 
 pub fine-tail : (plan : Plan) (row : List (List ℕ)) (a o b u : Pen) (ms bs ms' bs' : List ℕ) → Fine a → AtPattern plan a o

@@ -43,7 +43,10 @@ short-take (suc k) [] f = tt
 short-take (suc k) (x ∷ xs) f = (f .0, short-take k xs (f .1))
 
 pub total-few : (k : ℕ) (row : List (List ℕ)) → Short row → total (take k row) ≤ 32 * k
-total-few k row f = let h = total-short (take k row) (short-take k row f) in let l = length-take k row in omega arith
+total-few k row f =
+    let h = total-short (take k row) (short-take k row f) in
+    let l = length-take k row in
+    omega arith
 
 abbrev Shorts : (ℕ → ℕ → ℕ → Read) → Type 0
 Shorts inner = (to at last : ℕ) → Short (inner to at last .row)

@@ -31,7 +31,8 @@ word-inside ws to at n =
 
 pub position-within : (ws : List ℕ) (to at : ℕ) → isPosition (kindOf (wordOf ws to at)) ≡ true → (at < to) × (at < length (take to ws))
 unfolding isPosition
-position-within ws to at e = word-inside ws to at (λ z. let y : (ltb 54 34 || leb 61 54) ≡ true = rw z at e in let x : _≡_ {A = ℕ} 0 1 = cc in omega arith)
+position-within ws to at e = word-inside ws to at (λ z. let y : (ltb 54 34 || leb 61 54) ≡ true = rw z at e in
+    let x : _≡_ {A = ℕ} 0 1 = cc in omega arith)
 
 pub position-inside : (ws : List ℕ) (to at : ℕ) → isPosition (kindOf (wordOf ws to at)) ≡ true → at < to
 position-inside ws to at e = position-within ws to at e .0
@@ -39,7 +40,8 @@ position-inside ws to at e = position-within ws to at e .0
 pub stop-inside : (ws : List ℕ) (to at : ℕ) → isStop (kindOf (wordOf ws to at)) ≡ false → at < to
 unfolding isStop
 stop-inside ws to at e =
-    word-inside ws to at (λ z. let y : (eqb 54 56 || (leb 34 54 && leb 54 54)) ≡ false = rw z at e in let x : _≡_ {A = ℕ} 0 1 = cc in omega arith) .0
+    word-inside ws to at (λ z. let y : (eqb 54 56 || (leb 34 54 && leb 54 54)) ≡ false = rw z at e in
+    let x : _≡_ {A = ℕ} 0 1 = cc in omega arith) .0
 
 -- The positions of a measure: none, or one and those behind it.
 none-of : (w : ℕ) (xs : List ℕ) → isPosition (kindOf w) ≡ false → positionsOf (w ∷ xs) ≡ []
@@ -62,7 +64,8 @@ pub positions-more : (ws : List ℕ) (to at : ℕ) → isPosition (kindOf (wordO
     → positionsAt ws to at ≡ wordOf ws to at ∷ positionsAt ws to (at + 1)
 unfolding positionsAt wordOf isPosition
 positions-more ws to at e =
-    let h = word-inside ws to at (λ z. let y : (ltb 54 34 || leb 61 54) ≡ true = rw z at e in let x : _≡_ {A = ℕ} 0 1 = cc in omega arith) in
+    let h = word-inside ws to at (λ z. let y : (ltb 54 34 || leb 61 54) ≡ true = rw z at e in
+    let x : _≡_ {A = ℕ} 0 1 = cc in omega arith) in
     rw (add-one at) (ap positionsOf (drop-cons (take to ws) at 3623878656 (h .1)) ∙ one-of (getD (take to ws) at 3623878656) (drop (suc at) (take to ws)) e)
 
 -- Inside a measure the next word is a position.
@@ -104,4 +107,7 @@ sounds-one k = by-cases (eqb k 61) (λ e. rw (e, if_then_else_) (omega arith)) (
 pub sounding-length : (ps : List ℕ) → soundingOf ps ≤ length ps
 unfolding soundingOf
 sounding-length [] = omega arith
-sounding-length (w ∷ ps) = let a = sounds-one (kindOf w) in let b = sounding-length ps in omega arith
+sounding-length (w ∷ ps) =
+    let a = sounds-one (kindOf w) in
+    let b = sounding-length ps in
+    omega arith

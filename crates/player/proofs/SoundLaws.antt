@@ -172,7 +172,10 @@ measure-positions m k h e =
 
 pub measure-length : (m : Measure) → length (tokenWords (writeMeasure m [])) ≡ positions m
 unfolding writeMeasure positions tokenWords
-measure-length m = let a = sounds-length (m .sounds) (writeRemovers (m .removers) []) in let b = removers-length (m .removers) [] in omega arith
+measure-length m =
+    let a = sounds-length (m .sounds) (writeRemovers (m .removers) []) in
+    let b = removers-length (m .removers) [] in
+    omega arith
 
 pub measure-beats : (n : ℕ) (last : Option Chord) (m : Measure) → ChordsFit (m .sounds)
     → partsOf (n / positions m) (voiceWord last) (tokenWords (writeMeasure m [])) ≡ map beatWord (beatsOf n last m)

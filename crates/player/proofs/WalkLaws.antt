@@ -171,13 +171,17 @@ position-left k e a b f =
     (λ u.
     let t' = ltb-false k 34 t in
     let u' = leb-false 61 k u in
-    by-cases (eqb k 56) (λ v. let z : true ≡ false = rw v at e in let y : _≡_ {A = ℕ} 0 1 = cc in absurd (omega arith))
+    by-cases (eqb k 56) (λ v. let z : true ≡ false = rw v at e in
+    let y : _≡_ {A = ℕ} 0 1 = cc in absurd (omega arith))
     (λ v.
-    by-cases (leb k 54) (λ w. let z : true ≡ false = rw (v, le-leb 34 k t', w) at e in let y : _≡_ {A = ℕ} 0 1 = cc in absurd (omega arith))
+    by-cases (leb k 54) (λ w. let z : true ≡ false = rw (v, le-leb 34 k t', w) at e in
+    let y : _≡_ {A = ℕ} 0 1 = cc in absurd (omega arith))
     (λ w.
     let w' = leb-false k 54 w in
-    by-cases (leb 58 k) (λ x. let z : true ≡ false = rw (x, le-leb k 60 (omega arith)) at f in let y : _≡_ {A = ℕ} 0 1 = cc in absurd (omega arith))
-    (λ x. let x' = leb-false 58 k x in let v' = eqb-false k 56 v in absurd (between k w' x' a b v'))))))
+    by-cases (leb 58 k) (λ x. let z : true ≡ false = rw (x, le-leb k 60 (omega arith)) at f in
+    let y : _≡_ {A = ℕ} 0 1 = cc in absurd (omega arith))
+    (λ x. let x' = leb-false 58 k x in
+    let v' = eqb-false k 56 v in absurd (between k w' x' a b v'))))))
   where
     between : (k : ℕ) → 54 < k → k < 58 → (k ≡ 57 → ⊥) → (k ≡ 55 → ⊥) → (k ≡ 56 → ⊥) → ⊥
     between k l h a b v = omega arith
@@ -188,7 +192,8 @@ unfolding itemOf itemBy loopOf looped refOf oneOf
 item-onward inner n ws to at last i e =
     let w = wordOf ws to at in
     by-cases (eqb (kindOf w) 57) (λ a. rw (a, if_then_else_)
-    (let h = i to (at + 1) last in let k = behind-on ws to (inner to (at + 1) last .at) in omega arith))
+    (let h = i to (at + 1) last in
+    let k = behind-on ws to (inner to (at + 1) last .at) in omega arith))
     (λ a.
     by-cases (eqb (kindOf w) 55) (λ b. rw (a, b, if_then_else_) (omega arith))
     (λ b.

@@ -13,6 +13,7 @@ use Rattle.player.specs.declared.playing.Arrangement.{Arrangement}
 use Rattle.player.specs.declared.playing.Counts.{Counts}
 use Rattle.player.specs.Walks.{rowOf}
 use Rattle.player.specs.Windows.{sectionRow, flat, heads}
+use Rattle.player.specs.Even.{Even}
 
 -- What the section that is seen plays.
 unfoldable pub arrangementIn : List ℕ → View → Arrangement
@@ -25,6 +26,7 @@ arrangementIn ws v =
       repeat = v .repeat;
       front = v .front;
       back = v .back;
+      even = v .even;
     }
 
 -- The pattern as often as it is repeated, before the cuts.
@@ -39,11 +41,12 @@ arrangedRow ws a = sectionRow (a .front) (a .back) (a .repeat) (rowOf (a .n) ws 
 abbrev pub measuresUncut : List ℕ → Arrangement → ℕ
 measuresUncut ws a = length (rowOf (a .n) ws (a .lead)) + length (repeatedRow ws a) + length (rowOf (a .n) ws (a .tail))
 
--- Its cuts can be turned into beats.
+-- Its cuts can be turned into beats; where it tells so its pattern is even.
 pub record Countable (ws : List ℕ) (a : Arrangement) : Type 0 where
   pub meter : a .n ≤ 32
   pub cuts : a .front .beats .0 ≤ 9999
   pub measures : length (repeatedRow ws a) ≤ 65535
+  pub even : (a .even ≡ 0 → ⊥) → Even (a .n) (a .even) (rowOf (a .n) ws (a .pattern))
 
 -- It plays within 65,535 measures of 32 beats, its first beat at `base`.
 pub record PlaysWithin (ws : List ℕ) (a : Arrangement) (base : ℕ) : Type 0 where

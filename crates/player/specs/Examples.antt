@@ -13,6 +13,7 @@ use Rattle.tokens.specs.TokenWords.{tokenWords}
 use Rattle.score.specs.Places.{placeBy, placeOf, stretchOf}
 use Rattle.player.specs.Walks.{rowOf}
 use Rattle.player.specs.Windows.{keptOf}
+use Rattle.player.specs.Even.{spanned}
 
 abbrev plain : ℕ → Sound
 plain n = chord (record { base = n; extension = [] })
@@ -58,3 +59,12 @@ back = refl
 gone : keptOf (record { measures = record { 0 = 0 }; beats = record { 0 = 0 } }) (record { measures = record { 0 = 0 }; beats = record { 0 = 8 } }) two ≡ []
 unfolding keptOf
 gone = refl
+
+-- In measures of four beats, seven beats behind the first two stand in three of them, and two behind the first six in one.
+over-three : spanned 4 2 7 ≡ 3
+unfolding spanned
+over-three = refl
+
+within-one : spanned 4 6 2 ≡ 1
+unfolding spanned
+within-one = refl

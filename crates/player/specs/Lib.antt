@@ -5,6 +5,7 @@ pub mod Page
 pub mod Again
 pub mod Walks
 pub mod Windows
+pub mod Even
 pub mod Arrangements
 pub mod Examples
 pub mod Texts

@@ -1,6 +1,7 @@
 // A measure that is written whole: where the table has room for it, nothing is asked of a beat.
 use super::leaves::chord_after;
 use super::leaves::voice;
+use tokens::CHORDS;
 use tokens::REMOVER;
 use tokens::kind;
 ghost use mathlib.Core.Path.{_≡_};
@@ -44,13 +45,18 @@ pub fn write_sound(share: usize, v: u32, b: usize, bs: &mut [u32])
     write_words(share - 1, v, b + 1, bs);
 }
 
-// One position, and the place behind its beats; a remover has none.
+// One position, most often a chord, and the place behind its beats; a remover has none.
 pub fn write_position(w: u32, share: usize, last: u32, b: usize, bs: &mut [u32]) -> usize
     requires { ⌜ (b + share * soundsAs (kindOf w) ≤ length (now bs)) × (last ≤ 4227858432) ⌝ }
     ensures place { λ r. ⌜ r ≡ b + share * soundsAs (kindOf w) ⌝ }
     ensures beats { λ _. ⌜ now (bs .exit) ≡ sets (now (bs .entry)) b (partOf share last w) ⌝ }
 {
-    if kind(w) == REMOVER {
+    let k = kind(w);
+    if k < CHORDS {
+        write_sound(share, w, b, bs);
+        return b + share;
+    }
+    if k == REMOVER {
         return b;
     }
     write_sound(share, voice(last, w), b, bs);

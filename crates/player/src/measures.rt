@@ -10,6 +10,7 @@ use super::pens::close;
 use super::pens::lasting;
 use super::pens::resting;
 use score::word_at;
+use tokens::CHORDS;
 use tokens::REMOVER;
 use tokens::is_position;
 use tokens::kind;
@@ -48,6 +49,12 @@ pub fn look(words: &[u32], to: usize, at: usize, last: u32) -> Seen
     loop {
         let w = word_at(words, to, i);
         let k = kind(w);
+        if k < CHORDS {
+            s += 1;
+            l = w;
+            i += 1;
+            continue;
+        }
         if !is_position(k) {
             return Seen {
                 stop: i,
@@ -56,7 +63,6 @@ pub fn look(words: &[u32], to: usize, at: usize, last: u32) -> Seen
             };
         }
         s += sounds(k);
-        l = chord_after(l, w);
         i += 1;
     }
 }

@@ -12,7 +12,7 @@ use tokens::SILENCE_WORD;
 ghost use mathlib.Core.Path.{_≡_};
 ghost use mathlib.Core.Bool.{true};
 ghost use mathlib.Core.List.{_++_};
-ghost use Prim.Native.Nat.{_+_, _-_, _≤_, min};
+ghost use Prim.Native.Nat.{_+_, _-_, _*_, _≤_, min};
 ghost use lib.ListN.{length, take};
 ghost use Rattle.songcode.specs.Lists.{times};
 ghost use Rattle.songcode.specs.description.Performance.{total};
@@ -27,6 +27,7 @@ pub struct Counts {
 }
 
 // What a section plays: in its N, the lead-in, the pattern as often as it is repeated less both cuts, the tail. Each text may be an empty stretch.
+// `even` is how many measures the pattern has where each of them has N beats, else 0.
 pub struct Arrangement {
     pub n: usize,
     pub lead: Stretch,
@@ -35,6 +36,7 @@ pub struct Arrangement {
     pub repeat: usize,
     pub front: Cut,
     pub back: Cut,
+    pub even: usize,
 }
 
 // How many measures a row has, the beats to pass over, the beats to write.
@@ -78,8 +80,8 @@ pub fn rounds(
     again(words, scope, start, w.pen, r - 1, ms, bs)
 }
 
-// How many of the first k measures of the repeated pattern there are, and their beats: the same walk with every beat passed over.
-pub fn tally(words: &[u32], a: Arrangement, k: usize) -> Counts
+// How many of the first k measures of the repeated pattern there are, and their beats: a walk with every beat passed over.
+fn tally_by_walking(words: &[u32], a: Arrangement, k: usize) -> Counts
     requires { ⌜ (a .n ≤ 32) × (k ≤ 65536) ⌝ }
     ensures measures { λ c. ⌜ c .measures ≡ min k (length (repeatedRow (now (words .entry)) a)) ⌝ }
     ensures beats { λ c. ⌜ c .beats ≡ total (take k (repeatedRow (now (words .entry)) a)) ⌝ }
@@ -101,9 +103,26 @@ pub fn tally(words: &[u32], a: Arrangement, k: usize) -> Counts
     Counts { measures, beats }
 }
 
+// The same; nothing is walked where every measure has n beats.
+pub fn tally(words: &[u32], a: Arrangement, k: usize) -> Counts
+    requires { ⌜ Countable (now words) a × (k ≤ 65536) ⌝ }
+    ensures measures { λ c. ⌜ c .measures ≡ min k (length (repeatedRow (now (words .entry)) a)) ⌝ }
+    ensures beats { λ c. ⌜ c .beats ≡ total (take k (repeatedRow (now (words .entry)) a)) ⌝ }
+    ensures bound { λ c. ⌜ c .beats ≤ 2097152 ⌝ }
+{
+    if a.even == 0 {
+        return tally_by_walking(words, a, k);
+    }
+    let measures = least(k, a.repeat * a.even);
+    Counts {
+        measures,
+        beats: a.n * measures,
+    }
+}
+
 // The beats of the first k measures; nothing is walked for none.
 fn beats_before(words: &[u32], a: Arrangement, k: usize) -> usize
-    requires { ⌜ (a .n ≤ 32) × (k ≤ 65536) ⌝ }
+    requires { ⌜ Countable (now words) a × (k ≤ 65536) ⌝ }
     ensures { λ b. ⌜ (b ≡ total (take k (repeatedRow (now (words .entry)) a))) × (b ≤ 2097152) ⌝ }
 {
     if k == 0 {
@@ -115,7 +134,8 @@ fn beats_before(words: &[u32], a: Arrangement, k: usize) -> usize
 
 // The beats of all measures but so many at the end, where all of them were counted.
 fn beats_but(words: &[u32], a: Arrangement, all: Counts, cut: usize) -> usize
-    requires { ⌜ (a .n ≤ 32) × (all .measures ≤ 65536) × (all .beats ≡ total (take (all .measures) (repeatedRow (now words) a))) × (all .beats ≤ 2097152) ⌝ }
+    requires { ⌜ Countable (now words) a × (all .measures ≤ 65536) × (all .beats ≡ total (take (all .measures) (repeatedRow (now words) a)))
+        × (all .beats ≤ 2097152) ⌝ }
     ensures { λ b. ⌜ (b ≡ total (take (all .measures - cut) (repeatedRow (now (words .entry)) a))) × (b ≤ 2097152) ⌝ }
 {
     if cut == 0 {
@@ -145,7 +165,7 @@ pub fn planned(words: &[u32], a: Arrangement) -> Plan
 }
 
 // The pen for a whole text, in front of both tables.
-fn opening(base: usize, skip: usize, left: usize) -> Pen
+pub fn opening(base: usize, skip: usize, left: usize) -> Pen
     ensures { λ p. ⌜ (p .base ≡ base) × (p .todo ≡ 65536) × (p .skip ≡ skip) × (p .left ≡ left) × (p .m ≡ 0) × (p .b ≡ 0) ⌝ }
 {
     Pen {
@@ -283,16 +303,6 @@ pub fn play_section(
     ensures { λ c. ⌜ Plays (arrangedRow (now (words .entry)) a) base c (now (ms .entry)) (now (bs .entry)) (now (ms .exit)) (now (bs .exit)) ⌝ }
 {
     play_window(words, a, opening(base, 0, 2097120 - base), ms, bs)
-}
-
-// How many measures and beats a section plays: it is played into tables that have no room.
-pub fn count_section(words: &[u32], a: Arrangement) -> Counts
-    requires { ⌜ PlaysWithin (now words) a 0 ⌝ }
-    ensures { λ c. ⌜ (c .measures ≡ length (arrangedRow (now (words .entry)) a)) × (c .beats ≡ total (arrangedRow (now (words .entry)) a)) ⌝ }
-{
-    let mut no_measures = [0u32; 0];
-    let mut no_beats = [0u32; 0];
-    play_section(words, a, 0, &mut no_measures, &mut no_beats)
 }
 
 // A part of a section: behind `from` of its beats, as many as the table of beats holds. Its measures name their beats in that table.

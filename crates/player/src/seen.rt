@@ -22,5 +22,6 @@ pub fn arrangement_in(words: &[u32], v: View) -> Arrangement
         repeat: v.repeat,
         front,
         back,
+        even: v.even,
     }
 }

@@ -68,7 +68,10 @@ module _ (r : Answer) where
       let m : n ≡ number = sym (number-is n l e) ∙ h .0 in
       let k : l ≡ line = sym (line-is n l e) ∙ h .1 in
       rw (m, k) refl
-  refused-is (accepted t) e number line some h = let z = counts-of r t e .refusal in let m = h .0 in absurd (omega arith)
+  refused-is (accepted t) e number line some h =
+      let z = counts-of r t e .refusal in
+      let m = h .0 in
+      absurd (omega arith)
 
   refused-by : (a : songcode.Answer) → r ≡ answerOf a → (number line : ℕ) → 1 ≤ number → (a ≡ refused number line) ↔ ((r .refusal ≡ number) × (r .line ≡ line))
   refused-by a e number line some =
@@ -99,7 +102,8 @@ module _ (text : List ℕ) (before : Lent) (r : Answer) (after : Lent) (p : Prom
 
   at-most-18 : (a : songcode.Answer) → answer (roomOf before) text ≡ a → r .refusal ≤ 18
   at-most-18 (refused n l) e =
-      let m = refusal-numbers (roomOf before) text n l e .1 in let k = number-is r n l (p .answer ∙ ap answerOf e) in omega arith
+      let m = refusal-numbers (roomOf before) text n l e .1 in
+      let k = number-is r n l (p .answer ∙ ap answerOf e) in omega arith
   at-most-18 (accepted t) e = let z = counts-of r t (p .answer ∙ ap answerOf e) .refusal in omega arith
 
   by-answer : (number line : ℕ) → 1 ≤ number → (answer (roomOf before) text ≡ refused number line) ↔ ((r .refusal ≡ number) × (r .line ≡ line))

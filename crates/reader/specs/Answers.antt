@@ -22,6 +22,9 @@ pub record Lent : Type 0 where
   pub beats : List ℕ
   pub items : List ℕ
 
+abbrev pub lent : List ℕ → List ℕ → List ℕ → List ℕ → List ℕ → Lent
+lent k s m b i = record { keys = k; sections = s; measures = m; beats = b; items = i }
+
 unfoldable pub roomOf : Lent → songcode.Room
 roomOf l =
     record { keys = length (l .keys); sections = length (l .sections); measures = length (l .measures); beats = length (l .beats); items = length (l .items) }

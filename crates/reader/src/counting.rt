@@ -1,6 +1,6 @@
 // A chart without tables: its refusal, or how many words its tables would take. It stores nothing, so nothing can be too short.
 use super::answers::Answer;
-use super::answers::accepted;
+use super::answers::counted;
 use super::answers::refused;
 use judging::first_stages;
 use judging::judge;
@@ -20,12 +20,7 @@ fn count_song(text: &[u8], words: &mut [u32]) -> Answer
     ensures { λ r. ⌜ Counted (now (text .entry)) r ⌝ }
 {
     let chart = judge(text, words);
-    let totals = chart.totals;
-    let late = totals.refusal;
-    if late.number != 0 {
-        return refused(late.number, late.line);
-    }
-    accepted(totals)
+    counted(chart.totals)
 }
 
 // Every text of every length is answered, with the row that its texts are laid into if stages 1 and 2 pass it.

@@ -4,6 +4,7 @@ mod counting;
 mod reading;
 
 pub use answers::Answer;
+pub use answers::Room;
 pub use counting::count;
 pub use counting::count_in;
 pub use reading::read;

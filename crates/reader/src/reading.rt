@@ -1,6 +1,7 @@
 // A chart and five lent tables: one refusal and nothing stored, or every word of every table.
 use super::answers::Answer;
-use super::answers::accepted;
+use super::answers::Room;
+use super::answers::counted;
 use super::answers::refused;
 use judging::Totals;
 use judging::first_stages;
@@ -15,33 +16,40 @@ ghost use Prim.Native.Nat.{_+_, _≤_};
 ghost use lib.ListN.{length};
 ghost use Rattle.songcode.specs.answer.SongText.{textFaults};
 ghost use Rattle.songcode.specs.answer.Answer.{inputFaults, blocksOf};
-ghost use Rattle.reader.specs.Answers.{Promised};
-ghost use Rattle.reader.specs.Room.{isShort};
+ghost use Rattle.reader.specs.Answers.{lent, Promised};
+ghost use Rattle.reader.specs.Room.{isShort, answeredBy};
 
-// Whether a table is too short.
-fn is_short(
-    t: Totals,
-    keys: usize,
-    sections: usize,
-    measures: usize,
-    beats: usize,
-    items: usize,
-) -> bool
-    ensures { λ r. ⌜ r ≡ isShort t keys sections measures beats items ⌝ }
+// "keys table under 8, or another table too short" for a song of these counts.
+fn is_short(a: Answer, room: Room) -> bool
+    ensures { λ r. ⌜ r ≡ isShort a room ⌝ }
 {
-    if keys < 8 {
+    if room.keys < 8 {
         return true;
     }
-    if sections < t.sections {
+    if room.sections < a.sections {
         return true;
     }
-    if measures < t.measures {
+    if room.measures < a.measures {
         return true;
     }
-    if beats < t.beats {
+    if room.beats < a.beats {
         return true;
     }
-    items < t.items
+    room.items < a.items
+}
+
+// A chart that stages 1 to 7 have judged, answered by the room in the tables.
+fn answer_for(t: Totals, room: Room) -> Answer
+    ensures { λ r. ⌜ r ≡ answeredBy t room ⌝ }
+{
+    let a = counted(t);
+    if a.refusal != 0 {
+        return a;
+    }
+    if is_short(a, room) {
+        return refused(TABLE_TOO_SHORT, 0);
+    }
+    a
 }
 
 // A chart that stages 1 and 2 have passed; `words` is the row that its texts are laid into.
@@ -55,39 +63,24 @@ fn read_song(
     items: &mut [u64],
 ) -> Answer
     requires { ⌜ (inputFaults (now text) ≡ []) × (textFaults (blocksOf (now text)) ≡ []) × (length (now text) + 16 ≤ length (now words)) ⌝ }
-    ensures { λ r. ⌜ Promised (now (text .entry)) (record {
-      keys = now (keys .entry);
-      sections = now (sections .entry);
-      measures = now (measures .entry);
-      beats = now (beats .entry);
-      items = now (items .entry);
-    }) r
-        (record {
-          keys = now (keys .exit);
-          sections = now (sections .exit);
-          measures = now (measures .exit);
-          beats = now (beats .exit);
-          items = now (items .exit);
-        }) ⌝ }
+    ensures { λ r. ⌜ Promised (now (text .entry))
+        (lent (now (keys .entry)) (now (sections .entry)) (now (measures .entry)) (now (beats .entry)) (now (items .entry))) r
+        (lent (now (keys .exit)) (now (sections .exit)) (now (measures .exit)) (now (beats .exit)) (now (items .exit))) ⌝ }
 {
     let chart = judge(text, words);
-    let totals = chart.totals;
-    let late = totals.refusal;
-    if late.number != 0 {
-        return refused(late.number, late.line);
-    }
-    if is_short(
-        totals,
-        keys.len(),
-        sections.len(),
-        measures.len(),
-        beats.len(),
-        items.len(),
-    ) {
-        return refused(TABLE_TOO_SHORT, 0);
+    let room = Room {
+        keys: keys.len(),
+        sections: sections.len(),
+        measures: measures.len(),
+        beats: beats.len(),
+        items: items.len(),
+    };
+    let answer = answer_for(chart.totals, room);
+    if answer.refusal != 0 {
+        return answer;
     }
     write_tables(text, chart, words, keys, sections, measures, beats, items);
-    accepted(totals)
+    answer
 }
 
 // The same for a chart of at most 2,048 bytes, as nearly all are: a small buffer is soon cleared.
@@ -100,20 +93,9 @@ fn read_short(
     items: &mut [u64],
 ) -> Answer
     requires { ⌜ (inputFaults (now text) ≡ []) × (textFaults (blocksOf (now text)) ≡ []) × (length (now text) + 16 ≤ 2064) ⌝ }
-    ensures { λ r. ⌜ Promised (now (text .entry)) (record {
-      keys = now (keys .entry);
-      sections = now (sections .entry);
-      measures = now (measures .entry);
-      beats = now (beats .entry);
-      items = now (items .entry);
-    }) r
-        (record {
-          keys = now (keys .exit);
-          sections = now (sections .exit);
-          measures = now (measures .exit);
-          beats = now (beats .exit);
-          items = now (items .exit);
-        }) ⌝ }
+    ensures { λ r. ⌜ Promised (now (text .entry))
+        (lent (now (keys .entry)) (now (sections .entry)) (now (measures .entry)) (now (beats .entry)) (now (items .entry))) r
+        (lent (now (keys .exit)) (now (sections .exit)) (now (measures .exit)) (now (beats .exit)) (now (items .exit))) ⌝ }
 {
     let mut words = [0u32; SHORT_ROW];
     read_song(text, &mut words, keys, sections, measures, beats, items)
@@ -129,20 +111,9 @@ fn read_long(
     items: &mut [u64],
 ) -> Answer
     requires { ⌜ (inputFaults (now text) ≡ []) × (textFaults (blocksOf (now text)) ≡ []) × (length (now text) + 16 ≤ 65552) ⌝ }
-    ensures { λ r. ⌜ Promised (now (text .entry)) (record {
-      keys = now (keys .entry);
-      sections = now (sections .entry);
-      measures = now (measures .entry);
-      beats = now (beats .entry);
-      items = now (items .entry);
-    }) r
-        (record {
-          keys = now (keys .exit);
-          sections = now (sections .exit);
-          measures = now (measures .exit);
-          beats = now (beats .exit);
-          items = now (items .exit);
-        }) ⌝ }
+    ensures { λ r. ⌜ Promised (now (text .entry))
+        (lent (now (keys .entry)) (now (sections .entry)) (now (measures .entry)) (now (beats .entry)) (now (items .entry))) r
+        (lent (now (keys .exit)) (now (sections .exit)) (now (measures .exit)) (now (beats .exit)) (now (items .exit))) ⌝ }
 {
     let mut words = [0u32; LONG_ROW];
     read_song(text, &mut words, keys, sections, measures, beats, items)
@@ -157,20 +128,9 @@ pub fn read(
     beats: &mut [u32],
     items: &mut [u64],
 ) -> Answer
-    ensures { λ r. ⌜ Promised (now (text .entry)) (record {
-      keys = now (keys .entry);
-      sections = now (sections .entry);
-      measures = now (measures .entry);
-      beats = now (beats .entry);
-      items = now (items .entry);
-    }) r
-        (record {
-          keys = now (keys .exit);
-          sections = now (sections .exit);
-          measures = now (measures .exit);
-          beats = now (beats .exit);
-          items = now (items .exit);
-        }) ⌝ }
+    ensures { λ r. ⌜ Promised (now (text .entry))
+        (lent (now (keys .entry)) (now (sections .entry)) (now (measures .entry)) (now (beats .entry)) (now (items .entry))) r
+        (lent (now (keys .exit)) (now (sections .exit)) (now (measures .exit)) (now (beats .exit)) (now (items .exit))) ⌝ }
 {
     let early = first_stages(text);
     if early.number != 0 {

@@ -1,9 +1,11 @@
--- The two words of a lyric line tell what it says.
-use Prim.Native.Nat.{ℕ, _+_, _-_, _*_, _^_, _/_, _%_}
-use mathlib.Core.Path.{_≡_}
+-- The two words of a lyric line tell what it says; the line at a place of a stretch.
+use Prim.Native.Nat.{ℕ, suc, _+_, _-_, _*_, _^_, _/_, _%_, _<_, _≤_}
+use mathlib.Core.Path.{_≡_, _∙_}
+use mathlib.Core.List.{List, _∷_}
 use mathlib.Core.Option.{Option·getD}
 use native.Mathlib.Omega.{arith}
-use lib.ListN.{length}
+use lib.ListN.{length, take, drop, getD, length-take}
+use lib.Seq.{drop-cons, getD-take}
 use Rattle.songcode.specs.Song.{LyricLine}
 use Rattle.songcode.specs.answer.Lyrics.{Styled, wordsOf, styled, countOf}
 use Rattle.songcode.specs.answer.Tables.{offset}
@@ -44,3 +46,16 @@ pub lyric-read : (l : LyricLine) → LyricFits l → lyricIn
     }
 unfolding LyricFits
 lyric-read l f = line-read (l .number) (Option·getD (countOf l) 0) (styled (wordsOf (l .text) .text)) f
+
+-- A line is left before the end of the stretch.
+pub two-words : (ws : List ℕ) (to at : ℕ) → at + 1 < to → to ≤ length ws
+    → drop at (take to ws) ≡ getD ws at 0 ∷ getD ws (at + 1) 0 ∷ drop (at + 2) (take to ws)
+two-words ws to at h l =
+    let n = length-take to ws in
+    let k : suc at ≡ at + 1 = omega arith in
+    let j : suc (at + 1) ≡ at + 2 = omega arith in
+    let a = drop-cons (take to ws) at 0 (omega arith) in
+    let b = drop-cons (take to ws) (at + 1) 0 (omega arith) in
+    let c : getD (take to ws) at 0 ≡ getD ws at 0 = getD-take to ws at 0 (omega arith) in
+    let d : getD (take to ws) (at + 1) 0 ≡ getD ws (at + 1) 0 = getD-take to ws (at + 1) 0 h in
+    a ∙ rw (k, b, c, d, j)

@@ -2,19 +2,23 @@
 use Prim.Native.Nat.{ℕ, _+_, _-_, _*_, _^_, _/_, _%_, _<_, _≤_}
 use mathlib.Core.Path.{_≡_, refl, sym, ap, _∙_, subst}
 use mathlib.Core.List.{List, [], _∷_, _++_, append-assoc, flatMap}
-use mathlib.Core.Bool.{Bool, true, false, _||_}
+use mathlib.Core.Bool.{Bool, true, false, _||_, _&&_}
 use mathlib.Core.Option.{Option, none, some}
 use native.Mathlib.Omega.{arith}
-use lib.Dec.{eqb}
+use borrow.Author.Tests.{leb-true}
+use lib.Dec.{eqb, leb}
 use lib.ListN.{length, drop, getD, length-append}
 use lib.Seq.{getD-drop, drop-drop, take-append-seam, drop-append-seam}
-use Rattle.songcode.proofs.ListLaws.{drop-take}
-use Rattle.songcode.specs.Lists.{isSome}
+use Rattle.songcode.proofs.ListLaws.{drop-take, both-pass}
+use Rattle.songcode.specs.Lists.{if_then_else_, isSome}
 use Rattle.songcode.specs.Song as song
-use Rattle.songcode.specs.Song.{LyricLine, Modifiers, Section, Song}
+use Rattle.songcode.specs.Song.{Items, LyricLine, Modifiers, Section, Song}
+use Rattle.songcode.specs.answer.References.{patternItems}
 use Rattle.songcode.specs.answer.Playing.{timeOf, bpmOf, repeats}
+use Rattle.songcode.specs.answer.Meter.{allFit, count, mostMeasures}
 use Rattle.settings.specs.declared.cuts.Cut.{Cut}
 use Rattle.score.specs.declared.views.View.{View}
+use Rattle.score.specs.Even.{isWhole, evenMeasures, evenPattern}
 use Rattle.score.specs.Sections.{sideRow, patternRow, cutWord, isCut, cutsBy, cutsRow, lyricBy, lyricRow, partsRow, bit, sectionRow, sectionsRow}
 use Rattle.score.specs.Views.{cutIn, cutAt, cutsLength, viewBy, viewOf, stretch}
 use Rattle.score.specs.Fitting.{CutSmall, SectionFits}
@@ -61,9 +65,6 @@ upper-field a b h = omega arith
 lower-field : (a b : ℕ) → b < 65536 → (a * 2 ^ 16 + b) % 65536 ≡ b
 lower-field a b h = omega arith
 
-alone-field : (a : ℕ) → a * 2 ^ 16 / 65536 ≡ a
-alone-field a = omega arith
-
 -- A bit, and the answer read again.
 pub bit-small : (b : Bool) → bit b ≤ 1
 unfolding bit
@@ -87,6 +88,23 @@ cut-again (some c) h =
     let x : (m * 2 ^ 18 + b * 2 ^ 4) / 262144 ≡ m = omega arith in
     let y : (m * 2 ^ 18 + b * 2 ^ 4) / 16 % 16384 ≡ b = omega arith in
     rw (x, y)
+
+-- A song may have 65,535 measures, which is a field of 16 bits.
+counted-small : (b : Bool) (k : ℕ) → (b ≡ true → k ≤ 65535) → (if b then k else 0) < 65536
+unfolding if_then_else_
+counted-small true k h = let g = h refl in omega arith
+counted-small false k h = omega arith
+
+measures-small : (n : ℕ) (o : Option Items) → evenMeasures n o < 65536
+unfolding evenMeasures mostMeasures
+measures-small n none = omega arith
+measures-small n (some r) =
+    counted-small (isWhole r && allFit n r && leb (count r) 65535) (count r)
+    (λ h. leb-true (count r) 65535 (both-pass (isWhole r && allFit n r) (leb (count r) 65535) h .1))
+
+pub even-small : (s : Song) (x : Section) → evenPattern s x < 65536
+unfolding evenPattern
+even-small s x = measures-small (timeOf s x) (patternItems (s .definitions) (x .pattern))
 
 cuts-size : (b : Bool) (v w : ℕ) → length (cutsBy b v w) ≡ cutsLength b
 unfolding cutsBy cutsLength
@@ -153,7 +171,7 @@ module _ (s : Song) (ws : List ℕ) (at : ℕ) (x : Section) (f : SectionFits s 
   wordC = length lead * 2 ^ 16 + length tail
 
   abbrev wordD : ℕ
-  wordD = length (x .lyrics) * 2 ^ 16
+  wordD = length (x .lyrics) * 2 ^ 16 + evenPattern s x
 
   whole : drop at ws ≡ wordA ∷ wordB ∷ wordC ∷ wordD ∷ (parts ++ rest)
   unfolding sectionRow
@@ -236,7 +254,7 @@ module _ (s : Song) (ws : List ℕ) (at : ℕ) (x : Section) (f : SectionFits s 
   tail-is = lower-field (length lead) (length tail) (f .tail-few)
 
   lines-is : wordD / 65536 ≡ length (x .lyrics)
-  lines-is = alone-field (length (x .lyrics))
+  lines-is = upper-field (length (x .lyrics)) (evenPattern s x) (even-small s x)
 
   abbrev last : ℕ
   last = at + size - 2 * length (x .lyrics)
@@ -246,7 +264,10 @@ module _ (s : Song) (ws : List ℕ) (at : ℕ) (x : Section) (f : SectionFits s 
   cuts-there = cuts-size _ _ _
 
   last-is : last ≡ first + length lead + length pattern + length tail
-  last-is = let p = parts-size in let c = cuts-there in omega arith
+  last-is =
+      let p = parts-size in
+      let c = cuts-there in
+      omega arith
 
   end-is : last - length tail ≡ first + length lead + length pattern
   end-is = let l = last-is in omega arith
@@ -270,6 +291,7 @@ module _ (s : Song) (ws : List ℕ) (at : ℕ) (x : Section) (f : SectionFits s 
         header = rw (line-field (x .header - 1) (repeats (x .modifiers)) (bit (isCut (x .modifiers))) (f .repeat)
             (bit-small (isCut (x .modifiers)))) (omega arith);
         repeat = repeat-field (x .header - 1) (repeats (x .modifiers)) (bit (isCut (x .modifiers))) (f .repeat) (bit-small (isCut (x .modifiers)));
+        even = lower-field (length (x .lyrics)) (evenPattern s x) (even-small s x);
         front = rw cut-is (q .0);
         back = rw cut-is (q .1);
         lead = rw (cut-is, lead-is) (holds-there ws first (first + length lead) lead _ from-lead refl);
@@ -289,7 +311,10 @@ module _ (s : Song) (ws : List ℕ) (at end : ℕ) (x : Section) (xs : List Sect
 
   both : end ≡ at + (4 + length (partsRow x)) + length (sectionsRow s xs)
   unfolding sectionsRow flatMap sectionRow
-  both = let a = length-append (sectionRow s x) (sectionsRow s xs) in let b = h .size in omega arith
+  both =
+      let a = length-append (sectionRow s x) (sectionsRow s xs) in
+      let b = h .size in
+      omega arith
 
   pub view-sees : Sees s ws x (viewOf ws at)
   view-sees = seen s ws at x f _ split

@@ -13,6 +13,7 @@ use Rattle.songcode.specs.answer.Lyrics.{Styled, wordsOf, styled, countOf}
 use Rattle.songcode.specs.answer.Tables.{offset}
 use Rattle.songcode.specs.description.WrittenPattern.{itemsTokens}
 use Rattle.tokens.specs.TokenWords.{tokenWords}
+use Rattle.score.specs.Even.{evenPattern}
 
 -- The words of items as they are written.
 unfoldable pub itemsRow : Items → List ℕ
@@ -68,14 +69,14 @@ bit true = 1
 bit false = 0
 
 -- How many words they are 17, N 6, bpm 9; header's line less 1: 16, repeat 14, whether it is cut 1; the words of the lead-in 16, of the tail 16;
--- lyric lines 16.
+-- lyric lines 16, the pattern's measures 16 if each has N beats.
 unfoldable pub sectionRow : Song → Section → List ℕ
-unfolding partsRow timeOf bpmOf repeats bit isCut sideRow
+unfolding partsRow timeOf bpmOf repeats bit isCut sideRow evenPattern
 sectionRow s x =
     ((4 + length (partsRow x)) * 2 ^ 15 + timeOf s x * 2 ^ 9 + bpmOf s x)
     ∷ ((x .header - 1) * 2 ^ 16 + repeats (x .modifiers) * 2 ^ 2 + bit (isCut (x .modifiers)) * 2)
     ∷ (length (sideRow (x .modifiers .before)) * 2 ^ 16 + length (sideRow (x .modifiers .after)))
-    ∷ (length (x .lyrics) * 2 ^ 16)
+    ∷ (length (x .lyrics) * 2 ^ 16 + evenPattern s x)
     ∷ partsRow x
 
 -- The sections one behind the other.

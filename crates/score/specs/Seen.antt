@@ -11,6 +11,7 @@ use Rattle.settings.specs.declared.cuts.Cut.{Cut}
 use Rattle.settings.specs.Cuts.{cutOf}
 use Rattle.score.specs.declared.stretches.Stretch.{Stretch}
 use Rattle.score.specs.declared.views.View.{View}
+use Rattle.score.specs.Even.{evenPattern}
 use Rattle.score.specs.Sections.{sideRow, patternRow, lyricRow, sectionsRow}
 
 -- These words stand in the stretch.
@@ -35,6 +36,7 @@ pub record Sees (s : Song) (ws : List ℕ) (x : Section) (v : View) : Type 0 whe
   pub tempo : v .tempo ≡ bpmOf s x
   pub header : v .header ≡ x .header
   pub repeat : v .repeat ≡ repeats (x .modifiers)
+  pub even : v .even ≡ evenPattern s x
   pub front : v .front ≡ cutTaken (x .modifiers .cutStart)
   pub back : v .back ≡ cutTaken (x .modifiers .cutEnd)
   pub lead : Holds ws (v .lead) (sideRow (x .modifiers .before))

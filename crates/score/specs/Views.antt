@@ -41,6 +41,7 @@ viewBy ws at a b c d =
       tempo = a % 512;
       header = b / 65536 + 1;
       repeat = b / 4 % 16384;
+      even = d % 65536;
       front = cutAt ws cut (at + 4);
       back = cutAt ws cut (at + 4 + 1);
       lead = stretch first (first + c / 65536);

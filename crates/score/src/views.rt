@@ -11,20 +11,22 @@ ghost use lib.Dec.{eqb};
 ghost use Rattle.score.specs.Views.{cutIn, cutAt, cutsLength, viewOf};
 
 // The words about a section: how many words it takes 17, N 6, bpm 9; header's line less 1: 16, repeat 14, whether it is cut 1; the words of
-// its lead-in 16 and tail 16; its lyric lines 16.
+// its lead-in 16 and tail 16; its lyric lines 16, its pattern's measures 16 if each has N beats.
 pub const SECTION_HEADS: usize = 4;
 // The words of its two cuts, where it has one.
 pub const CUTS: usize = 2;
 // The words of a lyric line.
 pub const LYRIC: usize = 2;
 
-// A section: where the next begins, N, bpm, the header's line, the repeats, the cuts, where its texts stand and its lyric lines.
+// A section: where the next begins, N, bpm, the header's line, the repeats, how many measures its pattern has if each has N beats (else 0), the
+// cuts, where its texts stand and its lyric lines.
 pub struct View {
     pub next: usize,
     pub meter: usize,
     pub tempo: usize,
     pub header: usize,
     pub repeat: usize,
+    pub even: usize,
     pub front: Cut,
     pub back: Cut,
     pub lead: Stretch,
@@ -88,6 +90,7 @@ pub fn section_at(words: &[u32], at: usize) -> View
         tempo: (a % 512) as usize,
         header: (b / 65536) as usize + 1,
         repeat: (b / 4 % 16384) as usize,
+        even: (d % 65536) as usize,
         front: cut_at(words, cut, at + SECTION_HEADS),
         back: cut_at(words, cut, at + SECTION_HEADS + 1),
         lead: Stretch {

@@ -1,103 +1,96 @@
--- The first settings of seven numbers, line by line.
-use Prim.Native.Nat.{ℕ, _<_}
+-- The first settings of all numbers, line by line.
+use Prim.Native.Nat.{ℕ, _<_, _≤_}
 use mathlib.Core.Path.{_≡_, refl, sym, _∙_}
 use mathlib.Core.List.{List, [], _∷_}
 use mathlib.Core.Option.{Option, none, some, orElse}
 use native.Mathlib.Omega.{arith}
 use lib.Dec.{eqb}
-use borrow.Author.Tests.{eq-eqb, ne-eqb, eqb-true, eqb-false}
-use Rattle.songcode.specs.Lists.{if_then_else_}
+use lib.ListN.{length, set, getD, replicate, getD-replicate, length-set}
+use lib.Seq.{getD-set-same, getD-set-other}
+use borrow.Author.Tests.{eqb-true, eqb-false}
 use Rattle.songcode.specs.answer.Lines.{Line}
 use Rattle.songcode.proofs.ListLaws.{by-cases}
 use Rattle.sections.specs.declared.slots.Said.{Said}
 use Rattle.sections.specs.declared.gathering.Gathered.{Gathered}
 use Rattle.sections.specs.Slots.{slotOf, Setting, SaysLine, settingAt}
-use Rattle.sections.specs.Gathering.{Each, anew, firstNoted, Sought, FirstSaid}
+use Rattle.sections.specs.Gathering.{saidBy, saidIn, Sought, FirstSaid, SoughtBy, FirstOfEach}
 use Rattle.sections.proofs.SlotLaws.{setting-none, setting-some, among-here, among-later, among-none}
 
--- What is noted: the old setting, where there is one; else the new one of the wanted number; else nothing still.
-module _ (slot : ℕ) (new : Said) (wanted : ℕ) (old : Said) where
-  pub noted-old : (old .line ≡ 0 → ⊥) → firstNoted slot new wanted old ≡ old
-  unfolding firstNoted if_then_else_
-  noted-old h = rw (ne-eqb _ _ h)
-
-  pub noted-new : old .line ≡ 0 → slot ≡ wanted → firstNoted slot new wanted old ≡ new
-  unfolding firstNoted if_then_else_
-  noted-new h e = rw (eq-eqb _ _ h, eq-eqb _ _ e)
-
-  pub noted-none : old .line ≡ 0 → (slot ≡ wanted → ⊥) → firstNoted slot new wanted old ≡ old
-  unfolding firstNoted if_then_else_
-  noted-none h e = rw (eq-eqb _ _ h, ne-eqb _ _ e)
-
--- What holds of each setting, made anew.
-module _ {P Q : ℕ → Said → Type 0} (f : ℕ → Said → Said) (more : (k : ℕ) (r : Said) → k < 13 → P k r → Q k (f k r)) where
-  pub each-anew : {g : Gathered} → Each P g → Each Q (anew f g)
-  unfolding anew
-  each-anew {g} p =
-      record {
-        time = more 5 (g .time) (omega arith) (p .time);
-        bpm = more 4 (g .bpm) (omega arith) (p .bpm);
-        repeat = more 8 (g .repeat) (omega arith) (p .repeat);
-        front = more 9 (g .front) (omega arith) (p .front);
-        back = more 10 (g .back) (omega arith) (p .back);
-        before = more 11 (g .before) (omega arith) (p .before);
-        after = more 12 (g .after) (omega arith) (p .after);
-      }
-
 -- Before the first line nothing is found.
-module _ (s : List ℕ) (ls : List Line) {r : Said} (line : r .line ≡ 0) (start : r .start ≡ 0) (stop : r .stop ≡ 0) where
-  sought-start : (k : ℕ) → Sought s ls ls k r
-  unfolding orElse
-  sought-start k = record { first = rw (setting-none s r line); inside = record { start = omega arith; stop = omega arith } }
-
-  pub each-start : Each (Sought s ls ls) (record { time = r; bpm = r; repeat = r; front = r; back = r; before = r; after = r })
-  each-start =
-      record {
-        time = sought-start 5;
-        bpm = sought-start 4;
-        repeat = sought-start 8;
-        front = sought-start 9;
-        back = sought-start 10;
-        before = sought-start 11;
-        after = sought-start 12;
-      }
+pub sought-start : (s : List ℕ) (ls : List Line) → SoughtBy s ls ls (replicate 13 0) (replicate 13 0) (replicate 13 0)
+unfolding orElse
+sought-start s ls =
+    record {
+      wide = (refl, refl, refl);
+      each =
+          λ slot below. let z = getD-replicate {A = ℕ} 13 slot 0 0 below in
+          rw z (record {
+            first = rw (setting-none s (record { line = 0; start = 0; stop = 0 }) refl);
+            inside = record { start = omega arith; stop = omega arith };
+          });
+    }
 
 -- One line more.
-module _ {s : List ℕ} {l : Line} {ls rest all : List Line} {slot : ℕ} {new : Said} (here : ls ≡ l ∷ rest) (e : slot ≡ slotOf l)
-    (says : SaysLine s slot l new) where
-  module _ (k : ℕ) (old : Said) (below : k < 13) (h : Sought s ls all k old) where
-    stays : (old .line ≡ 0 → ⊥) → Sought s rest all k old
-    unfolding orElse
-    stays line =
-        let z = setting-some s old line in
-        let was = rw z at (h .first) in
-        record { first = rw z was; inside = h .inside }
+module _ {s : List ℕ} {l : Line} {ls rest all : List Line} {slot : ℕ} {lines starts stops : List ℕ} (here : ls ≡ l ∷ rest) (e : slot ≡ slotOf l)
+    (so-far : SoughtBy s ls all lines starts stops) where
+  stays : (k : ℕ) (old : Said) → Sought s ls all k old → (old .line ≡ 0 → ⊥) → Sought s rest all k old
+  unfolding orElse
+  stays k old h line =
+      let z = setting-some s old line in
+      let was = rw z at (h .first) in
+      record { first = rw z was; inside = h .inside }
 
-    arrives : old .line ≡ 0 → slot ≡ k → Sought s rest all k new
+  passes : (k : ℕ) (old : Said) → Sought s ls all k old → (slot ≡ k → ⊥) → Sought s rest all k old
+  passes k old h ne = record { first = rw (← among-later k here (λ i. ne (e ∙ i))) (h .first); inside = h .inside }
+
+  -- It says no setting, or one whose number was said before.
+  pub sought-passed : (13 ≤ slot) → SoughtBy s rest all lines starts stops
+  sought-passed many =
+      record { wide = so-far .wide; each = λ k below. passes k _ (so-far .each k below) (λ (i : slot ≡ k). let y : ⊥ = omega arith in y) }
+
+  pub sought-again : (getD lines slot 0 ≡ 0 → ⊥) → SoughtBy s rest all lines starts stops
+  sought-again said =
+      record {
+        wide = so-far .wide;
+        each =
+            λ k below. by-cases
+            (eqb slot k)
+            (λ t. stays k _ (so-far .each k below) (λ z. said (rw (eqb-true slot k t) z)))
+            (λ t. passes k _ (so-far .each k below) (eqb-false slot k t));
+      }
+
+  -- The first of its number.
+  module _ {new : Said} (says : SaysLine s slot l new) (free : getD lines slot 0 ≡ 0) (small : slot < 13) where
+    arrives : Sought s rest all slot new
     unfolding orElse
-    arrives line i =
-        let was = rw (setting-none s old line) at (h .first) in
+    arrives =
+        let h = so-far .each slot small in
+        let was = rw (setting-none s (saidBy lines starts stops slot) free) at (h .first) in
         record {
-          first = rw (says .setting (omega arith)) (sym (among-here k here (sym e ∙ i)) ∙ was);
+          first = rw (says .setting small) (sym (among-here slot here (sym e)) ∙ was);
           inside = record { start = says .start; stop = says .stop };
         }
 
-    passes : (slot ≡ k → ⊥) → Sought s rest all k old
-    passes ne = record { first = rw (← among-later k here (λ i. ne (e ∙ i))) (h .first); inside = h .inside }
-
-    sought-next : Sought s rest all k (firstNoted slot new k old)
-    sought-next =
-        by-cases
-        (eqb (old .line) 0)
-        (λ t. let line = eqb-true (old .line) 0 t in
-        by-cases
-        (eqb slot k)
-        (λ u. rw (noted-new slot new k old line (eqb-true slot k u)) (arrives line (eqb-true slot k u)))
-        (λ u. rw (noted-none slot new k old line (eqb-false slot k u)) (passes (eqb-false slot k u))))
-        (λ t. rw (noted-old slot new k old (eqb-false (old .line) 0 t)) (stays (eqb-false (old .line) 0 t)))
-
-  pub each-next : {g r : Gathered} → r ≡ anew (firstNoted slot new) g → Each (Sought s ls all) g → Each (Sought s rest all) r
-  each-next i p = rw i (each-anew (firstNoted slot new) sought-next p)
+    pub sought-first : SoughtBy s rest all (set lines slot (new .line)) (set starts slot (new .start)) (set stops slot (new .stop))
+    sought-first =
+        let w = so-far .wide in
+        let a : slot < length lines = omega arith in
+        let b : slot < length starts = omega arith in
+        let c : slot < length stops = omega arith in
+        record {
+          wide =
+              (length-set lines slot (new .line) ∙ w .0, length-set starts slot (new .start) ∙ w .1, length-set stops slot (new .stop) ∙ w .2);
+          each =
+              λ k below. by-cases
+              (eqb slot k)
+              (λ t. let i = eqb-true slot k t in
+              rw (← i) (rw (getD-set-same lines slot (new .line) 0 a, getD-set-same starts slot (new .start) 0 b, getD-set-same stops slot (new .stop) 0 c)
+              arrives))
+              (λ t. let i = eqb-false slot k t in
+              let j : (k ≡ slot → ⊥) = λ z. i (sym z) in
+              rw (getD-set-other lines slot k (new .line) 0 j, getD-set-other starts slot k (new .start) 0 j, getD-set-other stops slot k (new .stop) 0 j)
+              (passes k _ (so-far .each k below) i));
+        }
 
 -- Behind the last line what is found is the first.
 there-alone : (o : Option Setting) → o ≡ orElse o none
@@ -105,9 +98,14 @@ unfolding orElse
 there-alone none = refl
 there-alone (some x) = refl
 
-pub each-end : {s : List ℕ} {rest all : List Line} {g : Gathered} → rest ≡ [] → Each (Sought s rest all) g → Each (FirstSaid s all) g
-unfolding anew
-each-end {s} i =
-    each-anew
-    (λ k r. r)
-    (λ k r below h. record { setting = there-alone (settingAt s r) ∙ rw (← among-none k i) (h .first); inside = h .inside })
+pub sought-end : {s : List ℕ} {rest all : List Line} {g : Gathered} → rest ≡ [] → SoughtBy s rest all (g .lines) (g .starts) (g .stops) → FirstOfEach s all g
+sought-end {s} {g = g} i h =
+    record {
+      each =
+          λ slot below. let x = h .each slot below in
+          record { setting = there-alone (settingAt s (saidIn g slot)) ∙ rw (← among-none slot i) (x .first); inside = x .inside };
+    }
+
+-- The setting that is read there is the first of its number.
+pub said-first : {s : List ℕ} {ls : List Line} {g : Gathered} (slot : ℕ) {r : Said} → slot < 13 → FirstOfEach s ls g → r ≡ saidIn g slot → FirstSaid s ls slot r
+said-first slot small f e = rw e (f .each slot small)

@@ -36,7 +36,10 @@ passed slot l ls h = rw (ne-eqb (slotOf l) slot h)
 
 module _ (k : KeyName) where
   pattern-passed : (l : Line) (ls : List Line) → kindOfLine l ≡ patternLine → settingAmong (keyPlace k) (l ∷ ls) ≡ settingAmong (keyPlace k) ls
-  pattern-passed l ls e = let b = key-below k in let c = slot-pattern-line l e in passed (keyPlace k) l ls (λ z. omega arith)
+  pattern-passed l ls e =
+      let b = key-below k in
+      let c = slot-pattern-line l e in
+      passed (keyPlace k) l ls (λ z. omega arith)
 
   -- Behind a line that is no key there is none.
   none-behind : {before : List Line} {begun past : Bool} (ls : List Line) → Stands before true begun past → order before ls ≡ []
@@ -69,7 +72,10 @@ module _ (k : KeyName) where
 module _ (m : ModifierName) where
   pattern-no-modifier : (l : Line) (ls : List Line) → kindOfLine l ≡ patternLine
       → settingAmong (8 + modifierPlace m) (l ∷ ls) ≡ settingAmong (8 + modifierPlace m) ls
-  pattern-no-modifier l ls e = let b = modifier-below m in let c = slot-pattern-line l e in passed (8 + modifierPlace m) l ls (λ z. omega arith)
+  pattern-no-modifier l ls e =
+      let b = modifier-below m in
+      let c = slot-pattern-line l e in
+      passed (8 + modifierPlace m) l ls (λ z. omega arith)
 
   behind-pattern : (ls : List Line) → settingAmong (8 + modifierPlace m) (left isPatternLine ls) ≡ settingAmong (8 + modifierPlace m) ls
   unfolding left if_then_else_

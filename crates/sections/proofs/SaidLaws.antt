@@ -104,7 +104,8 @@ module _ (l : Line) where
       by-option
       (keyNameOf l)
       (λ n. let z = slot-of-kind keyLine none (modifierNameOf l) e n refl in omega arith)
-      (λ j n. let z = slot-of-kind keyLine (some j) (modifierNameOf l) e n refl in let d = key-below j in omega arith)
+      (λ j n. let z = slot-of-kind keyLine (some j) (modifierNameOf l) e n refl in
+      let d = key-below j in omega arith)
 
   pub modifier-line-no-key : kindOfLine l ≡ modifierLine → (k : song.KeyName) → slotOf l ≡ keyPlace k → ⊥
   unfolding slotBy

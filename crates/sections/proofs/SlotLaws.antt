@@ -28,7 +28,7 @@ use Rattle.sections.proofs.RunLaws.{lines-found, lines-over}
 
 -- Names that were read have the numbers of the names that they are.
 key-number : (o : Option song.KeyName) (m : Option modifiers.ModifierName) → keyNumber (keyIs o) ≡ slotBy keyLine o m
-unfolding keyNumber keyIs slotBy keyPlace
+unfolding keyIs slotBy keyPlace
 key-number none m = refl
 key-number (some song.name) m = refl
 key-number (some song.artist) m = refl
@@ -40,7 +40,7 @@ key-number (some song.warning) m = refl
 key-number (some song.end) m = refl
 
 modifier-number : (k : Option song.KeyName) (o : Option modifiers.ModifierName) → modifierNumber (modifierIs o) ≡ slotBy modifierLine k o
-unfolding modifierNumber modifierIs slotBy modifierPlace
+unfolding modifierIs slotBy modifierPlace
 modifier-number k none = refl
 modifier-number k (some modifiers.ofRepeat) = refl
 modifier-number k (some modifiers.ofCutStart) = refl

@@ -27,7 +27,7 @@ use Rattle.sections.specs.Values.{numberOr, cutSaid}
 use Rattle.sections.proofs.SlotLaws.{setting-none, setting-some}
 
 pub number-or : (o : Option ℕ) (d : ℕ) → numberOr (numberOf o) d ≡ Option·getD o d
-unfolding numberOr numberOf
+unfolding numberOf
 number-or none d = refl
 number-or (some n) d = refl
 

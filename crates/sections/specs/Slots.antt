@@ -40,7 +40,7 @@ unfolding slotBy kindOfLine keyNameOf modifierNameOf
 slotOf l = slotBy (kindOfLine l) (keyNameOf l) (modifierNameOf l)
 
 -- The same of the names that the code reads.
-unfoldable pub keyNumber : KeyName → ℕ
+abbrev pub keyNumber : KeyName → ℕ
 keyNumber Name = 0
 keyNumber Artist = 1
 keyNumber Original = 2
@@ -51,7 +51,7 @@ keyNumber Warning = 6
 keyNumber End = 7
 keyNumber key.Unknown = 13
 
-unfoldable pub modifierNumber : ModifierName → ℕ
+abbrev pub modifierNumber : ModifierName → ℕ
 modifierNumber Repeat = 8
 modifierNumber CutStart = 9
 modifierNumber CutEnd = 10

@@ -17,7 +17,7 @@ use Rattle.sections.specs.declared.values.Modifiers.{Modifiers}
 use Rattle.sections.specs.declared.slots.Said.{Said}
 use Rattle.sections.specs.Slots.{Setting, settingAmong, settingAt}
 
-unfoldable pub numberOr : Number → ℕ → ℕ
+abbrev pub numberOr : Number → ℕ → ℕ
 numberOr (Is n) d = n
 numberOr Not d = d
 

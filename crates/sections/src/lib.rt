@@ -19,6 +19,7 @@ pub use runs::Test;
 pub use runs::run_of;
 pub use slots::Said;
 pub use slots::find;
+pub use slots::said_on;
 pub use slots::slot_of;
 pub use values::Keys;
 pub use values::Modifiers;

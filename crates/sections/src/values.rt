@@ -1,5 +1,6 @@
 // What settings say: the time and bpm among keys; repeats, cuts, lead-in and tail among modifiers.
 use super::gathering::gather;
+use super::gathering::said_in;
 use super::runs::Run;
 use super::slots::Said;
 use settings::CutRead;
@@ -15,6 +16,21 @@ ghost use Rattle.settings.specs.Cuts.{CutFits};
 ghost use Rattle.sections.specs.Runs.{linesOf};
 ghost use Rattle.sections.specs.Slots.{settingAt};
 ghost use Rattle.sections.specs.Values.{numberOr, timeSaid, bpmSaid, repeatSaid, cutSaid, KeysAre, ModifiersAre};
+
+// The numbers of the settings (`key_number`, `modifier_number`).
+const BPM: usize = 4;
+
+const TIME: usize = 5;
+
+const REPEAT: usize = 8;
+
+const CUT_START: usize = 9;
+
+const CUT_END: usize = 10;
+
+const BEFORE: usize = 11;
+
+const AFTER: usize = 12;
 
 // A time of 0 and a bpm of 511 are none.
 pub struct Keys {
@@ -95,8 +111,8 @@ pub fn keys_of(s: &[u8], run: Run) -> Keys
 {
     let found = gather(s, run);
     Keys {
-        time: time_said(s, found.time),
-        bpm: bpm_said(s, found.bpm),
+        time: time_said(s, said_in(found, TIME)),
+        bpm: bpm_said(s, said_in(found, BPM)),
     }
 }
 
@@ -106,12 +122,12 @@ pub fn modifiers_of(s: &[u8], run: Run) -> Modifiers
     ensures { λ r. ⌜ ModifiersAre (now (s .entry)) (linesOf (now (s .entry)) run) r ⌝ }
 {
     let found = gather(s, run);
-    let before = found.before;
-    let after = found.after;
+    let before = said_in(found, BEFORE);
+    let after = said_in(found, AFTER);
     Modifiers {
-        repeat: repeat_said(s, found.repeat),
-        front: cut_said(s, found.front),
-        back: cut_said(s, found.back),
+        repeat: repeat_said(s, said_in(found, REPEAT)),
+        front: cut_said(s, said_in(found, CUT_START)),
+        back: cut_said(s, said_in(found, CUT_END)),
         before,
         after,
     }

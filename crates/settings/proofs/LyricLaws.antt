@@ -54,9 +54,11 @@ getD-reverse (x ∷ w) k h =
     let n = length-reverse w in
     by-cases
     (leb (length w) k)
-    (λ t. let m = leb-true (length w) k t in let e : suc (length w) - (k + 1) ≡ 0 = omega arith in rw (reverse-cons x w, e)
+    (λ t. let m = leb-true (length w) k t in
+    let e : suc (length w) - (k + 1) ≡ 0 = omega arith in rw (reverse-cons x w, e)
     (getD-at (reverse w) x [] 0 k (omega arith)))
-    (λ t. let m = leb-false (length w) k t in let e : suc (length w) - (k + 1) ≡ suc (length w - (k + 1)) = omega arith in rw (reverse-cons x w, e)
+    (λ t. let m = leb-false (length w) k t in
+    let e : suc (length w) - (k + 1) ≡ suc (length w - (k + 1)) = omega arith in rw (reverse-cons x w, e)
     (List·getD-append (reverse w) (x ∷ []) 0 k (omega arith) ∙ getD-reverse w k (omega arith)))
 
 -- Three bytes in front.

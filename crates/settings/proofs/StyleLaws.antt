@@ -54,7 +54,10 @@ length-part : (s : List ℕ) (a e : ℕ) → a ≤ e → e ≤ length s → leng
 length-part s a e h k = let n = length-drop a s in length-take-le (e - a) (drop a s) (omega arith)
 
 pub marked-room : (mark s : List ℕ) (a e : ℕ) → a ≤ e → e ≤ length s → bracketed mark (placed 0 (part a e s)) ≡ true → a + 7 ≤ e
-marked-room mark s a e h k m = let n = length-part s a e h k in let l = marked-length mark (part a e s) m in omega arith
+marked-room mark s a e h k m =
+    let n = length-part s a e h k in
+    let l = marked-length mark (part a e s) m in
+    omega arith
 
 pub between-part : (s : List ℕ) (a e : ℕ) → a + 7 ≤ e → e ≤ length s → between (placed a (part a e s)) ≡ placed (a + 3) (part (a + 3) (e - 3) s)
 unfolding between

@@ -2,13 +2,14 @@
 use super::parts::length_before;
 use super::parts::same_text;
 use super::phrases::is_phrase;
+use text::byte_at;
 use tokens::Number;
 use tokens::is_base;
 use tokens::number_in;
 ghost use mathlib.Core.Path.{_≡_};
-ghost use Rattle.songcode.specs.Bytes.{placed};
+ghost use Rattle.songcode.specs.Bytes.{placed, same};
 ghost use Rattle.songcode.specs.answer.Keys.{keyNamed, bpmIn, timeIn};
-ghost use Rattle.settings.specs.Names.{keyIs};
+ghost use Rattle.settings.specs.Names.{keyIs, keyIf, laterKey};
 ghost use Rattle.settings.specs.KeySettings.{isNumber, isSettingOf};
 ghost use Rattle.tokens.specs.Decimals.{numberOf};
 
@@ -24,34 +25,41 @@ pub enum KeyName {
     Unknown,
 }
 
+// The key of that name, if the text is it.
+fn key_if(name: &[u8], w: &[u8], key: KeyName) -> KeyName
+    ensures { λ r. ⌜ r ≡ keyIf (same (now (name .entry)) (now (w .entry))) key ⌝ }
+{
+    if same_text(name, w) {
+        key
+    } else {
+        KeyName::Unknown
+    }
+}
+
+// The keys whose names begin with one of four letters.
+fn later_key(b: u8, w: &[u8]) -> KeyName
+    ensures { λ r. ⌜ r ≡ laterKey b (now (w .entry)) ⌝ }
+{
+    match b {
+        b'b' => key_if(b"bpm", w, KeyName::Bpm),
+        b't' => key_if(b"time", w, KeyName::Time),
+        b'w' => key_if(b"warning", w, KeyName::Warning),
+        b'e' => key_if(b"end", w, KeyName::End),
+        _ => KeyName::Unknown,
+    }
+}
+
+// Each name has a first letter of its own.
 pub fn key_named(w: &[u8]) -> KeyName
     ensures { λ r. ⌜ r ≡ keyIs (keyNamed (placed 0 (now (w .entry)))) ⌝ }
 {
-    if same_text(b"name", w) {
-        return KeyName::Name;
-    }
-    if same_text(b"artist", w) {
-        return KeyName::Artist;
-    }
-    if same_text(b"original", w) {
-        return KeyName::Original;
-    }
-    if same_text(b"capo", w) {
-        return KeyName::Capo;
-    }
-    if same_text(b"bpm", w) {
-        return KeyName::Bpm;
-    }
-    if same_text(b"time", w) {
-        return KeyName::Time;
-    }
-    if same_text(b"warning", w) {
-        return KeyName::Warning;
-    }
-    if same_text(b"end", w) {
-        KeyName::End
-    } else {
-        KeyName::Unknown
+    let b = byte_at(w, 0);
+    match b {
+        b'n' => key_if(b"name", w, KeyName::Name),
+        b'a' => key_if(b"artist", w, KeyName::Artist),
+        b'o' => key_if(b"original", w, KeyName::Original),
+        b'c' => key_if(b"capo", w, KeyName::Capo),
+        _ => later_key(b, w),
     }
 }
 

@@ -35,22 +35,43 @@ if-not false x y f g = g
 
 chord-not : (o : Option Chord) → NotAgain (chordToken o)
 unfolding chordToken
-chord-not none e = let z : _≡_ {A = ℕ} 0 1 = cc in let y : ⊥ = omega arith in y
-chord-not (some c) e = let z : _≡_ {A = ℕ} 0 1 = cc in let y : ⊥ = omega arith in y
+chord-not none e =
+    let z : _≡_ {A = ℕ} 0 1 = cc in
+    let y : ⊥ = omega arith in
+    y
+chord-not (some c) e =
+    let z : _≡_ {A = ℕ} 0 1 = cc in
+    let y : ⊥ = omega arith in
+    y
 
 reference-not : (o : Option ℕ) → NotAgain (referenceToken o)
 unfolding referenceToken
-reference-not none e = let z : _≡_ {A = ℕ} 0 1 = cc in let y : ⊥ = omega arith in y
-reference-not (some n) e = let z : _≡_ {A = ℕ} 0 1 = cc in let y : ⊥ = omega arith in y
+reference-not none e =
+    let z : _≡_ {A = ℕ} 0 1 = cc in
+    let y : ⊥ = omega arith in
+    y
+reference-not (some n) e =
+    let z : _≡_ {A = ℕ} 0 1 = cc in
+    let y : ⊥ = omega arith in
+    y
 
 closing-not : (o : Option ℕ) → NotAgain (closingToken o)
 unfolding closingToken
-closing-not none e = let z : _≡_ {A = ℕ} 0 1 = cc in let y : ⊥ = omega arith in y
-closing-not (some n) e = let z : _≡_ {A = ℕ} 0 1 = cc in let y : ⊥ = omega arith in y
+closing-not none e =
+    let z : _≡_ {A = ℕ} 0 1 = cc in
+    let y : ⊥ = omega arith in
+    y
+closing-not (some n) e =
+    let z : _≡_ {A = ℕ} 0 1 = cc in
+    let y : ⊥ = omega arith in
+    y
 
 dollar-not : (w : List Byte) → NotAgain (dollarOr w)
 unfolding dollarOr
-dollar-not [] e = let z : _≡_ {A = ℕ} 0 1 = cc in let y : ⊥ = omega arith in y
+dollar-not [] e =
+    let z : _≡_ {A = ℕ} 0 1 = cc in
+    let y : ⊥ = omega arith in
+    y
 dollar-not (b ∷ bs) e =
     if-not (isByte 36 b) (referenceToken (countIn bs)) (chordToken (chordIn (b ∷ bs))) (reference-not (countIn bs)) (chord-not (chordIn (b ∷ bs))) e
 
@@ -61,8 +82,10 @@ word-again w e =
     (λ h. h)
     (λ h.
     let g : (if is "_" w then sound silence else if is "=" w then remover else dollarOr w) ≡ sound again = rw h at e in
-    absurd (if-not (is "_" w) (sound silence) _ (λ k. let z : _≡_ {A = ℕ} 0 1 = cc in let y : ⊥ = omega arith in y)
-    (if-not (is "=" w) remover (dollarOr w) (λ k. let z : _≡_ {A = ℕ} 0 1 = cc in let y : ⊥ = omega arith in y) (dollar-not w)) g))
+    absurd (if-not (is "_" w) (sound silence) _ (λ k. let z : _≡_ {A = ℕ} 0 1 = cc in
+    let y : ⊥ = omega arith in y)
+    (if-not (is "=" w) remover (dollarOr w) (λ k. let z : _≡_ {A = ℕ} 0 1 = cc in
+    let y : ⊥ = omega arith in y) (dollar-not w)) g))
 
 again-first : (b : Byte) (bs : List Byte) → is "%" (b ∷ bs) ≡ true → b .value ≡ 37
 unfolding is same ascii values
@@ -79,13 +102,16 @@ module _ (s : List ℕ) (a stop : ℕ) (h : a < stop) (l : stop ≤ length s) (s
       let b = getD s a 0 in
       let k = plainLength (part (a + 1) stop s) in
       by-cases (eqb b 59)
-      (λ y. absurd (other _ _ (λ k. let z : _≡_ {A = ℕ} 0 1 = cc in let x : ⊥ = omega arith in x) (at-semicolon s a stop h l (eqb-true b 59 y))))
+      (λ y. absurd (other _ _ (λ k. let z : _≡_ {A = ℕ} 0 1 = cc in
+      let x : ⊥ = omega arith in x) (at-semicolon s a stop h l (eqb-true b 59 y))))
       (λ n59.
       by-cases (eqb b 58)
-      (λ y. absurd (other _ _ (λ k. let z : _≡_ {A = ℕ} 0 1 = cc in let x : ⊥ = omega arith in x) (at-colon s a stop h l (eqb-true b 58 y))))
+      (λ y. absurd (other _ _ (λ k. let z : _≡_ {A = ℕ} 0 1 = cc in
+      let x : ⊥ = omega arith in x) (at-colon s a stop h l (eqb-true b 58 y))))
       (λ n58.
       by-cases (eqb b 91)
-      (λ y. absurd (other _ _ (λ k. let z : _≡_ {A = ℕ} 0 1 = cc in let x : ⊥ = omega arith in x) (at-bracket s a stop h l (eqb-true b 91 y))))
+      (λ y. absurd (other _ _ (λ k. let z : _≡_ {A = ℕ} 0 1 = cc in
+      let x : ⊥ = omega arith in x) (at-bracket s a stop h l (eqb-true b 91 y))))
       (λ n91.
       by-cases (eqb b 93)
       (λ y. absurd (other _ _ (closing-not _) (at-closing s a stop h l k refl (eqb-true b 93 y))))

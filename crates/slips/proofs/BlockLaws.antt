@@ -1,4 +1,4 @@
--- The lines of a text's blocks are lines of the text, and stand in the order of their numbers; the pattern lines of a block.
+-- The lines of a text's blocks are lines of the text, and stand in the order of their numbers.
 use Prim.Native.Nat.{ℕ, zero, suc, _+_, _<_, _≤_}
 use mathlib.Core.Path.{_≡_, refl, sym, ap, _∙_, subst}
 use mathlib.Core.Logic.{_⊎_, inl, inr, ⊎-elim}
@@ -11,8 +11,6 @@ use lib.ListN.{length, take}
 use mathlib.Core.Bool.{Bool}
 use Rattle.songcode.specs.Lists.{if_then_else_, taken}
 use Rattle.songcode.specs.answer.Lines.{Line, Block, blocks}
-use Rattle.songcode.specs.answer.Sections.{patternRun, body}
-use Rattle.songcode.specs.answer.Sections as songcode
 use Rattle.songcode.specs.description.WrittenText.{WrittenBlocks, no-block, a-blank, a-block}
 use Rattle.songcode.proofs.ListLaws.{by-cases}
 use Rattle.songcode.proofs.BlocksAgree.{blocks-sound}
@@ -20,11 +18,10 @@ use Rattle.text.specs.declared.lines.Line as text
 use Rattle.text.specs.Spans.{lineOf, lineAt, lineText, Found, spans}
 use Rattle.sections.specs.declared.blocks.Place.{Place}
 use Rattle.sections.specs.declared.runs.Run.{Run}
-use Rattle.sections.specs.declared.runs.Test.the-variants.{Full, Body, Early, Pattern}
+use Rattle.sections.specs.declared.runs.Test.the-variants.{Full}
 use Rattle.sections.specs.Runs.{textLines, passing, linesOf, linesBehind, Longest}
 use Rattle.sections.specs.BlockParts.{blockAt, linesPast, NextAt}
 use Rattle.sections.proofs.RunLaws.{lines-next, lines-over}
-use Rattle.sections.proofs.PartLaws.{body-is, pattern-is}
 use Rattle.sections.proofs.NextLaws.{blocks-start, blocks-over}
 use Rattle.sections.proofs.BlockLaws.{others-are, past-are}
 use Rattle.slips.specs.BlocksMet.{OpensAt, Holds, Behind}
@@ -80,7 +77,9 @@ module _ (s : List ℕ) where
       let h = ltb-true at (length s) e in
       ⊎-elim
       (λ z. let y : m .number ≡ n = ap (λ (x : Line). x .number) z in (omega arith, omega arith))
-      (λ t. let r = numbered k (n + 1) (lineAt s n at .next) m t in let a = r .0 in let b = r .1 in (omega arith, omega arith))
+      (λ t. let r = numbered k (n + 1) (lineAt s n at .next) m t in
+      let a = r .0 in
+      let b = r .1 in (omega arith, omega arith))
       (List·Memᴰ·cases-cons (subst (λ (ls : List Line). List·Memᴰ m (take (suc k) ls)) (lines-next s n at h) i)))
       (λ e.
       absurd (List·Memᴰ·not-nil (subst (λ (ls : List Line). List·Memᴰ m (take (suc k) ls)) (lines-over s n at (ltb-false at (length s) e)) i)))
@@ -101,17 +100,6 @@ module _ (s : List ℕ) where
       subst (λ (j : ℕ). n ≤ j) (h .2) (from-line n at (h .0) (in-blocks (blocks-sound (textLines s n at)) b i (h .0) (h .1)))
 
   module _ (n at : ℕ) (within : at < length s) (one : 1 ≤ n) (fits : n ≤ at + 1) {h : text.Line} (f : Found s n at h) where
-    -- The pattern lines of the block at a place.
-    pub pattern-lines : (early pattern : Run) → Longest s Early (n + 1) (h .next) early
-        → Longest s Pattern (early .number + early .lines) (early .next) pattern
-        → linesOf s pattern ≡ patternRun (body (blockAt s n at))
-    unfolding linesBehind body
-    pattern-lines early pattern e p =
-        let rest = textLines s (n + 1) (h .next) in
-        let b : songcode.body (blockAt s n at) ≡ taken (passing Body) rest =
-        ap (taken songcode.notDashes) (others-are s n at one fits within f) ∙ body-is rest in
-        p .lines ∙ ap (taken (passing Pattern)) (e .behind) ∙ sym (ap patternRun b ∙ pattern-is rest)
-
     -- The next block stands behind the block at a place.
     pub behind-block : (rest : Run) (r : Place) → Longest s Full (n + 1) (h .next) rest → NextAt s (rest .number + rest .lines) (rest .next) r
         → Behind s (record { number = n; at = at }) r
@@ -165,13 +153,15 @@ module _ (s : List ℕ) where
     block-before l =
         ⊎-elim
         (λ z. z)
-        (λ i. let k = block-from (q .number) (q .at) b i n h in let z : ⊥ = omega arith in absurd z)
+        (λ i. let k = block-from (q .number) (q .at) b i n h in
+        let z : ⊥ = omega arith in absurd z)
         here-or-later
 
     pub block-later : q .at < length s → q .number ≤ n → List·Memᴰ b (blocks (textLines s (q .number) (q .at)))
     block-later e l =
         ⊎-elim
-        (λ z. let k = behind .before e n (subst (λ (x : Block). Holds x n) z h) in let y : ⊥ = omega arith in absurd y)
+        (λ z. let k = behind .before e n (subst (λ (x : Block). Holds x n) z h) in
+        let y : ⊥ = omega arith in absurd y)
         (λ i. i)
         here-or-later
 

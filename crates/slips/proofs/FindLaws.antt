@@ -18,16 +18,24 @@ pub without-more : (b : ℕ) (s : List ℕ) (from i : ℕ) → Without b s from 
 without-more b s from i w n k p q e =
     by-cases (ltb k i)
     (λ t. w k p (ltb-true k i t) e)
-    (λ t. let g = ltb-false k i t in let z : k ≡ i = omega arith in let f : getD s i 0 ≡ b = rw z at e in n f)
+    (λ t. let g = ltb-false k i t in
+    let z : k ≡ i = omega arith in
+    let f : getD s i 0 ≡ b = rw z at e in n f)
 
 -- A byte that ends no line is neither of the two that do.
 pub no-lf : (b : ℕ) → end b ≡ inside → b ≡ 10 → ⊥
 unfolding ending if_then_else_
-no-lf b h e = let f : lf ≡ inside = rw e at h in let z : _≡_ {A = ℕ} 0 1 = cc in absurd (omega arith)
+no-lf b h e =
+    let f : lf ≡ inside = rw e at h in
+    let z : _≡_ {A = ℕ} 0 1 = cc in
+    absurd (omega arith)
 
 pub no-cr : (b : ℕ) → end b ≡ inside → b ≡ 13 → ⊥
 unfolding ending if_then_else_
-no-cr b h e = let f : cr ≡ inside = rw e at h in let z : _≡_ {A = ℕ} 0 1 = cc in absurd (omega arith)
+no-cr b h e =
+    let f : cr ≡ inside = rw e at h in
+    let z : _≡_ {A = ℕ} 0 1 = cc in
+    absurd (omega arith)
 
 module _ {s : List ℕ} {l : Line} (x : Slip) {clause from to : ℕ} (e : (x .clause ≡ clause) × (x .from ≡ from) × (x .to ≡ to)) where
   pub name-told : NameOn s l from to → NameOn s l (x .from) (x .to)

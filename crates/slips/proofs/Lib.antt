@@ -8,6 +8,7 @@ pub mod LineReadLaws
 pub mod TextReadLaws
 pub mod LineLaws
 pub mod BlockLaws
+pub mod DefinitionLaws
 pub mod RuledLaws
 pub mod SideLaws
 pub mod WrongTexts
@@ -17,5 +18,10 @@ pub mod StrayLaws
 pub mod MisfitLaws
 pub mod MarkLaws
 pub mod AgainLaws
+pub mod PutLaws
 pub mod TextLaws
 pub mod MeasureLaws
+pub mod PutMeasures
+pub mod MeasureTexts
+pub mod ReferLaws
+pub mod PutReadLaws

@@ -43,7 +43,8 @@ module _ (s : List ℕ) where
     pub met : l .number ≡ n → x ≡ l
     met e =
         ⊎-elim (λ z. sym z)
-        (λ t. let k = numbers (n + 1) (x .next) l t in let z : ⊥ = omega arith in absurd z)
+        (λ t. let k = numbers (n + 1) (x .next) l t in
+        let z : ⊥ = omega arith in absurd z)
         (List·Memᴰ·cases-cons (subst (λ ls. List·Memᴰ l ls) (spans-found f h) m))
 
     pub behind : (l .number ≡ n → ⊥) → List·Memᴰ l (From (n + 1) (x .next))

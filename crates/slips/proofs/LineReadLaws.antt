@@ -183,7 +183,8 @@ module _ {s : List ℕ} {w : Whose} {from to : ℕ} {r₀ r : Reading} {at : ℕ
           → Reads s w (lines s w passed rest n from to) (upTo passed ++ tokensFrom from next s) next x
       read-next (inl g) = let a = t .begins in stepped (g .1) (step so-far at (t .token) (t .fits) (t .word) (omega arith) (g .0))
       read-next (inr f) =
-          let same : x ≡ r = kept (λ z. let m = f .told .named .0 in let y : ⊥ = omega arith in y) in
+          let same : x ≡ r = kept (λ z. let m = f .told .named .0 in
+          let y : ⊥ = omega arith in y) in
           inr (subst (λ (y : Reading). RuledIn s w (lines s w passed rest n from to) (y .clause) (y .spot)) (sym same) f)
 
     pub line-more : InLine s w from to r₀ x next

@@ -28,14 +28,13 @@ use Rattle.slips.proofs.MisfitLaws.{fitting-sign, fitted-behind}
 
 pub follows-none : (x : Reading) → Follows x [] x
 unfolding heard fitted
-follows-none x = record { stray = refl; within = λ h. h; known = refl; time = refl; misfit = refl }
+follows-none x = record { stray = refl; within = λ h. h; time = refl; misfit = refl }
 
 pub follows-both : {x y z : Reading} {ms ns : List Mark} → Follows x ms y → Follows y ns z → Follows x (ms ++ ns) z
 follows-both {x} {y} {z} {ms} {ns} f g =
     record {
       stray = g .stray ∙ ap (λ (v : Stray). heard v ns) (f .stray) ∙ sym (heard-behind (x .stray) ms ns);
       within = λ h. g .within (f .within h);
-      known = g .known ∙ f .known;
       time = g .time ∙ f .time;
       misfit =
           g .misfit ∙ ap (λ (n : ℕ). fitted n (y .misfit) ns) (f .time) ∙ ap (λ (v : Misfit). fitted (x .time) v ns) (f .misfit)
@@ -45,19 +44,17 @@ follows-both {x} {y} {z} {ms} {ns} f g =
 -- What is promised of one more token, by its sign.
 abbrev pub Taken : Reading → ℕ → ℕ → ℕ → Reading → Type 0
 Taken x sign from to r =
-    (r .stray ≡ hearingSign (x .stray) sign from) × (r .known ≡ x .known) × (r .time ≡ x .time)
-    × (r .misfit ≡ fittingSign (x .time) (x .misfit) sign from to)
+    (r .stray ≡ hearingSign (x .stray) sign from) × (r .time ≡ x .time) × (r .misfit ≡ fittingSign (x .time) (x .misfit) sign from to)
 
-follows-one : {x r : Reading} (t : Token) (from to : ℕ) → from ≤ 65536 → Fit t → Taken x (kind t) from to r
+pub follows-one : {x r : Reading} (t : Token) (from to : ℕ) → from ≤ 65536 → Fit t → Taken x (kind t) from to r
     → Follows x (record { token = t; from = from; to = to } ∷ []) r
 unfolding heard fitted
 follows-one {x} t from to a f h =
     record {
       stray = h .0 ∙ hearing-sign (x .stray) t from f;
       within = λ b. rw (h .0) (sign-within (x .stray) (kind t) from a b);
-      known = h .1;
-      time = h .2;
-      misfit = h .3 ∙ fitting-sign (x .time) (x .misfit) t from to f;
+      time = h .1;
+      misfit = h .2 ∙ fitting-sign (x .time) (x .misfit) t from to f;
     }
 
 pub follows-end : {x r : Reading} (to : ℕ) → to ≤ 65536 → Taken x 58 to to r → Follows x (endMark to ∷ []) r

@@ -86,7 +86,7 @@ kept n x [] h = refl
 kept n x (m ∷ ms) h = ap (λ (y : Misfit). fitted n y ms) (sym (fit-found n x (m .from) (m .to) (isPosition (m .token)) h)) ∙ kept n x ms h
 
 -- The measure that is met so far.
-abbrev state : List Mark → Misfit
+abbrev pub state : List Mark → Misfit
 state met = record { positions = length met; from = firstFrom met; to = lastTo met; found = false }
 
 pub last-one : (met : List Mark) (m : Mark) → lastTo (met ++ (m ∷ [])) ≡ m .to
@@ -99,7 +99,7 @@ one-more : (k : ℕ) → k < 65536 → oneMore k ≡ k + 1
 unfolding oneMore if_then_else_
 one-more k h = rw (lt-ltb k 65536 h)
 
-longer : (met : List Mark) (m : Mark) → length (met ++ (m ∷ [])) ≡ length met + 1
+pub longer : (met : List Mark) (m : Mark) → length (met ++ (m ∷ [])) ≡ length met + 1
 longer met m = simp length-append
 
 only-one : (m : Mark) → record { positions = 0 + 1; from = m .from; to = m .to; found = false } ≡ state (m ∷ [])
@@ -225,10 +225,6 @@ over-both (m ∷ met) rows = refl
 abbrev pub lineEnded : ℕ → Misfit → Misfit
 lineEnded n y = fittingIf false n y 0 0
 
-shut-met : (n : ℕ) (met : List Mark) → lineEnded n (state met) ≡ closing n (state met)
-unfolding fittingIf if_then_else_
-shut-met n met = refl
-
 shut-found : (n : ℕ) (y : Misfit) → y .found ≡ true → lineEnded n y ≡ y
 unfolding fittingIf if_then_else_
 shut-found n y h = rw h
@@ -238,37 +234,66 @@ by-sign : (n : ℕ) (met : List Mark) (m : Mark) → isPosition (m .token) ≡ f
 unfolding fittingIf if_then_else_
 by-sign n met m p = rw p
 
-rows-more : (met : List Mark) (m : Mark) (ms : List Mark) → isPosition (m .token) ≡ true → measuresFrom met (m ∷ ms) ≡ measuresFrom (met ++ (m ∷ [])) ms
+pub rows-more : (met : List Mark) (m : Mark) (ms : List Mark) → isPosition (m .token) ≡ true → measuresFrom met (m ∷ ms) ≡ measuresFrom (met ++ (m ∷ [])) ms
 unfolding measuresFrom if_then_else_
 rows-more met m ms p = rw p
 
-rows-over : (met : List Mark) (m : Mark) (ms : List Mark) → isPosition (m .token) ≡ false → measuresFrom met (m ∷ ms) ≡ over met [] ++ measuresIn ms
+pub rows-over : (met : List Mark) (m : Mark) (ms : List Mark) → isPosition (m .token) ≡ false → measuresFrom met (m ∷ ms) ≡ over met [] ++ measuresIn ms
 unfolding measuresFrom if_then_else_
 rows-over met m ms p = rw p (over-both met (measuresFrom [] ms))
 
--- Of the tokens of a line, and its end.
-of-line : (n : ℕ) (met ms : List Mark) → length met + length ms ≤ 65536 → Outcome n (measuresFrom met ms) (lineEnded n (fitted n (state met) ms))
+-- What is found in some tokens behind those of a measure that was begun, if a line ends there.
+abbrev pub Judged : ℕ → List Mark → List Mark → Type 0
+Judged n met ms = Outcome n (measuresFrom met ms) (lineEnded n (fitted n (state met) ms))
+
+pub judged-none : (n : ℕ) (met : List Mark) → Judged n met []
 unfolding fitted measuresFrom
-of-line n met [] h = ended n met
-of-line n met (m ∷ ms) h =
-    by-cases (isPosition (m .token))
-    (λ p.
-    let e = longer met m in
-    let next = of-line n (met ++ (m ∷ [])) ms (omega arith) in
+judged-none n met = ended n met
+
+pub judged-position : (n : ℕ) (met : List Mark) (m : Mark) (ms : List Mark) → length met < 65536 → isPosition (m .token) ≡ true
+    → Judged n (met ++ (m ∷ [])) ms → Judged n met (m ∷ ms)
+unfolding fitted
+judged-position n met m ms h p next =
     subst (λ (r : List (List Mark)). Outcome n r (lineEnded n (fitted n (state met) (m ∷ ms)))) (sym (rows-more met m ms p))
-    (subst (λ (x : Misfit). Outcome n (measuresFrom (met ++ (m ∷ [])) ms) (lineEnded n (fitted n x ms))) (sym (more n met m (omega arith) p)) next))
-    (λ p.
+    (subst (λ (x : Misfit). Outcome n (measuresFrom (met ++ (m ∷ [])) ms) (lineEnded n (fitted n x ms))) (sym (more n met m h p)) next)
+
+pub judged-other : (n : ℕ) (met : List Mark) (m : Mark) (ms : List Mark) → isPosition (m .token) ≡ false → Judged n [] ms → Judged n met (m ∷ ms)
+unfolding fitted
+judged-other n met m ms p rest =
     let y = closing n (state met) in
-    let rest = of-line n [] ms (omega arith) in
     let all = both (ended n met)
     (λ t. ap (lineEnded n) (kept n y ms t) ∙ shut-found n y t)
     (λ t. subst (λ (x : Misfit). Outcome n (measuresFrom [] ms) (lineEnded n (fitted n x ms))) (fresh-is ∙ sym (ended n met .none t .1)) rest) in
     subst (λ (r : List (List Mark)). Outcome n r (lineEnded n (fitted n (state met) (m ∷ ms)))) (sym (rows-over met m ms p))
-    (subst (λ (x : Misfit). Outcome n (over met [] ++ measuresFrom [] ms) (lineEnded n (fitted n x ms))) (sym (by-sign n met m p)) all))
+    (subst (λ (x : Misfit). Outcome n (over met [] ++ measuresFrom [] ms) (lineEnded n (fitted n x ms))) (sym (by-sign n met m p)) all)
+
+-- Behind a text whose measures are over.
+pub judged-behind : (n : ℕ) (here rest : List Mark) → measuresIn (here ++ rest) ≡ measuresIn here ++ measuresIn rest
+    → Outcome n (measuresIn here) (fitted n noMeasure here) → Judged n [] rest → Judged n [] (here ++ rest)
+unfolding firstFrom lastTo
+judged-behind n here rest e o r =
+    let y = fitted n noMeasure here in
+    rw (e, fitted-behind n noMeasure here rest)
+    (both o
+    (λ t. ap (lineEnded n) (kept n y rest t) ∙ shut-found n y t)
+    (λ t. subst (λ (x : Misfit). Outcome n (measuresIn rest) (lineEnded n (fitted n x rest))) (sym (o .none t .1)) r))
+
+-- Of the tokens of a line, and its end.
+of-line : (n : ℕ) (met ms : List Mark) → length met + length ms ≤ 65536 → Judged n met ms
+of-line n met [] h = judged-none n met
+of-line n met (m ∷ ms) h =
+    let e = longer met m in
+    by-cases (isPosition (m .token))
+    (λ p. judged-position n met m ms (omega arith) p (of-line n (met ++ (m ∷ [])) ms (omega arith)))
+    (λ p. judged-other n met m ms p (of-line n [] ms (omega arith)))
+
+-- Of tokens behind which nothing was begun.
+pub fresh : (n : ℕ) (ms : List Mark) → Judged n [] ms → Outcome n (measuresIn ms) (lineEnded n (fitted n noMeasure ms))
+unfolding firstFrom lastTo
+fresh n ms h = h
 
 pub of-fresh : (n : ℕ) (ms : List Mark) → length ms ≤ 65536 → Outcome n (measuresIn ms) (lineEnded n (fitted n noMeasure ms))
-unfolding firstFrom lastTo
-of-fresh n ms h = of-line n [] ms (omega arith)
+of-fresh n ms h = fresh n ms (of-line n [] ms (omega arith))
 
 -- The measures of two texts with a line's end between them.
 pub parted : (met ms ns : List Mark) (m : Mark) → isPosition (m .token) ≡ false

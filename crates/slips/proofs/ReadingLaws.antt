@@ -51,7 +51,8 @@ module _ {at : ℕ} {b : Back} {clause from : ℕ} (n : (1 ≤ clause) × (claus
         placed =
             record {
               here = λ h. true-is-not-false (rw y (or-true (isCount clause))) h;
-              count = λ d. let e = eqb-true clause 13 d in let z : isEarlier 13 ≡ true = rw e at y in true-is-not-false z refl;
+              count = λ d. let e = eqb-true clause 13 d in
+                  let z : isEarlier 13 ≡ true = rw e at y in true-is-not-false z refl;
               earlier = λ _. (l, o);
             };
       }

@@ -42,13 +42,17 @@ inside-line [] k h = let z : ⊥ = omega arith in absurd z
 inside-line (b ∷ bs) zero h =
     by-ending b
     (λ e. e)
-    (λ e. let g : 0 < 0 = rw e at h in let z : ⊥ = omega arith in absurd z)
-    (λ e. let g : 0 < 0 = rw e at h in let z : ⊥ = omega arith in absurd z)
+    (λ e. let g : 0 < 0 = rw e at h in
+    let z : ⊥ = omega arith in absurd z)
+    (λ e. let g : 0 < 0 = rw e at h in
+    let z : ⊥ = omega arith in absurd z)
 inside-line (b ∷ bs) (suc k) h =
     by-ending b
     (λ e. let g : suc k < suc (lineLength bs) = rw e at h in inside-line bs k (omega arith))
-    (λ e. let g : suc k < 0 = rw e at h in let z : ⊥ = omega arith in absurd z)
-    (λ e. let g : suc k < 0 = rw e at h in let z : ⊥ = omega arith in absurd z)
+    (λ e. let g : suc k < 0 = rw e at h in
+    let z : ⊥ = omega arith in absurd z)
+    (λ e. let g : suc k < 0 = rw e at h in
+    let z : ⊥ = omega arith in absurd z)
 
 abbrev ends : ℕ → List ℕ → ℕ
 ends at bs = length (cutLines (placed at bs) .others)
@@ -60,8 +64,10 @@ none-ends at (suc q) [] h = let z : ⊥ = omega arith in absurd z
 none-ends at (suc q) (b ∷ bs) h =
     by-ending b
     (λ e. let g : suc q ≤ suc (lineLength bs) = rw e at h in rw e (none-ends (suc at) q bs (omega arith)))
-    (λ e. let g : suc q ≤ 0 = rw e at h in let z : ⊥ = omega arith in absurd z)
-    (λ e. let g : suc q ≤ 0 = rw e at h in let z : ⊥ = omega arith in absurd z)
+    (λ e. let g : suc q ≤ 0 = rw e at h in
+    let z : ⊥ = omega arith in absurd z)
+    (λ e. let g : suc q ≤ 0 = rw e at h in
+    let z : ⊥ = omega arith in absurd z)
 
 -- The line ends before a place behind the first line: its own, and those of the rest.
 abbrev Splits : ℕ → ℕ → List ℕ → Type 0
@@ -147,7 +153,9 @@ module _ (s : List ℕ) where
       let e : ended bs ≡ true =
       by-cases (ended bs)
       (λ t. t)
-      (λ t. let z = ap length (sym there ∙ unended bs t) in let y = length-drop (at + w) s in let x : ⊥ = omega arith in absurd x) in
+      (λ t. let z = ap length (sym there ∙ unended bs t) in
+      let y = length-drop (at + w) s in
+      let x : ⊥ = omega arith in absurd x) in
       let go : at + w + q ≡ at + (w + q) = omega arith in
       let one : n + suc (ends (at + w) (take q (drop w bs))) ≡ n + 1 + ends (at + w) (take q (drop w bs)) = omega arith in
       rw next

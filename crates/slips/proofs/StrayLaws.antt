@@ -81,19 +81,28 @@ unfolding heard hearing if_then_else_
 settled x [] h = refl
 settled x (m ∷ ms) h = rw h (settled x ms h)
 
-still : (t : Token) (from : ℕ) → Silent t → hearing unheard t from ≡ unheard
-unfolding hearing settling Silent if_then_else_
-still (sound (chord c)) from h = absurd h
-still (sound again) from h = absurd h
-still (sound silence) from h = refl
-still remover from h = refl
-still (reference n) from h = refl
-still semicolon from h = refl
-still colon from h = refl
-still lineEnd from h = refl
-still opens from h = refl
-still (closes n) from h = refl
-still wrong from h = refl
+quiet : (x : Stray) (t : Token) (from : ℕ) → Silent t → settling x t from ≡ x
+unfolding settling Silent
+quiet x (sound (chord c)) from h = absurd h
+quiet x (sound again) from h = absurd h
+quiet x (sound silence) from h = refl
+quiet x remover from h = refl
+quiet x (reference n) from h = refl
+quiet x semicolon from h = refl
+quiet x colon from h = refl
+quiet x lineEnd from h = refl
+quiet x opens from h = refl
+quiet x (closes n) from h = refl
+quiet x wrong from h = refl
+
+still : (x : Stray) (t : Token) (from : ℕ) → Silent t → hearing x t from ≡ x
+unfolding hearing if_then_else_
+still x t from h = by-cases (x .chord || x .found) (λ e. rw e) (λ e. rw e (quiet x t from h))
+
+pub all-still : (x : Stray) (ms : List Mark) → AllSilent ms → heard x ms ≡ x
+unfolding heard AllSilent
+all-still x [] h = refl
+all-still x (m ∷ ms) h = ap (λ (y : Stray). heard y ms) (still x (m .token) (m .from) (h .0)) ∙ all-still x ms (h .1)
 
 abbrev Sorted : Token → Type 0
 Sorted t = Silent t ⊎ ((t ≡ sound again) ⊎ ((c : Chord) × (t ≡ sound (chord c))))
@@ -111,6 +120,34 @@ sorted lineEnd = inl tt
 sorted opens = inl tt
 sorted (closes n) = inl tt
 sorted wrong = inl tt
+
+-- A chord or a `%` settles it; other tokens change nothing.
+abbrev pub Settled : Stray → Type 0
+Settled x = (x .chord || x .found) ≡ true
+
+settles : (x : Stray) (t : Token) (from : ℕ) → Settled (settling x t from) → Settled (hearing x t from)
+unfolding hearing if_then_else_
+settles x t from h = by-cases (x .chord || x .found) (λ e. rw e e) (λ e. rw e h)
+
+pub settled-or-silent : (x : Stray) (ms : List Mark) → Settled (heard x ms) ⊎ AllSilent ms
+unfolding heard AllSilent settling
+settled-or-silent x [] = inr tt
+settled-or-silent x (m ∷ ms) =
+    ⊎-elim
+    (λ h.
+    ⊎-elim
+    (λ i. inl (subst (λ (y : Stray). Settled (heard y ms)) (sym (still x (m .token) (m .from) h)) i))
+    (λ i. inr (h, i))
+    (settled-or-silent x ms))
+    (λ r.
+    ⊎-elim
+    (λ h. inl (stays (settles x (m .token) (m .from) (rw h refl))))
+    (λ h. inl (stays (settles x (m .token) (m .from) (rw (h .1) refl))))
+    r)
+    (sorted (m .token))
+  where
+    stays : Settled (hearing x (m .token) (m .from)) → Settled (heard (hearing x (m .token) (m .from)) ms)
+    stays h = subst Settled (sym (settled _ ms h)) h
 
 again-not-silent : (t : Token) → t ≡ sound again → Silent t → ⊥
 unfolding Silent
@@ -174,8 +211,14 @@ nowhere : (from : ℕ) → StrayAt [] from → ⊥
 nowhere from x = go (x .front) (x .text)
   where
     go : (front : List Mark) → [] ≡ front ++ (x .here ∷ x .behind) → ⊥
-    go [] e = let z : _≡_ {A = ℕ} 0 1 = cc in let y : ⊥ = omega arith in y
-    go (k ∷ front) e = let z : _≡_ {A = ℕ} 0 1 = cc in let y : ⊥ = omega arith in y
+    go [] e =
+        let z : _≡_ {A = ℕ} 0 1 = cc in
+        let y : ⊥ = omega arith in
+        y
+    go (k ∷ front) e =
+        let z : _≡_ {A = ℕ} 0 1 = cc in
+        let y : ⊥ = omega arith in
+        y
 
 pub stray-heard : (ms : List Mark) → Outcome ms (heard unheard ms)
 unfolding heard
@@ -184,7 +227,7 @@ stray-heard (m ∷ ms) =
     ⊎-elim
     (λ h.
     let i = stray-heard ms in
-    let e : heard (hearing unheard (m .token) (m .from)) ms ≡ heard unheard ms = ap (λ (y : Stray). heard y ms) (still (m .token) (m .from) h) in
+    let e : heard (hearing unheard (m .token) (m .from)) ms ≡ heard unheard ms = ap (λ (y : Stray). heard y ms) (still unheard (m .token) (m .from) h) in
     subst (Outcome (m ∷ ms)) (sym e) (λ f. further m ms _ h (i .0 f), λ f from x. i .1 f from (nearer m ms from h x)))
     (λ r.
     ⊎-elim

@@ -30,13 +30,15 @@ use Rattle.slips.specs.declared.readings.Reading.{Reading}
 use Rattle.slips.specs.declared.slip.Slip.{Slip}
 use Rattle.slips.specs.declared.signs.Token as slips
 use Rattle.slips.specs.Taken.{TokenAt}
-use Rattle.slips.specs.Marks.{Mark, namedBy, namedIn, PlainText, SideText}
+use Rattle.slips.specs.PatternText.{PatternText}
+use Rattle.slips.specs.Marks.{Mark, namedBy, namedIn, SideText}
 use Rattle.slips.specs.Strays.{StrayAt, TellsStray, StrayTold, unheard, heard}
-use Rattle.slips.specs.Readings.{Follows, ReadsRun, ReadsPattern, ReadsSide, ToldStray}
+use Rattle.slips.specs.Readings.{Follows, ReadsPattern, ReadsSide, ToldStray}
 use Rattle.slips.specs.BlocksMet.{BlockOf}
 use Rattle.slips.specs.MeterTold.{MeterTold}
 use Rattle.slips.proofs.StrayLaws.{Outcome, stray-heard}
-use Rattle.slips.proofs.AgainLaws.{lines-at, side-at, stray-byte}
+use Rattle.slips.proofs.AgainLaws.{side-at, stray-byte}
+use Rattle.slips.proofs.PutLaws.{pattern-at}
 use Rattle.slips.proofs.BlockLaws.{others-later}
 
 pub map-take : {A B : Type 0} (f : A → B) (k : ℕ) (xs : List A) → map f (take k xs) ≡ take k (map f xs)
@@ -64,18 +66,17 @@ module _ (x r : Reading) (e : x .stray ≡ unheard) (y : Slip) (t : ToldStray r 
           let k = t .none h in
           record { few = omega arith; told = λ c. let z : ⊥ = omega arith in absurd z; none = λ _ from s. o .1 h from s }
 
-  pub plain-told : (s : List ℕ) (run : Run) (ls : List songcode.Line) → linesOf s run ≡ ls → ReadsRun s run x r
-      → StrayTold s (PlainText s ls) (y .clause) (y .from) (y .to)
-  unfolding linesOf textLines
-  plain-told s run ls i h =
+  pattern-told : (s : List ℕ) (ls : List songcode.Line) (ms : List Mark) → PatternText s ls ms → Follows x ms r
+      → StrayTold s (PatternText s ls) (y .clause) (y .from) (y .to)
+  pattern-told s ls ms text f =
       record {
-        marks = h .marks;
-        text = record { lines = _; same = map-take (lineText s) (run .lines) _ ∙ i; marked = h .marked };
-        tells = told-of (h .marks) (h .follows);
-        byte = λ c. stray-byte s (h .marks) (lines-at s _ (h .marks) (h .marked)) (y .from) (told-of (h .marks) (h .follows) .told c .0);
+        marks = ms;
+        text = text;
+        tells = told-of ms f;
+        byte = λ c. stray-byte s ms (pattern-at s ls ms text) (y .from) (told-of ms f .told c .0);
       }
 
-  pub side-told : (s : List ℕ) (l : Line) → ReadsSide s l x r → StrayTold s (SideText s l) (y .clause) (y .from) (y .to)
+  side-told : (s : List ℕ) (l : Line) → ReadsSide s l x r → StrayTold s (SideText s l) (y .clause) (y .from) (y .to)
   side-told s l h =
       record {
         marks = _;
@@ -102,7 +103,10 @@ named-none wrong ts h = refl
 named-some : (t : Token) (ts : List Token) → Fit t → kind t ≡ 55 → amount t ≡ namedBy (t ∷ ts)
 unfolding namedBy kind amount Fit
 named-some (reference n) ts f h = refl
-named-some (sound (chord c)) ts f h = let g = f .0 in let z : ⊥ = omega arith in absurd z
+named-some (sound (chord c)) ts f h =
+    let g = f .0 in
+    let z : ⊥ = omega arith in
+    absurd z
 named-some (sound again) ts f h = let z : ⊥ = omega arith in absurd z
 named-some (sound silence) ts f h = let z : ⊥ = omega arith in absurd z
 named-some remover ts f h = let z : ⊥ = omega arith in absurd z
@@ -169,8 +173,10 @@ module _ (s : List ℕ) (line : ℕ) (l : Line) {p : Place} (o : BlockOf s line 
   pub meter-past : length s ≤ p .at → (y : Slip) → MeterTold s line l (y .clause) (y .from) (y .to)
   meter-past h y =
       record {
-        header-stray = λ b i e n. let k = block-first b i e .0 in let z : ⊥ = omega arith in absurd z;
-        side-stray = λ e b i m. let k = block-other e b i m .0 in let z : ⊥ = omega arith in absurd z;
+        header-stray = λ b i e. let k = block-first b i e .0 in
+            let z : ⊥ = omega arith in absurd z;
+        side-stray = λ e b i m. let k = block-other e b i m .0 in
+            let z : ⊥ = omega arith in absurd z;
       }
 
   pub meter-header : p .number ≡ line → (run : Run) → linesOf s run ≡ patternRun (body (blockAt s (p .number) (p .at)))
@@ -178,9 +184,10 @@ module _ (s : List ℕ) (line : ℕ) (l : Line) {p : Place} (o : BlockOf s line 
       → MeterTold s line l (y .clause) (y .from) (y .to)
   meter-header n run q x r e h y t =
       record {
-        header-stray = λ b i k z.
+        header-stray = λ b i k.
             let same = q ∙ ap (λ (c : Block). patternRun (body c)) (sym (block-first b i k .1)) in
-            plain-told x r e y t s run (patternRun (body b)) same (h .plain (ap namedIn same ∙ z));
+            pattern-told x r e y t s (patternRun (body b)) (h .marks)
+            (subst (λ (ls : List songcode.Line). PatternText s ls (h .marks)) same (h .text)) (h .follows);
         side-stray = λ k b i m.
             let w = others-later s (p .number) (p .at) (lineText s l)
             (subst (λ (c : Block). List·Memᴰ (lineText s l) (c .others)) (block-other k b i m .1) m) in
@@ -193,6 +200,6 @@ module _ (s : List ℕ) (line : ℕ) (l : Line) {p : Place} (o : BlockOf s line 
   unfolding blockAt lineOf
   meter-side n x r e h y t =
       record {
-        header-stray = λ b i k z. absurd (n (sym (ap (λ (c : Block). c .first .number) (block-first b i k .1)) ∙ k));
+        header-stray = λ b i k. absurd (n (sym (ap (λ (c : Block). c .first .number) (block-first b i k .1)) ∙ k));
         side-stray = λ k b i m. side-told x r e y t s l h;
       }

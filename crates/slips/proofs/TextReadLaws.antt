@@ -152,7 +152,10 @@ module _ (s : List ℕ) (w : Whose) (lines : List Line) where
         written = whole;
         ordered = f .stop;
         onward = f .next;
-        inside = let a = f .next in let b = f .over in omega arith;
+        inside =
+            let a = f .next in
+            let b = f .over in
+            omega arith;
         read =
             subst (λ (ls : List Line). Reads s w ls (tokensFrom (l .start) (l .stop) s) (l .stop) x) (sym whole)
             (step [] (take (k - 1) (textLines s (n + 1) (l .next))) n g (latest-none r none));
@@ -192,7 +195,8 @@ module _ (s : List ℕ) (w : Whose) (lines : List Line) where
 
     keeps : RuledIn s w lines (y .clause) (y .spot) → Now x
     keeps q =
-        let same : x ≡ y = held (λ e. let m = q .told .named .0 in let v : ⊥ = omega arith in v) in
+        let same : x ≡ y = held (λ e. let m = q .told .named .0 in
+        let v : ⊥ = omega arith in v) in
         inr (subst (λ (u : Reading). RuledIn s w lines (u .clause) (u .spot)) (sym same) q)
 
     abbrev so-far : List Token
@@ -223,7 +227,8 @@ module _ (s : List ℕ) (w : Whose) (lines : List Line) where
     go : Reads s w lines so-far (i .stop) r → Now x
     go (inl g) = stepped (g .1) (ended so-far (i .stop) (g .0))
     go (inr q) =
-        let same : y ≡ r = kept (λ e. let m = q .told .named .0 in let v : ⊥ = omega arith in v) in
+        let same : y ≡ r = kept (λ e. let m = q .told .named .0 in
+        let v : ⊥ = omega arith in v) in
         keeps (subst (λ (u : Reading). RuledIn s w lines (u .clause) (u .spot)) (sym same) q)
 
     pub text-more-line : InText x (l .next) (left - 1)
@@ -236,7 +241,10 @@ module _ (s : List ℕ) (w : Whose) (lines : List Line) where
           written = whole;
           ordered = f .stop;
           onward = f .next;
-          inside = let a = f .next in let b = f .over in omega arith;
+          inside =
+              let a = f .next in
+              let b = f .over in
+              omega arith;
           read = go (i .read);
         }
 
@@ -259,7 +267,8 @@ module _ (s : List ℕ) (w : Whose) (lines : List Line) where
           (backOf r) (subst (λ (ls : List Line). Latest s ls (upTo (a .passed) ++ tokensFrom (a .start) (a .stop) s) (backOf r)) (a .written) (q .1))
           (k .0) (omega arith))
       go (inr q) =
-          let same : x ≡ r = kept (λ e. let m = q .told .named .0 in let v : ⊥ = omega arith in v) in
+          let same : x ≡ r = kept (λ e. let m = q .told .named .0 in
+          let v : ⊥ = omega arith in v) in
           subst (λ (u : Reading). RuledIn s w lines (u .clause) (u .spot)) (sym same) q
 
 -- Some lines are there: the text goes on at their first one.

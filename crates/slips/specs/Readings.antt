@@ -12,7 +12,8 @@ use Rattle.sections.specs.declared.runs.Run.{Run}
 use Rattle.sections.specs.Runs.{linesOf}
 use Rattle.slips.specs.declared.readings.Reading.{Reading}
 use Rattle.slips.specs.declared.slip.Slip.{Slip}
-use Rattle.slips.specs.Marks.{Mark, MarksFrom, endMark, MarkedLines, namedIn}
+use Rattle.slips.specs.Marks.{Mark, MarksFrom, endMark, MarkedLines}
+use Rattle.slips.specs.PatternText.{PatternText}
 use Rattle.slips.specs.Strays.{heard}
 use Rattle.slips.specs.Misfits.{fitted}
 
@@ -20,7 +21,6 @@ use Rattle.slips.specs.Misfits.{fitted}
 pub record Follows (x : Reading) (ms : List Mark) (r : Reading) : Type 0 where
   pub stray : r .stray ≡ heard (x .stray) ms
   pub within : x .stray .from ≤ 65536 → r .stray .from ≤ 65536
-  pub known : r .known ≡ x .known
   pub time : r .time ≡ x .time
   pub misfit : r .misfit ≡ fitted (x .time) (x .misfit) ms
 
@@ -63,4 +63,6 @@ pub record ToldMisfit (x : Reading) (time : ℕ) (r : Slip) : Type 0 where
 
 -- A section's pattern.
 pub record ReadsPattern (s : List ℕ) (run : Run) (x r : Reading) : Type 0 where
-  pub plain : namedIn (linesOf s run) ≡ 0 → ReadsRun s run x r
+  pub marks : List Mark
+  pub text : PatternText s (linesOf s run) marks
+  pub follows : Follows x marks r

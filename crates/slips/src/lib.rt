@@ -2,6 +2,7 @@
 mod beginnings;
 mod blocks;
 mod counts;
+mod definitions;
 mod faults;
 mod keys;
 mod meters;
@@ -9,6 +10,7 @@ mod patterns;
 mod places;
 mod readings;
 mod references;
+mod referring;
 mod signs;
 mod slip;
 mod spots;

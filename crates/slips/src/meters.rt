@@ -1,15 +1,14 @@
 // Slips in measures: refusals 12 and 13.
 use super::readings::Reading;
-use super::readings::read_pattern;
 use super::readings::read_plain_line;
 use super::readings::reading_in;
+use super::referring::read_pattern;
 use super::signs::capped;
 use super::slip::Slip;
 use super::slip::at_place;
 use super::slip::beside;
 use super::slip::counted;
 use super::survey::block_of;
-use super::survey::survey_of;
 use sections::section_parts;
 use settings::setting_start;
 use text::Line;
@@ -79,12 +78,11 @@ pub fn meter_slip(s: &[u8], l: Line, line: usize, refusal: usize, time: usize) -
     if s.len() <= block.at {
         return at_place(0, 0, 0);
     }
-    let v = survey_of(s);
     let parts = section_parts(s, block.number, block.at);
     let x = reading_in(time);
     let pattern = parts.pattern;
     if block.number == line {
-        return reading_slip(read_pattern(s, v, x, pattern), block.number, refusal, time);
+        return reading_slip(read_pattern(s, x, pattern), block.number, refusal, time);
     }
     reading_slip(read_side(s, x, l), block.number, refusal, time)
 }

@@ -1,19 +1,11 @@
-// A text read token by token, references put in: its first `%` before every chord, and its first measure that does not fit.
+// A text read token by token: its first `%` before every chord, and its first measure that does not fit.
 use super::signs::AGAIN;
 use super::signs::CHORDS;
 use super::signs::LINE_END;
-use super::signs::REFERENCE;
 use super::signs::REMOVER;
-use super::signs::Token;
 use super::signs::capped;
-use super::signs::minus;
-use super::signs::named_number;
-use super::signs::number_of;
 use super::signs::sign_of;
 use super::signs::token_from;
-use super::survey::Survey;
-use super::survey::index_of;
-use super::survey::lines_of;
 use sections::Run;
 use text::line_at;
 ghost use mathlib.Core.Path.{_≡_};
@@ -21,7 +13,7 @@ ghost use Prim.Native.Nat.{_+_, _≤_};
 ghost use lib.ListN.{length};
 ghost use Rattle.slips.specs.Strays.{unheard, hearingSign};
 ghost use Rattle.slips.specs.Misfits.{noMeasure, isPositionSign, oneMore, closing, beginning, fittingSign};
-ghost use Rattle.slips.specs.Readings.{ReadsLine, ReadsRun, ReadsPattern};
+ghost use Rattle.slips.specs.Readings.{ReadsLine, ReadsRun};
 
 // No line is longer.
 const LINE_MOST: usize = 65536;
@@ -41,15 +33,13 @@ pub struct Misfit {
     pub found: bool,
 }
 
-// N; what was found so far; how many measures were closed, and how many before the stray `%`; of each definition that was read how many measures
-// it has, and one.
+// N; what was found so far; how many measures were closed, and how many before the stray `%`.
 pub struct Reading {
     pub time: usize,
     pub stray: Stray,
     pub misfit: Misfit,
     pub measures: usize,
     pub before: usize,
-    pub known: [usize; 26],
 }
 
 pub fn reading_in(time: usize) -> Reading
@@ -65,7 +55,6 @@ pub fn reading_in(time: usize) -> Reading
         misfit: no_measure(),
         measures: 0,
         before: 0,
-        known: [0; 26],
     }
 }
 
@@ -193,46 +182,39 @@ fn measures_with(x: Misfit, measures: usize, sign: u32) -> usize {
     capped(measures, 1)
 }
 
-// How many with those of a definition that was read before.
-fn measures_more(x: Misfit, measures: usize, more: usize) -> usize {
-    if x.found {
-        measures
-    } else {
-        capped(measures, more)
-    }
-}
-
 // How many were closed before the stray `%`.
 fn before_stray(x: Stray, measures: usize, before: usize) -> usize {
     if x.found { before } else { measures }
 }
 
 // One more token.
-fn read_token(x: Reading, sign: u32, from: usize, to: usize) -> Reading
-    ensures { λ r. ⌜ (r .stray ≡ hearingSign (x .stray) sign from) × (r .known ≡ x .known) × (r .time ≡ x .time)
-        × (r .misfit ≡ fittingSign (x .time) (x .misfit) sign from to) ⌝ }
+pub fn read_token(x: Reading, sign: u32, from: usize, to: usize) -> Reading
+    ensures { λ r. ⌜ (r .stray ≡ hearingSign (x .stray) sign from) × (r .time ≡ x .time) × (r .misfit ≡ fittingSign (x .time) (x .misfit) sign from to) ⌝ }
 {
     let stray = hear(x.stray, sign, from);
     let misfit = fit(x.misfit, x.time, sign, from, to);
     let measures = measures_with(x.misfit, x.measures, sign);
     let before = before_stray(stray, measures, x.before);
-    let known = x.known;
     Reading {
         time: x.time,
         stray,
         misfit,
         measures,
         before,
-        known,
     }
 }
 
-// The same with other counts of measures.
-fn with_counts(x: Reading, measures: usize, known: [usize; 26]) -> Reading
-    ensures { λ r. ⌜ (r .stray ≡ x .stray) × (r .known ≡ known) × (r .time ≡ x .time) × (r .misfit ≡ x .misfit) ⌝ }
+// With the measures of a text that was read before: nothing else is new in it.
+pub fn with_measures(x: Reading, more: usize) -> Reading
+    ensures { λ r. ⌜ (r .stray ≡ x .stray) × (r .time ≡ x .time) × (r .misfit ≡ x .misfit) ⌝ }
 {
     let stray = x.stray;
     let misfit = x.misfit;
+    let measures = if misfit.found {
+        x.measures
+    } else {
+        capped(x.measures, more)
+    };
     let before = before_stray(x.stray, measures, x.before);
     Reading {
         time: x.time,
@@ -240,7 +222,6 @@ fn with_counts(x: Reading, measures: usize, known: [usize; 26]) -> Reading
         misfit,
         measures,
         before,
-        known,
     }
 }
 
@@ -282,84 +263,4 @@ pub fn read_plain(s: &[u8], x: Reading, run: Run) -> Reading
         left -= 1;
     }
     reading
-}
-
-// A reference: the lines of its definition; where they were read before, only their measures are counted.
-fn read_reference(s: &[u8], v: Survey, x: Reading, number: usize) -> Reading
-    requires { ⌜ length (now s) ≤ 65536 ⌝ }
-{
-    let i = index_of(v, number);
-    if 26 <= i {
-        return x;
-    }
-    let was = x.known;
-    let seen = was[i];
-    if seen != 0 {
-        return with_counts(x, measures_more(x.misfit, x.measures, seen - 1), was);
-    }
-    let before = x.measures;
-    let y = read_plain(s, x, lines_of(s, v, i));
-    let mut known = y.known;
-    known[i] = capped(minus(y.measures, before), 1);
-    with_counts(y, y.measures, known)
-}
-
-// One more token; behind a reference the lines that it means.
-fn read_or_refer(s: &[u8], v: Survey, x: Reading, t: Token) -> Reading
-    requires { ⌜ length (now s) ≤ 65536 ⌝ }
-{
-    let sign = sign_of(t.word);
-    let y = read_token(x, sign, t.from, t.next);
-    if sign == REFERENCE {
-        return read_reference(s, v, y, number_of(t.word));
-    }
-    y
-}
-
-// A line of a definition that a section names, and its end.
-fn read_line(s: &[u8], v: Survey, x: Reading, from: usize, to: usize) -> Reading
-    requires { ⌜ (from ≤ to) × (to ≤ length (now s)) × (length (now s) ≤ 65536) ⌝ }
-{
-    let mut reading = x;
-    let mut at = from;
-    while at < to {
-        let t = token_from(s, at, to);
-        if t.next == at {
-            return read_token(reading, LINE_END, to, to);
-        }
-        reading = read_or_refer(s, v, reading, t);
-        at = t.next;
-    }
-    read_token(reading, LINE_END, to, to)
-}
-
-// The lines of such a definition.
-fn read_lines(s: &[u8], v: Survey, x: Reading, run: Run) -> Reading
-    requires { ⌜ length (now s) ≤ 65536 ⌝ }
-{
-    let mut reading = x;
-    let mut at = run.at;
-    let mut left = run.lines;
-    while at < s.len() {
-        if left == 0 {
-            return reading;
-        }
-        let l = line_at(s, 0, at);
-        reading = read_line(s, v, reading, l.start, l.stop);
-        at = l.next;
-        left -= 1;
-    }
-    reading
-}
-
-// The pattern of a section.
-pub fn read_pattern(s: &[u8], v: Survey, x: Reading, run: Run) -> Reading
-    requires { ⌜ (run .number ≤ run .at + 1) × (run .at ≤ length (now s)) × (length (now s) ≤ 65536) ⌝ }
-    ensures { λ r. ⌜ ReadsPattern (now (s .entry)) run x r ⌝ }
-{
-    let named = named_number(s, run);
-    if named == 0 {
-        return read_plain(s, x, run);
-    }
-    read_lines(s, v, x, lines_of(s, v, index_of(v, named)))
 }

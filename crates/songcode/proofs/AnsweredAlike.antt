@@ -147,12 +147,21 @@ module _ (read other : Reading) where
 
     song-stages : songStagesAs read bs ≡ songStagesAs other bs
     unfolding songStagesAs
-    song-stages = let a = text-faults (blocksOf bs) h in let b = song-of in cc
+    song-stages =
+        let a = text-faults (blocksOf bs) h in
+        let b = song-of in
+        cc
 
     pub answer-alike : (room : Room) → answerAs read room bs ≡ answerAs other room bs
     unfolding answerAs stagesAs
-    answer-alike room = let a = song-stages in let b = song-of in cc
+    answer-alike room =
+        let a = song-stages in
+        let b = song-of in
+        cc
 
     pub song-answer-alike : songAnswerAs read bs ≡ songAnswerAs other bs
     unfolding songAnswerAs
-    song-answer-alike = let a = song-stages in let b = song-of in cc
+    song-answer-alike =
+        let a = song-stages in
+        let b = song-of in
+        cc

@@ -29,7 +29,8 @@ item-simple : (i : Item) → (depthI i ≤ 1) ↔ SimpleItem i
 unfolding depthI SimpleItem
 item-simple (measure m) = ((λ h. tt), (λ h. omega arith))
 item-simple (loop r n) = (
-  (λ h l. let d = loop-items r .1 l in let z : ⊥ = omega arith in z),
+  (λ h l. let d = loop-items r .1 l in
+      let z : ⊥ = omega arith in z),
   (λ h. by-cases (leb 1 (depth r)) (λ t. absurd (h (loop-items r .0 (leb-true 1 (depth r) t)))) (λ f. let d = leb-false 1 (depth r) f in omega arith)),
 )
 item-simple (refer n) = ((λ h. tt), (λ h. omega arith))
@@ -39,8 +40,11 @@ unfolding depth Simple loopsDeep
 items-simple (one i) = item-simple i
 items-simple (next r s i) =
     let a = items-simple r in
-    let b = item-simple i in
-    ((λ h. (a .0 (omega arith), b .0 (omega arith))), (λ h. let c = a .1 (h .0) in let d = b .1 (h .1) in omega arith))
+    let b = item-simple i in (
+      (λ h. (a .0 (omega arith), b .0 (omega arith))),
+      (λ h. let c = a .1 (h .0) in
+          let d = b .1 (h .1) in omega arith),
+    )
 
 -- Repeats.
 repeats-exact : (ms : Modifiers) (n : ℕ) → (repeats ms ≡ n) ↔ Repeats ms n

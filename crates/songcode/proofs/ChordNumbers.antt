@@ -19,8 +19,11 @@ unfolding numberFrom if_then_else_
 found-there n [] s k h = let z : _≡_ {A = ℕ} 0 1 = cc in absurd (omega arith)
 found-there n (t ∷ ss) s k h =
     by-cases (same t s)
-    (λ e. let g : some n ≡ some k = rw e at h in let m : n ≡ k = cc in (0, omega arith, omega arith, same-true t s e))
-    (λ e. let r = found-there (suc n) ss s k (rw e at h) in let q = r .2 in let l = r .1 in (suc (r .0), omega arith, omega arith, r .3))
+    (λ e. let g : some n ≡ some k = rw e at h in
+    let m : n ≡ k = cc in (0, omega arith, omega arith, same-true t s e))
+    (λ e. let r = found-there (suc n) ss s k (rw e at h) in
+    let q = r .2 in
+    let l = r .1 in (suc (r .0), omega arith, omega arith, r .3))
 
 pub number-of-spelling : (s : List ℕ) (number : ℕ) → numberOf s ≡ some number → (number < 34) × (spellingOf number ≡ s)
 unfolding numberOf spellingOf bases

@@ -25,7 +25,10 @@ use Rattle.songcode.proofs.FlatChartsProved.{charts-copied}
 use Rattle.songcode.proofs.CopyChain.{reads-back, copied-again}
 
 one-copy : (bs copy other : List ℕ) → Copied bs copy → Copied bs other → copy ≡ other
-one-copy bs copy other c d = let a = copied-exactly bs copy .1 c in let b = copied-exactly bs other .1 d in cc
+one-copy bs copy other c d =
+    let a = copied-exactly bs copy .1 c in
+    let b = copied-exactly bs other .1 d in
+    cc
 
 flat-refused : (lent : ℕ) (bs : List ℕ) (number line : ℕ) → (flatAnswer lent bs ≡ refused number line) ↔ Given (flatStages lent bs) (complaint number line)
 unfolding flatAnswer flatBy

@@ -100,7 +100,10 @@ parts-few s (and-each {x} {y = p} h hs) =
     omega arith
 
 pub measures-few : {s : Song} {ps : List Parts} → Fits s ps → allLength ps ≤ 65535
-measures-few {s} f = let m = parts-few s (f .plays) in let h = f .short in omega arith
+measures-few {s} f =
+    let m = parts-few s (f .plays) in
+    let h = f .short in
+    omega arith
 
 sections-by : (s : Song) (first : ℕ) {xs : List Section} {ps : List Parts} {ys : List Section} (g : FlatSections xs ps ys) → Ready ps
     → Written.Each (PlaysSection s) xs ps

@@ -96,7 +96,10 @@ styled-part (for-crew m) h = let q = marked-part m h in (q .0, q .1, omega arith
 styled-part (is-plain f g) h = (h, omega arith, omega arith)
 
 same-count : {text words other : List Byte} {n m : ℕ} → CountedLine text words n → CountedLine text other m → n ≡ m
-same-count {text} {words} {other} {n} {m} c d = let a = count-exact text n .1 (words, c) in let b = count-exact text m .1 (other, d) in cc
+same-count {text} {words} {other} {n} {m} c d =
+    let a = count-exact text n .1 (words, c) in
+    let b = count-exact text m .1 (other, d) in
+    cc
 
 pub items-fit : (bs : List ℕ) → length bs ≤ 65536 → (first : ℕ) {ls : List LyricLine} {k : ℕ} (ps : List Prompt) → Counted ls k → first + k ≤ 65535
     → Each (λ l. Stands (placed 0 bs) (l .text)) ls → ItemsFrom first ls ps → Each (ItemFits bs) ps

@@ -41,7 +41,11 @@ use Rattle.songcode.proofs.CopyWords.{key-offset, key-length, key-witho
 
 -- A number has no more digits than its value and one.
 number-few : {low high n : ℕ} (ds : List Byte) → Number low high ds n → length ds ≤ suc high
-number-few ds s = let l = decimal-short ds (s .decimal) .1 in let e = s .says in let h = s .atMost in omega arith
+number-few ds s =
+    let l = decimal-short ds (s .decimal) .1 in
+    let e = s .says in
+    let h = s .atMost in
+    omega arith
 
 bases-short : every (λ b. leb (length b) 3) bases ≡ true
 unfolding every bases
@@ -59,7 +63,10 @@ module _ (bs : List ℕ) (whole : Characters bs) where
 
   phrase-short : (text : List Byte) → Stands (placed 0 bs) text → Phrase text → length text < 512
   unfolding Phrase
-  phrase-short text s p = let h = stands-short text s in let m = p .1 in omega arith
+  phrase-short text s p =
+      let h = stands-short text s in
+      let m = p .1 in
+      omega arith
 
   setting-short : (k : KeyName) (text : List Byte) → Stands (placed 0 bs) text → Setting k text → length text < 512
   unfolding Setting ascii

@@ -62,12 +62,19 @@ each-length n ((b ∷ m) ∷ row) w =
 total-most : (n : ℕ) (row : List (List Beat)) → Within n row → total row ≤ n * length row
 unfolding total Within
 total-most n [] w = omega arith
-total-most n (m ∷ row) w = let h = total-most n row (w .2) in let k = w .1 in omega arith
+total-most n (m ∷ row) w =
+    let h = total-most n row (w .2) in
+    let k = w .1 in
+    omega arith
 
 by-counts : (n : ℕ) (row : List (List Beat)) → Within n row → measuresLength n row ≡ rowLength row + (n * length row - total row) + n * length row
 unfolding measuresLength rowLength total Within
 by-counts n [] w = omega arith
-by-counts n (m ∷ row) w = let h = by-counts n row (w .2) in let k = total-most n row (w .2) in let l = w .1 in omega arith
+by-counts n (m ∷ row) w =
+    let h = by-counts n row (w .2) in
+    let k = total-most n row (w .2) in
+    let l = w .1 in
+    omega arith
 
 pub pattern-length : (n : ℕ) (row : List (List Beat)) → Within n row → length (flatMap endLine (flatPattern n row)) ≡ patternLength n row
 unfolding flatPattern patternLength flatMap endLine ascii

@@ -190,7 +190,8 @@ spaced-row w ws f fs =
 -- The words of a beat and of a missing one.
 plain-solid : (b : Byte) → class b ≡ plain → isBlank b ≡ false
 unfolding class if_then_else_
-plain-solid b e = by-cases (isBlank b) (λ h. let f : blank ≡ plain = rw h at e in let z : _≡_ {A = ℕ} 0 1 = cc in absurd (omega arith)) (λ h. h)
+plain-solid b e = by-cases (isBlank b) (λ h. let f : blank ≡ plain = rw h at e in
+    let z : _≡_ {A = ℕ} 0 1 = cc in absurd (omega arith)) (λ h. h)
 
 solids-plain : (bs : List Byte) → Plain bs → Solids (values bs)
 unfolding Plain Solids values blankV isBlank

@@ -200,7 +200,8 @@ unfolding modifiersSaid unmodified Distinct
 none-together = said-together [] tt
 
 pub section-again : (b : Block) (x : Section) (w : WrittenSection b x) (p : Parts) (n at : ℕ) → Within (p .meter) (joined p) → SpeltRow (joined p)
-    → let header = textOf (b .first) in let rest = map textOf (w .keyLines) ++ (flatPattern (p .meter) (joined p) ++ map textOf (w .lastLines)) in
+    → let header = textOf (b .first) in
+    let rest = map textOf (w .keyLines) ++ (flatPattern (p .meter) (joined p) ++ map textOf (w .lastLines)) in
     (y : Section)
     × (v : WrittenSection (record { first = record { number = n; text = placed at header }; others = rowLines (suc n) (behind at header) rest }) y)
     × FlatSection x (p .meter) (behindAll (behind at header) (map textOf (w .keyLines))) (joined p) y

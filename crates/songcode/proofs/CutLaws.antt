@@ -158,7 +158,10 @@ module _ {A : Type 0} where
   back-stays c row f = rw (front-loses c (turned row) (filled-turned row f)) (turned-lose (beatsBefore c (turned row)) row)
 
   pub total-take-le : (m : ℕ) (row : List (List A)) → total (take m row) ≤ total row
-  total-take-le m row = let e = ap total (take-append-drop m row) in let f = total-append (take m row) (drop m row) in omega arith
+  total-take-le m row =
+      let e = ap total (take-append-drop m row) in
+      let f = total-append (take m row) (drop m row) in
+      omega arith
 
   pub take-turned : (m : ℕ) (row : List (List A)) → total (take m (turned row)) ≡ total row - total (take (length row - m) row)
   take-turned m row =

@@ -30,8 +30,14 @@ same-left : (n l s : ℕ) → l ≤ n → n - l - (s - l) ≡ n - s - (l - s)
 same-left n l s h = go (leb s l) refl
   where
     go : (q : Bool) → leb s l ≡ q → n - l - (s - l) ≡ n - s - (l - s)
-    go true e = let k = leb-true s l e in let a : s - l ≡ 0 = omega arith in rw a (omega arith)
-    go false e = let k = leb-false s l e in let a : l - s ≡ 0 = omega arith in rw a (omega arith)
+    go true e =
+        let k = leb-true s l e in
+        let a : s - l ≡ 0 = omega arith in
+        rw a (omega arith)
+    go false e =
+        let k = leb-false s l e in
+        let a : l - s ≡ 0 = omega arith in
+        rw a (omega arith)
 
 left-over : (t s e b : ℕ) → e ≤ t → t - s - (min (t - s) (t - e) + b) ≡ e - b - s
 left-over t s e b h = omega arith
@@ -81,7 +87,10 @@ module _ {A : Type 0} where
       rw (front-loses f (stay e row) (filled-stay e row g), total-take-stay (f .whole .measures) e row g, lose-stay (min e t + b) e row) (go t b (leb t e) refl)
     where
       go : (t b : ℕ) (q : Bool) → leb t e ≡ q → stay (e - (min e t + b)) (lose (min e t + b) row) ≡ stay (e - (t + b)) (lose (t + b) row)
-      go t b true h = let l = leb-true t e h in let a : min e t ≡ t = omega arith in rw a
+      go t b true h =
+          let l = leb-true t e h in
+          let a : min e t ≡ t = omega arith in
+          rw a
       go t b false h =
           let l = leb-false t e h in
           let x : e - (min e t + b) ≡ 0 = omega arith in

@@ -18,4 +18,5 @@ each-below p (suc n) e i h =
     let b = both-pass (p n) (allBelow p n) e in
     by-cases (ltb i n)
     (λ t. each-below p n (b .1) i (ltb-true i n t))
-    (λ f. let g = ltb-false i n f in let z : i ≡ n = omega arith in rw z (b .0))
+    (λ f. let g = ltb-false i n f in
+    let z : i ≡ n = omega arith in rw z (b .0))

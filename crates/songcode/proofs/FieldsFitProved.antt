@@ -157,7 +157,10 @@ module _ (file : List Byte) (s : Song) where
 all-length : (ps : List Parts) → length (flatMap joined ps) ≡ allLength ps
 unfolding flatMap allLength
 all-length [] = refl
-all-length (p ∷ ps) = let h = all-length ps in let l = length-append (joined p) (flatMap joined ps) in omega arith
+all-length (p ∷ ps) =
+    let h = all-length ps in
+    let l = length-append (joined p) (flatMap joined ps) in
+    omega arith
 
 -- All five tables.
 module _ (bs : List ℕ) (s : Song) (ps : List Parts) (w : WrittenChart bs s) (f : Fits s ps) where

@@ -38,7 +38,8 @@ unfolding isBlank
 blank-ascii b h =
     by-cases (eqb (b .value) 32)
     (λ e. let v = eqb-true (b .value) 32 e in omega arith)
-    (λ e. let f : eqb (b .value) 9 ≡ true = rw e at h in let v = eqb-true (b .value) 9 f in omega arith)
+    (λ e. let f : eqb (b .value) 9 ≡ true = rw e at h in
+    let v = eqb-true (b .value) 9 f in omega arith)
 
 pub cut-at : (l ts : List Byte) (b : Byte) → b .value < 128 → Characters (values (l ++ (b ∷ ts))) → Characters (values l) × Characters (values ts)
 unfolding values

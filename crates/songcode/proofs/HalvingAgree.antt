@@ -74,6 +74,12 @@ module _ (beat : ℕ) (table : List ℕ) where
   few-probes (held l e h) zero t = absurd (omega arith)
   few-probes (held l e h) (suc k) t = omega arith
   few-probes (before l e b r) zero t = absurd (omega arith)
-  few-probes (before l e b r) (suc k) t = let p = pow·suc 2 k in let i = few-probes r k (omega arith) in omega arith
+  few-probes (before l e b r) (suc k) t =
+      let p = pow·suc 2 k in
+      let i = few-probes r k (omega arith) in
+      omega arith
   few-probes (past l e b r) zero t = absurd (omega arith)
-  few-probes (past l e b r) (suc k) t = let p = pow·suc 2 k in let i = few-probes r k (omega arith) in omega arith
+  few-probes (past l e b r) (suc k) t =
+      let p = pow·suc 2 k in
+      let i = few-probes r k (omega arith) in
+      omega arith

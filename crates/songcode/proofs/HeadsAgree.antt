@@ -60,7 +60,8 @@ begins share (c ∷ heard) b front behind h e =
     (λ more p q.
     let more-begin = begins share heard b more behind h q in
     let long : length front ≡ share + length more = ap length p ∙ length-append (lasting share c) more ∙ ap (λ k. k + length more) (lasting-length share c) in (
-      (λ t. let i = more-begin .0 t in let m = suc-mul (i .0) share in (suc (i .0), omega arith)),
+      (λ t. let i = more-begin .0 t in
+          let m = suc-mul (i .0) share in (suc (i .0), omega arith)),
       (λ i. more-begin .1 (one-fewer share (i .0) (length more) h (sym long ∙ i .1))),
     ))
     (λ x mid p q.
@@ -101,7 +102,10 @@ back-left n m lost begun stays f =
     record {
       share = f .share;
       divides = f .divides;
-      within = let long = length-append begun stays in let most = f .within in omega arith;
+      within =
+          let long = length-append begun stays in
+          let most = f .within in
+          omega arith;
       heads = λ front behind b e.
           let whole = f .heads (begun ++ front) behind b (ap (λ z. begun ++ z) e ∙ sym (append-assoc begun front (b ∷ behind))) in
           let long = length-append begun front in
@@ -116,7 +120,10 @@ front-left n m lost stays ended f =
     record {
       share = f .share;
       divides = f .divides;
-      within = let long = length-append stays ended in let most = f .within in omega arith;
+      within =
+          let long = length-append stays ended in
+          let most = f .within in
+          omega arith;
       heads = λ front behind b e. f .heads front (behind ++ ended) b (ap (λ z. z ++ ended) e ∙ append-assoc front (b ∷ behind) ended);
     }
 

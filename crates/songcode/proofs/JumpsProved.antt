@@ -24,9 +24,11 @@ found-holds : (beat : ℕ) (table : List ℕ) {start end place probes : ℕ} {fo
     → (place < end) × Holds beat (getD table place 0)
 found-holds beat table (empty l) f = none-some refl f
 found-holds beat table {place = p} (held {place = q} l e h) f =
-    let z : q ≡ p = cc (f) in let i = half-inside l e in rw (← z) (i .1, h)
+    let z : q ≡ p = cc (f) in
+    let i = half-inside l e in rw (← z) (i .1, h)
 found-holds beat table (before l e b r) f =
-    let i = half-inside l e in let g = found-holds beat table r f in (omega arith, g .1)
+    let i = half-inside l e in
+    let g = found-holds beat table r f in (omega arith, g .1)
 found-holds beat table (past l e b r) f = found-holds beat table r f
 
 -- Where records follow on one another, a record in the range that holds the beat is found.
@@ -37,7 +39,8 @@ module _ (first beat : ℕ) (table : List ℕ) (f : follows first table ≡ true
       (λ e. absurd (one-holds first table f beat i j (ltb-true i j e) m h g))
       (λ e. by-cases (ltb j i)
       (λ d. absurd (one-holds first table f beat j i (ltb-true j i d) l g h))
-      (λ d. let x = ltb-false i j e in let y = ltb-false j i d in omega arith))
+      (λ d. let x = ltb-false i j e in
+      let y = ltb-false j i d in omega arith))
 
   holder-found : {start end probes : ℕ} {found : Option ℕ} → Halves beat table start end found probes → end ≤ length table → (place : ℕ) → start ≤ place
       → place < end → Holds beat (getD table place 0) → found ≡ some place

@@ -136,7 +136,8 @@ long-in s sofar (x ∷ xs) {c} m =
       section = r .section;
       behind = r .behind;
       written = ap (λ z. x ∷ z) (r .written);
-      what = ⊎-elim (λ h. let a = h .0 in let b = h .1 in inl (omega arith, omega arith, h .2)) (λ h. inr h) (r .what);
+      what = ⊎-elim (λ h. let a = h .0 in
+          let b = h .1 in inl (omega arith, omega arith, h .2)) (λ h. inr h) (r .what);
     })
     m
 

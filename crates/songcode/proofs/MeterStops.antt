@@ -45,7 +45,11 @@ places-are m = ap (λ k. k + m .removers) (sounds-counted (m .sounds))
 divides : (n : ℕ) (m : Measure) → fits n m ≡ true → (k : ℕ) × (k * places m ≡ n)
 unfolding fits
 divides n m e =
-    rw (places-are m) (n / positions m, let r = eqb-true (n % positions m) 0 e in let d = div-add-mod' n (positions m) in omega arith)
+    rw (places-are m) (
+      n / positions m,
+      let r = eqb-true (n % positions m) 0 e in
+          let d = div-add-mod' n (positions m) in omega arith,
+    )
 
 undivides : (n k : ℕ) (m : Measure) → k * places m ≡ n → fits n m ≡ true
 unfolding fits

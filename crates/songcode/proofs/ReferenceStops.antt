@@ -40,7 +40,8 @@ unfolding definitionOf if_then_else_
 a-definition n [] d h = none-some refl h
 a-definition n (x ∷ ds) d h =
     by-cases (eqb (x .id) n)
-    (λ t. let e : some x ≡ some d = rw t at h in let q : x ≡ d = cc in (List·Memᴰ·head (sym q), ap (λ z. z .id) (sym q) ∙ eqb-true (x .id) n t))
+    (λ t. let e : some x ≡ some d = rw t at h in
+    let q : x ≡ d = cc in (List·Memᴰ·head (sym q), ap (λ z. z .id) (sym q) ∙ eqb-true (x .id) n t))
     (λ f. let r = a-definition n ds d (rw f at h) in (List·Memᴰ·tail (r .0), r .1))
 
 missing : (n : ℕ) (ds : List Definition) → ((e : Definition) → List·Memᴰ e ds → e .id ≡ n → ⊥) → definitionOf n ds ≡ none

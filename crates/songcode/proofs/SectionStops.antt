@@ -206,7 +206,10 @@ modifier-ordered ofBefore = refl
 modifier-ordered ofAfter = refl
 
 one-modifier : (k j : ModifierName) → modifierPlace k ≡ modifierPlace j → k ≡ j
-one-modifier k j e = let a = modifier-ordered k in let b = modifier-ordered j in cc
+one-modifier k j e =
+    let a = modifier-ordered k in
+    let b = modifier-ordered j in
+    cc
 
 modifier-again : {before : List Line} {l : Line} {c : Complaint} → Again 8 modifierSaid [] before l c ↔ ModifierDoubled before l c
 modifier-again {before} {l} {c} = (to, from)

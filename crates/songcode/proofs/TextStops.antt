@@ -140,7 +140,8 @@ turn-later a b h =
     (λ j. rw (k, j, turn) (omega arith))
     (λ j. rw (k, j, turn) (omega arith))
     (λ j. absurd (i .1 (section-kind b .1 j))))
-    (λ i. let k = definition-kind a .0 (i .0) in let j = metadata-kind b .0 (i .1) in rw (k, j, turn) (omega arith))
+    (λ i. let k = definition-kind a .0 (i .0) in
+    let j = metadata-kind b .0 (i .1) in rw (k, j, turn) (omega arith))
     h
 
 -- A block behind others, one of which is of a later kind, or which comes after a turn.

@@ -1,5 +1,5 @@
 -- The returns of the functions on blocks' beginnings and ends.
-use Prim.Native.Nat.{ℕ, min, max}
+use Prim.Native.Nat.{ℕ, _+_, min, max}
 use mathlib.Core.Path.{_≡_, refl, sym, ap, _∙_}
 use mathlib.Core.List.{List}
 use mathlib.Core.Bool.{Bool, not}
@@ -8,15 +8,11 @@ use lib.Dec.{leb, ltb}
 use Rattle.songcode.specs.Lists.{if_then_else_}
 use Rattle.songcode.specs.Bytes.{placed}
 use Rattle.songcode.specs.answer.Lines.{Line}
-use Rattle.songcode.specs.answer.Numbers.{countIn}
 use Rattle.songcode.specs.Complaints.{complainIf}
-use Rattle.songcode.specs.answer.Sections.{behindFirst}
 use Rattle.songcode.specs.answer.SongText as songtext
-use Rattle.songcode.specs.answer.SongText.{metadata, definition, section, kindOfText, headIn}
+use Rattle.songcode.specs.answer.SongText.{metadata, definition, section, kindOfText}
 use Rattle.songcode.proofs.ChoiceLaws.{zero-is-not-one}
 use Rattle.songcode.proofs.ListLaws.{by-cases}
-use Rattle.tokens.specs.Decimals.{numberOf}
-use Rattle.tokens.specs.declared.numbers.Number.{Number}
 use Rattle.text.specs.Spans.{part}
 use Rattle.settings.specs.Kinds.{blockKindIs}
 use Rattle.settings.specs.Phrases.{isHeader}
@@ -24,19 +20,18 @@ use Rattle.settings.specs.declared.kinds.BlockKind.{BlockKind}
 use Rattle.settings.specs.declared.kinds.BlockKind.the-variants.{Metadata, Definition, Section}
 use Rattle.settings.proofs.PlaceLaws.{isHeader-placeless, header-faults}
 use Rattle.settings.proofs.ValueLaws.{kindOfText-placeless}
-use Rattle.settings.proofs.OfLineLaws.{lineFrom, head-of-line}
+use Rattle.settings.proofs.OfLineLaws.{lineFrom}
 use Rattle.grammar.specs.Checks.{first}
 use Rattle.grammar.specs.declared.checks.Check.{Check}
 use Rattle.stage2.specs.declared.states.Part.the-variants.{Keys}
 use Rattle.stage2.specs.declared.states.Place.the-variants as place
-use Rattle.stage2.specs.declared.states.Heads.{Heads}
 use Rattle.stage2.specs.declared.states.Carried.{Carried}
 use Rattle.stage2.specs.declared.states.Pending.{Pending}
 use Rattle.stage2.specs.declared.states.State.{State}
 use Rattle.stage2.specs.declared.states.Judged.{Judged}
-use Rattle.stage2.specs.Ranks.{ranked, none, noSection, least, unless, onlyIf}
-use Rattle.stage2.specs.Walk.{pending, nothingPending, late}
-use Rattle.stage2.specs.States.{marked, keyOf, headJudged, withHead, blockState, carried, judged, fineFor, closing, keyJudged, metadataState}
+use Rattle.text.specs.Ranks.{ranked, none, noSection, least, onlyIf}
+use Rattle.stage2.specs.Walk.{pending, nothingPending, late, unless}
+use Rattle.stage2.specs.States.{marked, keyOf, blockState, carried, judged, fineFor, closing, keyJudged, metadataState, headState}
 use Rattle.stage2.specs.States.{opening, ends}
 
 pub block-closed : (c : State) (fine : Bool) (seven x r : ℕ) → fine ≡ fineFor (c .place) (c .pending .check) → seven ≡ unless fine (c .pending .bad)
@@ -56,33 +51,26 @@ unfolding ends
 text-ended c nine end r a b d = rw (← b, ← unless-late (c .carried .turn) noSection, ← a) d
 
 module _ (k : Carried) (l : Line) where
-  pub in-metadata : (turn note : ℕ) (m : List Bool) (q : Pending) (c : State) → note ≡ keyJudged (k .metadata) l → m ≡ marked (keyOf l) (k .metadata)
-      → q ≡ nothingPending → c ≡ blockState place.Metadata (carried turn m (k .heads)) q
-      → judged note c ≡ judged (keyJudged (k .metadata) l) (metadataState turn k l)
-  in-metadata turn note m q c a b d e = rw (a, e, b, d) refl
+  pub in-metadata : (note : ℕ) (m : List Bool) (q : Pending) (c : State) → note ≡ keyJudged (k .metadata) l → m ≡ marked (keyOf l) (k .metadata)
+      → q ≡ nothingPending → c ≡ blockState place.Metadata (carried (k .turn) m (k .count)) q
+      → judged note c ≡ judged (keyJudged (k .metadata) l) (metadataState k l)
+  in-metadata note m q c a b d e = rw (a, e, b, d) refl
 
-  pub opened-metadata : (behind turn note : ℕ) (j : Judged) → behind ≡ least (complainIf (ltb 0 (k .turn)) 3 (l .number)) → turn ≡ max (k .turn) 0
-      → j ≡ judged (keyJudged (k .metadata) l) (metadataState turn k l) → note ≡ min behind (j .note)
-      → judged note (j .state) ≡ opening metadata k l
+  pub opened-metadata : (behind note : ℕ) (j : Judged) → behind ≡ least (complainIf (ltb 0 (k .turn)) 3 (l .number))
+      → j ≡ judged (keyJudged (k .metadata) l) (metadataState k l) → note ≡ min behind (j .note) → judged note (j .state) ≡ opening metadata k l
   unfolding opening late
-  opened-metadata behind turn note j a b d e = rw (e, d, a, b) refl
+  opened-metadata behind note j a d e = rw (e, d, a) refl
+
+pub opened-definition : (k : Carried) (n behind turn count : ℕ) (q : Pending) (c : State) → behind ≡ least (complainIf (ltb 1 (k .turn)) 3 n)
+    → turn ≡ max (k .turn) 1 → count ≡ min (k .count) 25 → q ≡ nothingPending → c ≡ blockState place.Head (carried turn (k .metadata) (count + 1)) q
+    → judged behind c ≡ judged (least (complainIf (ltb 1 (k .turn)) 3 n)) (headState (max (k .turn) 1) k)
+opened-definition k n behind turn count q c x t m r v = rw (v, x, t, m, r) refl
 
 module _ (k : Carried) (n : ℕ) (s : List ℕ) (a e : ℕ) where
-  pub opened-definition : (behind six turn note : ℕ) (head : Number) (heads : Heads) (q : Pending) (c : State)
-      → behind ≡ least (complainIf (ltb 1 (k .turn)) 3 n) → head ≡ numberOf (countIn (behindFirst (placed 0 (part a e s))))
-      → six ≡ headJudged head (k .heads) n
-      → note ≡ min behind six → heads ≡ withHead head (k .heads) → turn ≡ max (k .turn) 1 → q ≡ nothingPending
-      → c ≡ blockState place.Head (carried turn (k .metadata) heads) q
-      → judged note c ≡ opening definition k (lineFrom n s a e)
-  unfolding opening late
-  opened-definition behind six turn note head heads q c x h y z w t r v =
-      let same : head ≡ numberOf (headIn (lineFrom n s a e)) = h ∙ ap numberOf (sym (head-of-line n s a e)) in
-      rw (z, v, x, y, w, t, r, same) refl
-
   pub opened-section : (behind eight turn note want : ℕ) (good : Bool) (check : Check) (c : State) → behind ≡ least (complainIf (ltb 2 (k .turn)) 3 n)
       → good ≡ isHeader (placed 0 (part a e s)) → eight ≡ least (complainIf (not good) 8 n)
       → note ≡ min behind eight → turn ≡ max (k .turn) 2 → want ≡ ranked 8 n → check ≡ first
-      → c ≡ blockState (place.Body Keys) (carried turn (k .metadata) (k .heads)) (pending want none none check)
+      → c ≡ blockState (place.Body Keys) (carried turn (k .metadata) (k .count)) (pending want none none check)
       → judged note c ≡ opening section k (lineFrom n s a e)
   unfolding opening late
   opened-section behind eight turn note want good check c x h y z t w r v =
@@ -122,7 +110,8 @@ module _ (k : Carried) (n : ℕ) (s : List ℕ) (a e : ℕ) where
   by-metadata r j h g z = rw (is-metadata kind (found Metadata r h g)) z
 
   pub by-definition : (r : BlockKind) (j : Judged) → r ≡ blockKindIs (kindOfText (placed 0 (part a e s))) → r ≡ Definition
-      → j ≡ opening definition k (lineFrom n s a e) → Opens j
+      → j ≡ judged (least (complainIf (ltb 1 (k .turn)) 3 n)) (headState (max (k .turn) 1) k) → Opens j
+  unfolding opening late
   by-definition r j h g z = rw (is-definition kind (found Definition r h g)) z
 
   pub by-section : (r : BlockKind) (j : Judged) → r ≡ blockKindIs (kindOfText (placed 0 (part a e s))) → r ≡ Section

@@ -9,8 +9,8 @@ use Rattle.songcode.specs.Lists.{if_then_else_, isEmpty}
 use Rattle.songcode.specs.answer.Lines.{Line, Block, Runs, shut, join, runs, blocks}
 use Rattle.grammar.specs.Checks.{first}
 use Rattle.grammar.specs.Verdicts.{sectionFine}
-use Rattle.stage2.specs.Ranks.{noSection, none, unless, onlyIf}
-use Rattle.stage2.specs.Walk.{Known, Walk, step, known, between, nothingPending, gap, fineAt, closed, full, stepped, finished, walked}
+use Rattle.text.specs.Ranks.{noSection, none, onlyIf}
+use Rattle.stage2.specs.Walk.{Known, Walk, step, known, between, nothingPending, gap, fineAt, closed, full, stepped, finished, walked, unless}
 
 -- A block's lines, up to its end, and what is known behind it.
 unfoldable pub inBlock : Walk → List Line → ℕ
@@ -57,7 +57,10 @@ adds w r = min (inBlock w (r .front)) (byBlocks (afterBlock w (r .front)) (r .re
 
 shut-adds : (k : Known) (ls : List Line) (bs : List Block) → byBlocks k (shut ls bs) ≡ adds (gap k) (record { front = ls; rest = bs })
 unfolding shut byBlocks inBlock afterBlock
-shut-adds k [] bs = let h = gap-closed in let j = by-blocks-le k bs in omega arith
+shut-adds k [] bs =
+    let h = gap-closed in
+    let j = by-blocks-le k bs in
+    omega arith
 shut-adds k (l ∷ ls) bs = refl
 
 regroup : (x a b : ℕ) → min x (min a b) ≡ min (min x a) b

@@ -19,9 +19,8 @@ use Rattle.songcode.specs.answer.SongText.{headIn}
 use Rattle.songcode.proofs.ListLaws.{any-append, both-pass, by-cases}
 use Rattle.tokens.specs.Decimals.{numberOf}
 use Rattle.settings.specs.KeySettings.{isNumber}
-use Rattle.stage2.specs.declared.states.Heads.{Heads}
-use Rattle.stage2.specs.Ranks.{least}
-use Rattle.stage2.specs.States.{hasHead, headAgain, headJudged, orZero, withHead}
+use Rattle.text.specs.Ranks.{least}
+use Rattle.stage2.specs.Heads.{hasHead, headAgain, headJudged, orZero, withHead}
 use Rattle.stage2.proofs.MarkLaws.{said}
 
 -- A count is at least 1.
@@ -42,10 +41,10 @@ head-counts l =
     in-range (isDecimal bs && leb 1 v && leb v 9999) v (λ e. leb-true 1 v
     (both-pass (isDecimal bs) (leb 1 v) (both-pass (isDecimal bs && leb 1 v) (leb v 9999) e .0) .1))
 
-abbrev pub HeadsAgree : Heads → ℕ → List ℕ → Type 0
-HeadsAgree h n seen = (h .count ≡ min n 26) × (length (h .ids) ≡ 26) × (n < 26 → (x : ℕ) → 1 ≤ x → said x (take (h .count) (h .ids)) ≡ said x seen)
+abbrev pub HeadsAgree : ℕ → List ℕ → ℕ → List ℕ → Type 0
+HeadsAgree m ids n seen = (m ≡ min n 26) × (length ids ≡ 26) × (n < 26 → (x : ℕ) → 1 ≤ x → said x (take m ids) ≡ said x seen)
 
-pub no-heads-agree : HeadsAgree (record { count = 0; ids = replicate 26 0 }) 0 []
+pub no-heads-agree : HeadsAgree 0 (replicate 26 0) 0 []
 unfolding any
 no-heads-agree = (refl, refl, λ h x p. refl)
 
@@ -55,35 +54,34 @@ unfolding least complainIf when
 same-line true line = omega arith
 same-line false line = omega arith
 
-module _ (h : Heads) (n : ℕ) (seen : List ℕ) (a : HeadsAgree h n seen) where
-  beyond : 26 ≤ n → (o : Option ℕ) (l : Line) → headJudged (numberOf o) h (l .number) ≡ min
+module _ (m : ℕ) (ids : List ℕ) (n : ℕ) (seen : List ℕ) (a : HeadsAgree m ids n seen) where
+  beyond : 26 ≤ n → (o : Option ℕ) (l : Line) → headJudged (numberOf o) m ids (l .number) ≡ min
       (least (complainIf (not (isSome o) || leb 26 n) 6 (l .number))) (least (twiceBy 6 o seen l))
   unfolding headJudged headAgain twiceBy least numberOf isNumber isSome
   beyond g none l = refl
   beyond g (some x) l =
-      let c : leb 26 (h .count) ≡ true = le-leb 26 (h .count) (omega arith) in
-      rw (c, le-leb 26 n g) (same-line (hasHead h x) (l .number) ∙ sym (same-line (said x seen) (l .number)))
+      let c : leb 26 m ≡ true = le-leb 26 m (omega arith) in
+      rw (c, le-leb 26 n g) (same-line (hasHead m ids x) (l .number) ∙ sym (same-line (said x seen) (l .number)))
 
-  within : n < 26 → (o : Option ℕ) (l : Line) → Counts o → headJudged (numberOf o) h (l .number) ≡ min
+  within : n < 26 → (o : Option ℕ) (l : Line) → Counts o → headJudged (numberOf o) m ids (l .number) ≡ min
       (least (complainIf (not (isSome o) || leb 26 n) 6 (l .number))) (least (twiceBy 6 o seen l))
   unfolding headJudged headAgain hasHead twiceBy least Counts numberOf isNumber isSome
   within g none l c = refl
-  within g (some x) l c = let e : h .count ≡ n = omega arith in rw (a .2 g x c, e) refl
+  within g (some x) l c = let e : m ≡ n = omega arith in rw (a .2 g x c, e) refl
 
-  pub head-agrees : (o : Option ℕ) (l : Line) → Counts o → headJudged (numberOf o) h (l .number) ≡ min
+  pub head-agrees : (o : Option ℕ) (l : Line) → Counts o → headJudged (numberOf o) m ids (l .number) ≡ min
       (least (complainIf (not (isSome o) || leb 26 n) 6 (l .number))) (least (twiceBy 6 o seen l))
   head-agrees o l c =
       by-cases (leb 26 n) (λ e. beyond (leb-true 26 n e) o l) (λ e. within (leb-false 26 n e) o l c)
 
   -- One more head.
-  one-more : (x v : ℕ) → n < 26 → said x (take (h .count + 1) (set (h .ids) (h .count) v)) ≡ (said x (take (h .count) (h .ids)) || (eqb v x || false))
+  one-more : (x v : ℕ) → n < 26 → said x (take (m + 1) (set ids m v)) ≡ (said x (take m ids) || (eqb v x || false))
   unfolding any
   one-more x v g =
-      let i = h .count in
-      let long : i < length (h .ids) = omega arith in
-      let long2 : i < length (set (h .ids) i v) = omega (arith, length-set (h .ids) i v) in
-      rw (add-one i, take-suc (set (h .ids) i v) i 0 long2, take-set-le i (h .ids) i v (omega arith), getD-set-same (h .ids) i v 0 long)
-      (any-append (λ y. eqb y x) (take i (h .ids)) (v ∷ []))
+      let long : m < length ids = omega arith in
+      let long2 : m < length (set ids m v) = omega (arith, length-set ids m v) in
+      rw (add-one m, take-suc (set ids m v) m 0 long2, take-set-le m ids m v (omega arith), getD-set-same ids m v 0 long)
+      (any-append (λ y. eqb y x) (take m ids) (v ∷ []))
 
   said-more : (o : Option ℕ) (x : ℕ) → Counts o → 1 ≤ x → (said x seen || (eqb (orZero (numberOf o)) x || false)) ≡ said x (prepend o seen)
   unfolding any prepend orZero numberOf Counts
@@ -100,16 +98,17 @@ module _ (h : Heads) (n : ℕ) (seen : List ℕ) (a : HeadsAgree h n seen) where
       or-swap false true = refl
       or-swap false false = refl
 
-  pub with-head-agrees : (o : Option ℕ) → Counts o → HeadsAgree (withHead (numberOf o) h) (suc n) (prepend o seen)
+  pub with-head-agrees : (o : Option ℕ) → Counts o → HeadsAgree (min m 25 + 1) (withHead (numberOf o) m ids) (suc n) (prepend o seen)
   unfolding withHead if_then_else_
   with-head-agrees o c =
       by-cases
-      (leb 26 (h .count))
-      (λ e. let g = leb-true 26 (h .count) e in rw e (omega arith, a .1, λ z. absurd (omega arith)))
-      (λ e. let g = leb-false 26 (h .count) e in
-      rw e (
+      (leb 26 m)
+      (λ e. let g = leb-true 26 m e in rw e (omega arith, a .1, λ z. absurd (omega arith)))
+      (λ e. let g = leb-false 26 m e in
+      let k : min m 25 ≡ m = omega arith in
+      rw (e, k) (
         omega arith,
-        length-set (h .ids) (h .count) (orZero (numberOf o)) ∙ a .1,
+        length-set ids m (orZero (numberOf o)) ∙ a .1,
         λ z x p. one-more x (orZero (numberOf o)) (omega arith)
             ∙ (ap (λ (b : Bool). b || (eqb (orZero (numberOf o)) x || false)) (a .2 (omega arith) x p) ∙ said-more o x c p),
       ))

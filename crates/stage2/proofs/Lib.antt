@@ -1,5 +1,3 @@
--- Laws of complaints as numbers.
-pub mod RankLaws
 -- The walk over the lines gives the least complaint of all blocks.
 pub mod BlockWalk
 pub mod SeenLaws
@@ -18,7 +16,8 @@ pub mod HeadLaws
 pub mod StateLaws
 pub mod NoteLaws
 -- What the functions return.
-pub mod SmallReturns
+pub mod MarkReturns
+pub mod HeadReturns
 pub mod NameReturns
 pub mod LineReturns
 pub mod BodyReturns

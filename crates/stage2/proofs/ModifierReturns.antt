@@ -25,7 +25,7 @@ use Rattle.settings.specs.declared.modifiers.ModifierName.the-variants.{Repeat,
 use Rattle.settings.proofs.NumberLaws.{repeatIn-placeless}
 use Rattle.settings.proofs.CutLaws.{cutIn-placeless}
 use Rattle.settings.proofs.OfLineLaws.{lineFrom, setting-of-line}
-use Rattle.stage2.specs.Ranks.{least}
+use Rattle.text.specs.Ranks.{least}
 use Rattle.stage2.specs.LineNotes.{isCut, settingFine, settingNumber, modifierNote}
 
 number-there : (o : Option ℕ) → isNumber (numberOf o) ≡ isSome o

@@ -17,9 +17,9 @@ use Rattle.songcode.specs.Complaints.{complaint, complainIf}
 use Rattle.songcode.specs.answer.Sections.{settingOf, keyFaultsBy, modifierFaultsBy}
 use Rattle.settings.specs.Names.{keyIs, modifierIs}
 use Rattle.settings.specs.KeySettings.{isSettingOf}
-use Rattle.stage2.specs.Ranks.{least}
+use Rattle.text.specs.Ranks.{least, ranked}
 use Rattle.stage2.specs.LineNotes.{keyNumber, modifierNumber, allowedIn, keyNote, settingFine, settingNumber, modifierNote}
-use Rattle.stage2.proofs.RankLaws.{least-append}
+use Rattle.text.proofs.RankLaws.{least-append}
 
 -- Where keys stand.
 unfoldable pub allowedBy : Bool → KeyName → Bool
@@ -58,7 +58,7 @@ setting-same end bs = refl
 
 -- On one line the lower number goes first.
 lower-first : (line : ℕ) → min (least (complainIf true 4 line)) (least (complainIf true 5 line)) ≡ least (complaint 4 line ∷ [])
-unfolding least complainIf when
+unfolding least complainIf when ranked
 lower-first line = omega arith
 
 pub key-note : (section : Bool) (o : Option KeyName) (l : Line) → least (keyFaultsBy (allowedBy section) o l) ≡ keyNote section (keyIs o)

@@ -18,10 +18,10 @@ use Rattle.stage2.specs.declared.states.Pending.{Pending}
 use Rattle.stage2.specs.declared.states.Part.{Part}
 use Rattle.stage2.specs.declared.states.Part.the-variants.{Keys, Early, Pattern, Behind}
 use Rattle.stage2.specs.Places.{partAfter, misplacedAt, orderAt}
-use Rattle.stage2.specs.Ranks.{ranked, none, least, unless, onlyIf}
-use Rattle.stage2.specs.Walk.{Known, known, inBody, inLyrics, walkAt, pending, closed, fineAt, late, opens, pendingAfter, orderNote, bodyNote}
+use Rattle.text.specs.Ranks.{ranked, none, least, onlyIf}
+use Rattle.stage2.specs.Walk.{Known, known, inBody, inLyrics, walkAt, pending, closed, fineAt, late, opens, pendingAfter, orderNote, bodyNote, unless}
 use Rattle.stage2.specs.Walk.{bodyStep, lyricsWith, patternPending, stepAt}
-use Rattle.stage2.proofs.RankLaws.{least-append, least-both, least-if, least-le, min-assoc, min-both}
+use Rattle.text.proofs.RankLaws.{least-append, least-both, least-if, least-le, min-assoc, min-both}
 use Rattle.stage2.proofs.BlockWalk.{inBlock, afterBlock, blockNote, blockAfter}
 use Rattle.stage2.proofs.PlaceLaws.{order-at}
 use Rattle.stage2.proofs.PatternWalk.{wanted, patternLeft, Fits, at-end, pattern-next, fits-next, run-faults}
@@ -60,7 +60,10 @@ module _ (k : Known) (ks ms : List ℕ) where
       (least (complainIf (isEmpty ls) 8 n)) (min (q .want) (unless (sectionFine (q .check)) (q .bad)))
   unfolding inBlock closed fineAt stepAt isEmpty onlyIf if_then_else_
   dashes q n [] = let h = least-if true 8 n in omega arith
-  dashes q n (l ∷ ls) = let h = least-if false 8 n in let j = sung (q .want) (q .bad) (q .check) ls in omega arith
+  dashes q n (l ∷ ls) =
+      let h = least-if false 8 n in
+      let j = sung (q .want) (q .bad) (q .check) ls in
+      omega arith
 
 bare-next : (l : Line) (p : Part) (k : Kind) (q : Pending) → q .bare ≡ none → pendingAfter k p l q .bare ≡ none
 unfolding pendingAfter patternPending
@@ -87,7 +90,10 @@ module _ (k : Known) where
   section-lines : (p : Part) (ks ms : List ℕ) (q : Pending) (ls : List Line) → q .bare ≡ none → Fits p q
       → inBlock (walkAt (inBody p) k ks ms q) ls ≡ sectionLeft p ks ms q ls
   unfolding inBlock closed fineAt stepAt taken left lyricFaults if_then_else_ bodyStep least
-  section-lines p ks ms q [] b f = let h = at-end p q f in let j = no-body p ks ms in omega arith
+  section-lines p ks ms q [] b f =
+      let h = at-end p q f in
+      let j = no-body p ks ms in
+      omega arith
   section-lines p ks ms q (l ∷ ls) b f =
       by-cases
       (notDashes l)

@@ -14,7 +14,7 @@ use Rattle.songcode.specs.answer.SongText.{metadataFaults, headIn, definitionIf
 use Rattle.songcode.specs.answer.SongText.{definitionFaults, definitionsFaults}
 use Rattle.songcode.proofs.ListLaws.{Each, each-append}
 use Rattle.settings.specs.Phrases.{isHeader}
-use Rattle.stage2.specs.Ranks.{Small}
+use Rattle.text.specs.Ranks.{Small}
 use Rattle.stage2.proofs.TextWalk.{blockFaults}
 use Rattle.stage2.proofs.SmallLineFaults.{Low, LowBlock, Fine, fine-if, fine-gather, each-gather, each-taken, each-left, fine-twice}
 use Rattle.stage2.proofs.SmallLineFaults.{fine-faults, fine-metadata, fine-order, fine-pattern, fine-definition, fine-lyrics}
@@ -87,7 +87,7 @@ module _ (b : Block) (h : LowBlock b) where
   low-definition definition = (h, tt)
   low-definition section = tt
 
-  low-section : (k : BlockKind) → Each LowBlock (sectionIf k b)
+  pub low-section : (k : BlockKind) → Each LowBlock (sectionIf k b)
   unfolding sectionIf Each
   low-section metadata = tt
   low-section definition = tt

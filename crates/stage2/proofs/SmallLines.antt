@@ -9,19 +9,19 @@ use Rattle.songcode.specs.Lists.{isEmpty}
 use Rattle.songcode.specs.answer.Lines as songcode
 use Rattle.songcode.specs.answer.Lines.{Block, Runs, shut, join, runs, blocks}
 use Rattle.songcode.specs.Complaints.{earliest}
-use Rattle.songcode.specs.answer.SongText.{sectionBlocks, textFaults}
+use Rattle.songcode.specs.answer.SongText.{blockKind, sectionIf, sectionBlocks, textFaults}
 use Rattle.songcode.specs.answer.Answer.{blocksOf}
 use Rattle.songcode.proofs.ListLaws.{Each}
 use Rattle.text.specs.Refusals.{refusalOf}
 use Rattle.text.specs.Spans.{lineOf, spansFrom, spans, lineText}
 use Rattle.text.specs.declared.lines.Line.{Line}
 use Rattle.text.proofs.LineLaws.{blocks-spans}
-use Rattle.stage2.specs.Ranks.{refusalAt}
+use Rattle.text.specs.Ranks.{refusalAt}
 use Rattle.stage2.specs.Walk.{walked, atFirst}
-use Rattle.stage2.proofs.RankLaws.{or-no-section, clear-faults}
+use Rattle.text.proofs.RankLaws.{or-no-section, clear-faults}
 use Rattle.stage2.proofs.TextWalk.{blockFaults, walked-least}
-use Rattle.stage2.proofs.SmallFaults.{faults-small}
-use Rattle.stage2.proofs.SmallLineFaults.{Low, LowBlock}
+use Rattle.stage2.proofs.SmallFaults.{faults-small, low-section}
+use Rattle.stage2.proofs.SmallLineFaults.{Low, LowBlock, each-gather}
 
 -- A line has at least one byte, so numbers do not outrun places.
 numbers : (s : List ℕ) (n at k : ℕ) (bs : List ℕ) → n + length bs ≤ 131072 → Each Low (map (lineText s) (spansFrom n at k bs))
@@ -52,6 +52,15 @@ low-runs (l ∷ ls) h = low-join (isEmpty (l .text)) l (runs ls) (h .0) (low-run
 low-blocks : (ls : List songcode.Line) → Each Low ls → Each LowBlock (blocks ls)
 unfolding blocks
 low-blocks ls h = let r = low-runs ls h in low-shut (runs ls .front) (runs ls .rest) (r .0) (r .1)
+
+pub text-low : (s : List ℕ) → length s ≤ 65536 → Each LowBlock (blocksOf s)
+unfolding spans
+text-low s h = rw (blocks-spans s) (low-blocks (map (lineText s) (spans s)) (numbers s 1 0 0 s (omega arith)))
+
+pub sections-low : (s : List ℕ) → length s ≤ 65536 → Each LowBlock (sectionBlocks (blocksOf s))
+unfolding sectionBlocks
+sections-low s h =
+    each-gather LowBlock (λ b. sectionIf (blockKind b) b) (λ b p. low-section b p (blockKind b)) (blocksOf s) (text-low s h)
 
 -- The law of stage 2: the walk over the lines of a text says which complaint goes first.
 pub stage-walked : (s : List ℕ) → length s ≤ 65536 → refusalAt (walked atFirst (map (lineText s) (spans s))) ≡ refusalOf (earliest (textFaults (blocksOf s)))

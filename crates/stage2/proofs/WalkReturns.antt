@@ -23,13 +23,15 @@ use Rattle.settings.proofs.ValueLaws.{is-placeless}
 use Rattle.settings.proofs.OfLineLaws.{lineFrom}
 use Rattle.stage2.specs.declared.states.Part.{Part}
 use Rattle.stage2.specs.declared.states.Place.{Place}
-use Rattle.stage2.specs.declared.states.Place.the-variants.{Between, Head, Definition, Body, Lyrics}
+use Rattle.stage2.specs.declared.states.Place.the-variants.{Between, Definition, Body}
 use Rattle.stage2.specs.declared.states.Pending.{Pending}
 use Rattle.stage2.specs.declared.states.State.{State}
 use Rattle.stage2.specs.declared.states.Judged.{Judged}
-use Rattle.stage2.specs.Ranks.{ranked, none, refusalAt}
-use Rattle.stage2.specs.Walk.{Walk, known, nothingPending, patternBegun, patternMore, stepped, walked, atFirst}
-use Rattle.stage2.specs.States.{Fit, blockState, judged, closing, bodyJudged, bodyState, lyricsState, judgedAt, judge, ends}
+use Rattle.text.specs.Ranks.{ranked, none, refusalAt}
+use Rattle.stage2.specs.Walk.{Walk, known, nothingPending, patternPending, stepped, walked, atFirst}
+use Rattle.stage2.specs.States.{blockState, judged, definitionState, closing, bodyJudged, bodyState, lyricsState, judgedAt, judge, ends}
+use Rattle.stage2.specs.Heads.{headNoted, headsAfter}
+use Rattle.text.proofs.RankLaws.{min-assoc}
 use Rattle.stage2.proofs.BlockWalk.{by-blocks-le, walked-by-blocks}
 use Rattle.stage2.proofs.SmallLines.{stage-walked}
 use Rattle.stage2.proofs.StateLaws.{Stands, keeps-step, ends-same}
@@ -39,9 +41,9 @@ module _ (c : State) (p : Part) (n : ℕ) (s : List ℕ) (a e : ℕ) (t : Bool) 
   unfolding notDashes
   not-dashes = ap not (is-placeless "--" a (part a e s) ∙ sym h)
 
-  pub at-dashes : (bare : ℕ) (d : State) → t ≡ true → bare ≡ ranked 8 n → d ≡ lyricsState c bare → judged none d ≡ judgedAt (Body p) c (lineFrom n s a e)
+  pub at-dashes : (bare : ℕ) (j : Judged) → t ≡ true → bare ≡ ranked 8 n → j ≡ judged none (lyricsState c bare) → j ≡ judgedAt (Body p) c (lineFrom n s a e)
   unfolding judgedAt if_then_else_
-  at-dashes bare d y b g = rw (not-dashes, y, g, b) refl
+  at-dashes bare j y b g = rw (not-dashes, y, g, b) refl
 
   pub at-body : (j : Judged) → t ≡ false → j ≡ judged (bodyJudged p (c .keys) (c .modifiers) (lineFrom n s a e))
       (bodyState p c (lineFrom n s a e)) → j ≡ judgedAt (Body p) c (lineFrom n s a e)
@@ -53,18 +55,9 @@ module _ (c : State) (l : songcode.Line) where
   pub by-place : (p : Place) (j : Judged) → c .place ≡ p → j ≡ judgedAt p c l → j ≡ judgedAt (c .place) c l
   by-place p j e h = subst (λ (q : Place). j ≡ judgedAt q c l) (sym e) h
 
-  pub first-of-text : (q : Pending) (d : State) → q ≡ patternBegun l (c .pending) → d ≡ blockState Definition (c .carried) q → judged none d ≡ judgedAt Head c l
-  unfolding judgedAt
-  first-of-text q d a b = rw (b, a) refl
-
-  pub next-of-text : (q : Pending) (d : State) → q ≡ patternMore l (c .pending) → d ≡ blockState Definition (c .carried) q
-      → judged none d ≡ judgedAt Definition c l
-  unfolding judgedAt
-  next-of-text q d a b = rw (b, a) refl
-
-  pub of-lyrics : (d : State) → d ≡ lyricsState c none → judged none d ≡ judgedAt Lyrics c l
-  unfolding judgedAt
-  of-lyrics d a = rw a refl
+  pub in-text : (p : Part) (q : Pending) (d : State) → q ≡ patternPending p l (c .pending) → d ≡ blockState Definition (c .carried) q
+      → judged none d ≡ judged none (definitionState p c l)
+  in-text p q d a b = rw (b, a) refl
 
 -- Blank or not.
 module _ (c : State) (s : List ℕ) (l : Line) (long : l .stop ≤ length s) where
@@ -81,19 +74,34 @@ module _ (c : State) (s : List ℕ) (l : Line) (long : l .stop ≤ length s) whe
 abbrev pub toCome : List ℕ → Walk → ℕ → ℕ → ℕ
 toCome s w n at = walked w (map (lineText s) (spansFrom n at 0 (drop at s)))
 
-pub fit : (w : Walk) (c : State) → Stands w c → Fit (c .carried .heads)
-fit w c h = let a = h .carried .heads in (omega arith, a .1)
+pub heads-fit : (w : Walk) (c : State) (ids : List ℕ) → Stands w c ids → (c .carried .count ≤ 26) × (length ids ≡ 26)
+heads-fit w c ids h = let a = h .carried .heads in (omega arith, a .1)
 
-pub one-line : (s : List ℕ) (w : Walk) (c : State) (n at : ℕ) (l : Line) (j : Judged) → Stands w c → at < length s → Found s n at l → j ≡ judge c (lineText s l)
-    → (v : Walk) × Stands v (j .state) × (toCome s w n at ≡ min (j .note) (toCome s v (n + 1) (l .next)))
-unfolding walked
-one-line s w c n at l j h b f e =
-    let step = keeps-step w c h (lineText s l) in
-    (stepped w (lineText s l) .walk, rw e (step .1), rw (e, step .0) (ap (λ (ls : List Line). walked w (map (lineText s) ls)) (spans-found f b)))
+-- A complaint that is no less than none counts as none.
+with-none : (best x : ℕ) → best ≤ none → min best x ≡ min best (min none x)
+with-none best x h = omega arith
 
-pub no-line : (s : List ℕ) (w : Walk) (c : State) (n at : ℕ) → Stands w c → length s ≤ at → toCome s w n at ≡ ends c
-unfolding walked
-no-line s w c n at h b = ap (λ (ls : List Line). walked w (map (lineText s) ls)) (spans-over s n at b) ∙ sym (ends-same w c h)
+best-on : (best x y t : ℕ) → best ≤ none → min none x ≡ min none y → min (min best x) t ≡ min best (min y t)
+best-on best x y t h e =
+    ap (λ (z : ℕ). min z t) (with-none best x h ∙ (ap (min best) e ∙ sym (with-none best y h))) ∙ min-assoc best y t
+
+module _ (s : List ℕ) (w : Walk) (c : State) (ids : List ℕ) (n at : ℕ) (h : Stands w c ids) where
+  pub one-line : (l : Line) (j : Judged) (six best : ℕ) (after : List ℕ) → at < length s → Found s n at l → j ≡ judge c (lineText s l)
+      → six ≡ headNoted (j .state .place) (c .carried .count) ids (lineText s l)
+      → after ≡ headsAfter (j .state .place) (c .carried .count) ids (lineText s l) → best ≤ none
+      → (v : Walk) × Stands v (j .state) after
+      × (min (min best (min (j .note) six)) (toCome s v (n + 1) (l .next)) ≡ min best (toCome s w n at))
+  unfolding walked
+  one-line l j six best after b f e x y z =
+      let step = keeps-step w c ids h (lineText s l) in
+      let v = stepped w (lineText s l) .walk in
+      let on : toCome s w n at ≡ min (stepped w (lineText s l) .note) (toCome s v (n + 1) (l .next)) = ap
+      (λ (ls : List Line). walked w (map (lineText s) ls)) (spans-found f b) in
+      (v, rw (y, e) (step .1), rw (x, e, on) (best-on best _ _ _ z (step .0)))
+
+  pub no-line : length s ≤ at → toCome s w n at ≡ ends c
+  unfolding walked
+  no-line b = ap (λ (ls : List Line). walked w (map (lineText s) ls)) (spans-over s n at b) ∙ sym (ends-same w c ids h)
 
 pub all-le : (s : List ℕ) → toCome s atFirst 1 0 ≤ none
 all-le s =

@@ -17,7 +17,7 @@ use Rattle.settings.specs.declared.modifiers.ModifierName.the-variants.{Repeat,
 use Rattle.settings.specs.declared.modifiers.ModifierName.the-variants as modifier
 use Rattle.settings.specs.declared.cuts.CutRead.{CutRead}
 use Rattle.settings.specs.declared.cuts.CutRead.the-variants as read
-use Rattle.stage2.specs.Ranks.{least}
+use Rattle.text.specs.Ranks.{least}
 
 -- The places of the names, 8 for an unknown one.
 abbrev pub keyNumber : KeyName → ℕ

@@ -1,35 +1,29 @@
 -- The walk by value: what the code keeps in place of lists, and how it judges a line.
 use mathlib.Core.Option.{Option·getD}
-use Prim.Native.Nat.{ℕ, _+_, _≤_, min, max}
-use mathlib.Core.Path.{_≡_}
+use Prim.Native.Nat.{ℕ, _+_, min, max}
 use mathlib.Core.List.{List, [], _∷_}
-use mathlib.Core.Bool.{Bool, true, false, _||_, not}
-use lib.Dec.{eqb, leb, ltb}
-use lib.ListN.{length, getD, set, take, replicate}
-use Rattle.songcode.specs.Lists.{if_then_else_, isEmpty, any}
+use mathlib.Core.Bool.{Bool, true, false}
+use lib.Dec.{ltb}
+use lib.ListN.{getD, set}
+use Rattle.songcode.specs.Lists.{if_then_else_, isEmpty}
 use Rattle.songcode.specs.answer.Lines.{Line}
 use Rattle.songcode.specs.Complaints.{complainIf}
 use Rattle.songcode.specs.answer.Sections.{kindOfLine, keySaid, modifierSaid, faults, headerFaults, notDashes}
-use Rattle.songcode.specs.answer.SongText.{BlockKind, metadata, definition, section, kindOfText, metadataFault, headIn}
-use Rattle.tokens.specs.Decimals.{numberOf}
-use Rattle.tokens.specs.declared.numbers.Number.{Number}
-use Rattle.tokens.specs.declared.numbers.Number.the-variants.{Is, Not}
-use Rattle.settings.specs.KeySettings.{isNumber}
+use Rattle.songcode.specs.answer.SongText.{BlockKind, metadata, definition, section, kindOfText, metadataFault}
 use Rattle.grammar.specs.Checks.{first}
 use Rattle.grammar.specs.Verdicts.{definitionFine, sectionFine}
 use Rattle.grammar.specs.declared.checks.Check.{Check}
 use Rattle.stage2.specs.declared.states.Part.{Part}
-use Rattle.stage2.specs.declared.states.Part.the-variants.{Keys}
+use Rattle.stage2.specs.declared.states.Part.the-variants.{Keys, Pattern}
 use Rattle.stage2.specs.declared.states.Place.{Place}
 use Rattle.stage2.specs.declared.states.Place.the-variants.{Between, Metadata, Head, Definition, Body, Lyrics}
-use Rattle.stage2.specs.declared.states.Heads.{Heads}
 use Rattle.stage2.specs.declared.states.Carried.{Carried}
 use Rattle.stage2.specs.declared.states.Pending.{Pending}
 use Rattle.stage2.specs.declared.states.State.{State}
 use Rattle.stage2.specs.declared.states.Judged.{Judged}
-use Rattle.stage2.specs.Ranks.{ranked, noSection, none, least, unless, onlyIf}
+use Rattle.text.specs.Ranks.{ranked, noSection, none, least, onlyIf}
 use Rattle.stage2.specs.Places.{partAfter}
-use Rattle.stage2.specs.Walk.{pending, nothingPending, late, orderNote, patternBegun, patternMore, pendingAfter}
+use Rattle.stage2.specs.Walk.{pending, nothingPending, late, orderNote, patternPending, pendingAfter, unless}
 
 -- Eight marks for what was said; none yet. What is numbered 8 is nothing.
 abbrev pub noMarks : List Bool
@@ -51,37 +45,14 @@ keyOf l = Option·getD (keySaid l) 8
 abbrev pub modifierOf : Line → ℕ
 modifierOf l = Option·getD (modifierSaid l) 8
 
--- The numbers of the definitions so far, which has room for 26.
-abbrev pub Fit : Heads → Type 0
-Fit h = (h .count ≤ 26) × (length (h .ids) ≡ 26)
-
-unfoldable pub hasHead : Heads → ℕ → Bool
-hasHead h x = any (λ y. eqb y x) (take (h .count) (h .ids))
-
-unfoldable pub headAgain : Number → Heads → ℕ → ℕ
-headAgain Not h line = none
-headAgain (Is x) h line = least (complainIf (hasHead h x) 6 line)
-
-unfoldable pub headJudged : Number → Heads → ℕ → ℕ
-headJudged o h line = min (least (complainIf (not (isNumber o) || leb 26 (h .count)) 6 line)) (headAgain o h line)
-
--- One more; beyond 26 none is remembered, as every further one is complained of.
-abbrev pub orZero : Number → ℕ
-orZero Not = 0
-orZero (Is x) = x
-
-unfoldable pub withHead : Number → Heads → Heads
-unfolding if_then_else_ orZero
-withHead o h = if leb 26 (h .count) then h else record { count = h .count + 1; ids = set (h .ids) (h .count) (orZero o) }
-
 abbrev pub stateAt : Place → Carried → List Bool → List Bool → Pending → State
 stateAt p k ks ms q = record { place = p; carried = k; keys = ks; modifiers = ms; pending = q }
 
 abbrev pub blockState : Place → Carried → Pending → State
 blockState p k q = stateAt p k noMarks noMarks q
 
-abbrev pub carried : ℕ → List Bool → Heads → Carried
-carried t ks h = record { turn = t; metadata = ks; heads = h }
+abbrev pub carried : ℕ → List Bool → ℕ → Carried
+carried t ks n = record { turn = t; metadata = ks; count = n }
 
 abbrev pub judged : ℕ → State → Judged
 judged note state = record { note = note; state = state }
@@ -102,19 +73,19 @@ closing c = min (c .pending .want) (min (c .pending .bare) (unless (fineFor (c .
 unfoldable pub keyJudged : List Bool → Line → ℕ
 keyJudged marks l = min (again 4 (keyOf l) marks (l .number)) (least (metadataFault l))
 
-abbrev pub metadataState : ℕ → Carried → Line → State
-metadataState t k l = blockState Metadata (carried t (marked (keyOf l) (k .metadata)) (k .heads)) nothingPending
+abbrev pub metadataState : Carried → Line → State
+metadataState k l = blockState Metadata (carried (k .turn) (marked (keyOf l) (k .metadata)) (k .count)) nothingPending
 
--- The first line of a block.
-abbrev pub headState : ℕ → Carried → Line → State
-headState t k l = blockState Head (carried t (k .metadata) (withHead (numberOf (headIn l)) (k .heads))) nothingPending
+-- The first line of a block; what a definition's number is complained of comes beside it.
+abbrev pub headState : ℕ → Carried → State
+headState t k = blockState Head (carried t (k .metadata) (min (k .count) 25 + 1)) nothingPending
 
 abbrev pub headerState : ℕ → Carried → Line → State
-headerState t k l = blockState (Body Keys) (carried t (k .metadata) (k .heads)) (pending (ranked 8 (l .number)) none none first)
+headerState t k l = blockState (Body Keys) (carried t (k .metadata) (k .count)) (pending (ranked 8 (l .number)) none none first)
 
 unfoldable pub opening : BlockKind → Carried → Line → Judged
-opening metadata k l = judged (min (late 0 (k .turn) l) (keyJudged (k .metadata) l)) (metadataState (max (k .turn) 0) k l)
-opening definition k l = judged (min (late 1 (k .turn) l) (headJudged (numberOf (headIn l)) (k .heads) (l .number))) (headState (max (k .turn) 1) k l)
+opening metadata k l = judged (min (late 0 (k .turn) l) (keyJudged (k .metadata) l)) (metadataState k l)
+opening definition k l = judged (late 1 (k .turn) l) (headState (max (k .turn) 1) k)
 opening section k l = judged (min (late 2 (k .turn) l) (least (headerFaults l))) (headerState (max (k .turn) 2) k l)
 
 -- A line between a section's header and its `--`.
@@ -136,20 +107,24 @@ bodyState p c l =
 abbrev pub lyricsState : State → ℕ → State
 lyricsState c bare = stateAt Lyrics (c .carried) (c .keys) (c .modifiers) (pending (c .pending .want) bare (c .pending .bad) (c .pending .check))
 
+-- A pattern line of a definition: among those of a section the first stands among keys, the others in the pattern.
+abbrev pub definitionState : Part → State → Line → State
+definitionState p c l = blockState Definition (c .carried) (patternPending p l (c .pending))
+
 -- A line that is not blank, where it stands.
 unfoldable pub judgedAt : Place → State → Line → Judged
 unfolding if_then_else_
 judgedAt Between c l = opening (kindOfText (l .text)) (c .carried) l
-judgedAt Metadata c l = judged (keyJudged (c .carried .metadata) l) (metadataState (c .carried .turn) (c .carried) l)
-judgedAt Head c l = judged none (blockState Definition (c .carried) (patternBegun l (c .pending)))
-judgedAt Definition c l = judged none (blockState Definition (c .carried) (patternMore l (c .pending)))
+judgedAt Metadata c l = judged (keyJudged (c .carried .metadata) l) (metadataState (c .carried) l)
+judgedAt Head c l = judged none (definitionState Keys c l)
+judgedAt Definition c l = judged none (definitionState Pattern c l)
 judgedAt (Body p) c l = if notDashes l then judged (bodyJudged p (c .keys) (c .modifiers) l) (bodyState p c l) else judged none
     (lyricsState c (ranked 8 (l .number)))
 judgedAt Lyrics c l = judged none (lyricsState c none)
 
 -- Before the first line.
 abbrev pub firstState : State
-firstState = blockState Between (carried 0 noMarks (record { count = 0; ids = replicate 26 0 })) nothingPending
+firstState = blockState Between (carried 0 noMarks 0) nothingPending
 
 -- A blank line ends the block.
 unfoldable pub judge : State → Line → Judged

@@ -17,7 +17,7 @@ use Rattle.stage2.specs.declared.states.Pending.{Pending}
 use Rattle.stage2.specs.declared.states.Part.{Part}
 use Rattle.stage2.specs.declared.states.Part.the-variants.{Keys, Early, Pattern, Behind}
 use Rattle.stage2.specs.Places.{partAfter, misplacedAt}
-use Rattle.stage2.specs.Ranks.{ranked, noSection, none, least, unless, onlyIf}
+use Rattle.text.specs.Ranks.{ranked, noSection, none, least, onlyIf}
 
 -- Between blocks; in metadata; behind a definition's head, and among its pattern lines; between a section's header and its `--`; behind that.
 pub data Where : Type 0 where
@@ -65,6 +65,11 @@ blockAt p k q = walkAt p k [] [] q
 -- Where no block is open.
 abbrev pub gap : Known → Walk
 gap k = blockAt between k nothingPending
+
+-- Unless the test passes, this complaint.
+unfoldable pub unless : Bool → ℕ → ℕ
+unfolding if_then_else_
+unless t r = if t then none else r
 
 -- At the end of a block.
 unfoldable pub fineAt : Where → Check → Bool

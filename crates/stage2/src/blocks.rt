@@ -1,13 +1,8 @@
 // Where blocks begin and end.
+use super::heads::DEFINITIONS;
 use super::lines::metadata_line;
-use super::marks::head_note;
-use super::marks::put_head;
-use super::notes::NONE;
-use super::notes::complain_if;
-use super::notes::least_of;
 use super::notes::most_of;
 use super::notes::none_if;
-use super::notes::rank;
 use super::patterns::no_pending;
 use super::states::Carried;
 use super::states::Judged;
@@ -21,17 +16,23 @@ use grammar::section_fine;
 use grammar::start;
 use settings::BlockKind;
 use settings::block_kind;
-use settings::head_in;
 use settings::header_ok;
 use text::BAD_LINE;
 use text::BLOCK_ORDER;
 use text::Line;
+use text::NO_COMPLAINT;
+use text::complain_if;
+use text::least_of;
+use text::rank;
 ghost use mathlib.Core.Path.{_≡_};
-ghost use Prim.Native.Nat.{_<_, _≤_};
+ghost use Prim.Native.Nat.{_<_, _≤_, max};
+ghost use lib.Dec.{ltb};
 ghost use lib.ListN.{length};
-ghost use Rattle.songcode.specs.answer.SongText.{metadata, definition, section, kindOfText};
+ghost use Rattle.songcode.specs.Complaints.{complainIf};
+ghost use Rattle.songcode.specs.answer.SongText.{metadata, section, kindOfText};
 ghost use Rattle.text.specs.Spans.{lineText};
-ghost use Rattle.stage2.specs.States.{Fit, blockState, metadataState, keyJudged, judged, opening, fineFor, closing};
+ghost use Rattle.stage2.specs.States.{blockState, metadataState, headState, keyJudged, judged, opening, fineFor, closing};
+ghost use Rattle.text.specs.Ranks.{least};
 
 // A block that begins, or the gap between two, with what is pending against it.
 pub fn block_state(place: Place, carried: Carried, pending: Pending) -> State
@@ -48,19 +49,18 @@ pub fn block_state(place: Place, carried: Carried, pending: Pending) -> State
     }
 }
 
-// A line of metadata, in a block of this turn.
-pub fn in_metadata(s: &[u8], k: Carried, turn: usize, l: Line) -> Judged
-    requires { ⌜ (l .start < l .stop) × (l .stop ≤ length (now s)) × (l .number ≤ 65537) ⌝ }
-    ensures { λ r. ⌜ r ≡ judged (keyJudged (k .metadata) (lineText (now (s .entry)) l)) (metadataState turn k (lineText (now (s .entry)) l)) ⌝ }
+// A line of metadata.
+pub fn in_metadata(s: &[u8], k: Carried, l: Line) -> Judged
+    requires { ⌜ (l .start < l .stop) × (l .stop ≤ length (now s)) ⌝ }
+    ensures { λ r. ⌜ r ≡ judged (keyJudged (k .metadata) (lineText (now (s .entry)) l)) (metadataState k (lineText (now (s .entry)) l)) ⌝ }
 {
     let marks = k.metadata;
     let noted = metadata_line(s, marks, l);
     let metadata = noted.marks;
-    let heads = k.heads;
     let carried = Carried {
-        turn,
+        turn: k.turn,
         metadata,
-        heads,
+        count: k.count,
     };
     let state = block_state(Place::Metadata, carried, no_pending());
     Judged {
@@ -70,36 +70,28 @@ pub fn in_metadata(s: &[u8], k: Carried, turn: usize, l: Line) -> Judged
 }
 
 fn open_metadata(s: &[u8], k: Carried, l: Line) -> Judged
-    requires { ⌜ (l .start < l .stop) × (l .stop ≤ length (now s)) × (l .number ≤ 65537) ⌝ }
+    requires { ⌜ (l .start < l .stop) × (l .stop ≤ length (now s)) ⌝ }
     ensures { λ r. ⌜ r ≡ opening metadata k (lineText (now (s .entry)) l) ⌝ }
 {
     let late = complain_if(0 < k.turn, BLOCK_ORDER, l.number);
-    let turn = most_of(k.turn, 0);
-    let j = in_metadata(s, k, turn, l);
+    let j = in_metadata(s, k, l);
     let note = least_of(late, j.note);
     let state = j.state;
     Judged { note, state }
 }
 
-// A definition's head.
-fn open_definition(s: &[u8], k: Carried, l: Line) -> Judged
-    requires { ⌜ (l .start < l .stop) × (l .stop ≤ length (now s)) × (l .number ≤ 65537) × Fit (k .heads) ⌝ }
-    ensures { λ r. ⌜ r ≡ opening definition k (lineText (now (s .entry)) l) ⌝ }
+// A definition's head: what its number is complained of is judged beside the state.
+fn open_definition(k: Carried, l: Line) -> Judged
+    ensures { λ r. ⌜ r ≡ judged (least (complainIf (ltb 1 (k .turn)) 3 (l .number))) (headState (max (k .turn) 1) k) ⌝ }
 {
-    let late = complain_if(1 < k.turn, BLOCK_ORDER, l.number);
-    let a = l.start;
-    let e = l.stop;
-    let head = head_in(&s[a..e]);
-    let before = k.heads;
-    let six = head_note(head, before, l.number);
-    let note = least_of(late, six);
-    let heads = put_head(head, before);
+    let note = complain_if(1 < k.turn, BLOCK_ORDER, l.number);
     let turn = most_of(k.turn, 1);
     let metadata = k.metadata;
+    let count = least_of(k.count, DEFINITIONS - 1) + 1;
     let carried = Carried {
         turn,
         metadata,
-        heads,
+        count,
     };
     let state = block_state(Place::Head, carried, no_pending());
     Judged { note, state }
@@ -107,7 +99,7 @@ fn open_definition(s: &[u8], k: Carried, l: Line) -> Judged
 
 // A section's header: that it has no pattern line is pending.
 fn open_section(s: &[u8], k: Carried, l: Line) -> Judged
-    requires { ⌜ (l .start < l .stop) × (l .stop ≤ length (now s)) × (l .number ≤ 65537) ⌝ }
+    requires { ⌜ (l .start < l .stop) × (l .stop ≤ length (now s)) ⌝ }
     ensures { λ r. ⌜ r ≡ opening section k (lineText (now (s .entry)) l) ⌝ }
 {
     let late = complain_if(2 < k.turn, BLOCK_ORDER, l.number);
@@ -118,18 +110,17 @@ fn open_section(s: &[u8], k: Carried, l: Line) -> Judged
     let note = least_of(late, eight);
     let turn = most_of(k.turn, 2);
     let metadata = k.metadata;
-    let heads = k.heads;
     let carried = Carried {
         turn,
         metadata,
-        heads,
+        count: k.count,
     };
     let want = rank(BAD_LINE, l.number);
     let check = start();
     let pending = Pending {
         want,
-        bare: NONE,
-        bad: NONE,
+        bare: NO_COMPLAINT,
+        bad: NO_COMPLAINT,
         check,
     };
     let state = block_state(Place::Body(Part::Keys), carried, pending);
@@ -138,7 +129,7 @@ fn open_section(s: &[u8], k: Carried, l: Line) -> Judged
 
 // The first line of a block.
 pub fn open_block(s: &[u8], k: Carried, l: Line) -> Judged
-    requires { ⌜ (l .start < l .stop) × (l .stop ≤ length (now s)) × (l .number ≤ 65537) × Fit (k .heads) ⌝ }
+    requires { ⌜ (l .start < l .stop) × (l .stop ≤ length (now s)) ⌝ }
     ensures { λ r. ⌜ r ≡ opening (kindOfText (lineText (now (s .entry)) l .text)) k (lineText (now (s .entry)) l) ⌝ }
 {
     let a = l.start;
@@ -146,7 +137,7 @@ pub fn open_block(s: &[u8], k: Carried, l: Line) -> Judged
     let kind = block_kind(&s[a..e]);
     match kind {
         BlockKind::Metadata => open_metadata(s, k, l),
-        BlockKind::Definition => open_definition(s, k, l),
+        BlockKind::Definition => open_definition(k, l),
         BlockKind::Section => open_section(s, k, l),
     }
 }

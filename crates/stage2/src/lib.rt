@@ -1,5 +1,6 @@
 // Stage 2 of the reading, line by line.
 mod blocks;
+mod heads;
 mod lines;
 mod marks;
 mod modifiers;
@@ -12,7 +13,6 @@ mod walk;
 
 pub use lines::Noted;
 pub use states::Carried;
-pub use states::Heads;
 pub use states::Judged;
 pub use states::Part;
 pub use states::Pending;

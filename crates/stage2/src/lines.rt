@@ -7,8 +7,6 @@ use super::modifiers::modifier_number;
 use super::names::key_at;
 use super::names::key_note;
 use super::names::key_number;
-use super::notes::complain_if;
-use super::notes::least_of;
 use super::parts::after_key;
 use super::parts::after_modifier;
 use super::parts::after_pattern;
@@ -25,6 +23,8 @@ use settings::kind_of;
 use text::BAD_KEY;
 use text::BAD_LINE;
 use text::Line;
+use text::complain_if;
+use text::least_of;
 ghost use mathlib.Core.Path.{_≡_};
 ghost use Prim.Native.Nat.{_<_, _≤_};
 ghost use lib.ListN.{length};
@@ -53,7 +53,7 @@ pub fn line_kind(s: &[u8], l: Line) -> Kind
 
 // A key of metadata: unknown, twice, or its setting malformed.
 fn metadata_key(s: &[u8], marks: [bool; 8], l: Line) -> Noted
-    requires { ⌜ (l .start < l .stop) × (l .stop ≤ length (now s)) × (l .number ≤ 65537) ⌝ }
+    requires { ⌜ (l .start < l .stop) × (l .stop ≤ length (now s)) ⌝ }
     ensures { λ r. ⌜ (r .note ≡ keyAlone marks (lineText (now (s .entry)) l))
         × (r .marks ≡ marked (keyNumber (keyIs (keyNameOf (lineText (now (s .entry)) l)))) marks) ⌝ }
 {
@@ -70,7 +70,7 @@ fn metadata_key(s: &[u8], marks: [bool; 8], l: Line) -> Noted
 
 // A line of metadata: "every line is `@key`".
 pub fn metadata_line(s: &[u8], marks: [bool; 8], l: Line) -> Noted
-    requires { ⌜ (l .start < l .stop) × (l .stop ≤ length (now s)) × (l .number ≤ 65537) ⌝ }
+    requires { ⌜ (l .start < l .stop) × (l .stop ≤ length (now s)) ⌝ }
     ensures { λ r. ⌜ (r .note ≡ keyJudged marks (lineText (now (s .entry)) l)) × (r .marks ≡ marked (keyOf (lineText (now (s .entry)) l)) marks) ⌝ }
 {
     let kind = line_kind(s, l);
@@ -89,7 +89,7 @@ pub fn metadata_line(s: &[u8], marks: [bool; 8], l: Line) -> Noted
 
 // A key line of a section.
 pub fn key_line(s: &[u8], c: State, p: Part, l: Line) -> Judged
-    requires { ⌜ (l .start < l .stop) × (l .stop ≤ length (now s)) × (l .number ≤ 65537) ⌝ }
+    requires { ⌜ (l .start < l .stop) × (l .stop ≤ length (now s)) ⌝ }
     ensures { λ r. ⌜ r ≡ onKey p c (lineText (now (s .entry)) l) ⌝ }
 {
     let k = key_at(s, l);
@@ -116,7 +116,7 @@ pub fn key_line(s: &[u8], c: State, p: Part, l: Line) -> Judged
 
 // A modifier line of a section.
 pub fn modifier_line(s: &[u8], c: State, p: Part, l: Line) -> Judged
-    requires { ⌜ (l .start < l .stop) × (l .stop ≤ length (now s)) × (l .stop ≤ 65536) × (l .number ≤ 65537) ⌝ }
+    requires { ⌜ (l .start < l .stop) × (l .stop ≤ length (now s)) × (l .stop ≤ 65536) ⌝ }
     ensures { λ r. ⌜ r ≡ onModifier p c (lineText (now (s .entry)) l) ⌝ }
 {
     let m = modifier_at(s, l);
@@ -143,7 +143,7 @@ pub fn modifier_line(s: &[u8], c: State, p: Part, l: Line) -> Judged
 
 // A pattern line of a section.
 pub fn pattern_line(s: &[u8], c: State, p: Part, l: Line) -> Judged
-    requires { ⌜ (l .start < l .stop) × (l .stop ≤ length (now s)) × (l .stop ≤ 65536) × (l .number ≤ 65537) ⌝ }
+    requires { ⌜ (l .start < l .stop) × (l .stop ≤ length (now s)) × (l .stop ≤ 65536) ⌝ }
     ensures { λ r. ⌜ r ≡ onPattern p c (lineText (now (s .entry)) l) ⌝ }
 {
     let note = complain_if(past_pattern(p), BAD_LINE, l.number);
@@ -164,7 +164,7 @@ pub fn pattern_line(s: &[u8], c: State, p: Part, l: Line) -> Judged
 
 // A line between a section's header and its `--`.
 pub fn body_line(s: &[u8], c: State, p: Part, l: Line) -> Judged
-    requires { ⌜ (l .start < l .stop) × (l .stop ≤ length (now s)) × (l .stop ≤ 65536) × (l .number ≤ 65537) ⌝ }
+    requires { ⌜ (l .start < l .stop) × (l .stop ≤ length (now s)) × (l .stop ≤ 65536) ⌝ }
     ensures { λ r. ⌜ r ≡ judged (bodyJudged p (c .keys) (c .modifiers) (lineText (now (s .entry)) l))
         (bodyState p c (lineText (now (s .entry)) l)) ⌝ }
 {

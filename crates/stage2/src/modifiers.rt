@@ -1,5 +1,4 @@
 // The names and settings of modifier lines.
-use super::notes::complain_if;
 use grammar::side_fine;
 use settings::CutRead;
 use settings::ModifierName;
@@ -13,6 +12,7 @@ use text::BAD_LINE;
 use text::BAD_PATTERN;
 use text::BAD_SETTING;
 use text::Line;
+use text::complain_if;
 ghost use mathlib.Core.Path.{_≡_};
 ghost use Prim.Native.Nat.{_<_, _≤_};
 ghost use lib.ListN.{length};
@@ -74,10 +74,11 @@ fn setting_fine(s: &[u8], l: Line, m: ModifierName) -> bool
 {
     let e = l.stop;
     let q = setting_start(s, l.start + 1, e);
+    let setting = &s[q..e];
     match m {
-        ModifierName::Repeat => is_number(repeat_in(&s[q..e])),
-        ModifierName::CutStart => is_cut(cut_in(&s[q..e])),
-        ModifierName::CutEnd => is_cut(cut_in(&s[q..e])),
+        ModifierName::Repeat => is_number(repeat_in(setting)),
+        ModifierName::CutStart => is_cut(cut_in(setting)),
+        ModifierName::CutEnd => is_cut(cut_in(setting)),
         ModifierName::Before => side_fine(s, q, e),
         ModifierName::After => side_fine(s, q, e),
         ModifierName::Unknown => false,
@@ -86,7 +87,7 @@ fn setting_fine(s: &[u8], l: Line, m: ModifierName) -> bool
 
 // 8 where the modifier is unknown; 5, of a lead-in or tail 7, where its setting is malformed.
 pub fn modifier_note(s: &[u8], l: Line, m: ModifierName) -> usize
-    requires { ⌜ (l .start < l .stop) × (l .stop ≤ length (now s)) × (l .stop ≤ 65536) × (l .number ≤ 65537) ⌝ }
+    requires { ⌜ (l .start < l .stop) × (l .stop ≤ length (now s)) × (l .stop ≤ 65536) ⌝ }
     ensures { λ r. ⌜ r ≡ modifierNote m (settingOf (lineText (now (s .entry)) l)) (l .number) ⌝ }
 {
     let fine = setting_fine(s, l, m);

@@ -1,6 +1,4 @@
 // The names and settings of key lines.
-use super::notes::complain_if;
-use super::notes::least_of;
 use settings::KeyName;
 use settings::is_setting;
 use settings::key_named;
@@ -9,6 +7,8 @@ use settings::setting_start;
 use text::BAD_KEY;
 use text::BAD_SETTING;
 use text::Line;
+use text::complain_if;
+use text::least_of;
 ghost use mathlib.Core.Path.{_≡_};
 ghost use Prim.Native.Nat.{_<_, _≤_};
 ghost use lib.ListN.{length};
@@ -62,7 +62,7 @@ fn is_allowed(section: bool, k: KeyName) -> bool
 
 // 4 where the key is unknown or not allowed, 5 where its setting is malformed.
 pub fn key_note(s: &[u8], l: Line, k: KeyName, section: bool) -> usize
-    requires { ⌜ (l .start < l .stop) × (l .stop ≤ length (now s)) × (l .number ≤ 65537) ⌝ }
+    requires { ⌜ (l .start < l .stop) × (l .stop ≤ length (now s)) ⌝ }
     ensures { λ r. ⌜ r ≡ keyNote section k (settingOf (lineText (now (s .entry)) l)) (l .number) ⌝ }
 {
     let e = l.stop;

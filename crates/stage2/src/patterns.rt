@@ -1,6 +1,4 @@
 // What is pending of a pattern's text, line by line.
-use super::notes::NONE;
-use super::notes::rank;
 use super::states::Part;
 use super::states::Pending;
 use grammar::check_line;
@@ -8,6 +6,8 @@ use grammar::line_between;
 use grammar::start;
 use text::BAD_PATTERN;
 use text::Line;
+use text::NO_COMPLAINT;
+use text::rank;
 ghost use mathlib.Core.Path.{_≡_};
 ghost use Prim.Native.Nat.{_<_, _≤_};
 ghost use lib.ListN.{length};
@@ -20,22 +20,22 @@ pub fn no_pending() -> Pending
 {
     let check = start();
     Pending {
-        want: NONE,
-        bare: NONE,
-        bad: NONE,
+        want: NO_COMPLAINT,
+        bare: NO_COMPLAINT,
+        bad: NO_COMPLAINT,
         check,
     }
 }
 
 // The first line of a pattern's text: its number is the one that a fault of the text names.
-pub fn first_line(s: &[u8], q: Pending, l: Line) -> Pending
-    requires { ⌜ (l .start < l .stop) × (l .stop ≤ length (now s)) × (l .stop ≤ 65536) × (l .number ≤ 65537) ⌝ }
+fn first_line(s: &[u8], q: Pending, l: Line) -> Pending
+    requires { ⌜ (l .start < l .stop) × (l .stop ≤ length (now s)) × (l .stop ≤ 65536) ⌝ }
     ensures { λ r. ⌜ r ≡ patternBegun (lineText (now (s .entry)) l) q ⌝ }
 {
     let check = check_line(s, l.start, l.stop, start());
     let bad = rank(BAD_PATTERN, l.number);
     Pending {
-        want: NONE,
+        want: NO_COMPLAINT,
         bare: q.bare,
         bad,
         check,
@@ -43,8 +43,8 @@ pub fn first_line(s: &[u8], q: Pending, l: Line) -> Pending
 }
 
 // One more line of it.
-pub fn next_line(s: &[u8], q: Pending, l: Line) -> Pending
-    requires { ⌜ (l .start < l .stop) × (l .stop ≤ length (now s)) × (l .stop ≤ 65536) × (l .number ≤ 65537) ⌝ }
+fn next_line(s: &[u8], q: Pending, l: Line) -> Pending
+    requires { ⌜ (l .start < l .stop) × (l .stop ≤ length (now s)) × (l .stop ≤ 65536) ⌝ }
     ensures { λ r. ⌜ r ≡ patternMore (lineText (now (s .entry)) l) q ⌝ }
 {
     let before = q.check;
@@ -57,9 +57,9 @@ pub fn next_line(s: &[u8], q: Pending, l: Line) -> Pending
     }
 }
 
-// A pattern line of a section; past the pattern's run it adds nothing.
+// A pattern line; past the pattern's run it adds nothing.
 pub fn pattern_pending(s: &[u8], p: Part, q: Pending, l: Line) -> Pending
-    requires { ⌜ (l .start < l .stop) × (l .stop ≤ length (now s)) × (l .stop ≤ 65536) × (l .number ≤ 65537) ⌝ }
+    requires { ⌜ (l .start < l .stop) × (l .stop ≤ length (now s)) × (l .stop ≤ 65536) ⌝ }
     ensures { λ r. ⌜ r ≡ patternPending p (lineText (now (s .entry)) l) q ⌝ }
 {
     match p {

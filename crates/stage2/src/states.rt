@@ -20,17 +20,11 @@ pub enum Place {
     Lyrics,
 }
 
-// The definitions so far, counted up to 26, and their numbers: 0 for one whose head is malformed.
-pub struct Heads {
-    pub count: usize,
-    pub ids: [usize; 26],
-}
-
-// What goes from block to block: the latest kind, the keys of all metadata, the definitions.
+// What goes from block to block: the latest kind, the keys of all metadata, how many definitions there are, counted up to 26.
 pub struct Carried {
     pub turn: usize,
     pub metadata: [bool; 8],
-    pub heads: Heads,
+    pub count: usize,
 }
 
 // What a block's end will complain of: no pattern line, `--` without lyrics, and the pattern's text if the check of it says so.

@@ -3,18 +3,13 @@ use super::blocks::block_state;
 use super::blocks::close_block;
 use super::blocks::in_metadata;
 use super::blocks::open_block;
+use super::heads::DEFINITIONS;
+use super::heads::note_head;
 use super::lines::body_line;
-use super::notes::NO_SECTION_RANK;
-use super::notes::NONE;
-use super::notes::least_of;
 use super::notes::none_if;
-use super::notes::rank;
-use super::notes::refusal_at;
-use super::patterns::first_line;
-use super::patterns::next_line;
 use super::patterns::no_pending;
+use super::patterns::pattern_pending;
 use super::states::Carried;
-use super::states::Heads;
 use super::states::Judged;
 use super::states::Part;
 use super::states::Pending;
@@ -23,8 +18,13 @@ use super::states::State;
 use settings::is_dashes;
 use text::BAD_LINE;
 use text::Line;
+use text::NO_COMPLAINT;
+use text::NO_SECTION_RANK;
 use text::Refusal;
+use text::least_of;
 use text::line_at;
+use text::rank;
+use text::refusal_at;
 ghost use mathlib.Core.Path.{_≡_};
 ghost use Prim.Native.Nat.{_<_, _≤_};
 ghost use lib.ListN.{length};
@@ -34,11 +34,29 @@ ghost use Rattle.songcode.specs.answer.Answer.{blocksOf};
 ghost use Rattle.text.specs.Refusals.{refusalOf};
 ghost use Rattle.text.specs.Spans.{lineText};
 ghost use Rattle.stage2.specs.declared.states.Place.the-variants.{Body};
-ghost use Rattle.stage2.specs.States.{Fit, firstState, lyricsState, judgedAt, judge, ends};
+ghost use Rattle.stage2.specs.States.{firstState, judged, definitionState, lyricsState, judgedAt, judge, ends};
+ghost use Rattle.text.specs.Ranks.{none};
+
+// A pattern line of a definition.
+fn in_definition(s: &[u8], c: State, p: Part, l: Line) -> Judged
+    requires { ⌜ (l .start < l .stop) × (l .stop ≤ length (now s)) × (l .stop ≤ 65536) ⌝ }
+    ensures { λ r. ⌜ r ≡ judged none (definitionState p c (lineText (now (s .entry)) l)) ⌝ }
+{
+    let carried = c.carried;
+    let state = block_state(
+        Place::Definition,
+        carried,
+        pattern_pending(s, p, c.pending, l),
+    );
+    Judged {
+        note: NO_COMPLAINT,
+        state,
+    }
+}
 
 // The `--`, and a line behind it.
-fn lyrics_state(c: State, bare: usize) -> State
-    ensures { λ r. ⌜ r ≡ lyricsState c bare ⌝ }
+fn in_lyrics(c: State, bare: usize) -> Judged
+    ensures { λ r. ⌜ r ≡ judged none (lyricsState c bare) ⌝ }
 {
     let carried = c.carried;
     let keys = c.keys;
@@ -51,59 +69,50 @@ fn lyrics_state(c: State, bare: usize) -> State
         bad: q.bad,
         check,
     };
-    State {
+    let state = State {
         place: Place::Lyrics,
         carried,
         keys,
         modifiers,
         pending,
+    };
+    Judged {
+        note: NO_COMPLAINT,
+        state,
     }
 }
 
 fn in_body(s: &[u8], c: State, p: Part, l: Line) -> Judged
-    requires { ⌜ (l .start < l .stop) × (l .stop ≤ length (now s)) × (l .stop ≤ 65536) × (l .number ≤ 65537) ⌝ }
+    requires { ⌜ (l .start < l .stop) × (l .stop ≤ length (now s)) × (l .stop ≤ 65536) ⌝ }
     ensures { λ r. ⌜ r ≡ judgedAt (Body p) c (lineText (now (s .entry)) l) ⌝ }
 {
     let a = l.start;
     let e = l.stop;
     if is_dashes(&s[a..e]) {
-        let bare = rank(BAD_LINE, l.number);
-        let state = lyrics_state(c, bare);
-        return Judged { note: NONE, state };
+        return in_lyrics(c, rank(BAD_LINE, l.number));
     }
     body_line(s, c, p, l)
 }
 
 // A line that is not blank, where it stands.
 fn in_place(s: &[u8], c: State, l: Line) -> Judged
-    requires { ⌜ (l .start < l .stop) × (l .stop ≤ length (now s)) × (l .stop ≤ 65536) × (l .number ≤ 65537) × Fit (c .carried .heads) ⌝ }
+    requires { ⌜ (l .start < l .stop) × (l .stop ≤ length (now s)) × (l .stop ≤ 65536) ⌝ }
     ensures { λ r. ⌜ r ≡ judgedAt (c .place) c (lineText (now (s .entry)) l) ⌝ }
 {
     let place = c.place;
-    let k = c.carried;
-    let q = c.pending;
     match place {
-        Place::Between => open_block(s, k, l),
-        Place::Metadata => in_metadata(s, k, k.turn, l),
-        Place::Head => {
-            let state = block_state(Place::Definition, k, first_line(s, q, l));
-            Judged { note: NONE, state }
-        }
-        Place::Definition => {
-            let state = block_state(Place::Definition, k, next_line(s, q, l));
-            Judged { note: NONE, state }
-        }
+        Place::Between => open_block(s, c.carried, l),
+        Place::Metadata => in_metadata(s, c.carried, l),
+        Place::Head => in_definition(s, c, Part::Keys, l),
+        Place::Definition => in_definition(s, c, Part::Pattern, l),
         Place::Body(p) => in_body(s, c, p, l),
-        Place::Lyrics => {
-            let state = lyrics_state(c, NONE);
-            Judged { note: NONE, state }
-        }
+        Place::Lyrics => in_lyrics(c, NO_COMPLAINT),
     }
 }
 
 // A line: what it is complained of, and the state behind it. A blank one ends the block.
 fn judge_line(s: &[u8], c: State, l: Line) -> Judged
-    requires { ⌜ (l .start ≤ l .stop) × (l .stop ≤ length (now s)) × (l .stop ≤ 65536) × (l .number ≤ 65537) × Fit (c .carried .heads) ⌝ }
+    requires { ⌜ (l .start ≤ l .stop) × (l .stop ≤ length (now s)) × (l .stop ≤ 65536) ⌝ }
     ensures { λ r. ⌜ r ≡ judge c (lineText (now (s .entry)) l) ⌝ }
 {
     if l.start < l.stop {
@@ -120,14 +129,10 @@ fn first_state() -> State
     ensures { λ r. ⌜ r ≡ firstState ⌝ }
 {
     let metadata = [false; 8];
-    let heads = Heads {
-        count: 0,
-        ids: [0; 26],
-    };
     let carried = Carried {
         turn: 0,
         metadata,
-        heads,
+        count: 0,
     };
     block_state(Place::Between, carried, no_pending())
 }
@@ -148,14 +153,18 @@ pub fn stage_two(s: &[u8]) -> Refusal
     ensures { λ r. ⌜ r ≡ refusalOf (earliest (textFaults (blocksOf (now (s .entry))))) ⌝ }
 {
     let mut c = first_state();
-    let mut best = NONE;
+    let mut ids = [0; DEFINITIONS];
+    let mut best = NO_COMPLAINT;
     let mut at = 0;
     let mut n = 1;
     while at < s.len() {
         let l = line_at(s, n, at);
         let j = judge_line(s, c, l);
-        best = least_of(best, j.note);
         let d = j.state;
+        let place = d.place;
+        let k = c.carried;
+        let six = note_head(s, &mut ids, k.count, place, l);
+        best = least_of(best, least_of(j.note, six));
         c = d;
         at = l.next;
         n += 1;

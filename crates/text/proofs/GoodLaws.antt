@@ -24,7 +24,8 @@ unfolding tails
 tails-fit zero bs h = omega arith
 tails-fit (suc n) [] h = absurd (false-not-true h)
 tails-fit (suc n) (b ∷ bs) h =
-    by-cases (isTail b) (λ e. let g : tails n bs ≡ true = rw e at h in let k = tails-fit n bs g in omega arith) (λ e. absurd (false-not-true (rw e at h)))
+    by-cases (isTail b) (λ e. let g : tails n bs ≡ true = rw e at h in
+    let k = tails-fit n bs g in omega arith) (λ e. absurd (false-not-true (rw e at h)))
 
 follows-fit : (f : Form) (n : ℕ) (bs : List ℕ) → tailsFollow f n bs ≡ true → n ≤ length bs
 unfolding tailsFollow
@@ -33,7 +34,8 @@ follows-fit f (suc n) [] h = absurd (false-not-true h)
 follows-fit f (suc n) (b ∷ bs) h =
     by-cases
     (within (f .secondLow) (f .secondHigh) b)
-    (λ e. let g : tails n bs ≡ true = rw e at h in let k = tails-fit n bs g in omega arith)
+    (λ e. let g : tails n bs ≡ true = rw e at h in
+    let k = tails-fit n bs g in omega arith)
     (λ e. absurd (false-not-true (rw e at h)))
 
 width-fits : (fs : List Form) (b : ℕ) (bs : List ℕ) → widthBy fs b bs ≤ suc (length bs)

@@ -5,6 +5,7 @@ pub mod LeadLaws
 pub mod GoodLaws
 pub mod EndLaws
 pub mod RefusalLaws
+pub mod RankLaws
 pub mod SpanLaws
 pub mod WalkLaws
 pub mod CutLaws

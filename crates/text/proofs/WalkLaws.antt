@@ -28,7 +28,8 @@ empty-line s a e p q =
     by-cases
     (eqb a e)
     (λ t. let k : e - a ≡ 0 = omega (arith, eqb-true a e t) in rw (t, k))
-    (λ t. let n = eqb-false a e t in let k : e - a ≡ suc (e - suc a) = omega arith in rw (t, k, drop-cons s a 0 (omega arith)))
+    (λ t. let n = eqb-false a e t in
+    let k : e - a ≡ suc (e - suc a) = omega arith in rw (t, k, drop-cons s a 0 (omega arith)))
 
 -- What the code finds, piece by piece, is the line.
 pub line-is : (s : List ℕ) (n at e f k w : ℕ) → e ≡ at + lineLength (drop at s) → f ≡ frontBlanks (part at e s) → k ≡ solidLength (part (at + f) e s)

@@ -2,4 +2,5 @@
 pub mod Leads
 pub mod Ends
 pub mod Refusals
+pub mod Ranks
 pub mod Spans

@@ -1,5 +1,5 @@
--- A refusal as the calls give it: number and line of the complaint, both 0 where there is none; and which of two is given.
-use lib.Dec.{eqb, ltb}
+-- A refusal as the calls give it: number and line of the complaint, both 0 where there is none; and which of two stages' is given.
+use lib.Dec.{eqb}
 use mathlib.Core.Option.{Option, none, some}
 use Rattle.songcode.specs.Lists.{if_then_else_}
 use Rattle.songcode.specs.Complaints.{Complaint}
@@ -11,16 +11,6 @@ refusalOf (some c) = record { number = c .number; line = c .line }
 
 abbrev pub nothingRefused : Refusal
 nothingRefused = record { number = 0; line = 0 }
-
--- Of one stage: the refusal on the earlier line, on one line the lower number; 0 is the number of none.
-unfoldable pub soonerOf : Refusal → Refusal → Refusal
-unfolding if_then_else_
-soonerOf a b =
-    if eqb (a .number) 0 then b
-    else (if eqb (b .number) 0 then a
-    else (if ltb (b .line) (a .line) then b
-    else (if ltb (a .line) (b .line) then a
-    else (if ltb (b .number) (a .number) then b else a))))
 
 -- Of two stages: the refusal of the first, else that of the second.
 unfoldable pub firstGiven : Refusal → Refusal → Refusal

@@ -1,7 +1,8 @@
 // Characters by RFC 3629: how many bytes the one at a place has, and how many bytes are good.
 ghost use mathlib.Core.Path.{_≡_};
-ghost use Prim.Native.Nat.{_≤_};
-ghost use lib.ListN.{length};
+ghost use mathlib.Core.Bool.{true};
+ghost use Prim.Native.Nat.{_+_, _≤_};
+ghost use lib.ListN.{length, drop};
 ghost use Rattle.songcode.specs.answer.Characters.{within, isTail, tails, goodBytes};
 ghost use Rattle.text.specs.Leads.{leadOf, widthFrom, widthAt, asciiLength};
 
@@ -110,11 +111,50 @@ pub fn width_at(s: &[u8], i: usize) -> usize
     width_from(lead_of(s[i]), &s[i + 1..])
 }
 
+// So many bytes are looked at together.
+const BLOCK: usize = 16;
+
+// 1 for a character of one byte, else 0.
+fn ascii_one(b: u8) -> usize
+    ensures { λ r. ⌜ (r ≤ 1) × (r ≡ 1 → within 0x01 0x7F b ≡ true) ⌝ }
+{
+    if is_within(0x01, 0x7F, b) { 1 } else { 0 }
+}
+
+// How many bytes of a block are characters of one byte: a sum, with no way out of it, so that the compiler takes the block at once.
+fn ascii_among(t: &[u8], i: usize) -> usize
+    requires { ⌜ i + 16 ≤ length (now t) ⌝ }
+    ensures { λ r. ⌜ (r ≡ 16 → asciiLength (drop i (now (t .entry))) ≡ 16 + asciiLength (drop (i + 16) (now (t .entry)))) ⌝ }
+{
+    let mut n = 0;
+    let mut j = 0;
+    while j < BLOCK {
+        n += ascii_one(t[i + j]);
+        j += 1;
+    }
+    n
+}
+
+// A whole block of them stands at a place.
+fn ascii_block(t: &[u8], i: usize) -> bool
+    requires { ⌜ i ≤ length (now t) ⌝ }
+    ensures { λ r. ⌜ (r ≡ true → (i + 16 ≤ length (now (t .entry)))
+        × (asciiLength (drop i (now (t .entry))) ≡ 16 + asciiLength (drop (i + 16) (now (t .entry))))) ⌝ }
+{
+    if t.len() - i < BLOCK {
+        return false;
+    }
+    ascii_among(t, i) == BLOCK
+}
+
 // How many characters of one byte stand in front.
 fn ascii_len(t: &[u8]) -> usize
     ensures { λ r. ⌜ (r ≡ asciiLength (now (t .entry))) × (r ≤ length (now (t .entry))) ⌝ }
 {
     let mut i = 0;
+    while ascii_block(t, i) {
+        i += BLOCK;
+    }
     while i < t.len() {
         if !is_within(0x01, 0x7F, t[i]) {
             return i;

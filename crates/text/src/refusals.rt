@@ -1,7 +1,7 @@
-// What a chart is refused for, by names, and which of two refusals is given.
+// What a chart is refused for, by names, and which of two stages' refusals is given.
 use super::Refusal;
 ghost use mathlib.Core.Path.{_≡_};
-ghost use Rattle.text.specs.Refusals.{soonerOf, firstGiven};
+ghost use Rattle.text.specs.Refusals.{firstGiven};
 
 // Stage 1: "over 65,536 bytes", "bad UTF-8 or zero byte".
 pub const TEXT_TOO_LONG: usize = 1;
@@ -50,25 +50,6 @@ pub const COPY_TOO_LONG: usize = 20;
 
 // Nothing is refused.
 pub const NOTHING: Refusal = Refusal { number: 0, line: 0 };
-
-// Of two refusals of one stage the one on the earlier line, on one line that of the lower number.
-pub fn sooner(a: Refusal, b: Refusal) -> Refusal
-    ensures { λ r. ⌜ r ≡ soonerOf a b ⌝ }
-{
-    if a.number == 0 {
-        return b;
-    }
-    if b.number == 0 {
-        return a;
-    }
-    if b.line < a.line {
-        return b;
-    }
-    if a.line < b.line {
-        return a;
-    }
-    if b.number < a.number { b } else { a }
-}
 
 // The refusal of the first of two stages, else that of the second.
 pub fn first_given(a: Refusal, b: Refusal) -> Refusal

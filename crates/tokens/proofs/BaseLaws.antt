@@ -106,7 +106,8 @@ base-exactly w h = go (longestFrom isTaken 0 bases w none) refl h
     go (some b) e h =
         by-cases
         (isBase (placed 0 w))
-        (λ t. let g = base-whole w t in let z : b ≡ g .0 = cc in rw (t, z) (eq-eqb (g .0 .length) (length w) (g .2)))
+        (λ t. let g = base-whole w t in
+        let z : b ≡ g .0 = cc in rw (t, z) (eq-eqb (g .0 .length) (length w) (g .2)))
         (λ t. rw t (by-cases (eqb (b .length) (length w)) (λ y. true-is-not-false (whole-base w b e (eqb-true (b .length) (length w) y)) t) (λ y. y)))
 
 pub base-none : (w : List ℕ) → baseOf (longestFrom isTaken 0 bases w none) .length ≡ 0 → false ≡ isBase (placed 0 w)

@@ -38,10 +38,16 @@ parts-fit wrong f = (omega arith, omega arith)
 
 module _ (t : Token) (f : Fit t) where
   pub word-kind : tokenWord t / 2 ^ 26 ≡ kind t
-  word-kind = let h = parts-fit t f in let e = word-is t in omega arith
+  word-kind =
+      let h = parts-fit t f in
+      let e = word-is t in
+      omega arith
 
   pub word-amount : tokenWord t % 2 ^ 26 ≡ amount t
-  word-amount = let h = parts-fit t f in let e = word-is t in omega arith
+  word-amount =
+      let h = parts-fit t f in
+      let e = word-is t in
+      omega arith
 
 -- The word of a chord that fits is of a kind below 34.
 pub chord-kind : (w : ℕ) → w < 2281701376 → kindOf w < 34

@@ -6,10 +6,10 @@ use mathlib.Core.Bool.{true, false, not}
 use native.Mathlib.Omega.{arith}
 use native.Mathlib.Numerals.{add-one}
 use native.Mathlib.Nat.{add-zero, add-suc, suc-add}
-use borrow.Author.Tests.{ne-eqb, eqb-true, eqb-false}
-use lib.Dec.{eqb}
-use lib.ListN.{length, getD, take, drop, take-append-drop, drop-of-length-le}
-use lib.Seq.{drop-cons, take-take, getD-drop, getD-take, length-take-le}
+use borrow.Author.Tests.{ne-eqb, eqb-true, eqb-false, lt-ltb}
+use lib.Dec.{eqb, ltb}
+use lib.ListN.{length, getD, take, drop, take-append-drop}
+use lib.Seq.{take-take, getD-drop, getD-take, length-take-le}
 use Rattle.songcode.specs.Lists.{if_then_else_}
 use Rattle.songcode.specs.Bytes.{Byte, placed, isBlank, isByte}
 use Rattle.songcode.specs.answer.Numbers.{repeatIn}
@@ -28,20 +28,27 @@ use Rattle.tokens.proofs.RowLaws.{letter-range}
 use Rattle.tokens.proofs.PartLaws.{part-cons, part-none, part-drop}
 use Rattle.tokens.proofs.WordLaws.{number-placed}
 
--- Plain bytes in front, one at a time.
-module _ (w : List ℕ) (i : ℕ) where
-  pub plain-over : length w ≤ i → plainLength (drop i w) ≡ 0
+-- Plain bytes from a place on, one at a time.
+module _ (s : List ℕ) (i stop : ℕ) where
+  pub plain-over : stop ≤ i → plainLength (part i stop s) ≡ 0
   unfolding plainLength
-  plain-over h = rw (drop-of-length-le w h)
+  plain-over h = rw (part-none s i stop h)
 
-  module _ (h : i < length w) where
-    pub plain-stop : isPlain (getD w i 0) ≡ false → plainLength (drop i w) ≡ 0
+  module _ (h : i < stop) (l : stop ≤ length s) where
+    pub plain-stop : isPlain (getD s i 0) ≡ false → plainLength (part i stop s) ≡ 0
     unfolding plainLength if_then_else_
-    plain-stop e = rw (drop-cons w i 0 h, e)
+    plain-stop e = rw (part-cons s i stop h l, e)
 
-    pub plain-more : isPlain (getD w i 0) ≡ true → plainLength (drop i w) ≡ 1 + plainLength (drop (i + 1) w)
+    pub plain-more : isPlain (getD s i 0) ≡ true → plainLength (part i stop s) ≡ 1 + plainLength (part (i + 1) stop s)
     unfolding plainLength if_then_else_
-    plain-more e = rw (drop-cons w i 0 h, e, add-one i) (omega arith)
+    plain-more e = rw (part-cons s i stop h l, e) (omega arith)
+
+    pub plain-first : isPlain (getD s i 0) ≡ ltb 0 (plainLength (part i stop s))
+    plain-first =
+        by-cases
+        (isPlain (getD s i 0))
+        (λ e. let m = plain-more e in e ∙ sym (lt-ltb 0 (plainLength (part i stop s)) (omega arith)))
+        (λ e. e ∙ sym (ap (ltb 0) (plain-stop e)))
 
 -- What a byte is, by its value.
 class-plain : (at b : ℕ) → isPlain b ≡ true → class (record { place = at; value = b }) ≡ plain
@@ -207,6 +214,9 @@ module _ (s : List ℕ) (a stop : ℕ) where
     opened : (ts : List Token) → tokens (record { place = a; value = getD s a 0 } ∷ placed (a + 1) (part (a + 1) stop s)) ≡ ts → tokensFrom a stop s ≡ ts
     unfolding placed
     opened ts e = rw (part-cons s a stop h l, ← (add-one a)) e
+
+    pub at-blank : text.blank (getD s a 0) ≡ true → tokensFrom a stop s ≡ tokensFrom (a + 1) stop s
+    at-blank e = opened _ (first-blank _ _ (class-blank a (getD s a 0) e))
 
     pub at-semicolon : getD s a 0 ≡ 59 → tokensFrom a stop s ≡ semicolon ∷ tokensFrom (a + 1) stop s
     unfolding class isBlank isByte if_then_else_

@@ -8,6 +8,7 @@ pub mod PartLaws
 pub mod WordLaws
 pub mod LexLaws
 pub mod PlainBases
+pub mod ReadLaws
 pub mod LaidLaws
 pub mod KindLaws
 pub mod TokensFit

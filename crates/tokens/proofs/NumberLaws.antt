@@ -1,7 +1,7 @@
 -- The row and the place of a base chord in the rows as the code keeps them, by its number: one test, computed for all 34.
 use Prim.Native.Nat.{ℕ, _-_, _<_, _≤_}
 use mathlib.Core.Path.{_≡_, refl}
-use mathlib.Core.List.{[]}
+use mathlib.Core.List.{List, [], _∷_, map}
 use mathlib.Core.Bool.{Bool, true, _&&_}
 use borrow.Author.Tests.{leb-true}
 use lib.Dec.{leb}
@@ -13,7 +13,17 @@ use Rattle.songcode.proofs.ListLaws.{both-pass}
 use Rattle.songcode.proofs.Spellings.{same-true}
 use Rattle.songcode.proofs.EachBelow.{allBelow, each-below}
 use Rattle.tokens.specs.Bases.{unpadded, firstOf, rowOfNumber}
-use Rattle.tokens.proofs.RowLaws.{table}
+
+-- The code's table: the rows of songcode, each spelling padded to three bytes and each row to six spellings.
+abbrev three : List ℕ → List ℕ
+three n = getD n 0 0 ∷ getD n 1 0 ∷ getD n 2 0 ∷ []
+
+abbrev six : List (List ℕ) → List (List ℕ)
+six l = getD l 0 [] ∷ getD l 1 [] ∷ getD l 2 [] ∷ getD l 3 [] ∷ getD l 4 [] ∷ getD l 5 [] ∷ []
+
+abbrev pub table : List (List (List ℕ))
+unfolding rows spellings ascii
+table = map (λ r. map three (six (spellings r))) rows
 
 -- A number stands in its row, and its spelling at its place there.
 unfoldable pub stands : ℕ → Bool

@@ -65,8 +65,10 @@ plain-behind (suc l) [] h = let z : ⊥ = omega arith in absurd z
 plain-behind (suc l) (b ∷ w) h =
     by-cases
     (isPlain b)
-    (λ t. let g : suc l ≤ suc (plainLength w) = rw t at h in let i = plain-behind l w (omega arith) in rw t (omega arith))
-    (λ t. let g : suc l ≤ 0 = rw t at h in let z : ⊥ = omega arith in absurd z)
+    (λ t. let g : suc l ≤ suc (plainLength w) = rw t at h in
+    let i = plain-behind l w (omega arith) in rw t (omega arith))
+    (λ t. let g : suc l ≤ 0 = rw t at h in
+    let z : ⊥ = omega arith in absurd z)
 
 -- A chord in a text: its base lies in it, and ends where what is plain behind the base ends.
 module _ (s : List ℕ) (a stop : ℕ) (h : a < stop) (l : stop ≤ length s) where
@@ -74,14 +76,20 @@ module _ (s : List ℕ) (a stop : ℕ) (h : a < stop) (l : stop ≤ length s) wh
   run = plainLength (part a stop s)
 
   run-le : run ≤ stop - a
-  run-le = let n = part-length s a stop l in let k = plain-le (part a stop s) in omega arith
+  run-le =
+      let n = part-length s a stop l in
+      let k = plain-le (part a stop s) in
+      omega arith
 
   run-first : isLetter (getD s a 0) ≡ true → run ≡ 1 + plainLength (part (a + 1) stop s)
   unfolding plainLength if_then_else_
   run-first e = rw (part-cons s a stop h l, letter-plain (getD s a 0) e) (omega arith)
 
   run-part : take run (part a stop s) ≡ part a (a + run) s
-  run-part = let k = run-le in let e : a + run - a ≡ run = omega arith in take-take run (stop - a) (drop a s) (omega arith) ∙ rw e
+  run-part =
+      let k = run-le in
+      let e : a + run - a ≡ run = omega arith in
+      take-take run (stop - a) (drop a s) (omega arith) ∙ rw e
 
   module _ (b : Base) (e : b ≡ baseOf (longestFrom isTaken 0 bases (part a stop s) none)) where
     base-in-run : b ≡ baseOf (longestFrom isTaken 0 bases (part a (a + run) s) none)
@@ -92,10 +100,14 @@ module _ (s : List ℕ) (a stop : ℕ) (h : a < stop) (l : stop ≤ length s) wh
         by-cases
         (eqb (b .length) 0)
         (λ t. let z = eqb-true (b .length) 0 t in omega arith)
-        (λ t. let k = run-le in let i = base-inside s a (a + run) b base-in-run (omega arith) (eqb-false (b .length) 0 t) .1 in omega arith)
+        (λ t. let k = run-le in
+        let i = base-inside s a (a + run) b base-in-run (omega arith) (eqb-false (b .length) 0 t) .1 in omega arith)
 
     pub base-in-part : b .length ≤ stop - a
-    base-in-part = let k = run-le in let i = base-le in omega arith
+    base-in-part =
+        let k = run-le in
+        let i = base-le in
+        omega arith
 
     chord-run : (j : ℕ) → j ≡ plainLength (part (a + b .length) stop s) → a + b .length + j ≡ a + run
     chord-run j p =
@@ -105,7 +117,11 @@ module _ (s : List ℕ) (a stop : ℕ) (h : a < stop) (l : stop ≤ length s) wh
 
     pub chord-end : isLetter (getD s a 0) ≡ true → (j : ℕ) → j ≡ plainLength (part (a + b .length) stop s)
         → (a + b .length + j ≡ a + 1 + plainLength (part (a + 1) stop s)) × (a + b .length + j ≤ stop)
-    chord-end g j p = let r = chord-run j p in let f = run-first g in let k = run-le in (omega arith, omega arith)
+    chord-end g j p =
+        let r = chord-run j p in
+        let f = run-first g in
+        let k = run-le in
+        (omega arith, omega arith)
 
     pub chord-base : (j : ℕ) → j ≡ plainLength (part (a + b .length) stop s) → b ≡ baseOf (longestFrom isTaken 0 bases (part a (a + b .length + j) s) none)
     chord-base j p = rw (chord-run j p) base-in-run

@@ -1,31 +1,22 @@
 -- The rows of spellings as the code keeps them, and the base that the row of a letter holds.
 use Prim.Native.Nat.{ℕ, zero, suc, _+_, _-_, _<_, _≤_}
 use mathlib.Core.Path.{_≡_, refl, sym, ap, _∙_}
-use mathlib.Core.List.{List, [], _∷_, map}
+use mathlib.Core.List.{List, [], _∷_}
 use mathlib.Core.Bool.{Bool, true, false, _&&_}
 use mathlib.Core.Option.{Option, none}
 use native.Mathlib.Omega.{arith}
-use native.Mathlib.Numerals.{add-one}
+use native.Mathlib.Nat.{add-zero}
 use borrow.Author.Tests.{leb-true, le-leb, eqb-true, eqb-false, ne-eqb}
 use lib.Dec.{eqb, leb}
-use lib.ListN.{getD, drop, drop-of-length-le}
-use lib.Seq.{drop-cons, getD-drop}
+use lib.ListN.{getD}
 use Rattle.songcode.specs.Lists.{if_then_else_, every}
 use Rattle.songcode.specs.Bytes.{begins, ascii}
-use Rattle.songcode.specs.answer.Chords.{rows, spellings, bases, endsInM, isPassedOver, isTaken, longer, longestFrom}
+use Rattle.songcode.specs.answer.Chords.{bases, endsInM, isPassedOver, isTaken, longer, longestFrom}
 use Rattle.songcode.specs.answer.Chords as songcode
 use Rattle.songcode.proofs.ListLaws.{by-cases, both-pass}
 use Rattle.text.proofs.TestLaws.{false-not-true}
-use Rattle.tokens.specs.declared.bases.Behind.{Behind}
-use Rattle.tokens.specs.Bases.{baseOf, isLetter, firstOf, rowOf, minorOf, behindOf, hasBehind, six, placeFrom, inRow}
-
--- The code's table: the rows of songcode, each spelling padded to three bytes and each row to six spellings.
-abbrev three : List ℕ → List ℕ
-three n = getD n 0 0 ∷ getD n 1 0 ∷ getD n 2 0 ∷ []
-
-abbrev pub table : List (List (List ℕ))
-unfolding rows spellings ascii
-table = map (λ r. map three (six (spellings r))) rows
+use Rattle.tokens.specs.declared.bases.Base.{Base}
+use Rattle.tokens.specs.Bases.{baseOf, isLetter, firstOf, rowOf, hasMinor, signOf, majorLength, withMinor}
 
 seven : (P : ℕ → Type 0) → P 0 → P 1 → P 2 → P 3 → P 4 → P 5 → P 6 → (r : ℕ) → r < 7 → P r
 seven P a b c d e f g zero h = a
@@ -38,13 +29,13 @@ seven P a b c d e f g (suc (suc (suc (suc (suc (suc zero)))))) h = g
 seven P a b c d e f g (suc (suc (suc (suc (suc (suc (suc r))))))) h = let z : ⊥ = omega arith in absurd z
 
 -- The `m` of a minor chord, by the bytes that stand there.
-pub minor-other : (t : List ℕ) → (getD t 0 0 ≡ 109 → ⊥) → 0 ≡ minorOf t
-unfolding minorOf begins if_then_else_ ascii
+pub minor-other : (t : List ℕ) → (getD t 0 0 ≡ 109 → ⊥) → false ≡ hasMinor t
+unfolding hasMinor begins ascii
 minor-other [] m = refl
 minor-other (x ∷ t) m = rw (ne-eqb 109 x (λ z. m (sym z)))
 
-pub minor-here : (t : List ℕ) → getD t 0 0 ≡ 109 → (getD t 1 0 ≡ 97 → getD t 2 0 ≡ 106 → ⊥) → 109 ≡ minorOf t
-unfolding minorOf begins if_then_else_ ascii
+pub minor-here : (t : List ℕ) → getD t 0 0 ≡ 109 → (getD t 1 0 ≡ 97 → getD t 2 0 ≡ 106 → ⊥) → true ≡ hasMinor t
+unfolding hasMinor begins ascii
 minor-here [] m n = absurd (omega arith)
 minor-here (x ∷ []) m n = rw m
 minor-here (x ∷ a ∷ []) m n = rw m (by-cases (eqb 97 a) (λ e. rw e) (λ e. rw e))
@@ -55,36 +46,12 @@ minor-here (x ∷ a ∷ j ∷ t) m n =
     (λ e. rw (e, ne-eqb 106 j (λ z. n (sym (eqb-true 97 a e)) (sym z))))
     (λ e. rw e))
 
-pub minor-maj : (t : List ℕ) → getD t 0 0 ≡ 109 → getD t 1 0 ≡ 97 → getD t 2 0 ≡ 106 → 0 ≡ minorOf t
-unfolding minorOf begins if_then_else_ ascii
+pub minor-maj : (t : List ℕ) → getD t 0 0 ≡ 109 → getD t 1 0 ≡ 97 → getD t 2 0 ≡ 106 → false ≡ hasMinor t
+unfolding hasMinor begins ascii
 minor-maj [] m a j = refl
 minor-maj (x ∷ []) m a j = absurd (omega arith)
 minor-maj (x ∷ y ∷ []) m a j = absurd (omega arith)
 minor-maj (x ∷ y ∷ z ∷ t) m a j = rw (m, a, j)
-
--- The place of a spelling in its row, one spelling at a time.
-six-at : (l : List (List ℕ)) (j : ℕ) → j < 6 → getD (six l) j [] ≡ getD l j []
-six-at l zero h = refl
-six-at l (suc zero) h = refl
-six-at l (suc (suc zero)) h = refl
-six-at l (suc (suc (suc zero))) h = refl
-six-at l (suc (suc (suc (suc zero)))) h = refl
-six-at l (suc (suc (suc (suc (suc zero))))) h = refl
-six-at l (suc (suc (suc (suc (suc (suc j)))))) h = let z : ⊥ = omega arith in absurd z
-
-module _ (l : List (List ℕ)) (x : Behind) (j : ℕ) where
-  pub place-over : 6 ≤ j → placeFrom j (drop j (six l)) x ≡ 0
-  unfolding placeFrom
-  place-over h = rw (drop-of-length-le (six l) h)
-
-  module _ (h : j < 6) where
-    pub place-here : hasBehind (getD l j []) x ≡ true → placeFrom j (drop j (six l)) x ≡ j
-    unfolding placeFrom if_then_else_
-    place-here e = rw (drop-cons (six l) j [] h, six-at l j h, e)
-
-    pub place-more : hasBehind (getD l j []) x ≡ false → placeFrom j (drop j (six l)) x ≡ placeFrom (j + 1) (drop (j + 1) (six l)) x
-    unfolding placeFrom if_then_else_
-    place-more e = rw (drop-cons (six l) j [] h, six-at l j h, e, add-one j)
 
 -- The row of a letter is enough: no spelling of another row fits.
 row-enough : (r : ℕ) → r < 7 → (bs : List ℕ) → longestFrom isTaken 0 bases ((65 + r) ∷ bs) none
@@ -127,40 +94,43 @@ pub no-row : (w : List ℕ) → (65 ≤ getD w 0 0 → getD w 0 0 ≤ 71 → ⊥
 unfolding bases every
 no-row w h = none-fits 0 bases w none h refl
 
--- The base that the row of a letter holds, by what stands behind the letter, is the longest of the row.
+-- The base by what stands behind the letter of a row is the longest of the row.
+abbrev inRow : ℕ → List ℕ → Base
+inRow r w = withMinor r (firstOf r + signOf r (getD w 1 0)) (majorLength (signOf r (getD w 1 0))) w
+
 abbrev Held : ℕ → List ℕ → Type 0
-Held r bs = inRow (getD table r []) (firstOf r) (behindOf ((65 + r) ∷ bs)) ≡ baseOf (longestFrom isTaken (firstOf r) (rowOf r) ((65 + r) ∷ bs) none)
+Held r bs = inRow r ((65 + r) ∷ bs) ≡ baseOf (longestFrom isTaken (firstOf r) (rowOf r) ((65 + r) ∷ bs) none)
 
 held-none : (r : ℕ) → r < 7 → Held r []
-unfolding inRow placeFrom hasBehind behindOf minorOf baseOf longestFrom isTaken isPassedOver endsInM begins longer if_then_else_ rowOf firstOf ascii
+unfolding signOf majorLength withMinor hasMinor baseOf longestFrom isTaken isPassedOver endsInM begins longer if_then_else_ rowOf firstOf ascii
 held-none = seven (λ r. Held r []) refl refl refl refl refl refl refl
 
 held-sharp : (t : List ℕ) (m maj : Bool) → begins (ascii "m") t ≡ m → begins (ascii "maj") t ≡ maj → (r : ℕ) → r < 7 → Held r (35 ∷ t)
-unfolding inRow placeFrom hasBehind behindOf minorOf baseOf longestFrom isTaken isPassedOver endsInM begins longer if_then_else_ rowOf firstOf ascii
+unfolding signOf majorLength withMinor hasMinor baseOf longestFrom isTaken isPassedOver endsInM begins longer if_then_else_ rowOf firstOf ascii
 held-sharp t false maj e f = seven (λ r. Held r (35 ∷ t)) (simp e) refl (simp e) (simp e) refl (simp e) (simp e)
 held-sharp t true false e f = seven (λ r. Held r (35 ∷ t)) (simp (e, f)) refl (simp (e, f)) (simp (e, f)) refl (simp (e, f)) (simp (e, f))
 held-sharp t true true e f = seven (λ r. Held r (35 ∷ t)) (simp (e, f)) refl (simp (e, f)) (simp (e, f)) refl (simp (e, f)) (simp (e, f))
 
 held-flat : (t : List ℕ) (m maj : Bool) → begins (ascii "m") t ≡ m → begins (ascii "maj") t ≡ maj → (r : ℕ) → r < 7 → Held r (98 ∷ t)
-unfolding inRow placeFrom hasBehind behindOf minorOf baseOf longestFrom isTaken isPassedOver endsInM begins longer if_then_else_ rowOf firstOf ascii
+unfolding signOf majorLength withMinor hasMinor baseOf longestFrom isTaken isPassedOver endsInM begins longer if_then_else_ rowOf firstOf ascii
 held-flat t false maj e f = seven (λ r. Held r (98 ∷ t)) (simp e) (simp e) refl (simp e) (simp e) refl (simp e)
 held-flat t true false e f = seven (λ r. Held r (98 ∷ t)) (simp (e, f)) (simp (e, f)) refl (simp (e, f)) (simp (e, f)) refl (simp (e, f))
 held-flat t true true e f = seven (λ r. Held r (98 ∷ t)) (simp (e, f)) (simp (e, f)) refl (simp (e, f)) (simp (e, f)) refl (simp (e, f))
 
 held-minor : (t : List ℕ) (aj : Bool) → begins (ascii "aj") t ≡ aj → (r : ℕ) → r < 7 → Held r (109 ∷ t)
-unfolding inRow placeFrom hasBehind behindOf minorOf baseOf longestFrom isTaken isPassedOver endsInM begins longer if_then_else_ rowOf firstOf ascii
+unfolding signOf majorLength withMinor hasMinor baseOf longestFrom isTaken isPassedOver endsInM begins longer if_then_else_ rowOf firstOf ascii
 held-minor t false e = seven (λ r. Held r (109 ∷ t)) (simp e) (simp e) (simp e) (simp e) (simp e) (simp e) (simp e)
 held-minor t true e = seven (λ r. Held r (109 ∷ t)) (simp e) (simp e) (simp e) (simp e) (simp e) (simp e) (simp e)
 
 module _ (c : ℕ) (t : List ℕ) (sharp : eqb c 35 ≡ false) (flat : eqb c 98 ≡ false) (minor : eqb c 109 ≡ false) where
   held-other : (r : ℕ) → r < 7 → Held r (c ∷ t)
-  unfolding inRow placeFrom hasBehind behindOf minorOf baseOf longestFrom isTaken isPassedOver endsInM begins longer if_then_else_ rowOf firstOf ascii
+  unfolding signOf majorLength withMinor hasMinor baseOf longestFrom isTaken isPassedOver endsInM begins longer if_then_else_ rowOf firstOf ascii
   held-other =
       let s : eqb 35 c ≡ false = ne-eqb 35 c (λ z. eqb-false c 35 sharp (sym z)) in
       let f : eqb 98 c ≡ false = ne-eqb 98 c (λ z. eqb-false c 98 flat (sym z)) in
       let m : eqb 109 c ≡ false = ne-eqb 109 c (λ z. eqb-false c 109 minor (sym z)) in
-      seven (λ r. Held r (c ∷ t)) (simp (sharp, flat, s, f, m)) (simp (sharp, flat, s, f, m)) (simp (sharp, flat, s, f, m))
-      (simp (sharp, flat, s, f, m)) (simp (sharp, flat, s, f, m)) (simp (sharp, flat, s, f, m)) (simp (sharp, flat, s, f, m))
+      seven (λ r. Held r (c ∷ t)) (simp (sharp, flat, s, f, m)) (simp (sharp, flat, f, m)) (simp (sharp, flat, s, m))
+      (simp (sharp, flat, s, f, m)) (simp (sharp, flat, f, m)) (simp (sharp, flat, s, m)) (simp (sharp, flat, s, f, m))
 
 held : (bs : List ℕ) (r : ℕ) → r < 7 → Held r bs
 held [] = held-none
@@ -191,23 +161,39 @@ no-letter b l h =
     let e : b ≡ 65 + (b - 65) = omega arith in
     λ m n o p q r s. seven (λ k. b ≡ 65 + k → ⊥) m n o p q r s (b - 65) k e
 
+pub letter-row : (b : ℕ) → isLetter b ≡ true → b - 65 < 7
+letter-row b e = let l = letter-range b e in omega arith
+
+-- How far the numbers of the rows go.
+pub first-most : (r : ℕ) → r < 7 → firstOf r ≤ 28
+unfolding firstOf
+first-most = seven (λ r. firstOf r ≤ 28) (omega arith) (omega arith) (omega arith) (omega arith) (omega arith) (omega arith) (omega arith)
+
+pub sign-most : (r b : ℕ) → r < 7 → signOf r b ≤ 2
+unfolding signOf if_then_else_
+sign-most r b =
+    by-cases
+    (eqb b 35)
+    (λ e. rw e (seven (λ r. getD (1 ∷ 0 ∷ 1 ∷ 2 ∷ 0 ∷ 1 ∷ 2 ∷ []) r 0 ≤ 2) (omega arith) (omega arith) (omega arith) (omega arith) (omega arith)
+    (omega arith) (omega arith) r))
+    (λ e. by-cases
+    (eqb b 98)
+    (λ f. rw (e, f) (seven (λ r. getD (2 ∷ 1 ∷ 0 ∷ 1 ∷ 1 ∷ 0 ∷ 1 ∷ []) r 0 ≤ 2) (omega arith) (omega arith) (omega arith) (omega arith) (omega arith)
+    (omega arith) (omega arith) r))
+    (λ f. rw (e, f) (λ h. omega arith)))
+
+pub minor-most : (r : ℕ) → r < 7 → getD (3 ∷ 2 ∷ 2 ∷ 3 ∷ 2 ∷ 2 ∷ 3 ∷ []) r 0 ≤ 3
+minor-most = seven (λ r. getD (3 ∷ 2 ∷ 2 ∷ 3 ∷ 2 ∷ 2 ∷ 3 ∷ []) r 0 ≤ 3) (omega arith) (omega arith) (omega arith) (omega arith) (omega arith) (omega arith)
+    (omega arith)
+
 -- A word that begins with a letter has its base in the letter's row.
-pub row-found : (r : ℕ) (w : List ℕ) → r < 7 → getD w 0 0 ≡ 65 + r
-    → inRow (getD table r []) (firstOf r) (behindOf w) ≡ baseOf (longestFrom isTaken 0 bases w none)
+pub row-found : (r : ℕ) (w : List ℕ) → r < 7 → getD w 0 0 ≡ 65 + r → inRow r w ≡ baseOf (longestFrom isTaken 0 bases w none)
 row-found r [] h e = absurd (omega arith)
 row-found r (b ∷ bs) h e = rw e (held bs r h ∙ ap baseOf (sym (row-enough r h bs)))
 
--- A letter behind which no longer spelling goes on is a base by itself.
-row-alone : (r : ℕ) → r < 7 → inRow (getD table r []) (firstOf r) (record { sign = 0; minor = 0 }) ≡ record { number = firstOf r; length = 1 }
-unfolding inRow placeFrom hasBehind if_then_else_ firstOf rows spellings ascii
-row-alone =
-    seven (λ r. inRow (getD table r []) (firstOf r) (record { sign = 0; minor = 0 }) ≡ record { number = firstOf r; length = 1 })
-    refl refl refl refl refl refl refl
-
-pub letter-alone : (r : ℕ) (w : List ℕ) → r < 7 → getD w 0 0 ≡ 65 + r → (getD w 1 0 ≡ 35 → ⊥) → (getD w 1 0 ≡ 98 → ⊥) → (getD w 1 0 ≡ 109 → ⊥)
-    → record { number = firstOf r; length = 1 } ≡ baseOf (longestFrom isTaken 0 bases w none)
-unfolding behindOf if_then_else_
-letter-alone r w h l a b c =
-    let m : minorOf (drop 1 w) ≡ 0 = sym (minor-other (drop 1 w) (λ z. c (sym (getD-drop 1 w 0 0) ∙ z))) in
-    let e : behindOf w ≡ record { sign = 0; minor = 0 } = rw (ne-eqb _ _ a, ne-eqb _ _ b, m) in
-    sym (row-alone r h) ∙ ap (inRow (getD table r []) (firstOf r)) (sym e) ∙ row-found r w h l
+-- A letter alone is a base.
+pub letter-alone : (b : ℕ) → isLetter b ≡ true → record { number = firstOf (b - 65); length = 1 } ≡ baseOf (longestFrom isTaken 0 bases (b ∷ []) none)
+unfolding signOf majorLength withMinor hasMinor begins ascii if_then_else_
+letter-alone b l =
+    let p = letter-range b l in
+    rw (← (add-zero (firstOf (b - 65)))) (row-found (b - 65) (b ∷ []) (letter-row b l) (omega arith))

@@ -1,5 +1,5 @@
 -- What the code finds of a line's tokens: plain bytes, the token at a place, and a table with new words laid into it.
-use Prim.Native.Nat.{ℕ, suc, _+_, _<_, _≤_}
+use Prim.Native.Nat.{ℕ, suc, _+_, _/_, _%_, _<_, _≤_}
 use mathlib.Core.Path.{_≡_}
 use mathlib.Core.List.{List, [], _∷_, _++_}
 use mathlib.Core.Bool.{Bool, true, false}
@@ -49,6 +49,10 @@ Reads s at stop (Token w n) =
     (t : songcode.Token) × (at < n) × (n ≤ stop) × (w ≡ tokenWord t)
     × ((to : ℕ) → n ≤ to → to ≤ stop → tokensFrom at to s ≡ t ∷ tokensFrom n to s)
 Reads s at stop End = tokensFrom at stop s ≡ []
+
+-- What is found, taken from one number: a word, and below it the place behind the token.
+abbrev pub lexedOf : ℕ → Lexed
+lexedOf p = Token (p / 131072) (p % 131072)
 
 -- A table with new words from a place on; before and behind them it keeps what it held.
 abbrev pub laid : ℕ → List ℕ → List ℕ → List ℕ

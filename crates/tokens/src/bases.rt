@@ -1,13 +1,13 @@
 // Base chords: seven rows of spellings, and the longest that is taken at the front of a word.
 use text::byte_at;
 ghost use mathlib.Core.Path.{_≡_};
-ghost use mathlib.Core.Bool.{false};
+ghost use mathlib.Core.Bool.{true};
 ghost use mathlib.Core.Option.{none};
-ghost use Prim.Native.Nat.{_≤_, _<_};
-ghost use lib.ListN.{drop};
+ghost use Prim.Native.Nat.{_-_, _≤_};
+ghost use lib.ListN.{getD, drop};
 ghost use Rattle.songcode.specs.Bytes.{placed};
 ghost use Rattle.songcode.specs.answer.Chords.{bases, spellingOf, isTaken, longestFrom, isBase};
-ghost use Rattle.tokens.specs.Bases.{baseOf, unpadded, rowOfNumber, isLetter, minorOf, behindOf, hasBehind, six, placeFrom, inRow};
+ghost use Rattle.tokens.specs.Bases.{baseOf, unpadded, firstOf, rowOfNumber, isLetter, hasMinor, signOf, majorLength, withMinor};
 
 // What pads a row of less than six.
 const NONE: [u8; 3] = *b"\0\0\0";
@@ -32,6 +32,17 @@ const ROWS: [[[u8; 3]; 6]; 7] = [ROW_A, ROW_B, ROW_C, ROW_D, ROW_E, ROW_F, ROW_G
 // The number of the first base chord of each row.
 const FIRSTS: [usize; 7] = [0, 6, 10, 14, 20, 24, 28];
 
+// The first half of a row is its major chords: so far behind the letter stand those with a sharp and with a flat, 0 where there is none.
+const SHARPS: [usize; 7] = [1, 0, 1, 2, 0, 1, 2];
+
+const FLATS: [usize; 7] = [2, 1, 0, 1, 1, 0, 1];
+
+// So far behind each major chord of a row stands its minor one.
+const MINORS: [usize; 7] = [3, 2, 2, 3, 2, 2, 3];
+
+// No base chord has this number.
+const NO_NUMBER: usize = 34;
+
 // A letter that has a row.
 pub fn is_letter(b: u8) -> bool
     ensures { λ r. ⌜ r ≡ isLetter b ⌝ }
@@ -45,158 +56,102 @@ pub struct Base {
     pub length: usize,
 }
 
-// The two bytes behind its letter that a spelling has; zeros where it is shorter.
-pub struct Behind {
-    pub sign: u8,
-    pub minor: u8,
-}
-
-// The `m` of a minor chord at a place of a word, which is none of a `maj`; else 0.
-fn minor_at(w: &[u8], i: usize) -> u8
+// An `m` stands at a place of a word that is none of a `maj`.
+fn has_minor(w: &[u8], i: usize) -> bool
     requires { ⌜ i ≤ 2 ⌝ }
-    ensures { λ r. ⌜ r ≡ minorOf (drop i (now (w .entry))) ⌝ }
+    ensures { λ r. ⌜ r ≡ hasMinor (drop i (now (w .entry))) ⌝ }
 {
     if byte_at(w, i) != b'm' {
-        return 0;
+        return false;
     }
     if byte_at(w, i + 1) != b'a' {
-        return b'm';
+        return true;
     }
-    if byte_at(w, i + 2) != b'j' {
-        return b'm';
-    }
-    0
+    byte_at(w, i + 2) != b'j'
 }
 
-// What the longest spelling has behind its letter, if the letter's row holds it.
-fn behind_letter(w: &[u8]) -> Behind
-    ensures { λ r. ⌜ r ≡ behindOf (now (w .entry)) ⌝ }
+// The number that a letter has of seven; what is returned for any other byte has no meaning.
+fn at_letter(numbers: [usize; 7], letter: u8) -> usize
+    requires { ⌜ isLetter letter ≡ true ⌝ }
+    ensures { λ r. ⌜ r ≡ getD numbers (letter - 65) 0 ⌝ }
 {
-    let b = byte_at(w, 1);
+    match letter {
+        b'A' => numbers[0],
+        b'B' => numbers[1],
+        b'C' => numbers[2],
+        b'D' => numbers[3],
+        b'E' => numbers[4],
+        b'F' => numbers[5],
+        b'G' => numbers[6],
+        _ => NO_NUMBER,
+    }
+}
+
+// The number of the base chord that is a letter alone.
+pub fn first_of(letter: u8) -> usize
+    requires { ⌜ isLetter letter ≡ true ⌝ }
+    ensures { λ r. ⌜ (r ≡ firstOf (letter - 65)) × (r ≤ 28) ⌝ }
+{
+    at_letter(FIRSTS, letter)
+}
+
+// How far behind its letter a chord with this sign stands; 0 where there is none.
+fn sign_of(letter: u8, b: u8) -> usize
+    requires { ⌜ isLetter letter ≡ true ⌝ }
+    ensures { λ r. ⌜ (r ≡ signOf (letter - 65) b) × (r ≤ 2) ⌝ }
+{
     if b == b'#' {
-        return Behind {
-            sign: b'#',
-            minor: minor_at(w, 2),
-        };
+        return at_letter(SHARPS, letter);
     }
     if b == b'b' {
-        return Behind {
-            sign: b'b',
-            minor: minor_at(w, 2),
-        };
-    }
-    Behind {
-        sign: minor_at(w, 1),
-        minor: 0,
-    }
-}
-
-// The spelling has these bytes behind its letter.
-fn has_behind(name: [u8; 3], x: Behind) -> bool
-    ensures { λ r. ⌜ r ≡ hasBehind name x ⌝ }
-{
-    name[1] == x.sign && name[2] == x.minor
-}
-
-// The place in a row of the spelling with these bytes; 0, that of the letter itself, where there is none.
-fn place_in(row: [[u8; 3]; 6], x: Behind) -> usize
-    ensures { λ r. ⌜ (r ≡ placeFrom 0 (six row) x) × (r < 6) ⌝ }
-{
-    let mut j = 0;
-    while j < 6 {
-        if has_behind(row[j], x) {
-            return j;
-        }
-        j += 1;
+        return at_letter(FLATS, letter);
     }
     0
 }
 
-// The base of a row that has these bytes behind its letter, or the letter itself.
-fn in_row(row: [[u8; 3]; 6], first: usize, x: Behind) -> Base
-    requires { ⌜ first ≤ 28 ⌝ }
-    ensures { λ r. ⌜ r ≡ inRow row first x ⌝ }
+// How many bytes spell a letter with its sign, by how far behind the letter it stands.
+fn major_len(sign: usize) -> usize
+    ensures { λ r. ⌜ (r ≡ majorLength sign) × (r ≤ 2) ⌝ }
 {
-    let place = place_in(row, x);
-    if place == 0 {
-        return Base {
-            number: first,
-            length: 1,
-        };
-    }
-    if x.minor == 0 {
-        return Base {
-            number: first + place,
-            length: 2,
-        };
+    if sign == 0 { 1 } else { 2 }
+}
+
+// A major chord at the front of a word, or its minor one.
+fn with_minor(w: &[u8], letter: u8, number: usize, length: usize) -> Base
+    requires { ⌜ (isLetter letter ≡ true) × (number ≤ 30) × (length ≤ 2) ⌝ }
+    ensures { λ r. ⌜ r ≡ withMinor (letter - 65) number length (now (w .entry)) ⌝ }
+{
+    if !has_minor(w, length) {
+        return Base { number, length };
     }
     Base {
-        number: first + place,
-        length: 3,
+        number: number + at_letter(MINORS, letter),
+        length: length + 1,
     }
 }
 
-// The longest base chord at the front of a word, looked up in the row of its letter.
+// The longest base chord at the front of a word that begins with a letter.
+pub fn base_of(letter: u8, w: &[u8]) -> Base
+    requires { ⌜ (isLetter letter ≡ true) × (getD (now w) 0 0 ≡ letter) ⌝ }
+    ensures { λ r. ⌜ r ≡ baseOf (longestFrom isTaken 0 bases (now (w .entry)) none) ⌝ }
+{
+    let first = first_of(letter);
+    let sign = sign_of(letter, byte_at(w, 1));
+    with_minor(w, letter, first + sign, major_len(sign))
+}
+
+// The longest base chord at the front of a word.
 pub fn longest_base(w: &[u8]) -> Base
     ensures { λ r. ⌜ r ≡ baseOf (longestFrom isTaken 0 bases (now (w .entry)) none) ⌝ }
 {
-    match byte_at(w, 0) {
-        b'A' => in_row(ROW_A, 0, behind_letter(w)),
-        b'B' => in_row(ROW_B, 6, behind_letter(w)),
-        b'C' => in_row(ROW_C, 10, behind_letter(w)),
-        b'D' => in_row(ROW_D, 14, behind_letter(w)),
-        b'E' => in_row(ROW_E, 20, behind_letter(w)),
-        b'F' => in_row(ROW_F, 24, behind_letter(w)),
-        b'G' => in_row(ROW_G, 28, behind_letter(w)),
-        _ => Base {
+    let letter = byte_at(w, 0);
+    if !is_letter(letter) {
+        return Base {
             number: 0,
             length: 0,
-        },
+        };
     }
-}
-
-// A spelling of more than its letter goes on with one of three bytes.
-fn goes_on(b: u8) -> bool
-    ensures { λ r. ⌜ (r ≡ false → (b ≡ 35 → ⊥) × (b ≡ 98 → ⊥) × (b ≡ 109 → ⊥)) ⌝ }
-{
-    if b == b'#' {
-        return true;
-    }
-    if b == b'b' {
-        return true;
-    }
-    b == b'm'
-}
-
-fn alone(first: usize) -> Base
-    ensures { λ r. ⌜ r ≡ record { number = first; length = 1 } ⌝ }
-{
-    Base {
-        number: first,
-        length: 1,
-    }
-}
-
-// The same, known at once where the letter stands alone.
-pub fn base_of(w: &[u8]) -> Base
-    ensures { λ r. ⌜ r ≡ baseOf (longestFrom isTaken 0 bases (now (w .entry)) none) ⌝ }
-{
-    if goes_on(byte_at(w, 1)) {
-        return longest_base(w);
-    }
-    match byte_at(w, 0) {
-        b'A' => alone(0),
-        b'B' => alone(6),
-        b'C' => alone(10),
-        b'D' => alone(14),
-        b'E' => alone(20),
-        b'F' => alone(24),
-        b'G' => alone(28),
-        _ => Base {
-            number: 0,
-            length: 0,
-        },
-    }
+    base_of(letter, w)
 }
 
 // The word is a base chord exactly.

@@ -1,5 +1,6 @@
 // The token of a run of plain bytes, and that of a bracket with its count, as words.
 use super::bases::Base;
+use super::bases::first_of;
 use super::numbers::Number;
 use super::numbers::number_in;
 use super::signs::AGAIN_WORD;
@@ -11,10 +12,10 @@ use super::signs::SILENCE_WORD;
 use super::signs::WRONG_WORD;
 ghost use mathlib.Core.Path.{_≡_};
 ghost use mathlib.Core.List.{[], _∷_};
-ghost use Prim.Native.Nat.{_≤_, _<_};
-ghost use mathlib.Core.Bool.{false};
+ghost use Prim.Native.Nat.{_*_, _-_, _≤_, _<_};
+ghost use mathlib.Core.Bool.{true, false};
 ghost use lib.ListN.{length, getD};
-ghost use Rattle.tokens.specs.Bases.{baseOf, isLetter};
+ghost use Rattle.tokens.specs.Bases.{baseOf, isLetter, firstOf};
 ghost use Rattle.songcode.specs.Lists.{any};
 ghost use Rattle.songcode.specs.Bytes.{placed, same};
 ghost use Rattle.songcode.specs.answer.Numbers.{countIn, repeatIn};
@@ -92,6 +93,14 @@ pub fn has_slip(w: &[u8]) -> bool
     false
 }
 
+// The token of a chord that is a letter alone.
+pub fn letter_token(letter: u8) -> u32
+    requires { ⌜ isLetter letter ≡ true ⌝ }
+    ensures { λ r. ⌜ r ≡ firstOf (letter - 65) * 67108864 ⌝ }
+{
+    (first_of(letter) * WEIGHT) as u32
+}
+
 // The token of a chord by its base: with the place and length of its extension.
 pub fn chord_token(s: &[u8], a: usize, e: usize, base: Base) -> u32
     requires { ⌜ (a ≤ e) × (e ≤ length (now s)) × (e ≤ 65536) × (base ≡ baseOf (longestFrom isTaken 0 bases (part a e (now s)) none)) ⌝ }
@@ -103,11 +112,11 @@ pub fn chord_token(s: &[u8], a: usize, e: usize, base: Base) -> u32
     let kind = base.number * WEIGHT;
     let x = a + base.length;
     let k = e - x;
-    if 31 < k {
-        return WRONG_WORD;
-    }
     if k == 0 {
         return kind as u32;
+    }
+    if 31 < k {
+        return WRONG_WORD;
     }
     if has_slip(&s[x..e]) {
         return WRONG_WORD;

@@ -1,6 +1,3 @@
 -- Laws that the proofs of the writers cite.
 pub mod SongLaws
 pub mod PromptLaws
-pub mod GoodLaws
-pub mod SettingLaws
-pub mod KeyLaws

@@ -6,8 +6,7 @@ use mathlib.Core.Bool.{true, false, not, _&&_}
 use mathlib.Core.Option.{Option·getD}
 use native.Mathlib.Omega.{arith}
 use lib.Dec.{eqb}
-use lib.ListN.{length, take, drop, getD, length-take, length-drop}
-use lib.Seq.{drop-cons, getD-take}
+use lib.ListN.{length, take, drop, length-take, length-drop}
 use borrow.Author.Tests.{eqb-true, not-false}
 use Rattle.songcode.specs.Lists.{if_then_else_, any, every, isEmpty}
 use Rattle.songcode.specs.Song.{LyricLine, Section, Song}
@@ -25,7 +24,7 @@ use Rattle.score.specs.Sections.{lyricBy, lyricRow}
 use Rattle.score.specs.LyricLines.{lyricIn, lyricAt}
 use Rattle.score.specs.Fitting.{LyricsFit, SectionFits}
 use Rattle.score.specs.Seen.{Sees}
-use Rattle.score.proofs.LyricLaws.{lyric-read}
+use Rattle.score.proofs.LyricLaws.{lyric-read, two-words}
 use Rattle.judging.proofs.LyricLaws.{prompts-length}
 use Rattle.judging.proofs.SumLaws.{isPrompted, prompted-parts, all-taken, all-prompted}
 use Rattle.writing.specs.Prompts.{wordsIn, countsIn, promptWords, lyricsTaken}
@@ -155,29 +154,21 @@ one-left m a = refl
 
 -- The line at a place of a stretch that ends before `to`; past the last line there is none.
 module _ (ws : List ℕ) (to at : ℕ) where
-  two-words : at + 1 < to → to ≤ length ws → drop at (take to ws) ≡ getD ws at 0 ∷ getD ws (at + 1) 0 ∷ drop (at + 2) (take to ws)
-  two-words h l =
-      let n = length-take to ws in
-      let k : suc at ≡ at + 1 = omega arith in
-      let j : suc (at + 1) ≡ at + 2 = omega arith in
-      let a = drop-cons (take to ws) at 0 (omega arith) in
-      let b = drop-cons (take to ws) (at + 1) 0 (omega arith) in
-      let c : getD (take to ws) at 0 ≡ getD ws at 0 = getD-take to ws at 0 (omega arith) in
-      let d : getD (take to ws) (at + 1) 0 ≡ getD ws (at + 1) 0 = getD-take to ws (at + 1) 0 h in
-      a ∙ rw (k, b, c, d, j)
-
   module _ (more : at + 1 < to) (inside : to ≤ length ws) (l : Lyric) (is : l ≡ lyricAt ws at) where
     pub prompts-more : (m : ℕ) → promptWords m (drop at (take to ws))
         ≡ packedItem (l .offset) (l .length) m (l .count) (l .style) ∷ promptWords (m + l .count) (drop (at + 2) (take to ws))
     unfolding lyricAt
-    prompts-more m = ap (promptWords m) (two-words more inside) ∙ word-read _ _ (drop (at + 2) (take to ws)) l (sym is) m
+    prompts-more m = ap (promptWords m) (two-words ws to at more inside) ∙ word-read _ _ (drop (at + 2) (take to ws)) l (sym is) m
 
     pub counts-more : countsIn (drop at (take to ws)) ≡ l .count + countsIn (drop (at + 2) (take to ws))
     unfolding lyricAt
-    counts-more = ap countsIn (two-words more inside) ∙ count-read _ _ (drop (at + 2) (take to ws)) l (sym is)
+    counts-more = ap countsIn (two-words ws to at more inside) ∙ count-read _ _ (drop (at + 2) (take to ws)) l (sym is)
 
   pub prompts-over : (m : ℕ) → to ≤ at + 1 → promptWords m (drop at (take to ws)) ≡ []
-  prompts-over m h = let n = length-take to ws in let k = length-drop at (take to ws) in short (drop at (take to ws)) (omega arith)
+  prompts-over m h =
+      let n = length-take to ws in
+      let k = length-drop at (take to ws) in
+      short (drop at (take to ws)) (omega arith)
     where
       short : (l : List ℕ) → length l ≤ 1 → promptWords m l ≡ []
       short [] z = no-prompts m

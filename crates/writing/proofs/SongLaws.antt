@@ -25,6 +25,7 @@ use Rattle.laying.specs.Scores.{Ready}
 use Rattle.packing.specs.Written.{written}
 use Rattle.packing.proofs.WrittenLaws.{Wrote, wrote-start, wrote-put, wrote-left, wrote-length, wrote-lent, wrote-end}
 use Rattle.judging.specs.Charts.{Laid, Roomy}
+use Rattle.judging.proofs.WholeLaws.{laid-row}
 use Rattle.judging.proofs.AheadLaws.{Ahead, ahead-start, ahead-same, ahead-some, ahead-none, ahead-fits, ahead-sees, ahead-within, ahead-row}
 use Rattle.judging.proofs.AheadLaws.{ahead-further, ahead-lyrics, ahead-fields, ahead-measures, ahead-beats, ahead-next}
 use Rattle.judging.proofs.SumLaws.{section-words-length, measure-words-length, beat-words-length}
@@ -177,7 +178,7 @@ pub midway-start : {s ws : List ℕ} {rows : Stretch} {count : ℕ} (old : Conte
     → Midway s ws count old (rows .from) (rows .to) 0 0 0 0 old (songOf s .sections)
 midway-start {s} {ws} {rows} {count} old l e =
     record {
-      ahead = ahead-start (l .row) (l .fits) (l .clear .meters) (l .clear .lengths);
+      ahead = ahead-start (laid-row l) (l .sized .fits) (l .clear .meters) (l .clear .lengths);
       summed = λ some. sums-start (songOf s) (λ z. some (e ∙ z)) (l .clear .sums);
       sections = sections-start (songOf s) (old .sections);
       measures = measures-start (songOf s) (old .measures);
@@ -232,7 +233,10 @@ module _ {s ws : List ℕ} {mark count : ℕ} {old : Content} {at end k m b i : 
   midway-room = sections-left (songOf s) m k x xs (old .sections) (new .sections) (tables (songOf s) .sections) (roomy .sections) (w .sections)
 
   pub midway-further : at < v .next
-  midway-further = let h = ahead-further ready (w .ahead) in let e = ap (λ (u : View). u .next) is in omega arith
+  midway-further =
+      let h = ahead-further ready (w .ahead) in
+      let e = ap (λ (u : View). u .next) is in
+      omega arith
 
   sees : Sees (songOf s) ws x v
   sees = subst (λ (u : View). Sees (songOf s) ws x u) (sym is) (ahead-sees ready (w .ahead))

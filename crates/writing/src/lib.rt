@@ -1,4 +1,4 @@
-// All tables of a song that nothing is wrong with: the keys from the text, all others from the row.
+// All tables of a song that nothing is wrong with, from the row.
 mod items;
 mod keys;
 mod songs;
@@ -35,11 +35,12 @@ pub fn write_tables(
     ensures items { λ _. ⌜ now (items .exit) ≡ written (tables (songOf (now (s .entry))) .items) (now (items .entry)) ⌝ }
 {
     let totals = chart.totals;
-    write_keys(s, chart.end, keys);
+    let rows = chart.rows;
+    write_keys(words, rows.to, keys);
     write_song(
         s,
         words,
-        chart.rows,
+        rows,
         totals.items,
         sections,
         measures,

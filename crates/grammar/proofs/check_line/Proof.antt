@@ -29,7 +29,8 @@ loop-less c =
     let q = c .before .before .before .before .before .before .before in
     let t = line-token (l .check) (q .args .s .now) (l .at) (q .args .to) (l .inv .0) (q .pre .1) (q .pre .2)
     (c .before .before .before .before .next-token .ensures) (c .before .before .word .given .1) in
-    let a = t .0 in let b = t .1 in omega arith
+    let a = t .0 in
+    let b = t .1 in omega arith
 
 loop-again : tie.Need-loop-again Inv-loop μ-loop
 loop-again c =

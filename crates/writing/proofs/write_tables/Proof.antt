@@ -1,20 +1,36 @@
+use mathlib.Core.Path.{ap, _∙_}
+use mathlib.Core.List.{List}
+use Prim.Native.Nat.{ℕ}
+use Rattle.songcode.specs.answer.Tables.{tables}
+use Rattle.packing.specs.Written.{written}
+use Rattle.judging.proofs.WholeLaws.{laid-keys, keys-inside}
 use borrow.Author.Needs.{needs}
 use Rattle.writing.proofs.write_tables.Statement.{statement}
 use Rattle.writing.proofs.write_tables.Tie as tie
 
+write-keys-requires : tie.Need-write-keys-requires
+write-keys-requires c κs =
+    let q = c .before .before .before .before .before .before .before .before .before .before in
+    (keys-inside (q .pre .0 .2 .laid), q .pre .1 .0)
+
 write-song-requires : tie.Need-write-song-requires
 write-song-requires c κs =
-    let q = c .before .before .before .before .before .before .before .before .before .before .before .before .before .before .before .before in
+    let q = c .before .before .before .before .before .before .before .before .before .before .before .before .before .before .before .before .before in
     let w = q .pre .0 .2 in
     ((w .laid, w .holds .items), q .pre .1 .1)
 
 returns : tie.Need-returns
+unfolding tables
 returns c =
     let song = c .before .before .before .before .before .before .before .before in
-    (song .before .before .before .before .before .before .before .write-keys .ensures, song .write-song .ensures)
+    let keys = song .before .before .before .before .before .before .before in
+    let q = keys .before .before .before .before .before .before .before .before .before .before .before in (
+      keys .write-keys .ensures ∙ ap (λ (ws : List ℕ). written ws (q .args .keys .now)) (laid-keys (q .pre .0 .2 .laid)),
+      song .write-song .ensures,
+    )
 
 pub write-tables-spec : {M : Type 1} → statement M
 write-tables-spec =
     tie.close
-    (tie.spec (λ c κs. search needs) write-song-requires (λ c. search needs) (λ c. search needs) (λ c. search needs) (λ c. search needs)
+    (tie.spec write-keys-requires write-song-requires (λ c. search needs) (λ c. search needs) (λ c. search needs) (λ c. search needs)
     (λ c. search needs) returns)

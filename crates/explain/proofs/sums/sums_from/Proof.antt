@@ -7,7 +7,7 @@ use lib.ListN.{length}
 use Rattle.songcode.specs.Song.{Section}
 use Rattle.sections.specs.Onward.{Onward}
 use Rattle.judging.proofs.RowIsLaws.{RowIs, row-is-start, row-before, row-is-next}
-use Rattle.explain.proofs.SumLaws.{Unrefused, unrefused-start, laid-low, laid-within, laid-measures, unrefused-next}
+use Rattle.explain.proofs.SumLaws.{Unrefused, unrefused-start, laid-summable, unrefused-next}
 use Rattle.explain.proofs.SumLaws.{Ahead, sums-found, still-ahead, none-ahead}
 use borrow.Author.Needs.{needs}
 use Rattle.explain.proofs.sums.sums_from.Statement.{statement}
@@ -36,35 +36,29 @@ lay-section-requires c κs =
     let h = c .before .before .before .before .before .before .pre in
     ((i .0, c .before .if1 .taken, i .1 .room, rw (i .2) (h .0 .3)), (row-before (i .1), h .1 .0))
 
-measures-at-requires : tie.Need-measures-at-requires Inv-loop μ-loop
-measures-at-requires c κs =
+section-counts-requires : tie.Need-section-counts-requires Inv-loop μ-loop
+section-counts-requires c κs =
     let q = c .before .before .before .before .before .before in
     let w = q .lay-section .ensures in
     let i = q .before .before .before .before .loop .inv in
     let h = q .before .before .before .before .before .before .before .pre in
-    let low = laid-low (q .lay-section .result) (i .3) (i .1) (w .0) (rw (i .2) (h .0 .3)) (w .1) in
-    (omega arith, laid-within (q .lay-section .result) (i .3) (i .1) (w .0) (rw (i .2) (h .0 .3)) (w .1))
-
-sum-of-requires : tie.Need-sum-of-requires Inv-loop μ-loop
-sum-of-requires c κs =
-    let q = c .before .before .before .before .before .before .before in
-    (q .lay-section .ensures .0 .opens .met .read .lyrics-placed, q .before .before .before .before .loop .inv .1 .ready .small)
+    (_, laid-summable (q .lay-section .result) (i .3) (i .1) (w .0) (rw (i .2) (h .0 .3)) (w .1))
 
 same-length : tie.Need-same-length Inv-loop μ-loop
 same-length c =
-    let q = c .before .before .before .before .before .before .before .before in
+    let q = c .before .before .before .before .before .before .before in
     q .lay-section .ensures .1 ∙ q .before .before .before .before .loop .inv .2
 
 returns : tie.Need-returns Inv-loop μ-loop
 returns c =
-    let q = c .before .before .before .before .before .before .before .before in
+    let q = c .before .before .before .before .before .before .before in
     let w = q .lay-section .ensures in
     let l = q .before .before .before .before in
     let i = l .loop .inv in
     let h = l .before .before .before .pre in
-    sums-found (q .lay-section .result) (w .0 .opens) (l .before .before .before .args .line) (i .4)
-    (c .before .before .before .if2 .taken) _ (c .sum-of .ensures)
-    (laid-measures (q .lay-section .result) (i .3) (i .1) (w .0) (rw (i .2) (h .0 .3)) (w .1) (c .before .measures-at .ensures))
+    let counts = c .section-counts in
+    sums-found (q .lay-section .result) (w .0 .opens) (l .before .before .before .args .line) (i .4) (c .before .before .if2 .taken) (counts .result)
+    (counts .ensures _ (laid-summable (q .lay-section .result) (i .3) (i .1) (w .0) (rw (i .2) (h .0 .3)) (w .1)))
 
 loop-less : tie.Need-loop-less Inv-loop μ-loop
 loop-less c =
@@ -94,5 +88,5 @@ returns-2 c =
 pub sums-from-spec : {M : Type 1} → statement M
 sums-from-spec =
     tie.close
-    (tie.spec Inv-loop μ-loop (λ c. search needs) loop-holds lay-section-requires measures-at-requires sum-of-requires same-length
+    (tie.spec Inv-loop μ-loop (λ c. search needs) loop-holds lay-section-requires section-counts-requires same-length
     returns loop-less loop-again (λ c. search needs) returns-2)

@@ -8,6 +8,7 @@ use Rattle.songcode.specs.Song.{Section}
 use Rattle.songcode.specs.answer.Answer.{songOf}
 use Rattle.songcode.specs.answer.Flat.{playsNothing}
 use Rattle.judging.proofs.AheadLaws.{ahead-start, ahead-none, ahead-low}
+use Rattle.judging.proofs.WholeLaws.{laid-ready, laid-row}
 use Rattle.flat.proofs.SilentLaws.{silent-all}
 use Rattle.flat.proofs.RowLaws.{Left, left-first, left-empty, left-further}
 use borrow.Author.Needs.{needs}
@@ -27,7 +28,7 @@ loop-holds c =
     let song = songOf (q .args .s .now) in (
       song .sections,
       record {
-        ahead = ahead-start (l .row) (l .fits) (l .clear .meters) (l .clear .lengths);
+        ahead = ahead-start (laid-row l) (l .sized .fits) (l .clear .meters) (l .clear .lengths);
         silent = silent-all song 0 (song .sections) (l .clear .lengths);
         same = refl;
       },
@@ -42,7 +43,7 @@ returns c =
     let l = y .before .before .loop in
     let q = y .before .before .before .before .before in
     let f = left-first (l .inv .0) (l .inv .1) (y .before .loop-test .taken) in
-    left-empty (q .pre .ready) (f .left) (y .section-at .ensures) (c .before .is-empty .ensures) .0 (c .if1 .taken)
+    left-empty (laid-ready (q .pre)) (f .left) (y .section-at .ensures) (c .before .is-empty .ensures) .0 (c .if1 .taken)
 
 loop-less : tie.Need-loop-less Inv-loop μ-loop
 loop-less c =
@@ -50,7 +51,7 @@ loop-less c =
     let l = y .before .before .loop in
     let q = y .before .before .before .before .before in
     let f = left-first (l .inv .0) (l .inv .1) (y .before .loop-test .taken) in
-    let on = left-further (q .pre .ready) (f .left) (y .section-at .ensures) in
+    let on = left-further (laid-ready (q .pre)) (f .left) (y .section-at .ensures) in
     omega (arith, y .before .loop-test .taken)
 
 loop-again : tie.Need-loop-again Inv-loop μ-loop
@@ -59,7 +60,7 @@ loop-again c =
     let l = y .before .before .loop in
     let q = y .before .before .before .before .before in
     let f = left-first (l .inv .0) (l .inv .1) (y .before .loop-test .taken) in
-    (f .others, left-empty (q .pre .ready) (f .left) (y .section-at .ensures) (c .before .is-empty .ensures) .1 (c .if1 .left))
+    (f .others, left-empty (laid-ready (q .pre)) (f .left) (y .section-at .ensures) (c .before .is-empty .ensures) .1 (c .if1 .left))
 
 returns-2 : tie.Need-returns-2 Inv-loop μ-loop
 unfolding any

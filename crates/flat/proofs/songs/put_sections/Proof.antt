@@ -8,6 +8,7 @@ use Rattle.songcode.specs.Song.{Section}
 use Rattle.songcode.proofs.ListLaws.{Each}
 use Rattle.sections.specs.Onward.{Onward, sectionsFrom}
 use Rattle.judging.proofs.AheadLaws.{Ahead, ahead-start, ahead-low}
+use Rattle.judging.proofs.WholeLaws.{laid-ready, laid-row}
 use Rattle.flat.specs.Measures.{Lent}
 use Rattle.flat.specs.Blocks.{flatFrom, putBlocks}
 use Rattle.flat.proofs.RowLaws.{seen-plays, seen-next}
@@ -41,7 +42,7 @@ loop-holds c =
     let all = sym (begins .sections) in (
       q .args .rows .to,
       subst (λ (xs : List Section). Ahead s (q .args .words .now) (q .args .rows .from) (q .args .rows .to) 0 0 xs) all
-          (ahead-start (l .row) (l .fits) (l .clear .meters) (l .clear .lengths)),
+          (ahead-start (laid-row l) (l .sized .fits) (l .clear .meters) (l .clear .lengths)),
       begins .onward,
       subst (λ (xs : List Section). Each (HeardIn s) xs) all (heard-all s (q .pre .0 .0) (q .pre .0 .1) (l .clear)),
       q .pre .1,
@@ -63,7 +64,7 @@ put-section-requires c κs =
     let s = q .args .s .now in
     let first = y .before .pass .ensures .first in
     let heard = subst (λ (xs : List Section). Each (HeardIn s) xs) first (l .inv .3) .0 in
-    let p = seen-plays (q .pre .0 .3 .ready) first (l .inv .1) (y .section-at .ensures) (c .before .before .before .arrangement-in .ensures) in
+    let p = seen-plays (laid-ready (q .pre .0 .3)) first (l .inv .1) (y .section-at .ensures) (c .before .before .before .arrangement-in .ensures) in
     ((l .inv .2, y .before .before .if1 .taken), (p .0, (p .1, (p .2, (heard, l .inv .4)))))
 
 loop-again : tie.Need-loop-again Inv-loop μ-loop
@@ -76,7 +77,7 @@ loop-again c =
     let met = y .before .pass in
     let done = c .before .before .before .before .before .before .before .put-section in (
       l .inv .0,
-      seen-next (q .pre .0 .3 .ready) (met .ensures .first) (l .inv .1) (y .section-at .ensures),
+      seen-next (laid-ready (q .pre .0 .3)) (met .ensures .first) (l .inv .1) (y .section-at .ensures),
       met .ensures .onward,
       subst (λ (xs : List Section). Each (HeardIn s) xs) (met .ensures .first) (l .inv .3) .1,
       done .ensures .1,

@@ -15,13 +15,15 @@ abbrev μ-loop : tie.MeasureT-loop
 
 returns : tie.Need-returns Inv-loop μ-loop
 returns c =
-    let l = c .before .before .before .before .loop in let q = c .before .before .before .before .before .before in
+    let l = c .before .before .before .before .loop in
+    let q = c .before .before .before .before .before .before in
     sym (sym (l .inv .1) ∙ barred-here (q .args .s .now) (l .i) (q .args .to) (c .before .before .before .loop-test .taken) (q .pre .1)
     (sym (c .before .is-barred .ensures) ∙ c .if1 .taken))
 
 loop-again : tie.Need-loop-again Inv-loop μ-loop
 loop-again c =
-    let l = c .before .before .before .before .loop in let q = c .before .before .before .before .before .before in (
+    let l = c .before .before .before .before .loop in
+    let q = c .before .before .before .before .before .before in (
       omega arith,
       sym (barred-further (q .args .s .now) (l .i) (q .args .to) (c .before .before .before .loop-test .taken) (q .pre .1)
           (sym (c .before .is-barred .ensures) ∙ c .if1 .left)) ∙ l .inv .1,
@@ -29,7 +31,8 @@ loop-again c =
 
 returns-2 : tie.Need-returns-2 Inv-loop μ-loop
 returns-2 c =
-    let l = c .before .loop in let q = c .before .before .before in sym
+    let l = c .before .loop in
+    let q = c .before .before .before in sym
     (sym (l .inv .1) ∙ barred-nowhere (q .args .s .now) (l .i) (q .args .to) (c .loop-test .left))
 
 pub has-barred-spec : {M : Type 1} → statement M

@@ -1,6 +1,7 @@
 -- Input and text without fault, then the later stages: what they find is the verdict, and what is counted is the counts of the tables.
 use Rattle.judging.proofs.ClearLaws.{song-clear, song-keys}
 use Rattle.judging.proofs.StageLaws.{input-small}
+use Rattle.judging.proofs.WholeLaws.{whole-there, sized-kept}
 use Rattle.laying.specs.Metadata.{linesBefore}
 use Rattle.sections.specs.declared.runs.Run.{Run}
 use Rattle.sections.specs.Runs.{linesOf}
@@ -34,25 +35,35 @@ later-stages-requires c κs =
     let pre = c .before .before .before .before .before .before .before .before .before .before .pre in
     (c .before .before .before .load .ensures .0, keys, rw (c .before .before .before .load .ensures .1) (pre .2))
 
+add-keys-requires : tie.Need-add-keys-requires
+add-keys-requires c κs =
+    let later = c .before .before .before in
+    let load = later .before .before .before .before in
+    let ends = load .before .before .before .before in
+    let q = ends .before .before .before in
+    let long = later .later-stages .kept .1 .1 .1 .0 in
+    let also = load .load .ensures .1 in (
+      (q .pre .0, input-small (q .args .s .now) (q .pre .0), q .pre .1, ends .metadata-end .ensures, omega arith),
+      λ z. (later .later-stages .ensures .1 z .blocks, later .later-stages .ensures .1 z .sized),
+    )
+
 returns : tie.Need-returns
 returns c =
-    let s = c .before .before .before .before .before .before .before .before .before .before .before .before .before .before .before .before .args .s .now in
-    let found = c .before .before .before .before .before .before .before .before .before .before .before .keys-of in
-    let ends = c .before .before .before .before .before .before .before .before .before .before .before .before .before .metadata-end in
-    let loads = c .before .before .before .before .before .before .before .before .before .load .ensures .0 in
-    let later = c .before .before .before .before .before .later-stages .ensures in
+    let place = c .before .before .before .before .before .before .before .before .before in
+    let load = place .before .before .before .before in
+    let s = load .before .before .before .before .before .before .before .args .s .now in
+    let loads = load .load .ensures .0 in
+    let later = place .later-stages .ensures in
+    let keys = c .before .before .before .before .before .add-keys .ensures in
     record {
       refusal = later .0;
       writable = λ z.
           let all = later .1 z in
           record {
-            ends = ends .ensures;
             begins = loads .begins (all .early);
             laid = record {
-              mark = c .before .before .before .before .before .before .before .before .before .load .result .mark;
-              ready = all .ready;
-              row = all .row;
-              fits = all .fits;
+              whole = whole-there (songOf s) _ _ (keys z .0);
+              sized = sized-kept (keys z .1) (all .sized);
               clear = song-clear (songOf s) (ap (λ (q : Refusal). q .number) (sym (later .0)) ∙ z);
             };
             holds = all .holds;
@@ -62,5 +73,5 @@ returns c =
 pub judge-spec : {M : Type 1} → statement M
 judge-spec =
     tie.close
-    (tie.spec (λ c κs. search needs) (λ c κs. search needs) keys-of-requires load-requires later-stages-requires (λ c. search needs)
+    (tie.spec (λ c κs. search needs) (λ c κs. search needs) keys-of-requires load-requires later-stages-requires add-keys-requires (λ c. search needs)
     returns)

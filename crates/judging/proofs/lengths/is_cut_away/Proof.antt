@@ -18,7 +18,7 @@ returns-2 c = rw (c .before .before .before .if1 .left, sym (c .before .before .
 planned-requires : tie.Need-planned-requires
 planned-requires c κs =
     let h = c .before .before .before .before .before .before .before .pre in
-    rw (c .arrangement .ensures) (record { meter = h .0; cuts = cut-fits _ (h .1); measures = h .2 })
+    rw (c .arrangement .ensures) (record { meter = h .0; cuts = cut-fits _ (h .1); measures = h .2; even = h .3 })
 
 returns-3 : tie.Need-returns-3
 unfolding cutAway if_then_else_

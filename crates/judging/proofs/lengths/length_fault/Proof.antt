@@ -11,7 +11,7 @@ unfolding lengthFault if_then_else_
 returns c = rw (lt-ltb _ _ (c .if1 .taken))
 
 is-cut-away-requires : tie.Need-is-cut-away-requires
-is-cut-away-requires c κs = let h = c .before .before .pre in (h .0 .meter, h .0 .cuts, h .0 .played (omega (arith, h .1, c .if1 .left)))
+is-cut-away-requires c κs = let h = c .before .before .pre in (h .0 .meter, h .0 .cuts, h .0 .played (omega (arith, h .1, c .if1 .left)), h .0 .even)
 
 returns-2 : tie.Need-returns-2
 unfolding lengthFault if_then_else_

@@ -8,4 +8,4 @@ unfolding withMeasures
 with-measures-spec =
     tie.close
     (tie.spec (λ c κs. search needs) (λ c κs. search needs) (λ c κs. search needs)
-    (λ c. rw (c .with-lengths .ensures, c .before .sooner .ensures, c .before .before .meter-fault .ensures)))
+    (λ c. rw (c .with-lengths .ensures, c .before .least-of .ensures, c .before .before .meter-fault .ensures)))

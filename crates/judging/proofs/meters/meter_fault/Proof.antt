@@ -7,9 +7,9 @@ use Rattle.judging.proofs.meters.meter_fault.Tie as tie
 returns : tie.Need-returns
 unfolding meterFault
 returns c =
-    c .sooner2 .ensures ∙ rw (
+    c .least-of2 .ensures ∙ rw (
       c .before .text-fault3 .ensures,
-      c .before .before .sooner .ensures,
+      c .before .before .least-of .ensures,
       c .before .before .before .text-fault2 .ensures,
       c .before .before .before .before .text-fault .ensures,
     ) refl

@@ -1,15 +1,12 @@
-use Rattle.judging.specs.Singing.{tallyOf}
 use borrow.Author.Needs.{needs}
 use Rattle.judging.proofs.singing.sing.Statement.{statement}
 use Rattle.judging.proofs.singing.sing.Tie as tie
 
 sung-with-requires : tie.Need-sung-with-requires
-unfolding tallyOf
 sung-with-requires c κs =
-    rw (c .counts-of .ensures, c .before .tally-lyrics .ensures) (c .before .before .before .before .before .before .before .before .pre .sums)
+    rw (c .counts-of .ensures, c .before .tally-lyrics .ensures) (c .before .before .before .before .before .before .before .pre .sums)
 
 returns : tie.Need-returns
-unfolding tallyOf
 returns c = rw (← (c .before .counts-of .ensures), ← (c .before .before .tally-lyrics .ensures)) (c .sung-with .ensures)
 
 pub sing-spec : {M : Type 1} → statement M

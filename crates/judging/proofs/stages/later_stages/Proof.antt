@@ -34,9 +34,8 @@ returns-2 c =
       later .0,
       λ z. record {
         early = c .before .before .before .before .if1 .left;
-        ready = later .1 .1 .1 .0;
-        row = later .1 .1 .0 z .0;
-        fits = later .1 .1 .0 z .1;
+        blocks = later .1 .1 .0 z .0;
+        sized = later .1 .1 .0 z .1;
         holds = later .1 .0 z;
       },
     )

@@ -3,7 +3,8 @@ use Rattle.judging.proofs.OpenedLaws.{opened-measurable}
 use Rattle.judging.proofs.LengthsAreLaws.{lengths-small}
 use Rattle.judging.proofs.ReferenceLaws.{ReferencesLeft, fault-at, references-start, references-over, references-stop, references-next}
 use Rattle.judging.proofs.StageLaws.{stage-refused, refused-says}
-use Rattle.judging.proofs.RowIsLaws.{RowIs, row-is-start, row-before, row-is-next, row-is-end}
+use Rattle.judging.proofs.RowIsLaws.{RowIs, row-is-start, row-before, row-is-next, row-is-blocks, row-is-sized}
+use Rattle.laying.proofs.ReadyLaws.{ready-told}
 use Rattle.judging.proofs.WalkLaws.{Walked, walked-start, walk-sings, walk-on, walk-refused, outcome-verdict, outcome-holds}
 use Rattle.judging.specs.declared.sums.Totals.{Totals}
 use Rattle.judging.specs.Stages.{playingFaults, laterFaults}
@@ -44,15 +45,6 @@ lay-section-requires c κs =
     let h = c .before .before .before .before .before .before .before .before .pre in
     ((i .0, c .before .if1 .taken, i .1 .room, rw (i .2) (h .0 .3)), (row-before (i .1), h .1 .0))
 
-name-fault-requires : tie.Need-name-fault-requires Inv-loop μ-loop
-name-fault-requires c κs =
-    let q = c .before .before .before .before in
-    let i = q .before .before .before .before .loop .inv in
-    let h = q .before .before .before .before .before .before .before .before .before .pre in
-    let w = q .lay-section .ensures in
-    let laid = row-is-next (q .lay-section .result) (i .1) (w .0) (rw (i .2) (h .0 .3)) (w .1) in
-    (w .0 .opens .met .read .pattern-placed, laid .ready .told _ refl)
-
 same-length : tie.Need-same-length Inv-loop μ-loop
 same-length c =
     let q = c .before .before .before .before .before .before .before .before in
@@ -70,11 +62,11 @@ returns c =
     let fault = c .before .before .before .name-fault in
     let n = c .before .if2 .taken in
     let e = ap (λ (r : Totals). r .refusal) (c .refused .ensures) in
-    let three = references-stop (w .0 .opens) (fault-at (song .definitions) (fault .result) (w .0 .opens) (fault .ensures)) n (i .3) in (
+    let three = references-stop (w .0 .opens) (fault-at (q .lay-section .result) (w .0) (ready-told (laid .ready)) (fault .ensures)) n (i .3) in (
       e ∙ stage-refused (referenceFaults song) (playingFaults song) (fault .result) three n,
       (
         (λ z. refused-says (c .refused .result) (fault .result) e n z),
-        ((λ z. refused-says (c .refused .result) (fault .result) e n z), (laid .ready, w .1 ∙ i .2)),
+        ((λ z. refused-says (c .refused .result) (fault .result) e n z), w .1 ∙ i .2),
       ),
     )
 
@@ -94,7 +86,7 @@ sing-requires c κs =
     let h = q .before .before .before .before .before .before .before .before .before .pre in
     let w = q .lay-section .ensures in
     let laid = row-is-next (q .lay-section .result) (i .1) (w .0) (rw (i .2) (h .0 .3)) (w .1) in
-    walk-sings (q .lay-section .result) (w .0 .opens) (i .0) (q .before .before .if1 .taken) (i .1 .ready .small) (h .1 .0 .time) (w .0 .said) _ _ (i .4)
+    walk-sings (q .lay-section .result) (w .0) (i .0) (q .before .before .if1 .taken) (h .1 .0 .time) _ _ (i .4)
     (c .before .before .before .before .with-measures .ensures) (c .before .before .before .metered-refusal .ensures) (c .before .if3 .taken)
 
 loop-less : tie.Need-loop-less Inv-loop μ-loop
@@ -113,18 +105,17 @@ loop-again c =
     let fault = c .before .before .before .before .before .before .before .before .name-fault in
     let inside = q .before .before .if1 .taken in
     let time = h .1 .0 .time in
-    let meter = w .0 .said in
     let measures = c .before .before .before .before .with-measures .ensures in
     let refusal = c .before .before .before .metered-refusal .ensures in (
       w .0 .opens .met .onward,
       laid,
       w .1 ∙ i .2,
-      references-next (w .0 .opens) (fault-at (song .definitions) (fault .result) (w .0 .opens) (fault .ensures))
+      references-next (w .0 .opens) (fault-at (q .lay-section .result) (w .0) (ready-told (laid .ready)) (fault .ensures))
           (c .before .before .before .before .before .before .if2 .left) (i .3),
       ⊎-elim
-          (λ v. walk-on (q .lay-section .result) (w .0 .opens) (i .0) inside (i .1 .ready .small) time meter _ _ (i .4) measures refusal (v .0 .taken)
+          (λ v. walk-on (q .lay-section .result) (w .0) (i .0) inside time _ _ (i .4) measures refusal (v .0 .taken)
           (v .3 ∙ v .2 .ensures))
-          (λ v. walk-refused (q .lay-section .result) (w .0 .opens) (i .0) inside (i .1 .ready .small) time meter _ _ (i .4) measures refusal (v .0 .left)
+          (λ v. walk-refused (q .lay-section .result) (w .0) (i .0) inside time _ _ (i .4) measures refusal (v .0 .left)
           (v .1))
           (c .before .if3 .came),
     )
@@ -140,17 +131,17 @@ returns-2 c =
     let over = c .before .if1 .left in
     let none = references-over s (l .place) over (l .inv .3) in
     let e = c .outcome-of .ensures in (
-      ap (λ (t : Totals). t .refusal) e ∙ outcome-verdict over (l .metered) (l .sung) (l .inv .4) none,
+      ap (λ (t : Totals). t .refusal) e ∙ outcome-verdict (l .inv .1 .ready .small) over (l .metered) (l .sung) (l .inv .4) none,
       (
         (λ z. subst (λ t. Holds (tables (songOf s)) t) (sym e)
-            (outcome-holds over (l .metered) (l .sung) (l .inv .4) (ap (λ (t : Totals). t .refusal .number) (sym e) ∙ z))),
-        ((λ z. row-is-end (l .inv .1) over), (l .inv .1 .ready, l .inv .2)),
+            (outcome-holds (l .inv .1 .ready .small) over (l .metered) (l .sung) (l .inv .4) (ap (λ (t : Totals). t .refusal .number) (sym e) ∙ z))),
+        ((λ z. (row-is-blocks (l .inv .1) over, row-is-sized (l .inv .1) over)), l .inv .2),
       ),
     )
 
 pub walk-spec : {M : Type 1} → statement M
 walk-spec =
     tie.close
-    (tie.spec Inv-loop μ-loop (λ c. search needs) (λ c κs. search needs) (λ c κs. search needs) loop-holds lay-section-requires name-fault-requires
+    (tie.spec Inv-loop μ-loop (λ c. search needs) (λ c κs. search needs) (λ c κs. search needs) loop-holds lay-section-requires (λ c κs. search needs)
     (λ c κs. search needs) same-length returns with-measures-requires (λ c κs. search needs) sing-requires loop-less
     loop-again (λ c κs. search needs) same-length-2 returns-2)

@@ -1,3 +1,4 @@
+use Prim.Native.Nat.{_+_}
 use mathlib.Core.Path.{refl}
 use native.Mathlib.Omega.{arith}
 use lib.ListN.{length-set}
@@ -10,7 +11,7 @@ slice-write-words-2 : tie.Need-slice-write-words-2
 slice-write-words-2 c =
     let q = c .before .before .before in
     let p = q .pre in
-    let l = length-set (q .args .words .now) (q .args .mark) (c .before .head-word .result) in
+    let l = length-set (q .args .words .now) (q .args .mark + 1) (c .outline-word .result) in
     omega arith
 
 returns : tie.Need-returns

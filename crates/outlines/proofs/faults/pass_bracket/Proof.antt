@@ -10,11 +10,19 @@ returns c = let e = eq-eqb (c .before .args .k) 57 (c .if1 .taken) in rw e
 
 returns-2 : tie.Need-returns-2
 unfolding bracketRead if_then_else_
-returns-2 c = let k = c .before .before .args .k in let d = ne-eqb k 57 (c .before .if1 .left) in let e = eq-eqb k 56 (c .if2 .taken) in rw (d, e)
+returns-2 c =
+    let k = c .before .before .args .k in
+    let d = ne-eqb k 57 (c .before .if1 .left) in
+    let e = eq-eqb k 56 (c .if2 .taken) in
+    rw (d, e)
 
 returns-3 : tie.Need-returns-3
 unfolding bracketRead if_then_else_
-returns-3 c = let k = c .before .before .args .k in let d = ne-eqb k 57 (c .before .if1 .left) in let e = ne-eqb k 56 (c .if2 .left) in rw (d, e)
+returns-3 c =
+    let k = c .before .before .args .k in
+    let d = ne-eqb k 57 (c .before .if1 .left) in
+    let e = ne-eqb k 56 (c .if2 .left) in
+    rw (d, e)
 
 pub pass-bracket-spec : {M : Type 1} → statement M
 pass-bracket-spec = tie.close (tie.spec returns returns-2 returns-3)

@@ -20,14 +20,20 @@ unfolding faultless
 loop-holds c = refl
 
 loop-again : tie.Need-loop-again Inv-loop μ-loop
-loop-again c = let a = c .before .before .before .before .before .before .args in let l = c .before .before .before .loop in let e
+loop-again c =
+    let a = c .before .before .before .before .before .before .args in
+    let l = c .before .before .before .loop in
+    let e
     = c .before .before .before .before .least in faults-next (isMissing (a .words .now)) (lookUp (a .words .now)) (a .words .now) (a .text .to) (l .i)
     (c .before .word-at .result) (e .result) (l .f) _ _ (c .before .before .loop-test .taken) (e .ensures) (c .before .word-at .ensures)
     (c .judge-word .ensures) (l .inv)
 
 returns : tie.Need-returns Inv-loop μ-loop
 unfolding faultIn
-returns c = let a = c .before .before .before .before .before .args in let l = c .before .before .loop in let e = c .before .before .before .least in
+returns c =
+    let a = c .before .before .before .before .before .args in
+    let l = c .before .before .loop in
+    let e = c .before .before .before .least in
     c .fault-number .ensures ∙ ap faultNumber (faults-over (isMissing (a .words .now)) (lookUp (a .words .now)) (a .words .now) (a .text .to) (l .i)
     (e .result) (l .f) _ (c .before .loop-test .left) (e .ensures) (l .inv))
 

@@ -24,21 +24,29 @@ loop-holds c = ap (λ (x : Reading). wordsRead (lookUp (c .before .before .befor
     (c .before .before .before .args .words .now)))) (c .start .ensures)
 
 loop-again : tie.Need-loop-again Inv-loop μ-loop
-loop-again c = let a = c .before .before .before .before .before .before .before .args in let l = c .before .before .before .loop in let e
+loop-again c =
+    let a = c .before .before .before .before .before .before .before .args in
+    let l = c .before .before .before .loop in
+    let e
     = c .before .before .before .before .before .least in read-next (lookUp (a .words .now)) (a .words .now) (a .text .to) (l .i)
     (c .before .word-at .result) (e .result) (l .s) _ _ (c .before .before .loop-test .taken) (e .ensures) (c .before .word-at .ensures)
     (c .follow .ensures) (l .inv)
 
 returns : tie.Need-returns Inv-loop μ-loop
 unfolding outlined
-returns c = let a = c .before .before .before .before .before .before .before .args in let l = c .before .before .before .loop in let e
-    = c .before .before .before .before .before .least in let h = read-over (lookUp (a .words .now)) (a .words .now) (a .text .to) (l .i) (e .result)
-    (l .s) _ (c .before .before .loop-test .left) (e .ensures) (l .inv) in let p = part-empty (a .words .now) (a .text .to) (a .text .from) in
+returns c =
+    let a = c .before .before .before .before .before .before .before .args in
+    let l = c .before .before .before .loop in
+    let e
+    = c .before .before .before .before .before .least in
+    let h = read-over (lookUp (a .words .now)) (a .words .now) (a .text .to) (l .i) (e .result)
+    (l .s) _ (c .before .before .loop-test .left) (e .ensures) (l .inv) in
+    let p = part-empty (a .words .now) (a .text .to) (a .text .from) in
     let is = c .sum-up .ensures ∙ ap (λ (x : Reading). summed (leb (e .result) (a .text .from)) (closed x)) h
     ∙ ap (λ y. summed y (closed (wordsRead (lookUp (a .words .now)) started (drop (a .text .from) (take (a .text .to) (a .words .now))))))
     (ap (λ y. leb y (a .text .from)) (e .ensures) ∙ sym p) in
     let small = outlined-small (lookUp (a .words .now)) (drop (a .text .from) (take (a .text .to) (a .words .now))) in
-    (is, (rw is (small .0), rw is (small .1)))
+    (is, (rw is (small .0 .1), rw is (small .1)))
 
 pub outline-of-spec : {M : Type 1} → statement M
 outline-of-spec =

@@ -7,13 +7,14 @@ returns : tie.Need-returns
 unfolding referred
 returns c = rw (
   c .capped-sum .ensures,
-  c .before .either2 .ensures,
-  c .before .before .either .ensures,
-  c .before .before .before .unless .ensures,
-  c .before .before .before .before .join .ensures,
+  c .before .both .ensures,
+  c .before .before .either2 .ensures,
+  c .before .before .before .either .ensures,
+  c .before .before .before .before .unless .ensures,
+  c .before .before .before .before .before .join .ensures,
 )
 
 pub refer-spec : {M : Type 1} → statement M
 refer-spec =
     tie.close
-    (tie.spec (λ c κs. search needs) (λ c κs. search needs) (λ c κs. search needs) (λ c κs. search needs) (λ c κs. search needs) returns)
+    (tie.spec (λ c κs. search needs) (λ c κs. search needs) (λ c κs. search needs) (λ c κs. search needs) (λ c κs. search needs) (λ c κs. search needs) returns)

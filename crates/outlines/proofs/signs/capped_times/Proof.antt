@@ -8,8 +8,12 @@ use Rattle.outlines.proofs.signs.capped_times.Statement.{statement}
 use Rattle.outlines.proofs.signs.capped_times.Tie as tie
 
 mul-least : tie.Need-mul-least
-mul-least c = let a = c .before .args in let h : c .least .result ≤ 65536 = omega (arith, c .least .ensures) in let k : a .n ≤ 4294967295 = omega
-    arith in let p : a .n * c .least .result ≤ 4294967295 * 65536 = mul-le-mul k h in omega arith
+mul-least c =
+    let a = c .before .args in
+    let h : c .least .result ≤ 65536 = omega (arith, c .least .ensures) in
+    let k : a .n ≤ 4294967295 = omega
+    arith in
+    let p : a .n * c .least .result ≤ 4294967295 * 65536 = mul-le-mul k h in omega arith
 
 returns : tie.Need-returns
 returns c = c .least2 .ensures ∙ ap (λ y. min 65536 (c .before .before .args .n * y)) (c .before .least .ensures)

@@ -17,19 +17,34 @@ loop-holds : tie.Need-loop-holds Inv-loop μ-loop
 loop-holds c = (omega arith, omega arith, refl)
 
 returns : tie.Need-returns Inv-loop μ-loop
-returns c = let a = c .before .before .before .before .before .before .args in let l = c .before .before .before .before .before .loop in let g
-    = c .before .before .before .goes-into in let h = c .before .before .goes-into2 in let p = c .before .both in let t = both-of (a .a) (a .b) (l .m)
+returns c =
+    let a = c .before .before .before .before .before .before .args in
+    let l = c .before .before .before .before .before .loop in
+    let g
+    = c .before .before .before .goes-into in
+    let h = c .before .before .goes-into2 in
+    let p = c .before .both in
+    let t = both-of (a .a) (a .b) (l .m)
     (g .result) (h .result) (p .result) _ (g .ensures) (h .ensures) (p .ensures) (c .if1 .taken) in sym
     (common-found (l .m) (a .a) (a .b) (c .before .before .before .before .loop-test .taken) t) ∙ l .inv .2
 
 loop-again : tie.Need-loop-again Inv-loop μ-loop
-loop-again c = let a = c .before .before .before .before .before .before .args in let l = c .before .before .before .before .before .loop in let g
-    = c .before .before .before .goes-into in let h = c .before .before .goes-into2 in let p = c .before .both in let t = both-of (a .a) (a .b) (l .m)
+loop-again c =
+    let a = c .before .before .before .before .before .before .args in
+    let l = c .before .before .before .before .before .loop in
+    let g
+    = c .before .before .before .goes-into in
+    let h = c .before .before .goes-into2 in
+    let p = c .before .both in
+    let t = both-of (a .a) (a .b) (l .m)
     (g .result) (h .result) (p .result) _ (g .ensures) (h .ensures) (p .ensures) (c .if1 .left) in
     (omega arith, omega arith, sym (common-more (l .m) (a .a) (a .b) (c .before .before .before .before .loop-test .taken) t) ∙ l .inv .2)
 
 returns-2 : tie.Need-returns-2 Inv-loop μ-loop
-returns-2 c = let l = c .before .loop in let a = c .before .before .args in sym (common-over (l .m) (a .a) (a .b) (omega (arith, c .loop-test .left)))
+returns-2 c =
+    let l = c .before .loop in
+    let a = c .before .before .args in
+    sym (common-over (l .m) (a .a) (a .b) (omega (arith, c .loop-test .left)))
     ∙ l .inv .2
 
 pub common-spec : {M : Type 1} → statement M

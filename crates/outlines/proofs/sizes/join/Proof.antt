@@ -13,12 +13,16 @@ returns c = simp (lt-ltb 32 (c .before .args .sizes) (c .if1 .taken))
 
 returns-2 : tie.Need-returns-2
 unfolding joined if_then_else_
-returns-2 c = let a = c .before .before .before .args in let t : divides (a .p) (a .sizes) ≡ true = sym (c .before .goes-into .ensures)
+returns-2 c =
+    let a = c .before .before .before .args in
+    let t : divides (a .p) (a .sizes) ≡ true = sym (c .before .goes-into .ensures)
     ∙ c .if2 .taken in simp (le-ltb 32 (a .sizes) (c .before .before .if1 .left), t)
 
 returns-3 : tie.Need-returns-3
 unfolding joined if_then_else_
-returns-3 c = let a = c .before .before .before .before .args in let t : divides (a .p) (a .sizes) ≡ false = sym
+returns-3 c =
+    let a = c .before .before .before .before .args in
+    let t : divides (a .p) (a .sizes) ≡ false = sym
     (c .before .before .goes-into .ensures) ∙ c .before .if2 .left in simp (le-ltb 32 (a .sizes) (c .before .before .before .if1 .left), t)
     (c .common .ensures)
 

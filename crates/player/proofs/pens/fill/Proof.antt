@@ -21,15 +21,22 @@ loop-holds : tie.Need-loop-holds Inv-loop μ-loop
 loop-holds c = (omega arith, refl, c .before .pre, rw (sub-zero (c .before .args .n)))
 
 loop-again : tie.Need-loop-again Inv-loop μ-loop
-loop-again c = let q = c .before .before .before .before .before in let l = q .loop in let a = q .before .before .args in let e = c .before .before .beat in (
-  omega arith,
-  search needs,
-  fine-of (e .ensures) (moved-beat (a .w) (record { pen = l .q; bs = l .bs }) (l .inv .2) .fine),
-  fill-next (a .n) (l .i) (a .w) _ _ _ (c .before .before .before .before .loop-test .taken) (e .ensures) (l .inv .3),
-)
+loop-again c =
+    let q = c .before .before .before .before .before in
+    let l = q .loop in
+    let a = q .before .before .args in
+    let e = c .before .before .beat in (
+      omega arith,
+      search needs,
+      fine-of (e .ensures) (moved-beat (a .w) (record { pen = l .q; bs = l .bs }) (l .inv .2) .fine),
+      fill-next (a .n) (l .i) (a .w) _ _ _ (c .before .before .before .before .loop-test .taken) (e .ensures) (l .inv .3),
+    )
 
 returns : tie.Need-returns Inv-loop μ-loop
-returns c = let l = c .before .loop in let a = c .before .before .before .args in fill-end (a .n) (l .i) (a .w) _ _ (c .loop-test .left) (l .inv .3)
+returns c =
+    let l = c .before .loop in
+    let a = c .before .before .before .args in
+    fill-end (a .n) (l .i) (a .w) _ _ (c .loop-test .left) (l .inv .3)
 
 pub fill-spec : {M : Type 1} → statement M
 fill-spec =

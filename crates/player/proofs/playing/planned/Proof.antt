@@ -12,7 +12,7 @@ beats-but-requires c κs =
     let q = c .before .before .before .before .before .before .before in
     let all = c .before .before .before .tally in
     let few = all .ensures .0 in (
-      q .pre .meter,
+      q .pre,
       omega arith,
       tallied-all (repeatedRow (q .args .words .now) (q .args .a)) (all .result .measures) (all .result .beats) (q .pre .measures) few (all .ensures .1 .0),
       all .ensures .1 .1,

@@ -1,43 +1,35 @@
--- Every beat is passed over, so that what is missing of the pen counts.
-use Rattle.player.proofs.SectionLaws.{tallied}
-use Rattle.player.proofs.ShortLaws.{short-times, short-row}
-use Rattle.player.specs.Arrangements.{repeatedRow}
+-- Where every measure has n beats, n for each.
+use mathlib.Core.Path.{ap, _∙_}
+use Prim.Native.Nat.{_*_, min}
 use native.Mathlib.Omega.{arith}
+use Rattle.player.proofs.EvenLaws.{even-measures, even-beats, even-few}
 use borrow.Author.Needs.{needs}
 use Rattle.player.proofs.playing.tally.Statement.{statement}
 use Rattle.player.proofs.playing.tally.Tie as tie
 
-sub-measures : tie.Need-sub-measures
-sub-measures c =
-    let q = c .before .before .before .before .before .before .before in
-    let a = q .args in
-    let x = a .a in
-    let short = short-times (x .repeat) _ (short-row (x .n) (a .words .now) (q .pre .0) (x .pattern)) in
-    let t = tallied (repeatedRow (a .words .now) x) (a .k) _ _ _ _ _ short (q .pre .1)
-    (c .before .before .before .rounds .ensures) in
-    omega (arith, t .0)
+tally-by-walking-requires : tie.Need-tally-by-walking-requires
+tally-by-walking-requires c κs = let q = c .before .before .before in (q .pre .0 .meter, q .pre .1)
 
-sub-beats : tie.Need-sub-beats
-sub-beats c =
-    let q = c .before .before .before .before .before .before .before .before in
-    let a = q .args in
-    let x = a .a in
-    let short = short-times (x .repeat) _ (short-row (x .n) (a .words .now) (q .pre .0) (x .pattern)) in
-    let t = tallied (repeatedRow (a .words .now) x) (a .k) _ _ _ _ _ short (q .pre .1)
-    (c .before .before .before .before .rounds .ensures) in
-    omega (arith, t .1)
+mul-least : tie.Need-mul-least
+mul-least c =
+    let q = c .before .before .before .before in
+    let a = q .args .a in
+    let e = even-measures (q .pre .0 .even (c .before .if1 .left)) (a .repeat) in
+    omega (arith, e, q .pre .0 .measures)
 
-returns : tie.Need-returns
-returns c =
-    let q = c .before .before .before .before .before .before .before .before in
-    let a = q .args in
-    let x = a .a in
-    let short = short-times (x .repeat) _ (short-row (x .n) (a .words .now) (q .pre .0) (x .pattern)) in
-    let t = tallied (repeatedRow (a .words .now) x) (a .k) _ _ _ _ _ short (q .pre .1)
-    (c .before .before .before .before .rounds .ensures) in
-    (omega (arith, t .0), (omega (arith, t .1, t .2), omega (arith, t .1, t .2)))
+mul-t6 : tie.Need-mul-t6
+mul-t6 c =
+    let q = c .before .before .before .before .before .before in
+    omega (arith, even-few (q .args .a .n) (c .before .least .result) (q .pre .0 .meter) (omega (arith, c .before .least .ensures, q .pre .1)))
+
+returns-2 : tie.Need-returns-2
+returns-2 c =
+    let q = c .before .before .before .before .before .before in
+    let a = q .args .a in
+    let e = q .pre .0 .even (c .before .before .before .if1 .left) in
+    let m = c .before .least .ensures in
+    let few = even-few (a .n) (c .before .least .result) (q .pre .0 .meter) (omega (arith, m, q .pre .1)) in
+    (m ∙ ap (min (q .args .k)) (even-measures e (a .repeat)), (ap (λ x. a .n * x) m ∙ even-beats e (a .repeat) (q .args .k), few))
 
 pub tally-spec : {M : Type 1} → statement M
-tally-spec =
-    tie.close
-    (tie.spec (λ c. search needs) (λ c. search needs) (λ c κs. search needs) sub-measures sub-beats returns)
+tally-spec = tie.close (tie.spec tally-by-walking-requires (λ c. search needs) mul-least (λ c κs. search needs) mul-t6 returns-2)

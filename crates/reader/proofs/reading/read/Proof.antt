@@ -2,21 +2,24 @@ use Rattle.songcode.proofs.SongAlone.{refused-with-tables}
 use Rattle.judging.proofs.VerdictLaws.{early-refused, first-clear}
 use Rattle.reader.proofs.AnswerLaws.{promised-refused}
 use Rattle.judging.proofs.StageLaws.{input-small}
-use Rattle.reader.specs.Answers.{Lent, roomOf}
+use Rattle.reader.specs.Answers.{answerOf, lent, roomOf}
+use Rattle.reader.specs.declared.answers.Answer.{Answer}
+use mathlib.Core.Path.{sym, ap, _∙_}
 use native.Mathlib.Omega.{arith}
 use borrow.Author.Needs.{needs}
 use Rattle.reader.proofs.reading.read.Statement.{statement}
 use Rattle.reader.proofs.reading.read.Tie as tie
 
 returns : tie.Need-returns
+unfolding answerOf
 returns c =
     let a = c .before .before .before .before .before .before .before .before .before .before .args in
     let bs = a .text .now in
-    let lent : Lent = record { keys = a .keys .now; sections = a .sections .now; measures = a .measures .now; beats = a .beats .now; items = a .items .now } in
+    let before = lent (a .keys .now) (a .sections .now) (a .measures .now) (a .beats .now) (a .items .now) in
     let early = c .before .before .before .first-stages in
     let is = early-refused bs (early .result) (early .ensures) (c .before .if1 .taken) in
-    promised-refused bs lent (early .result .number) (early .result .line) (c .refused .result)
-    (refused-with-tables (roomOf lent) bs _ _ is) (c .refused .ensures)
+    promised-refused bs before (c .refused .result) (c .refused .ensures ∙ sym (ap answerOf (refused-with-tables (roomOf before) bs _ _ is)))
+    (λ z. c .before .if1 .taken (ap (λ (r : Answer). r .refusal) (sym (c .refused .ensures)) ∙ z))
 
 read-short-requires : tie.Need-read-short-requires
 read-short-requires c κs =

@@ -1,6 +1,6 @@
 -- On the header's line the pattern is read, on another the setting there; what is told of it holds of the block that the line stands in.
 use Rattle.slips.proofs.TextLaws.{meter-past, meter-header, meter-side}
-use Rattle.slips.proofs.MeasureLaws.{misfits-past, misfits-header, misfits-side}
+use Rattle.slips.proofs.MeasureTexts.{misfits-past, misfits-header, misfits-side}
 use borrow.Author.Needs.{needs}
 use Rattle.slips.proofs.meters.meter_slip.Statement.{statement}
 use Rattle.slips.proofs.meters.meter_slip.Tie as tie
@@ -17,18 +17,19 @@ returns c =
 
 section-parts-requires : tie.Need-section-parts-requires
 section-parts-requires c κs =
-    let b = c .before .before .before .block-of .ensures in (b .number, b .counted, c .before .if1 .left)
+    let b = c .before .before .block-of .ensures in (b .number, b .counted, c .if1 .left)
 
 read-pattern-requires : tie.Need-read-pattern-requires
 read-pattern-requires c κs =
-    let e = c .before .before .before .before .section-parts .ensures .pattern-placed in
-    (e .counted, e .inside, c .before .before .before .before .before .before .before .before .before .before .pre .2)
+    let q = c .before .before .before in
+    let e = q .before .section-parts .ensures .pattern-placed in
+    (e .counted, e .inside, q .before .before .before .before .before .before .pre .2, q .reading-in .ensures .2)
 
 returns-2 : tie.Need-returns-2
 returns-2 c =
     let q = c .before .before .before .before .before in
     let p = q .before in
-    let o = p .before .before .before .before in
+    let o = p .before .before .before in
     let w = o .before .before in
     let a = w .args in
     let b = o .block-of .ensures in
@@ -41,12 +42,12 @@ returns-2 c =
     )
 
 read-side-requires : tie.Need-read-side-requires
-read-side-requires c κs = c .before .before .before .before .before .before .before .before .before .before .pre
+read-side-requires c κs = c .before .before .before .before .before .before .before .before .before .pre
 
 returns-3 : tie.Need-returns-3
 returns-3 c =
     let q = c .before .before .before .before .before in
-    let o = q .before .before .before .before .before in
+    let o = q .before .before .before .before in
     let w = o .before .before in
     let a = w .args in
     let b = o .block-of .ensures in
@@ -60,5 +61,5 @@ returns-3 c =
 pub meter-slip-spec : {M : Type 1} → statement M
 meter-slip-spec =
     tie.close
-    (tie.spec (λ c κs. search needs) (λ c κs. search needs) returns (λ c κs. search needs) section-parts-requires (λ c κs. search needs)
+    (tie.spec (λ c κs. search needs) (λ c κs. search needs) returns section-parts-requires (λ c κs. search needs)
     read-pattern-requires (λ c κs. search needs) returns-2 read-side-requires (λ c κs. search needs) returns-3)

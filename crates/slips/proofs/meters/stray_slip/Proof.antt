@@ -13,7 +13,12 @@ returns c =
     let k = c .before .before .before .capped2 .ensures in
     let from = d .1 ∙ (b .1 ∙ a .1) in
     record {
-      told = λ h w. (d .0 ∙ (b .0 ∙ a .0), from, let e = k (omega arith) (omega arith) in let f = d .2 ∙ (b .2 ∙ a .2) in omega arith);
+      told = λ h w. (
+        d .0 ∙ (b .0 ∙ a .0),
+        from,
+        let e = k (omega arith) (omega arith) in
+            let f = d .2 ∙ (b .2 ∙ a .2) in omega arith,
+      );
       none = λ h. true-is-not-false (c .before .before .before .before .if1 .taken) h;
     }
 

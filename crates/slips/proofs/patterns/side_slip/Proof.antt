@@ -12,7 +12,8 @@ use Rattle.slips.proofs.patterns.side_slip.Statement.{statement}
 use Rattle.slips.proofs.patterns.side_slip.Tie as tie
 
 returns : tie.Need-returns
-returns c = λ h. let t = c .before .if1 .taken in let z : ⊥ = omega arith in absurd z
+returns c = λ h. let t = c .before .if1 .taken in
+    let z : ⊥ = omega arith in absurd z
 
 returns-2 : tie.Need-returns-2
 returns-2 c =

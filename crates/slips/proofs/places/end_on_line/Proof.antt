@@ -21,8 +21,11 @@ loop-holds c = (omega arith, c .pre, refl, λ h. h)
 
 returns : tie.Need-returns Inv-loop μ-loop
 returns c =
-    let v = c .before .before .loop .inv in
-    ((v .0, v .1, v .2), λ h k u. let a = v .3 h in let b = c .if1 .taken in omega arith)
+    let v = c .before .before .loop .inv in (
+      (v .0, v .1, v .2),
+      λ h k u. let a = v .3 h in
+          let b = c .if1 .taken in omega arith,
+    )
 
 returns-2 : tie.Need-returns-2 Inv-loop μ-loop
 returns-2 c =

@@ -1,4 +1,4 @@
-use Rattle.stage2.proofs.SmallReturns.{again-said, again-nothing}
+use Rattle.stage2.proofs.MarkReturns.{again-said, again-nothing}
 use borrow.Author.Needs.{needs}
 use Rattle.stage2.proofs.marks.again_note.Statement.{statement}
 use Rattle.stage2.proofs.marks.again_note.Tie as tie

@@ -1,4 +1,4 @@
-use Rattle.stage2.proofs.SmallReturns.{mark-put, mark-not}
+use Rattle.stage2.proofs.MarkReturns.{mark-put, mark-not}
 use borrow.Author.Needs.{needs}
 use Rattle.stage2.proofs.marks.put_mark.Statement.{statement}
 use Rattle.stage2.proofs.marks.put_mark.Tie as tie

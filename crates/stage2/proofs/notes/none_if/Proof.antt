@@ -1,6 +1,6 @@
 use mathlib.Core.Path.{refl}
 use Rattle.songcode.specs.Lists.{if_then_else_}
-use Rattle.stage2.specs.Ranks.{unless}
+use Rattle.stage2.specs.Walk.{unless}
 use Rattle.stage2.proofs.notes.none_if.Statement.{statement}
 use Rattle.stage2.proofs.notes.none_if.Tie as tie
 

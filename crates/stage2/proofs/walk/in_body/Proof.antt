@@ -7,7 +7,7 @@ returns : tie.Need-returns
 returns c = let t = c .before .before .before in
     let q = t .before .before .before .args in
     at-dashes (q .c) (q .p) (q .l .number) (q .s .now) (q .l .start) (q .l .stop) (t .is-dashes .result) (t .is-dashes .ensures)
-    (c .before .rank .result) (c .lyrics-state .result) (c .before .before .if1 .taken) (c .before .rank .ensures) (c .lyrics-state .ensures)
+    (c .before .rank .result) (c .in-lyrics .result) (c .before .before .if1 .taken) (c .before .rank .ensures) (c .in-lyrics .ensures)
 
 returns-2 : tie.Need-returns-2
 returns-2 c = let t = c .before .before in

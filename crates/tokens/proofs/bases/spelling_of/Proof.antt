@@ -18,11 +18,13 @@ returns c = let past : 34 ≤ c .before .args .number = omega arith in sym (List
 
 mul-result : tie.Need-mul-result
 mul-result c =
-    let e = c .row-of .ensures in let s = number-stands (c .before .before .args .number) (omega arith) .row in omega arith
+    let e = c .row-of .ensures in
+    let s = number-stands (c .before .before .args .number) (omega arith) .row in omega arith
 
 array-read-result : tie.Need-array-read-result
 array-read-result c =
-    let e = c .row-of .ensures in let s = number-stands (c .before .before .args .number) (omega arith) .row in omega arith
+    let e = c .row-of .ensures in
+    let s = number-stands (c .before .before .args .number) (omega arith) .row in omega arith
 
 sub-result : tie.Need-sub-result
 unfolding firstOf
@@ -30,11 +32,13 @@ sub-result c = rw (c .row-of .ensures) (number-stands (c .before .before .args .
 
 mul-result-2 : tie.Need-mul-result-2
 mul-result-2 c =
-    let e = c .row-of .ensures in let s = number-stands (c .before .before .args .number) (omega arith) .row in omega arith
+    let e = c .row-of .ensures in
+    let s = number-stands (c .before .before .args .number) (omega arith) .row in omega arith
 
 index-1-result : tie.Need-index-1-result
 index-1-result c =
-    let e = c .row-of .ensures in let s = number-stands (c .before .before .args .number) (omega arith) .row in omega arith
+    let e = c .row-of .ensures in
+    let s = number-stands (c .before .before .args .number) (omega arith) .row in omega arith
 
 index-2-result : tie.Need-index-2-result
 unfolding firstOf

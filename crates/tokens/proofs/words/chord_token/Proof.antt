@@ -36,22 +36,22 @@ add-x c = omega (arith, inside (c .before) .1)
 sub-k : tie.Need-sub-k
 sub-k c = omega (arith, inside (c .before) .1)
 
+cast-result : tie.Need-cast-result
+cast-result c = omega (arith, inside (c .before .before) .0)
+
 returns-2 : tie.Need-returns-2
 returns-2 c =
     let q = c .before .before .before .before .before .before in
     let a = q .args in
     let l = part-length (a .s .now) (a .a) (a .e) (omega arith) in
-    omega (arith, chord-long (a .a) (part (a .a) (a .e) (a .s .now)) (a .base) (q .pre .3) (c .before .before .before .if1 .left) (omega arith))
-
-cast-result : tie.Need-cast-result
-cast-result c = omega (arith, inside (c .before .before .before) .0)
+    omega (arith, chord-bare (a .a) (part (a .a) (a .e) (a .s .now)) (a .base) (q .pre .3) (c .before .before .before .if1 .left) (omega arith))
 
 returns-3 : tie.Need-returns-3
 returns-3 c =
     let q = c .before .before .before .before .before .before .before in
     let a = q .args in
     let l = part-length (a .s .now) (a .a) (a .e) (omega arith) in
-    omega (arith, chord-bare (a .a) (part (a .a) (a .e) (a .s .now)) (a .base) (q .pre .3) (c .before .before .before .before .if1 .left) (omega arith))
+    omega (arith, chord-long (a .a) (part (a .a) (a .e) (a .s .now)) (a .base) (q .pre .3) (c .before .before .before .before .if1 .left) (omega arith))
 
 returns-4 : tie.Need-returns-4
 returns-4 c =
@@ -80,11 +80,11 @@ returns-5 c =
     omega (
       arith,
       chord-extended (a .a) (part (a .a) (a .e) (a .s .now)) (a .base) (q .pre .3) (c .before .before .before .before .before .before .before .if1 .left)
-          (λ z. c .before .before .before .if3 .left (omega (arith, inside (c .before .before .before .before .before .before) .1))) (omega arith) t,
+          (λ z. c .before .before .before .before .if2 .left (omega (arith, inside (c .before .before .before .before .before .before) .1))) (omega arith) t,
     )
 
 pub chord-token-spec : {M : Type 1} → statement M
 chord-token-spec =
     tie.close
-    (tie.spec returns mul-kind add-x sub-k returns-2 cast-result returns-3 (λ c. search needs) (λ c. search needs) (λ c. search needs)
+    (tie.spec returns mul-kind add-x sub-k cast-result returns-2 returns-3 (λ c. search needs) (λ c. search needs) (λ c. search needs)
     (λ c κs. search needs) returns-4 (λ c. search needs) add-result (λ c. search needs) add-result-2 cast-result-2 returns-5)

@@ -1,0 +1,8 @@
+use Rattle.text.specs.Ranks.{ranked}
+use borrow.Author.Needs.{needs}
+use Rattle.text.proofs.ranks.rank.Statement.{statement}
+use Rattle.text.proofs.ranks.rank.Tie as tie
+
+pub rank-spec : {M : Type 1} → statement M
+unfolding ranked
+rank-spec = tie.close (tie.spec (λ c κs. search needs) (λ c. search needs) (λ c. search needs) (λ c. search needs))
