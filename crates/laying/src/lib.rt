@@ -1,4 +1,4 @@
-// The pattern texts of a chart as token words: those of the definitions are laid into a buffer once, a section's behind them.
+// A chart laid into the row of words: its definitions, each section behind the last one, and the words of its keys.
 mod definitions;
 mod keys;
 mod laying;
