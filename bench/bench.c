@@ -1,5 +1,4 @@
-/* Times readers on the same charts, side by side in one run, and compares their answers: the proved reader, the peer and the second reader.
-   With NATIVE defined the proved reader is left out, whose archive is for x86-64 alone. */
+/* Times readers on the same charts, side by side in one run, and compares their answers: the proved reader, the peer and the second reader. */
 #include <stdio.h>
 #include <stdlib.h>
 #include <string.h>
@@ -7,10 +6,8 @@
 
 #include "../tests/reference/reader.h"
 #include "peer/peer.h"
-#ifdef NATIVE
-enum { KEYS = 8, SECTIONS = 13107, MEASURES = 65535, BEATS = MEASURES * 32, ITEMS = 13107 }; /* enough for every song, as below */
-#else
 #include "turnipcart.h"
+
 enum {
     KEYS = TURNIPCART_KEYS,
     SECTIONS = TURNIPCART_SECTIONS_ENOUGH,
@@ -18,7 +15,6 @@ enum {
     BEATS = TURNIPCART_BEATS_ENOUGH,
     ITEMS = TURNIPCART_ITEMS_ENOUGH
 };
-#endif
 
 enum { ROUNDS = 7 };
 
@@ -41,14 +37,12 @@ static double now(void)
     return (double)t.tv_sec + (double)t.tv_nsec * 1e-9;
 }
 
-#ifndef NATIVE
 static void proved(void)
 {
     struct turnipcart_answer a;
     turnipcart_read(text, length, keys, KEYS, sections, SECTIONS, measures, MEASURES, beats, BEATS, items, ITEMS, &a);
     answer = (struct peer_answer){a.refusal, a.line, a.sections, a.measures, a.beats, a.items};
 }
-#endif
 
 static void peer(void)
 {
@@ -69,9 +63,7 @@ static struct {
     double best;                /* seconds of one call in the best round */
     struct peer_answer answer;
 } readers[] = {
-#ifndef NATIVE
     {.name = "proved", .call = proved},
-#endif
     {.name = "peer", .call = peer},
     {.name = "second", .call = second},
 };

@@ -1,14 +1,11 @@
-/* Times the flat copy beside the second reader's on the same charts, for each byte written, and compares the copies. With NATIVE defined the
-   proved call is left out, whose archive is for x86-64 alone. */
+/* Times the flat copy beside the second reader's on the same charts, for each byte written, and compares the copies. */
 #include <stdio.h>
 #include <stdlib.h>
 #include <string.h>
 #include <time.h>
 
 #include "../tests/reference/reader.h"
-#ifndef NATIVE
 #include "turnipcart.h"
-#endif
 
 enum { ROUNDS = 7, MOST = READER_TEXT_LIMIT };
 
@@ -31,14 +28,12 @@ static double now(void)
     return (double)t.tv_sec + (double)t.tv_nsec * 1e-9;
 }
 
-#ifndef NATIVE
 static void proved(struct outcome *outcome)
 {
     struct turnipcart_copied copied;
     outcome->refusal = turnipcart_flat(text, length, outcome->copy, MOST, &copied);
     outcome->length = copied.length;
 }
-#endif
 
 static void second(struct outcome *outcome)
 {
@@ -52,9 +47,7 @@ static struct {
     void (*call)(struct outcome *outcome);
     struct outcome outcome;
 } readers[] = {
-#ifndef NATIVE
     {.name = "proved", .call = proved},
-#endif
     {.name = "second", .call = second},
 };
 
