@@ -11,7 +11,7 @@ pub mod StrayThere
 pub mod SizeLaws
 pub mod MisfitThere
 pub mod TimeLaws
-pub mod CountLaws
 pub mod SumLaws
+pub mod ZeroLaws
 pub mod FirstLaws
 pub mod MisfitFirst

@@ -20,7 +20,7 @@ use Rattle.songcode.proofs.ListLaws.{by-cases}
 use Rattle.songcode.proofs.PlayingAgree.{sounds-some}
 use Rattle.slips.specs.Marks.{Mark, endMark}
 use Rattle.slips.specs.Misfits.{isPosition, over, measuresFrom, measuresIn, AllFit}
-use Rattle.slips.proofs.BlockLaws.{in-map}
+use Rattle.sections.proofs.LineLaws.{in-map}
 use Rattle.explain.proofs.PutTokens.{meant, putTokens, ended, Tied, Says, as-written, with-put, put-measure, put-separator}
 use Rattle.explain.proofs.SoundLaws.{tokensIn, tokens-behind}
 

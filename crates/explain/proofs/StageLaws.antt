@@ -95,7 +95,7 @@ of-text (in-metadata ms before behind l k e h) = of-metadata h
 of-text (in-definition ds before behind b k e h) = of-definition h
 of-text (in-section ss b k m h) = of-section h
 
-pub of-1 : {bs : List ℕ} {c : Complaint} → Stops1 bs c → c .number ≤ 2
+of-1 : {bs : List ℕ} {c : Complaint} → Stops1 bs c → c .number ≤ 2
 of-1 (over-long h) = omega arith
 of-1 (bad-bytes place w lines h k cuts) = omega arith
 
@@ -103,7 +103,7 @@ of-2 : {bs : List Block} {c : Complaint} → Stops2 bs c → Early c
 of-2 (stated h) = of-text h
 of-2 (no-section k n) = omega arith
 
-pub of-3 : {s : Song} {c : Complaint} → Stops3 s c → (10 ≤ c .number) × (c .number ≤ 11)
+of-3 : {s : Song} {c : Complaint} → Stops3 s c → (10 ≤ c .number) × (c .number ≤ 11)
 of-3 (undefined d r xs n v i h) = (omega arith, omega arith)
 of-3 (undefined-named x n i t h) = (omega arith, omega arith)
 of-3 (too-deep d e r q xs n v i m h j) = (omega arith, omega arith)
@@ -114,12 +114,12 @@ of-row : {n line : ℕ} {r : Items} {c : Complaint} → RowStops n line r c → 
 of-row (undivided m h u) = (omega arith, omega arith)
 of-row (again-first a) = (omega arith, omega arith)
 
-pub of-4 : {s : Song} {c : Complaint} → Stops4 s c → (12 ≤ c .number) × (c .number ≤ 13)
+of-4 : {s : Song} {c : Complaint} → Stops4 s c → (12 ≤ c .number) × (c .number ≤ 13)
 of-4 (of-pattern x n r i h e t) = of-row t
 of-4 (of-lead-in x n l r i h m t) = of-row t
 of-4 (of-tail x n l r i h m t) = of-row t
 
-pub of-5 : {s : Song} {c : Complaint} → Stops5 s c → (14 ≤ c .number) × (c .number ≤ 15)
+of-5 : {s : Song} {c : Complaint} → Stops5 s c → (14 ≤ c .number) × (c .number ≤ 15)
 of-5 (too-long front behind x counts k w us u h j) = (omega arith, omega arith)
 of-5 (no-beat x n r pass i h e w g) = (omega arith, omega arith)
 of-5 (empty-modified x i e h) = (omega arith, omega arith)
@@ -168,18 +168,84 @@ misfit-4 {s} (of-tail x n l r i h m t) k =
     let g = row-undivided t k in
     in-side x r i (inr (m ∙ ap (λ (j : ℕ). some (record { line = j; items = r })) (g .1))) (subst (λ (j : ℕ). Undivided j r) (says-meter s x n h) (g .0))
 
-pub of-6 : {s : Song} {c : Complaint} → Stops6 s c → (c .number ≡ 16) × ((l : LyricLine) × Taken s l × (l .number ≡ c .line))
+of-6 : {s : Song} {c : Complaint} → Stops6 s c → (c .number ≡ 16) × ((l : LyricLine) × Taken s l × (l .number ≡ c .line))
 of-6 (uncounted l o w n v k) = (refl, (l, w, refl))
 
-pub of-7 : {s : Song} {c : Complaint} → Stops7 s c → (c .number ≡ 17) × ((x : Section) × List·Memᴰ x (s .sections) × (x .header ≡ c .line))
+of-7 : {s : Song} {c : Complaint} → Stops7 s c → (c .number ≡ 17) × ((x : Section) × List·Memᴰ x (s .sections) × (x .header ≡ c .line))
 of-7 (sums-not l w total p has sums pl differ) = (refl, (w .section, w .listed, refl))
 
-pub of-8 : {room : Room} {s : Song} {ps : List Parts} {c : Complaint} → Stops8 room s ps c → c .number ≡ 18
+of-8 : {room : Room} {s : Song} {ps : List Parts} {c : Complaint} → Stops8 room s ps c → c .number ≡ 18
 of-8 (keys-short h) = refl
 of-8 (sections-short t w h) = refl
 of-8 (measures-short t w h) = refl
 of-8 (beats-short t w h) = refl
 of-8 (items-short t w h) = refl
+
+-- The numbers that a stage states.
+abbrev pub Numbers : Stage → ℕ → Type 0
+Numbers stage1 n = n ≤ 2
+Numbers stage2 n = n ≤ 11
+Numbers stage3 n = (10 ≤ n) × (n ≤ 11)
+Numbers stage4 n = (12 ≤ n) × (n ≤ 13)
+Numbers stage5 n = (14 ≤ n) × (n ≤ 15)
+Numbers stage6 n = n ≡ 16
+Numbers stage7 n = n ≡ 17
+Numbers stage8 n = n ≡ 18
+
+numbered : (room : Room) (bs : List ℕ) (k : Stage) (c : Complaint) → Stated room bs k c → Numbers k (c .number)
+unfolding Stated
+numbered room bs stage1 c h = of-1 h
+numbered room bs stage2 c h = of-2 (h .4)
+numbered room bs stage3 c h = of-3 (h .2)
+numbered room bs stage4 c h = of-4 (h .2)
+numbered room bs stage5 c h = of-5 (h .2)
+numbered room bs stage6 c h = of-6 (h .2) .0
+numbered room bs stage7 c h = of-7 (h .2) .0
+numbered room bs stage8 c h = of-8 (h .4)
+
+-- Any other stage has another number.
+abbrev pub Only : Stage → ℕ → Type 0
+Only j n = (k : Stage) → Numbers k n → k ≡ j
+
+pub only-2 : Only stage2 7
+only-2 stage1 h = absurd (omega arith)
+only-2 stage2 h = refl
+only-2 stage3 h = let e = h .0 in absurd (omega arith)
+only-2 stage4 h = let e = h .0 in absurd (omega arith)
+only-2 stage5 h = let e = h .0 in absurd (omega arith)
+only-2 stage6 h = absurd (omega arith)
+only-2 stage7 h = absurd (omega arith)
+only-2 stage8 h = absurd (omega arith)
+
+only-4 : (n : ℕ) → 12 ≤ n → n ≤ 13 → Only stage4 n
+only-4 n i j stage1 h = absurd (omega arith)
+only-4 n i j stage2 h = absurd (omega arith)
+only-4 n i j stage3 h = let e = h .1 in absurd (omega arith)
+only-4 n i j stage4 h = refl
+only-4 n i j stage5 h = let e = h .0 in absurd (omega arith)
+only-4 n i j stage6 h = absurd (omega arith)
+only-4 n i j stage7 h = absurd (omega arith)
+only-4 n i j stage8 h = absurd (omega arith)
+
+only-6 : Only stage6 16
+only-6 stage1 h = absurd (omega arith)
+only-6 stage2 h = absurd (omega arith)
+only-6 stage3 h = let e = h .1 in absurd (omega arith)
+only-6 stage4 h = let e = h .1 in absurd (omega arith)
+only-6 stage5 h = let e = h .1 in absurd (omega arith)
+only-6 stage6 h = refl
+only-6 stage7 h = absurd (omega arith)
+only-6 stage8 h = absurd (omega arith)
+
+only-7 : Only stage7 17
+only-7 stage1 h = absurd (omega arith)
+only-7 stage2 h = absurd (omega arith)
+only-7 stage3 h = let e = h .1 in absurd (omega arith)
+only-7 stage4 h = let e = h .1 in absurd (omega arith)
+only-7 stage5 h = let e = h .1 in absurd (omega arith)
+only-7 stage6 h = absurd (omega arith)
+only-7 stage7 h = refl
+only-7 stage8 h = absurd (omega arith)
 
 module _ (bs : List ℕ) (line : ℕ) where
   abbrev pub room : Room
@@ -207,41 +273,20 @@ module _ (bs : List ℕ) (line : ℕ) where
       (λ o. absurd (over-long-first (r .stage) n (r .stated) (r .noneEarlier) l (ltb-true 65536 (length bs) o)))
       (λ o. let k = ltb-false 65536 (length bs) o in omega arith)
 
-  -- 12 and 13: a section of the chart, its pattern, lead-in or tail.
-  in-stage-4 : (k : Stage) (n : ℕ) → 12 ≤ n → n ≤ 13 → Stated room bs k (complaint n line) → (s : Song) × WrittenChart bs s × Stops4 s (complaint n line)
-  unfolding Stated
-  in-stage-4 stage1 n i j h =
-      let e = of-1 h in
-      let z : ⊥ = omega arith in
-      absurd z
-  in-stage-4 stage2 n i j h =
-      let e = of-2 (h .4) in
-      let z : ⊥ = omega arith in
-      absurd z
-  in-stage-4 stage3 n i j h =
-      let e = of-3 (h .2) .1 in
-      let z : ⊥ = omega arith in
-      absurd z
-  in-stage-4 stage4 n i j h = (h .0, h .1, h .2)
-  in-stage-4 stage5 n i j h =
-      let e = of-5 (h .2) .0 in
-      let z : ⊥ = omega arith in
-      absurd z
-  in-stage-4 stage6 n i j h =
-      let e = of-6 (h .2) .0 in
-      let z : ⊥ = omega arith in
-      absurd z
-  in-stage-4 stage7 n i j h =
-      let e = of-7 (h .2) .0 in
-      let z : ⊥ = omega arith in
-      absurd z
-  in-stage-4 stage8 n i j h =
-      let e = of-8 (h .4) in
-      let z : ⊥ = omega arith in
-      absurd z
+  -- A number that only one stage states is stated by it, and nothing by the stages before.
+  pub stated-at : (j : Stage) (n : ℕ) → Only j n → songAnswer bs ≡ refused n line
+      → Stated room bs j (complaint n line) × NothingIn room bs (refusals.stagesBefore j)
+  stated-at j n only e =
+      let r = refused-as-stated room bs n line .0 (refused-with-tables room bs n line e) in
+      let k = only (r .stage) (numbered room bs (r .stage) (complaint n line) (r .stated)) in (
+        subst (λ (i : Stage). Stated room bs i (complaint n line)) k (r .stated),
+        subst (λ (i : Stage). NothingIn room bs (refusals.stagesBefore i)) k (r .noneEarlier),
+      )
 
+  -- 12 and 13: a section of the chart, its pattern, lead-in or tail.
   refused-4 : (n : ℕ) → 12 ≤ n → n ≤ 13 → songAnswer bs ≡ refused n line → (s : Song) × WrittenChart bs s × Stops4 s (complaint n line)
-  refused-4 n i j e = let r = refused-as-stated room bs n line .0 (refused-with-tables room bs n line e) in in-stage-4 (r .stage) n i j (r .stated)
+  unfolding Stated
+  refused-4 n i j e = let h = stated-at stage4 n (only-4 n i j) e .0 in (h .0, h .1, h .2)
 
   pub stray-refused : songAnswer bs ≡ refused 13 line → (s : Song) × WrittenChart bs s × StrayIn s line
   stray-refused e = let r = refused-4 13 (omega arith) (omega arith) e in (r .0, r .1, stray-4 (r .2) refl)
@@ -253,116 +298,19 @@ module _ (bs : List ℕ) (line : ℕ) where
   abbrev LyricRefused : Type 0
   LyricRefused = (s : Song) × WrittenChart bs s × ((l : LyricLine) × Taken s l × (l .number ≡ line))
 
-  in-stage-6 : (k : Stage) → Stated room bs k (complaint 16 line) → LyricRefused
-  unfolding Stated
-  in-stage-6 stage1 h =
-      let e = of-1 h in
-      let z : ⊥ = omega arith in
-      absurd z
-  in-stage-6 stage2 h =
-      let e = of-2 (h .4) in
-      let z : ⊥ = omega arith in
-      absurd z
-  in-stage-6 stage3 h =
-      let e = of-3 (h .2) .1 in
-      let z : ⊥ = omega arith in
-      absurd z
-  in-stage-6 stage4 h =
-      let e = of-4 (h .2) .1 in
-      let z : ⊥ = omega arith in
-      absurd z
-  in-stage-6 stage5 h =
-      let e = of-5 (h .2) .1 in
-      let z : ⊥ = omega arith in
-      absurd z
-  in-stage-6 stage6 h = (h .0, h .1, of-6 (h .2) .1)
-  in-stage-6 stage7 h =
-      let e = of-7 (h .2) .0 in
-      let z : ⊥ = omega arith in
-      absurd z
-  in-stage-6 stage8 h =
-      let e = of-8 (h .4) in
-      let z : ⊥ = omega arith in
-      absurd z
-
   pub lyric-refused : songAnswer bs ≡ refused 16 line → LyricRefused
-  lyric-refused e =
-      let r = refused-as-stated room bs 16 line .0 (refused-with-tables room bs 16 line e) in in-stage-6 (r .stage) (r .stated)
+  unfolding Stated
+  lyric-refused e = let h = stated-at stage6 16 only-6 e .0 in (h .0, h .1, of-6 (h .2) .1)
 
   -- 17: the header of a section of the chart.
   abbrev HeaderRefused : Type 0
   HeaderRefused = (s : Song) × WrittenChart bs s × ((x : Section) × List·Memᴰ x (s .sections) × (x .header ≡ line))
 
-  in-stage-7 : (k : Stage) → Stated room bs k (complaint 17 line) → HeaderRefused
-  unfolding Stated
-  in-stage-7 stage1 h =
-      let e = of-1 h in
-      let z : ⊥ = omega arith in
-      absurd z
-  in-stage-7 stage2 h =
-      let e = of-2 (h .4) in
-      let z : ⊥ = omega arith in
-      absurd z
-  in-stage-7 stage3 h =
-      let e = of-3 (h .2) .1 in
-      let z : ⊥ = omega arith in
-      absurd z
-  in-stage-7 stage4 h =
-      let e = of-4 (h .2) .1 in
-      let z : ⊥ = omega arith in
-      absurd z
-  in-stage-7 stage5 h =
-      let e = of-5 (h .2) .1 in
-      let z : ⊥ = omega arith in
-      absurd z
-  in-stage-7 stage6 h =
-      let e = of-6 (h .2) .0 in
-      let z : ⊥ = omega arith in
-      absurd z
-  in-stage-7 stage7 h = (h .0, h .1, of-7 (h .2) .1)
-  in-stage-7 stage8 h =
-      let e = of-8 (h .4) in
-      let z : ⊥ = omega arith in
-      absurd z
-
   pub header-refused : songAnswer bs ≡ refused 17 line → HeaderRefused
-  header-refused e =
-      let r = refused-as-stated room bs 17 line .0 (refused-with-tables room bs 17 line e) in in-stage-7 (r .stage) (r .stated)
+  unfolding Stated
+  header-refused e = let h = stated-at stage7 17 only-7 e .0 in (h .0, h .1, of-7 (h .2) .1)
 
   -- Then the stages before have nothing against the chart.
-  before-7 : (k : Stage) → Stated room bs k (complaint 17 line) → NothingIn room bs (refusals.stagesBefore k)
-      → NothingIn room bs (refusals.stagesBefore stage7)
-  unfolding Stated
-  before-7 stage1 h n =
-      let e = of-1 h in
-      let z : ⊥ = omega arith in
-      absurd z
-  before-7 stage2 h n =
-      let e = of-2 (h .4) in
-      let z : ⊥ = omega arith in
-      absurd z
-  before-7 stage3 h n =
-      let e = of-3 (h .2) .1 in
-      let z : ⊥ = omega arith in
-      absurd z
-  before-7 stage4 h n =
-      let e = of-4 (h .2) .1 in
-      let z : ⊥ = omega arith in
-      absurd z
-  before-7 stage5 h n =
-      let e = of-5 (h .2) .1 in
-      let z : ⊥ = omega arith in
-      absurd z
-  before-7 stage6 h n =
-      let e = of-6 (h .2) .0 in
-      let z : ⊥ = omega arith in
-      absurd z
-  before-7 stage7 h n = n
-  before-7 stage8 h n =
-      let e = of-8 (h .4) in
-      let z : ⊥ = omega arith in
-      absurd z
-
   none-stated : (k : Stage) → NothingIn room bs (refusals.stagesBefore k) → Nothing room bs k → complaintsIn room bs k ≡ []
   unfolding Nothing
   none-stated k n q = empty (complaintsIn room bs k) (λ c m. q c (stage-as-stated room bs k n c .0 m))
@@ -374,8 +322,7 @@ module _ (bs : List ℕ) (line : ℕ) where
   pub sum-playable : songAnswer bs ≡ refused 17 line → Playable bs
   unfolding NothingIn refusals.stagesBefore complaintsIn
   sum-playable e =
-      let r = refused-as-stated room bs 17 line .0 (refused-with-tables room bs 17 line e) in
-      let n = before-7 (r .stage) (r .stated) (r .noneEarlier) in
+      let n = stated-at stage7 17 only-7 e .1 in
       record {
         small = short-text 17 e (omega arith);
         text = none-stated stage2 (n .0, tt) (n .1 .0);

@@ -17,9 +17,10 @@ use Rattle.songcode.specs.answer.Answer.{songOf}
 use Rattle.songcode.proofs.ListLaws.{by-cases, append-is-nil}
 use Rattle.text.specs.declared.Refusal.{Refusal}
 use Rattle.text.specs.Refusals.{refusalOf}
-use Rattle.score.specs.Views.{viewOf}
+use Rattle.score.specs.Seen.{RowFrom, Sees}
+use Rattle.score.specs.Views.{viewBy, viewOf}
 use Rattle.score.proofs.RowLaws.{row-start, row-grows}
-use Rattle.score.proofs.ViewLaws.{view-sees}
+use Rattle.score.proofs.ViewLaws.{view-sees, view-next}
 use Rattle.player.specs.Arrangements.{arrangementIn}
 use Rattle.player.proofs.SectionMeaning.{rows-length}
 use Rattle.sections.specs.declared.blocks.Place.{Place}
@@ -30,14 +31,13 @@ use Rattle.laying.specs.declared.definitions.Loaded.{Loaded}
 use Rattle.laying.specs.declared.texts.Opened.{Opened}
 use Rattle.laying.specs.Scores.{Begins, Loads, Opens}
 use Rattle.laying.specs.Rows.{RoomFor, Lays}
-use Rattle.judging.proofs.TallyLaws.{lyrics-inside, lyrics-tallied}
 use Rattle.judging.proofs.ArrangedLaws.{Arranges, arranged-plays, arranged-within}
 use Rattle.judging.proofs.AheadLaws.{seen-arranges}
 use Rattle.judging.proofs.PlayedLaws.{lengths-step}
 use Rattle.judging.proofs.RowIsLaws.{RowIs, row-is-next}
-use Rattle.explain.specs.declared.counts.SectionCounts.{SectionCounts}
+use Rattle.judging.specs.declared.counts.SectionCounts.{SectionCounts}
 use Rattle.explain.specs.declared.sums.Summed.{Summed}
-use Rattle.explain.specs.Counts.{sectionCounts, Summable}
+use Rattle.judging.specs.Counts.{sectionCounts, Summable}
 use Rattle.explain.specs.Sums.{SumsAt}
 
 -- Stages 4 and 5 have nothing against the sections from the place on, behind so many measures.
@@ -60,7 +60,7 @@ unrefused-start {s} b e l =
 
 -- The next section is laid, and played as it stands in the row.
 module _ {s old new : List ℕ} {mark at : ℕ} {p : Place} {song : Keys} (r : Opened) (u : Unrefused s p) (i : RowIs s old mark at p)
-    (l : Lays s p song at old new r) (big : length s + 16 ≤ length old) (same : length new ≡ length old) where
+    (l : Lays s p song at old new r) (same : length new ≡ length old) where
   abbrev here : Section
   here = sectionAt s p
 
@@ -83,29 +83,43 @@ module _ {s old new : List ℕ} {mark at : ℕ} {p : Place} {song : Keys} (r : O
       let z = i .ready .small in
       omega arith
 
-  arranges : Arranges (songOf s) here new (arrangementIn new (viewOf new at))
+  row : RowFrom (songOf s) new at (r .end) (here ∷ [])
   unfolding RoomFor
-  arranges =
+  row =
       let a = laid-low in
       let b = l .room in
       let z = i .ready .small in
       let k = i .room in
-      let row = row-grows (songOf s) old new at at (r .end) [] here (row-start (songOf s) old at (omega arith)) (l .words) (l .end)
-      (omega arith) (omega arith) in
-      seen-arranges (row-is-next r i l big same .ready) here (viewOf new at) (l .fits)
-      (view-sees (songOf s) new at (r .end) here [] (l .fits) row)
+      let big = i .kept .room in
+      row-grows (songOf s) old new at at (r .end) [] here (row-start (songOf s) old at (omega arith)) (l .words) (l .end)
+      (omega arith) (omega arith)
+
+  sees : Sees (songOf s) new here (viewOf new at)
+  sees = view-sees (songOf s) new at (r .end) here [] (l .fits) row
+
+  lyrics-low : viewOf new at .lyrics .to ≤ 1000000
+  unfolding viewOf viewBy
+  lyrics-low =
+      let next = view-next (songOf s) new at (r .end) here [] (l .fits) row in
+      let size = next .size in
+      let few = next .few in
+      omega arith
+
+  arranges : Arranges (songOf s) here new (arrangementIn new (viewOf new at))
+  arranges = seen-arranges (row-is-next r i l same .ready) here (viewOf new at) (l .fits) sees
 
   -- It is summed up as the definitions say.
-  pub laid-summable : Summable s new at r here
+  pub laid-summable : Summable s new at here
   laid-summable =
       let a = laid-low in
       record {
         low = omega arith;
         within = arranged-within arranges 0 (u .sofar) (here-lengths .0) (omega arith);
         measures = ap length (arranged-plays arranges (here-meters .0)) ∙ rows-length (played (songOf s) here);
-        inside = lyrics-inside r l;
-        tally = lyrics-tallied r l;
-        placed = l .opens .met .read .lyrics-placed;
+        words = sees .lyrics;
+        ends = lyrics-low;
+        fits = l .fits .lyrics;
+        run = r .section .lyrics;
         lyrics = l .opens .met .says .lyrics;
       }
 

@@ -19,7 +19,8 @@ use Rattle.text.specs.declared.lines.Line as text
 use Rattle.text.specs.Spans.{lineText, spans}
 use Rattle.text.proofs.LineLaws.{blocks-spans}
 use Rattle.slips.specs.Finds.{LineOf}
-use Rattle.slips.proofs.BlockLaws.{in-map, in-blocks}
+use Rattle.sections.proofs.LineLaws.{in-map}
+use Rattle.slips.proofs.BlockLaws.{in-blocks}
 use Rattle.explain.proofs.StageLaws.{lyric-refused, header-refused}
 
 pub each-right : {A B : Type 0} {R : A → B → Type 0} {xs : List A} {ys : List B} {y : B} → Each R xs ys → List·Memᴰ y ys → (x : A) × List·Memᴰ x xs × R x y

@@ -3,7 +3,6 @@ pub mod Causes
 pub mod Stopped
 pub mod Times
 pub mod MisfitNamed
-pub mod Counts
 pub mod StrayNamed
 pub mod Sums
 pub mod Explained

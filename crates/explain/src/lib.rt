@@ -1,7 +1,6 @@
 // Why a chart is refused, and where: the reader's verdict, the clause of it that holds, the bytes that are to change, and the numbers that a
 // sentence needs.
 mod clauses;
-mod counts;
 mod sums;
 mod times;
 

@@ -13,7 +13,7 @@ use Rattle.songcode.specs.answer.Lines as songcode
 use Rattle.songcode.specs.answer.Sections.{isKeyLine, Kind, keyLine, modifierLine, patternLine, kindOf, kindOfLine, notDashes, body, fromDashes}
 use Rattle.songcode.specs.description.WrittenSong.{BeginsWith}
 use Rattle.songcode.specs.answer.Flat.{textOf, endLine}
-use Rattle.songcode.proofs.ListLaws.{by-cases, true-is-not-false}
+use Rattle.songcode.proofs.ListLaws.{by-cases, true-is-not-false, both-pass, pass-both}
 use Rattle.songcode.proofs.ByteLaws.{values-placed}
 use Rattle.songcode.proofs.LineAgree.{key-at}
 use Rattle.songcode.proofs.ChoiceLaws.{zero-is-not-one}
@@ -24,12 +24,13 @@ use Rattle.settings.proofs.ValueLaws.{kindOf-placeless}
 use Rattle.text.specs.declared.lines.Line.{Line}
 use Rattle.text.specs.Spans.{part, lineAt, lineText, Found}
 use Rattle.sections.specs.declared.runs.Test.the-variants.{Full, Body}
-use Rattle.sections.specs.Runs.{textLines, passing, passes}
+use Rattle.sections.specs.declared.blocks.Place.{Place}
+use Rattle.sections.specs.Runs.{textLines, passing, passes, inBody}
 use Rattle.sections.specs.BlockParts.{blockAt}
 use Rattle.sections.proofs.RunLaws.{lines-found, lines-over}
 use Rattle.sections.proofs.PartLaws.{ending-is}
 use Rattle.flat.specs.Sheets.{Sheet, puts}
-use Rattle.flat.specs.Taken.{lineBytes}
+use Rattle.flat.specs.Taken.{lineBytes, Reaches}
 use Rattle.flat.proofs.SheetLaws.{puts-append}
 
 -- A line and those behind it.
@@ -97,6 +98,28 @@ module _ {A : Type 0} (p q : A → Bool) (h : (x : A) → p x ≡ true → q x �
       (λ e. rw (h x e) (rw e (ap (λ ys. x ∷ ys) (taken-within xs))))
       (λ e. by-cases (q x) (λ f. rw f (rw e)) (λ f. rw (f, e)))
 
+  left-within : (xs : List A) → left q (left p xs) ≡ left q xs
+  unfolding left if_then_else_
+  left-within [] = refl
+  left-within (x ∷ xs) = by-cases (p x) (λ e. rw (h x e) (rw e (left-within xs))) (λ e. rw e)
+
+-- A key line stands before the `--`, and so does no blank line.
+key-passes : (l : songcode.Line) → isKeyLine l ≡ true → passing Body l ≡ true
+unfolding passing passes inBody
+key-passes l e = let k = key-text (l .text) (key-kind l e) in pass-both (k .0) (k .1)
+
+body-full : (l : songcode.Line) → passing Body l ≡ true → passing Full l ≡ true
+unfolding passing passes inBody
+body-full l e = both-pass (not (isEmpty (l .text))) (not (is "--" (l .text))) e .0
+
+-- What is left behind the keys has the same ending.
+module _ (s : List ℕ) (n at : ℕ) {p : Place} {from : ℕ} (r : Reaches s from (left isKeyLine (textLines s n at)) p) where
+  pub body-left : left (passing Body) (textLines s (p .number) (p .at)) ≡ left (passing Body) (textLines s n at)
+  body-left = ap (left (passing Body)) (r .lines) ∙ left-within isKeyLine (passing Body) key-passes (textLines s n at)
+
+  pub block-left : left (passing Full) (left (passing Body) (textLines s (p .number) (p .at))) ≡ left (passing Full) (textLines s n at)
+  block-left = ap (left (passing Full)) body-left ∙ left-within (passing Body) (passing Full) body-full (textLines s n at)
+
 -- The key lines of a section's block, and its lines from the `--` on, where its header is found.
 module _ (s : List ℕ) (n at : ℕ) {h : Line} (f : Found s n at h) where
   pub keys-taken : taken isKeyLine (body (blockAt s n at)) ≡ taken isKeyLine (textLines s (n + 1) (h .next))
@@ -112,6 +135,9 @@ module _ (s : List ℕ) (n at : ℕ) {h : Line} (f : Found s n at h) where
   ending-taken =
       ending-is (textLines s (n + 1) (lineAt s n at .next))
       ∙ ap (λ (l : Line). taken (passing Full) (left (passing Body) (textLines s (n + 1) (l .next)))) (sym (f .is))
+
+  pub lines-past : textLines s (n + 1) (h .next) ≡ textLines s (n + 1) (lineAt s n at .next)
+  lines-past = ap (λ (l : Line). textLines s (n + 1) (l .next)) (f .is)
 
   pub next-places : n ≤ at + 1 → at < length s → (1 ≤ n + 1) × (n + 1 ≤ h .next + 1) × (h .next ≤ length s)
   next-places few inside =
@@ -145,6 +171,32 @@ not-key l c n e = go (kindOfLine l) e
 pub no-key : (Modifier ≡ Key → ⊥) × (Pattern ≡ Key → ⊥)
 no-key = ((λ (z : Modifier ≡ Key). zero-is-not-one cc), (λ (z : Pattern ≡ Key). zero-is-not-one cc))
 
+kind-here : (s : List ℕ) (l : Line) {k : settings.Kind} → k ≡ kindIs (kindOf (placed 0 (part (l .start) (l .stop) s)))
+    → k ≡ kindIs (kindOfLine (lineText s l))
+unfolding kindOfLine
+kind-here s l e = e ∙ ap kindIs (sym (kindOf-placeless (l .start) (part (l .start) (l .stop) s)))
+
+-- The lines that are left behind the key lines from a line on.
+module _ (s : List ℕ) (n at : ℕ) where
+  pub left-over : length s ≤ at → textLines s n at ≡ left isKeyLine (textLines s n at)
+  unfolding left
+  left-over h = rw (lines-over s n at h)
+
+  module _ {l : Line} (f : Found s n at l) (h : at < length s) where
+    pub left-step : Key ≡ kindIs (kindOf (placed 0 (part (l .start) (l .stop) s)))
+        → left isKeyLine (textLines s (n + 1) (l .next)) ≡ left isKeyLine (textLines s n at)
+    unfolding left if_then_else_
+    left-step e =
+        let k : isKeyLine (lineText s l) ≡ true = is-key (lineText s l) (kind-here s l e) in
+        rw (lines-found f h) (rw k)
+
+    pub left-end : (k : settings.Kind) → (k ≡ Key → ⊥) → k ≡ kindIs (kindOf (placed 0 (part (l .start) (l .stop) s)))
+        → textLines s n at ≡ left isKeyLine (textLines s n at)
+    unfolding left if_then_else_
+    left-end k m e =
+        let z : isKeyLine (lineText s l) ≡ false = not-key (lineText s l) k m (kind-here s l e) in
+        rw (lines-found f h) (rw z)
+
 -- The key lines from a line on.
 module _ (s : List ℕ) (n at : ℕ) (x : Sheet) where
   pub keys-over : length s ≤ at → puts (lineBytes (taken isKeyLine (textLines s n at))) x ≡ x
@@ -152,16 +204,12 @@ module _ (s : List ℕ) (n at : ℕ) (x : Sheet) where
   keys-over h = rw (lines-over s n at h)
 
   module _ {l : Line} (f : Found s n at l) (h : at < length s) where
-    kind-here : {k : settings.Kind} → k ≡ kindIs (kindOf (placed 0 (part (l .start) (l .stop) s))) → k ≡ kindIs (kindOfLine (lineText s l))
-    unfolding kindOfLine
-    kind-here e = e ∙ ap kindIs (sym (kindOf-placeless (l .start) (part (l .start) (l .stop) s)))
-
     keys-more : Key ≡ kindIs (kindOf (placed 0 (part (l .start) (l .stop) s)))
         → puts (lineBytes (taken isKeyLine (textLines s n at))) x
         ≡ puts (lineBytes (taken isKeyLine (textLines s (n + 1) (l .next)))) (puts (endLine (part (l .start) (l .stop) s)) x)
     unfolding taken if_then_else_
     keys-more e =
-        let k : isKeyLine (lineText s l) ≡ true = is-key (lineText s l) (kind-here e) in
+        let k : isKeyLine (lineText s l) ≡ true = is-key (lineText s l) (kind-here s l e) in
         rw (lines-found f h) (rw k (line-first s l (taken isKeyLine (textLines s (n + 1) (l .next))) x))
 
     pub keys-step : (y goal : Sheet) → Key ≡ kindIs (kindOf (placed 0 (part (l .start) (l .stop) s))) → y ≡ puts (endLine (part (l .start) (l .stop) s)) x
@@ -172,5 +220,5 @@ module _ (s : List ℕ) (n at : ℕ) (x : Sheet) where
         → puts (lineBytes (taken isKeyLine (textLines s n at))) x ≡ x
     unfolding taken if_then_else_ lineBytes flatMap puts
     keys-end k m e =
-        let z : isKeyLine (lineText s l) ≡ false = not-key (lineText s l) k m (kind-here e) in
+        let z : isKeyLine (lineText s l) ≡ false = not-key (lineText s l) k m (kind-here s l e) in
         rw (lines-found f h) (rw z)

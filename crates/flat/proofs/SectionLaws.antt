@@ -1,5 +1,6 @@
 -- The block of a section on a sheet, part by part, and the blocks of all sections, one by one.
-use Prim.Native.Nat.{ℕ, _+_, _≤_}
+use Prim.Native.Nat.{ℕ, _+_, _<_, _≤_}
+use native.Mathlib.Omega.{arith}
 use mathlib.Core.Path.{_≡_, refl, sym, ap, _∙_}
 use mathlib.Core.List.{List, _∷_, _++_, map, flatMap}
 use lib.ListN.{length}
@@ -16,15 +17,16 @@ use Rattle.player.specs.Texts.{rowWords}
 use Rattle.sections.specs.declared.blocks.Place.{Place}
 use Rattle.sections.specs.declared.runs.Test.the-variants.{Full, Body}
 use Rattle.sections.specs.Runs.{textLines, passing}
-use Rattle.sections.specs.BlockParts.{blockAt}
-use Rattle.sections.specs.Onward.{sectionAt}
+use Rattle.sections.specs.BlockParts.{blockAt, linesPast, NextAt}
+use Rattle.sections.specs.Onward.{Onward, sectionsFrom, sectionAt}
+use Rattle.sections.proofs.MeetLaws.{block-opened, onward-next}
 use Rattle.sections.proofs.NextLaws.{blocks-over}
 use Rattle.flat.specs.Sheets.{Sheet, puts}
-use Rattle.flat.specs.Taken.{lineBytes}
+use Rattle.flat.specs.Taken.{lineBytes, Reaches}
 use Rattle.flat.specs.Measures.{patternLines, Heard}
-use Rattle.flat.specs.Blocks.{parting, blockBytes, flatFrom, putBlocks}
+use Rattle.flat.specs.Blocks.{parting, blockBytes, flatFrom, putBlocks, Leads}
 use Rattle.flat.proofs.SheetLaws.{puts-append}
-use Rattle.flat.proofs.LineLaws.{keys-taken, ending-taken, header-text}
+use Rattle.flat.proofs.LineLaws.{keys-taken, ending-taken, header-text, body-left, block-left, lines-past}
 use Rattle.flat.proofs.HeardLaws.{pattern-heard}
 
 -- Header, keys, measures and lyrics, one behind the other.
@@ -63,17 +65,49 @@ module _ (s : List ℕ) (p : Place) {h : Line} (f : Found s (p .number) (p .at) 
       (ap (λ ls. flatMap endLine (map textOf ls)) (keys-taken s (p .number) (p .at) f)) pattern-put
       (ap (λ ls. flatMap endLine (map textOf ls)) (ending-taken s (p .number) (p .at) f))
 
-  -- The same, call by call.
-  pub section-done : (at : ℕ) (x a b c d e : Sheet) → a ≡ puts (parting at) x → b ≡ puts (endLine (part (h .start) (h .stop) s)) a
-      → c ≡ puts (lineBytes (taken isKeyLine (textLines s (p .number + 1) (h .next)))) b → d ≡ puts (patternLines s n row) c
-      → e ≡ puts (lineBytes (taken (passing Full) (left (passing Body) (textLines s (p .number + 1) (h .next))))) d
-      → e ≡ puts (blockBytes at (flatSection (songOf s) (blockAt s (p .number) (p .at)))) x
-  section-done at x a b c d e i j k l m =
-      m
-      ∙ ap (puts (lineBytes (taken (passing Full) (left (passing Body) (textLines s (p .number + 1) (h .next))))))
-      (l ∙ ap (puts (patternLines s n row))
-      (k ∙ ap (puts (lineBytes (taken isKeyLine (textLines s (p .number + 1) (h .next))))) (j ∙ ap (puts (endLine (part (h .start) (h .stop) s))) i)))
-      ∙ sym (section-put at x)
+  -- The same, call by call, where the ending is found behind the keys.
+  module _ {k : Place} (r : Reaches s (h .next) (left isKeyLine (textLines s (p .number + 1) (h .next))) k) where
+    pub section-done : (at : ℕ) (x a b c d e : Sheet) → a ≡ puts (parting at) x → b ≡ puts (endLine (part (h .start) (h .stop) s)) a
+        → c ≡ puts (lineBytes (taken isKeyLine (textLines s (p .number + 1) (h .next)))) b → d ≡ puts (patternLines s n row) c
+        → e ≡ puts (lineBytes (taken (passing Full) (left (passing Body) (textLines s (k .number) (k .at))))) d
+        → e ≡ puts (blockBytes at (flatSection (songOf s) (blockAt s (p .number) (p .at)))) x
+    section-done at x a b c d e i j m l o =
+        o
+        ∙ ap (λ ls. puts (lineBytes (taken (passing Full) ls)) d) (body-left s (p .number + 1) (h .next) r)
+        ∙ ap (puts (lineBytes (taken (passing Full) (left (passing Body) (textLines s (p .number + 1) (h .next))))))
+        (l ∙ ap (puts (patternLines s n row))
+        (m ∙ ap (puts (lineBytes (taken isKeyLine (textLines s (p .number + 1) (h .next))))) (j ∙ ap (puts (endLine (part (h .start) (h .stop) s))) i)))
+        ∙ sym (section-put at x)
+
+-- Behind the ending stands the next block.
+module _ (s : List ℕ) (p : Place) {h : Line} (f : Found s (p .number) (p .at) h) (o : Onward s p) (inside : p .at < length s) {k e q : Place}
+    (r : Reaches s (h .next) (left isKeyLine (textLines s (p .number + 1) (h .next))) k)
+    (t : Reaches s (k .at) (left (passing Full) (left (passing Body) (textLines s (k .number) (k .at)))) e)
+    (v : NextAt s (e .number) (e .at) q) where
+  past : textLines s (e .number) (e .at) ≡ linesPast s (p .number) (p .at)
+  unfolding linesPast
+  past = t .lines ∙ block-left s (p .number + 1) (h .next) r ∙ ap (left (passing Full)) (lines-past s (p .number) (p .at) f)
+
+  pub section-leads : Leads s p q
+  section-leads =
+      let a = f .onward in
+      let b = r .onward in
+      let c = t .onward in
+      let d = v .onward in
+      record {
+        opened = block-opened s p q _ _ o inside past v;
+        onward = onward-next s p q _ _ o inside past v;
+        further = omega arith;
+      }
+
+pub section-first : {s : List ℕ} {p : Place} → Onward s p → p .at < length s
+    → sectionsFrom s p ≡ sectionAt s p ∷ map sectionIn (blocks (linesPast s (p .number) (p .at)))
+unfolding sectionsFrom sectionAt
+section-first o h = ap (map sectionIn) (o .opens h)
+
+pub leads-first : {s : List ℕ} {p q : Place} → Leads s p q → sectionsFrom s p ≡ sectionAt s p ∷ sectionsFrom s q
+unfolding sectionsFrom sectionAt
+leads-first l = ap (map sectionIn) (l .opened)
 
 -- The blocks of the sections from a place on.
 pub blocks-next : (s : List ℕ) (p q : Place) (x : Sheet)

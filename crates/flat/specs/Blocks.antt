@@ -1,5 +1,5 @@
 -- Blocks one behind the other on a sheet.
-use Prim.Native.Nat.{ℕ, zero, suc}
+use Prim.Native.Nat.{ℕ, zero, suc, _<_}
 use mathlib.Core.Path.{_≡_}
 use mathlib.Core.List.{List, [], _∷_, _++_, map, flatMap}
 use Rattle.songcode.specs.answer.Lines.{blocks}
@@ -8,6 +8,7 @@ use Rattle.songcode.specs.answer.Flat.{endLine, flatSection}
 use Rattle.sections.specs.declared.blocks.Place.{Place}
 use Rattle.sections.specs.Runs.{textLines}
 use Rattle.sections.specs.BlockParts.{blockAt}
+use Rattle.sections.specs.Onward.{Onward}
 use Rattle.flat.specs.Sheets.{Sheet, puts}
 
 -- "one blank line parts blocks": it stands before every block but the first.
@@ -35,3 +36,9 @@ flatFrom s p = map (flatSection (songOf s)) (blocks (textLines s (p .number) (p 
 abbrev pub AddsBlocks : List (List (List ℕ)) → List ℕ → ℕ → List ℕ → ℕ → Type 0
 AddsBlocks bs before from after to =
     _≡_ {A = Sheet} (record { copy = after; at = to }) (putBlocks bs (record { copy = before; at = from }))
+
+-- The block at a place is passed: the blocks behind it stand from the next place on.
+pub record Leads (s : List ℕ) (p q : Place) : Type 0 where
+  pub opened : blocks (textLines s (p .number) (p .at)) ≡ blockAt s (p .number) (p .at) ∷ blocks (textLines s (q .number) (q .at))
+  pub onward : Onward s q
+  pub further : p .at < q .at

@@ -15,6 +15,7 @@ ghost use Prim.Native.Nat.{_+_, _≤_};
 ghost use lib.ListN.{length};
 ghost use Rattle.songcode.specs.answer.SongText.{textFaults};
 ghost use Rattle.songcode.specs.answer.Answer.{inputFaults, blocksOf};
+ghost use Rattle.tokens.specs.Kept.{Unmarked, KeptFrom};
 ghost use Rattle.laying.specs.Scores.{Begins};
 ghost use Rattle.judging.specs.Charts.{Laid};
 ghost use Rattle.flat.specs.Answers.{Flattened};
@@ -42,7 +43,7 @@ fn copy_chart(text: &[u8], first: Place, words: &[u32], rows: Stretch, copy: &mu
 
 // A chart that stages 1 and 2 have passed; `words` is the row that its texts are laid into.
 fn copy_song(text: &[u8], words: &mut [u32], copy: &mut [u8]) -> Copied
-    requires { ⌜ (inputFaults (now text) ≡ []) × (textFaults (blocksOf (now text)) ≡ []) × (length (now text) + 16 ≤ length (now words)) ⌝ }
+    requires { ⌜ (inputFaults (now text) ≡ []) × (textFaults (blocksOf (now text)) ≡ []) × KeptFrom (now text) (now words) 0 ⌝ }
     ensures { λ r. ⌜ Flattened (now (text .entry)) (now (copy .entry)) r (now (copy .exit)) ⌝ }
 {
     let chart = judge(text, words);
@@ -54,32 +55,39 @@ fn copy_song(text: &[u8], words: &mut [u32], copy: &mut [u8]) -> Copied
     copy_chart(text, chart.first, words, chart.rows, copy)
 }
 
+// Every text that is not longer than the row; longer ones are refused by stage 1.
+fn copy_in(text: &[u8], words: &mut [u32], copy: &mut [u8]) -> Copied
+    requires { ⌜ (length (now text) ≤ 65536 → length (now text) + 16 ≤ length (now words)) × Unmarked (now words) ⌝ }
+    ensures { λ r. ⌜ Flattened (now (text .entry)) (now (copy .entry)) r (now (copy .exit)) ⌝ }
+{
+    let early = first_stages(text, words);
+    if early.number != 0 {
+        return refused(early.number, early.line);
+    }
+    copy_song(text, words, copy)
+}
+
 // The same for a chart of at most 2,048 bytes, as nearly all are: a small buffer is soon cleared.
 fn copy_short(text: &[u8], copy: &mut [u8]) -> Copied
-    requires { ⌜ (inputFaults (now text) ≡ []) × (textFaults (blocksOf (now text)) ≡ []) × (length (now text) + 16 ≤ 2064) ⌝ }
+    requires { ⌜ length (now text) + 16 ≤ 2064 ⌝ }
     ensures { λ r. ⌜ Flattened (now (text .entry)) (now (copy .entry)) r (now (copy .exit)) ⌝ }
 {
     let mut words = [0u32; SHORT_ROW];
-    copy_song(text, &mut words, copy)
+    copy_in(text, &mut words, copy)
 }
 
-// The same for any chart that stage 1 has passed.
+// The same for any chart.
 fn copy_long(text: &[u8], copy: &mut [u8]) -> Copied
-    requires { ⌜ (inputFaults (now text) ≡ []) × (textFaults (blocksOf (now text)) ≡ []) × (length (now text) + 16 ≤ 65552) ⌝ }
     ensures { λ r. ⌜ Flattened (now (text .entry)) (now (copy .entry)) r (now (copy .exit)) ⌝ }
 {
     let mut words = [0u32; LONG_ROW];
-    copy_song(text, &mut words, copy)
+    copy_in(text, &mut words, copy)
 }
 
 // Every text of every length and every buffer is answered.
 pub fn flat_copy(text: &[u8], copy: &mut [u8]) -> Copied
     ensures { λ r. ⌜ Flattened (now (text .entry)) (now (copy .entry)) r (now (copy .exit)) ⌝ }
 {
-    let early = first_stages(text);
-    if early.number != 0 {
-        return refused(early.number, early.line);
-    }
     if text.len() <= 2048 {
         return copy_short(text, copy);
     }

@@ -1,5 +1,6 @@
 // Lines of the text, taken over into the copy.
 use super::sheets::put_line;
+use sections::Place;
 use sections::Run;
 use sections::Test;
 use sections::run_of;
@@ -11,7 +12,7 @@ ghost use lib.ListN.{length};
 ghost use Rattle.sections.specs.Runs.{linesOf};
 ghost use Rattle.sections.specs.BlockParts.{Placed};
 ghost use Rattle.flat.specs.Sheets.{Adds};
-ghost use Rattle.flat.specs.Taken.{lineBytes, keysFrom, endingFrom};
+ghost use Rattle.flat.specs.Taken.{lineBytes, keysFrom, keysLeft, endingFrom, endingLeft, Reaches};
 
 // The lines of a run.
 pub fn put_lines(s: &[u8], run: Run, copy: &mut [u8], at: usize) -> usize
@@ -35,10 +36,17 @@ pub fn put_lines(s: &[u8], run: Run, copy: &mut [u8], at: usize) -> usize
     out
 }
 
+// How far the copy has come, and the line of the text that comes next.
+pub struct Progress {
+    pub out: usize,
+    pub next: Place,
+}
+
 // The key lines from a line on.
-pub fn put_keys(s: &[u8], number: usize, from: usize, copy: &mut [u8], at: usize) -> usize
+pub fn put_keys(s: &[u8], number: usize, from: usize, copy: &mut [u8], at: usize) -> Progress
     requires { ⌜ (1 ≤ number) × (number ≤ from + 1) × (from ≤ length (now s)) ⌝ }
-    ensures { λ r. ⌜ Adds (lineBytes (keysFrom (now (s .entry)) number from)) (now (copy .entry)) at (now (copy .exit)) r ⌝ }
+    ensures { λ r. ⌜ Adds (lineBytes (keysFrom (now (s .entry)) number from)) (now (copy .entry)) at (now (copy .exit)) (r .out) ⌝ }
+    ensures { λ r. ⌜ Reaches (now (s .entry)) from (keysLeft (now (s .entry)) number from) (r .next) ⌝ }
 {
     let mut k = number;
     let mut next = from;
@@ -52,24 +60,48 @@ pub fn put_keys(s: &[u8], number: usize, from: usize, copy: &mut [u8], at: usize
                 out = put_line(s, a, e, copy, out);
             }
             Kind::Modifier => {
-                return out;
+                return Progress {
+                    out,
+                    next: Place {
+                        number: k,
+                        at: next,
+                    },
+                };
             }
             Kind::Pattern => {
-                return out;
+                return Progress {
+                    out,
+                    next: Place {
+                        number: k,
+                        at: next,
+                    },
+                };
             }
         }
         k += 1;
         next = line.next;
     }
-    out
+    Progress {
+        out,
+        next: Place {
+            number: k,
+            at: next,
+        },
+    }
 }
 
-// The lines of a block from its `--` on, where the line behind its header stands at a place.
-pub fn put_ending(s: &[u8], number: usize, from: usize, copy: &mut [u8], at: usize) -> usize
-    requires { ⌜ (1 ≤ number) × (number ≤ from + 1) × (from ≤ length (now s)) ⌝ }
-    ensures { λ r. ⌜ Adds (lineBytes (endingFrom (now (s .entry)) number from)) (now (copy .entry)) at (now (copy .exit)) r ⌝ }
+// The lines of a section from its `--` on, where a line between its header and these stands at a place.
+pub fn put_ending(s: &[u8], p: Place, copy: &mut [u8], at: usize) -> Progress
+    requires { ⌜ (1 ≤ p .number) × (p .number ≤ p .at + 1) × (p .at ≤ length (now s)) ⌝ }
+    ensures { λ r. ⌜ Adds (lineBytes (endingFrom (now (s .entry)) (p .number) (p .at))) (now (copy .entry)) at (now (copy .exit)) (r .out) ⌝ }
+    ensures { λ r. ⌜ Reaches (now (s .entry)) (p .at) (endingLeft (now (s .entry)) (p .number) (p .at)) (r .next) ⌝ }
 {
-    let body = run_of(s, Test::Body, number, from);
+    let body = run_of(s, Test::Body, p.number, p.at);
     let ending = run_of(s, Test::Full, body.number + body.lines, body.next);
-    put_lines(s, ending, copy, at)
+    let out = put_lines(s, ending, copy, at);
+    let next = Place {
+        number: ending.number + ending.lines,
+        at: ending.next,
+    };
+    Progress { out, next }
 }

@@ -1,4 +1,5 @@
 // The blocks of a copy: the key lines, an empty definition where one is needed, and the sections.
+use super::lines::Progress;
 use super::lines::put_ending;
 use super::lines::put_keys;
 use super::lines::put_lines;
@@ -15,7 +16,6 @@ use sections::Place;
 use sections::Test;
 use sections::kind_at;
 use sections::next_block;
-use sections::pass;
 use sections::run_of;
 use settings::BlockKind;
 use text::line_at;
@@ -36,7 +36,7 @@ ghost use Rattle.judging.specs.Charts.{Laid};
 ghost use Rattle.flat.specs.Sheets.{Adds};
 ghost use Rattle.flat.specs.Measures.{Heard, Lent};
 ghost use Rattle.flat.specs.Taken.{lineBytes};
-ghost use Rattle.flat.specs.Blocks.{parting, blockBytes, flatAt, flatFrom, AddsBlocks};
+ghost use Rattle.flat.specs.Blocks.{parting, blockBytes, flatAt, flatFrom, AddsBlocks, Leads};
 
 // "one blank line parts blocks"
 fn begin_block(copy: &mut [u8], at: usize) -> usize
@@ -101,7 +101,7 @@ fn put_empty(needed: bool, copy: &mut [u8], at: usize) -> usize
     put_part(b"$1\n", 0, 3, copy, begun)
 }
 
-// A section's block: header, keys, measures as played, lyrics behind their `--`.
+// A section's block: header, keys, measures as played, lyrics behind their `--`; and the place of the next block, in one walk over its lines.
 fn put_section(
     s: &[u8],
     p: Place,
@@ -111,23 +111,29 @@ fn put_section(
     beats: &mut [u32],
     copy: &mut [u8],
     at: usize,
-) -> usize
+) -> Progress
     requires place { ⌜ Onward (now s) p × (p .at < length (now s)) ⌝ }
     requires meter { ⌜ x .n ≡ timeOf (songOf (now s)) (sectionAt (now s) p) ⌝ }
     requires plays { ⌜ PlaysWithin (now words) x 0 ⌝ }
     requires row { ⌜ arrangedRow (now words) x ≡ rowWords (played (songOf (now s)) (sectionAt (now s) p)) ⌝ }
     requires heard { ⌜ Heard (now s) (played (songOf (now s)) (sectionAt (now s) p)) ⌝ }
     requires lent { ⌜ Lent (now measures) (now beats) ⌝ }
-    ensures copy { λ r. ⌜ Adds (blockBytes at (flatAt (now (s .entry)) p)) (now (copy .entry)) at (now (copy .exit)) r ⌝ }
+    ensures copy { λ r. ⌜ Adds (blockBytes at (flatAt (now (s .entry)) p)) (now (copy .entry)) at (now (copy .exit)) (r .out) ⌝ }
+    ensures next { λ r. ⌜ Leads (now (s .entry)) p (r .next) ⌝ }
     ensures lent { λ r. ⌜ Lent (now (measures .exit)) (now (beats .exit)) ⌝ }
 {
     let header = line_at(s, p.number, p.at);
-    let second = p.number + 1;
     let begun = begin_block(copy, at);
     let titled = put_line(s, header.start, header.stop, copy, begun);
-    let keyed = put_keys(s, second, header.next, copy, titled);
-    let played = put_pattern(s, words, x, measures, beats, copy, keyed);
-    put_ending(s, second, header.next, copy, played)
+    let keyed = put_keys(s, p.number + 1, header.next, copy, titled);
+    let played = put_pattern(s, words, x, measures, beats, copy, keyed.out);
+    let ended = put_ending(s, keyed.next, copy, played);
+    let last = ended.next;
+    let next = next_block(s, last.number, last.at);
+    Progress {
+        out: ended.out,
+        next,
+    }
 }
 
 // The blocks of all sections, one behind the other: what each plays from the row, its other lines from the text.
@@ -149,11 +155,11 @@ fn put_sections(
     let mut row = rows.from;
     let mut out = at;
     while place.at < s.len() {
-        let x = pass(s, place);
         let v = section_at(words, row);
-        let y = arrangement_in(words, v);
-        out = put_section(s, place, words, y, measures, beats, copy, out);
-        place = x.next;
+        let x = arrangement_in(words, v);
+        let done = put_section(s, place, words, x, measures, beats, copy, out);
+        out = done.out;
+        place = done.next;
         row = v.next;
     }
     out

@@ -10,3 +10,4 @@ pub mod PartLaws
 pub mod LineLaws
 pub mod VerdictLaws
 pub mod BeginningLaws
+pub mod KeptLaws

@@ -14,7 +14,7 @@ use Rattle.grammar.specs.declared.checks.Place.{Place}
 use Rattle.grammar.specs.declared.checks.Place.the-variants.{Fresh, Wants, Full, Bad}
 use Rattle.grammar.specs.declared.checks.Check.{Check}
 use Rattle.grammar.specs.Places.{row, nextPlace}
-use Rattle.grammar.specs.Kinds.{kindsOf}
+use Rattle.grammar.specs.Kinds.{kindsOf, wordKind}
 
 abbrev pub check : Place → ℕ → Bool → Check
 check p n b = record { place = p; loops = n; named = b }
@@ -67,6 +67,12 @@ unfoldable pub checkRun : Check → List Kind → Check
 unfolding checkStep
 checkRun c [] = c
 checkRun c (k ∷ ks) = checkRun (checkStep c k) ks
+
+-- The check behind tokens that are given by their words.
+unfoldable pub checkWords : Check → List ℕ → Check
+unfolding checkStep wordKind
+checkWords c [] = c
+checkWords c (w ∷ ws) = checkWords (checkStep c (wordKind w)) ws
 
 -- The check behind a line's text, and behind the lines of a text with a line end between neighbours.
 abbrev pub checkText : Check → List Byte → Check

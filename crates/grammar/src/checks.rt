@@ -1,14 +1,12 @@
 // The check of a pattern text: where the reading stands, and one function for each place that says what a token leads to.
 use super::Kind;
+use tokens::LOOPS_DEEP;
 ghost use mathlib.Core.Path.{_≡_};
 ghost use Prim.Native.Nat.{_<_};
 ghost use lib.ListN.{getD};
 ghost use Rattle.grammar.specs.declared.checks.Place.the-variants.{Fresh};
 ghost use Rattle.grammar.specs.Checks.{first, spoiled, moved, referred, opened, closed, arrived, isBad, checkStep};
 ghost use Rattle.grammar.specs.Places.{row, nextPlace};
-
-// "No loop in a loop": so many loops are open at once.
-pub const LOOPS_DEEP: usize = 1;
 
 // Fresh: nothing was read. Wants: an item is to come. Joins: so it is, behind a `:` that a line end may still join.
 // Sounds: in a measure; Removed: in one with removers. Alone: behind a `$n` that is all there was. Full: behind a loop or a `$n`.
@@ -25,11 +23,11 @@ pub enum Place {
     Bad,
 }
 
-// A place, how many loops are open, and whether a `$n` was read.
+// A place, whether a `$n` was read, and how many loops are open. (Small fields together: a gap of seven bytes behind one is slow to copy.)
 pub struct Check {
     pub place: Place,
-    pub loops: usize,
     pub named: bool,
+    pub loops: usize,
 }
 
 // The check before the first token.

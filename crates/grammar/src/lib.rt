@@ -1,5 +1,6 @@
 // Pattern text against the rules: a small state by value, stepped by the words of its tokens.
 mod checks;
+mod kept;
 mod kinds;
 mod sides;
 mod verdicts;
@@ -10,6 +11,7 @@ pub use checks::is_bad;
 pub use checks::row;
 pub use checks::start;
 pub use checks::step_kind;
+pub use kept::check_kept;
 pub use kinds::Kind;
 use kinds::kind_of;
 pub use sides::side_fine;
@@ -42,7 +44,7 @@ pub fn line_between(c: Check) -> Check
 }
 
 // The check behind the tokens of a line.
-pub fn check_line(s: &[u8], from: usize, to: usize, c: Check) -> Check
+fn check_line(s: &[u8], from: usize, to: usize, c: Check) -> Check
     requires { ⌜ (from ≤ to) × (to ≤ length (now s)) × (to ≤ 65536) ⌝ }
     ensures { λ r. ⌜ r ≡ checkText c (placed from (part from to (now (s .entry)))) ⌝ }
 {

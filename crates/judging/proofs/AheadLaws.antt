@@ -9,6 +9,7 @@ use lib.ListN.{length}
 use Rattle.songcode.specs.Lists.{isSome}
 use Rattle.songcode.specs.Song as song
 use Rattle.songcode.specs.Song.{Items, Pattern, items, named, Side, Section}
+use Rattle.songcode.specs.answer.PatternText.{loopsDeep}
 use Rattle.songcode.specs.answer.References.{patternItems}
 use Rattle.songcode.specs.answer.Playing.{sideMeasures, measuresOf, timeOf, bpmOf, played}
 use Rattle.songcode.specs.description.Performance.{total}
@@ -45,6 +46,7 @@ use Rattle.judging.proofs.PlayedLaws.{played-short, lengths-step}
 -- The rows of texts that stand in stretches.
 module _ (ws : List ℕ) (n : ℕ) (t : Stretch) where
   plain-row : (r : Items) → PlainFits r → Stands ws t r → rowOf n ws t ≡ rowWords (measuresOf n none r)
+  unfolding loopsDeep
   plain-row r f stands =
       let g : ℕ → Option Items = λ k. none in
       let deep = f .shallow in

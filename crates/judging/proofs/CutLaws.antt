@@ -41,7 +41,7 @@ cut-said none = refl
 cut-said (some c) = refl
 
 no-cut : (o : Option Cut) → readCut (cutIs o) ≡ false → o ≡ none
-unfolding readCut cutIs
+unfolding cutIs
 no-cut none e = refl
 no-cut (some c) e = true-is-not-false refl e
 

@@ -18,6 +18,9 @@ pub mod PlayLaws
 pub mod AheadLaws
 pub mod SumLaws
 pub mod TallyLaws
+pub mod LineEndLaws
+pub mod DigitLaws
+pub mod LastCountLaws
 pub mod TakenLaws
 pub mod OffLaws
 pub mod SmallMeters

@@ -48,7 +48,7 @@ unfolding settingAt if_then_else_
 no-line s r e = by-cases (eqb (r .line) 0) (λ t. eqb-true (r .line) 0 t) (λ t. none-some (rw t at e) refl)
 
 cut-said : {c : CutRead} (o : Option Cut) → c ≡ cutIs o → readCut c ≡ isSome o
-unfolding readCut cutIs isSome
+unfolding cutIs isSome
 cut-said none e = rw e
 cut-said (some c) e = rw e
 

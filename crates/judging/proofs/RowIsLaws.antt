@@ -1,4 +1,4 @@
--- The sections that are passed stand in the row, and those ahead have room behind them.
+-- The sections that are passed stand in the row, and those ahead have room behind them, where what is kept is right.
 use Prim.Native.Nat.{ℕ, _+_, _<_, _≤_}
 use mathlib.Core.Path.{_≡_, sym, ap, _∙_, subst}
 use mathlib.Core.List.{List, [], _∷_, _++_, append-assoc, append-nil}
@@ -7,11 +7,13 @@ use lib.ListN.{length, take, drop, length-append, take-append-drop}
 use lib.Seq.{take-at}
 use Rattle.songcode.specs.Song.{Section}
 use Rattle.songcode.specs.answer.Answer.{songOf}
+use Rattle.tokens.specs.Kept.{KeptFrom}
 use Rattle.score.specs.Sections.{sectionRow, sectionsRow}
 use Rattle.score.specs.Fitting.{SectionsFit}
 use Rattle.score.specs.Seen.{RowFrom}
 use Rattle.score.proofs.RowLaws.{fits-append, row-start, row-grows}
 use Rattle.outlines.specs.Rows.{definitionsRow, blocksRow}
+use Rattle.tokens.proofs.LaidLaws.{laid-before}
 use Rattle.sections.specs.declared.blocks.Place.{Place}
 use Rattle.sections.specs.declared.values.Keys.{Keys}
 use Rattle.sections.specs.Onward.{sectionsFrom, sectionAt}
@@ -20,27 +22,30 @@ use Rattle.laying.specs.declared.texts.Opened.{Opened}
 use Rattle.laying.specs.Scores.{Ready, Begins}
 use Rattle.laying.specs.Rows.{RoomFor, Before, Lays}
 use Rattle.judging.specs.Charts.{Sized}
-use Rattle.laying.proofs.LaidLaws.{laid-before}
+use Rattle.laying.proofs.KeptRowLaws.{kept-on}
 use Rattle.laying.proofs.BulkLaws.{room-start}
 use Rattle.laying.proofs.SectionLaidLaws.{ready-kept}
 
 pub record RowIs (s ws : List ℕ) (mark at : ℕ) (p : Place) : Type 0 where
   pub ready : Ready s ws mark
   pub below : mark < at
+  pub kept : KeptFrom s ws at
   pub room : RoomFor s p at
   pub done : List Section
   pub row : RowFrom (songOf s) ws (mark + 1) at done
   pub fits : SectionsFit (songOf s) done
   pub all : done ++ sectionsFrom s p ≡ songOf s .sections
 
-pub row-is-start : {s ws : List ℕ} {mark : ℕ} {p : Place} → Begins s p → Ready s ws mark → mark ≤ p .at → RowIs s ws mark (mark + 1) p
+pub row-is-start : {s ws : List ℕ} {mark : ℕ} {p : Place} → Begins s p → Ready s ws mark → mark ≤ p .at → KeptFrom s ws (mark + 1)
+    → RowIs s ws mark (mark + 1) p
 unfolding SectionsFit
-row-is-start {s} {ws} {mark} {p} b r low =
+row-is-start {s} {ws} {mark} {p} b r low k =
     let i = b .onward .inside in
     let z = r .small in
     record {
       ready = r;
       below = omega arith;
+      kept = k;
       room = room-start s p mark i low;
       done = [];
       row = row-start (songOf s) ws (mark + 1) (omega arith);
@@ -53,20 +58,21 @@ pub row-before : {s ws : List ℕ} {mark at : ℕ} {p : Place} → RowIs s ws ma
 row-before {mark = mark} i = record { mark = mark; ready = i .ready; below = i .below }
 
 pub row-is-next : {s old new : List ℕ} {mark at : ℕ} {p : Place} {song : Keys} (r : Opened) → RowIs s old mark at p → Lays s p song at old new r
-    → length s + 16 ≤ length old → length new ≡ length old → RowIs s new mark (r .end) (r .next)
+    → length new ≡ length old → RowIs s new mark (r .end) (r .next)
 unfolding RoomFor
-row-is-next {s} {old} {new} {mark} {at} {p} r i l big same =
+row-is-next {s} {old} {new} {mark} {at} {p} r i l same =
     let x = sectionAt s p in
     let a = i .room in
     let b = l .room in
     let c = i .below in
     let e = l .end in
-    let z = i .ready .small in
+    let big = i .kept .room in
     let inside : at ≤ length old = omega arith in
     let kept : take at new ≡ take at old = ap (take at) (l .words) ∙ laid-before at (sectionRow (songOf s) x) old inside in
     record {
       ready = ready-kept (i .ready) c kept same;
       below = omega arith;
+      kept = rw (l .words) (kept-on at (sectionRow (songOf s) x) e (omega arith) (omega arith) (i .kept));
       room = b;
       done = i .done ++ (x ∷ []);
       row = row-grows (songOf s) old new (mark + 1) at (r .end) (i .done) x (i .row) (l .words) e inside (omega arith);

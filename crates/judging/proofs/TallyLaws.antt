@@ -97,7 +97,7 @@ tally-read t (l ∷ ls) f =
     ∙ tally-read (withLine t (l .number) (Option·getD (countOf l) 0)) ls (f .1)
     ∙ joined-more t l ls (Option·getD (countOf l) 0) (count-said l)
 
-tally-there : (ws : List ℕ) (t : Stretch) (ls : List LyricLine) → LyricsFit ls → Holds ws t (flatMap lyricRow ls) → tallyIn ws t ≡ tallied ls
+pub tally-there : (ws : List ℕ) (t : Stretch) (ls : List LyricLine) → LyricsFit ls → Holds ws t (flatMap lyricRow ls) → tallyIn ws t ≡ tallied ls
 unfolding tallyIn
 tally-there ws t ls f h = ap (tallyWords noLines) (h .words) ∙ tally-read noLines ls f ∙ none-joined (tallied ls)
 

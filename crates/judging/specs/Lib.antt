@@ -4,6 +4,7 @@ pub mod Meters
 pub mod Lengths
 pub mod Measures
 pub mod Lyrics
+pub mod Counts
 pub mod Sums
 pub mod Singing
 pub mod Walking

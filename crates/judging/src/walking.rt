@@ -28,6 +28,7 @@ ghost use Rattle.songcode.specs.answer.References.{definitionsReferences};
 ghost use Rattle.songcode.specs.answer.Tables.{tables};
 ghost use Rattle.songcode.specs.answer.Answer.{songOf};
 ghost use Rattle.text.specs.Refusals.{refusalOf};
+ghost use Rattle.tokens.specs.Kept.{KeptFrom};
 ghost use Rattle.outlines.specs.Rows.{blocksRow};
 ghost use Rattle.laying.specs.Scores.{Begins, Ready};
 ghost use Rattle.laying.specs.Rows.{SongKeys};
@@ -86,7 +87,7 @@ pub struct Outcome {
 
 // Each section is laid behind the last one. What stage 3 refuses is given at once; sections are counted only while stages 4 and 5 refuse nothing.
 pub fn walk(s: &[u8], song: Keys, mark: usize, first: Place, words: &mut [u32]) -> Outcome
-    requires place { ⌜ Begins (now s) first × Ready (now s) (now words) mark × (mark ≤ first .at) × (length (now s) + 16 ≤ length (now words)) ⌝ }
+    requires place { ⌜ Begins (now s) first × Ready (now s) (now words) mark × (mark ≤ first .at) × KeptFrom (now s) (now words) (mark + 1) ⌝ }
     requires song { ⌜ SongKeys (songOf (now s)) song × (definitionsReferences [] (songOf (now s) .definitions) ≡ []) ⌝ }
     ensures refusal { λ r. ⌜ r .totals .refusal ≡ refusalOf (verdict (laterFaults (songOf (now (s .entry))))) ⌝ }
     ensures holds { λ r. ⌜ (r .totals .refusal .number ≡ 0 → Holds (tables (songOf (now (s .entry)))) (r .totals)) ⌝ }

@@ -16,7 +16,7 @@ use Rattle.songcode.specs.Song.{Items, Definition}
 use Rattle.songcode.specs.answer.Sections.{behindFirst, twiceBy, twice, sectionIn}
 use Rattle.songcode.specs.answer.SongText.{definition, blockKind, turn, blockOrder, definitionIf, definitionBlocks, sectionIf, sectionBlocks}
 use Rattle.songcode.specs.answer.SongText.{headIn, headsFaults, firstLine, definitionItems, definitionFaults, definitionIn}
-use Rattle.songcode.specs.answer.PatternText.{depth, definitionText}
+use Rattle.songcode.specs.answer.PatternText.{depth, loopsDeep, definitionText}
 use Rattle.songcode.specs.answer.Tokens.{tokensOf}
 use Rattle.songcode.specs.answer.References.{definitionOf}
 use Rattle.songcode.proofs.WrittenBefore.{writeItems}
@@ -42,7 +42,7 @@ use Rattle.laying.specs.Loading.{blocksFrom, definitionsFrom, Leaves}
 -- What the lines of a definition without fault say: nothing, or items that are written as their tokens.
 unfoldable pub Says : List Line → Option Items → Type 0
 Says ls none = runTokens ls ≡ []
-Says ls (some r) = (runTokens ls ≡ writeItems r []) × (depth r ≤ 1)
+Says ls (some r) = (runTokens ls ≡ writeItems r []) × (depth r ≤ loopsDeep)
 
 pub text-says : (ls : List Line) → definitionFaults ls ≡ [] → Says ls (definitionItems ls)
 unfolding definitionFaults definitionItems Says runTokens

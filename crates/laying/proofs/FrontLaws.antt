@@ -21,14 +21,16 @@ use Rattle.score.proofs.ViewLaws.{behind-there, holds-there}
 use Rattle.outlines.specs.Words.{vacant, outlineWord, outlineIn, lookUp, isMissing}
 use Rattle.outlines.specs.Rows.{outlineBy, outlineOf, textRow, definitionRow, definitionsRow}
 use Rattle.outlines.proofs.WordLaws.{outline-again}
-use Rattle.outlines.proofs.DescribedLaws.{described-tells, described-sketches, described-small}
+use Rattle.outlines.proofs.DescribedLaws.{described-tells, described-sketches, described-small, described-shallow}
 use Rattle.laying.specs.Fronts.{DefinitionFits, TextFits, DefinitionsFit, Front}
 use Rattle.laying.specs.Loading.{HeldItems, Held}
 
-outline-back : (find : ℕ → Option Items) (i : Option Items) → outlineIn (outlineWord (outlineOf find i)) ≡ outlineOf find i
-unfolding outlineOf vacant
-outline-back find none = outline-again vacant (omega arith)
-outline-back find (some r) = outline-again (outlineBy r (putIn find r)) (described-small r (putIn find r))
+outline-back : (all : List Definition) (find : ℕ → Option Items) (i : Option Items) → TextFits all i
+    → outlineIn (outlineWord (outlineOf find i)) ≡ outlineOf find i
+unfolding outlineOf vacant TextFits
+outline-back all find none f = outline-again vacant (omega arith) (omega arith)
+outline-back all find (some r) f =
+    outline-again (outlineBy r (putIn find r)) (described-small r (putIn find r)) (described-shallow r (putIn find r) (f .shallow))
 
 head-length : (n id : ℕ) → id ≤ 9999 → headWord n id / 32768 ≡ n
 head-length n id h = omega arith
@@ -99,8 +101,8 @@ module _ (all : List Definition) (ws : List ℕ) (n : ℕ) where
     stretch-is = rw (is, length-there place d rest fits there) refl
 
     outline-is : lookUp ws n ≡ outlineOf (itemsOf all) (d .items)
-    unfolding lookUp if_then_else_ definitionRow
-    outline-is = rw (not-missing, is, word-at place 1 _ there) (outline-back (itemsOf all) (d .items))
+    unfolding lookUp if_then_else_ definitionRow DefinitionFits
+    outline-is = rw (not-missing, is, word-at place 1 _ there) (outline-back all (itemsOf all) (d .items) (fits .1))
 
     text-there : (t : List ℕ) → textRow (d .items) ≡ t → drop (place + 2) (take ends ws) ≡ t
     unfolding definitionRow

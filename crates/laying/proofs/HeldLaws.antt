@@ -11,7 +11,7 @@ use Rattle.songcode.specs.Complaints.{earliest}
 use Rattle.songcode.specs.Lists.{if_then_else_, isSome}
 use Rattle.songcode.specs.answer.Lines.{Line}
 use Rattle.songcode.specs.Song.{Items, named, Definition}
-use Rattle.songcode.specs.answer.PatternText.{references}
+use Rattle.songcode.specs.answer.PatternText.{loopsDeep, references}
 use Rattle.songcode.specs.answer.References.{definitionOf, itemsOf, putInItem, putIn, patternItems, referenceFault, depthFault, definitionReferences}
 use Rattle.songcode.specs.description.Fits.{Refers, ReferAll}
 use Rattle.songcode.proofs.ListLaws.{Each, each-map, append-is-nil, gather-nil}
@@ -47,7 +47,7 @@ use Rattle.laying.specs.Loading.{HeldText, HeldItems, Held}
 use Rattle.laying.proofs.FitLaws.{Good, items-fit}
 use Rattle.laying.proofs.DefinitionLaws as definitions
 
--- New words stand in their stretch, and the words before it stay.
+-- New words stand in their stretch.
 pub laid-there : (fill : ℕ) (new ws : List ℕ) → fill ≤ length ws → drop fill (take (fill + length new) (laid fill new ws)) ≡ new
 laid-there fill new ws h =
     let l : length (take fill ws) ≡ fill = length-take fill ws ∙ omega arith in
@@ -59,15 +59,12 @@ laid-there fill new ws h =
     (sym l) ∙ a ∙ ap (λ ys. take fill ws ++ ys) b in
     ap (drop fill) c ∙ drop-at (take fill ws) new fill l
 
-pub laid-before : (fill : ℕ) (new ws : List ℕ) → fill ≤ length ws → take fill (laid fill new ws) ≡ take fill ws
-laid-before fill new ws h = take-at (take fill ws) (new ++ drop (fill + length new) ws) fill (length-take fill ws ∙ omega arith)
-
 module _ (ds : List Definition) (ws : List ℕ) where
   -- What is held is known.
   items-known : (i : Option Items) (at : Stretch) (o : Outline) → HeldItems ds ws at o i → KnowsItems i o
   unfolding HeldItems KnowsItems
   items-known none at o h = h .1
-  items-known (some r) at o h = (h .sketched, h .fits .shallow, λ e. rw (putIn-same (itemsOf ds) r e) at (h .tells))
+  items-known (some r) at o h = (h .sketched, λ e. rw (putIn-same (itemsOf ds) r e) at (h .tells))
 
   held-known : (c : Option Definition) (m : Bool) (at : Stretch) (o : Outline) → Held ds ws c m at o → Knows c m o
   unfolding Held Knows
@@ -166,7 +163,7 @@ module _ (ds earlier : List Definition) (ws : List ℕ)
     outline-is (some r) w e =
         let small = outlined-small (lookUp ws) (drop (at .from) (take (at .to) ws)) .0 in
         tells-described (itemsOf ds) (outlined (lookUp ws) (drop (at .from) (take (at .to) ws))) r
-        (outline-sketches (lookUp ws) ws at r (stands r w) (fits r w))
+        (outline-sketches (lookUp ws) ws at r (stands r w) (fits r w) (w .1))
         (outline-tells (lookUp ws) (itemsOf ds) ws at r (stands r w) (fits r w) (w .1)
         (each-map refer-told (references r) (references-right earlier r head e)))
         (small .0)
@@ -197,7 +194,7 @@ module _ (ds : List Definition) (ws : List ℕ) (held : (n : ℕ) → Held ds ws
       of (some x) h = items (x .items) (h .1)
 
   refers : (n : ℕ) → Refers ds n → walkables.Refers ws (itemsOf ds) n
-  unfolding itemsOf bind
+  unfolding itemsOf bind loopsDeep
   refers n w =
       let t = found-held ds ws (definitionOf n ds) (isMissing ws n) (stretchOf ws n) (lookUp ws n) (w .definition)
       (w .items) (held n) (w .found) (w .filled) in
@@ -220,7 +217,7 @@ module _ (ds : List Definition) (ws : List ℕ) (held : (n : ℕ) → Held ds ws
   refers-each (n ∷ ns) h = (refers n (h .0), refers-each ns (h .1))
 
   pub carries-all : (n : ℕ) → Carries ws (namedText ws n) (patternItems ds (named n))
-  unfolding Held HeldItems patternItems itemsOf bind Carries namedText
+  unfolding Held HeldItems patternItems itemsOf bind Carries namedText loopsDeep
   carries-all n = of (definitionOf n ds) (held n)
     where
       items : (i : Option Items) → HeldItems ds ws (stretchOf ws n) (lookUp ws n) i

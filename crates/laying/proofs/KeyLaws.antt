@@ -1,6 +1,6 @@
 -- The words of the keys table, from the settings that the code finds.
 use Prim.Native.Nat.{ℕ, zero, suc, _+_, _-_, _*_, _^_, _<_, _≤_}
-use mathlib.Core.Path.{_≡_, refl, sym, ap, _∙_, subst}
+use mathlib.Core.Path.{_≡_, refl, ap, _∙_, subst}
 use mathlib.Core.List.{List, [], _∷_, _++_, map, filterMap}
 use mathlib.Core.Logic.{⊎-elim}
 use mathlib.Core.Option.{Option, none, some, bind}
@@ -14,7 +14,7 @@ use Rattle.songcode.specs.Bytes.{Byte, placed}
 use Rattle.songcode.specs.answer.Lines.{Line}
 use Rattle.songcode.specs.Song.{KeyName, name, artist, original, capo, bpm, time, warning, end}
 use Rattle.songcode.specs.answer.Keys.{keyPlace}
-use Rattle.songcode.specs.answer.Sections.{settingOf, keyIn}
+use Rattle.songcode.specs.answer.Sections.{keyIn}
 use Rattle.songcode.specs.answer.Playing.{settingNamed}
 use Rattle.songcode.specs.answer.SongText.{metadataLines, songIn}
 use Rattle.songcode.specs.answer.Tables.{keyWord, keyOrder, keyWords}
@@ -25,8 +25,6 @@ use Rattle.text.proofs.WalkLaws.{part-length}
 use Rattle.sections.specs.declared.slots.Said.{Said}
 use Rattle.sections.specs.Slots.{Setting, settingAmong, settingAt}
 use Rattle.sections.proofs.SaidLaws.{key-among}
-use Rattle.sections.proofs.SlotLaws.{setting-none}
-use Rattle.songcode.proofs.PatternLaws.{none-some}
 use Rattle.laying.proofs.LyricRowLaws.{offset-part, length-part}
 use Rattle.laying.specs.Keys.{wordOfSetting, ShortText, ShortSetting}
 use Rattle.laying.proofs.GoodLaws.{part-short, input-good}
@@ -41,7 +39,7 @@ module _ (s : List ℕ) (r : Said) where
     is-there = rw (ne-eqb (r .line) 0 there)
 
     -- The setting's place and length fit the fields of its word.
-    key-fits : r .stop ≤ length s → length s ≤ 65536 → inputFaults s ≡ [] → ShortSetting (settingAt s r)
+    pub key-fits : r .stop ≤ length s → length s ≤ 65536 → inputFaults s ≡ [] → ShortSetting (settingAt s r)
         → (r .start < r .stop) × (r .start < 65536) × (r .stop - r .start < 512)
     unfolding ShortSetting
     key-fits inside small good short =
@@ -52,23 +50,9 @@ module _ (s : List ℕ) (r : Said) where
         let p = part-short s (r .start) (r .stop) (input-good s small good) in
         (omega arith, omega arith, ⊎-elim (λ a. omega arith) (λ a. omega arith) (h .1))
 
-    key-word-is : r .start < r .stop → r .stop ≤ length s → 2 ^ 31 + r .start * 2 ^ 15 + (r .stop - r .start) * 2 ^ 6 ≡ wordOfSetting (settingAt s r)
+    pub key-word-is : r .start < r .stop → r .stop ≤ length s → 2 ^ 31 + r .start * 2 ^ 15 + (r .stop - r .start) * 2 ^ 6 ≡ wordOfSetting (settingAt s r)
     unfolding wordOfSetting keyWord
     key-word-is h inside = rw (is-there, offset-part s (r .start) (r .stop) h inside, length-part s (r .start) (r .stop) inside)
-
--- The setting that a line says.
-module _ (s : List ℕ) (r : Said) (l : Line) (says : settingAt s r ≡ some (record { line = l .number; text = settingOf l })) where
-  said-there : r .line ≡ 0 → ⊥
-  said-there e = none-some (setting-none s r e) says
-
-  pub said-fits : r .stop ≤ length s → length s ≤ 65536 → inputFaults s ≡ [] → ShortText (settingOf l)
-      → (r .start < r .stop) × (r .start < 65536) × (r .stop - r .start < 512)
-  unfolding ShortSetting
-  said-fits inside small good short = key-fits s r said-there inside small good (subst ShortSetting (sym says) short)
-
-  pub said-word : r .start < r .stop → r .stop ≤ length s → 2 ^ 31 + r .start * 2 ^ 15 + (r .stop - r .start) * 2 ^ 6 ≡ keyWord (some (settingOf l))
-  unfolding wordOfSetting
-  said-word h inside = key-word-is s r said-there h inside ∙ ap wordOfSetting says
 
 -- A key's setting among the keys of lines is the first setting of its number among the lines.
 same-word : (o : Option (List Byte)) (p : Option Setting) → bind o some ≡ bind p (λ x. some (x .text)) → keyWord o ≡ wordOfSetting p
@@ -81,7 +65,7 @@ same-word (some bs) (some x) e = ap keyWord e
 word-of : (k : KeyName) (ls : List Line) → keyWord (settingNamed k (filterMap keyIn ls)) ≡ wordOfSetting (settingAmong (keyPlace k) ls)
 word-of k ls = same-word (settingNamed k (filterMap keyIn ls)) (settingAmong (keyPlace k) ls) (key-among some k ls)
 
-pub eight : (P : ℕ → Type 0) → P 0 → P 1 → P 2 → P 3 → P 4 → P 5 → P 6 → P 7 → (k : ℕ) → k < 8 → P k
+eight : (P : ℕ → Type 0) → P 0 → P 1 → P 2 → P 3 → P 4 → P 5 → P 6 → P 7 → (k : ℕ) → k < 8 → P k
 eight P a b c d e f g h zero l = a
 eight P a b c d e f g h (suc zero) l = b
 eight P a b c d e f g h (suc (suc zero)) l = c

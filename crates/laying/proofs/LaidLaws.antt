@@ -1,10 +1,10 @@
 -- New words laid into a table behind others, and what the table holds then.
-use Prim.Native.Nat.{ℕ, zero, suc, _+_, _<_, _≤_}
+use Prim.Native.Nat.{ℕ, _+_, _<_, _≤_}
 use mathlib.Core.Path.{_≡_, sym, ap, _∙_}
 use mathlib.Core.List.{List, [], _∷_, _++_, append-assoc}
 use native.Mathlib.Omega.{arith}
 use lib.ListN.{length, take, drop, set, length-append, length-take}
-use lib.Seq.{take-at, drop-at, drop-append-add, drop-drop, length-take-le}
+use lib.Seq.{take-at, drop-at, drop-append-add, drop-drop}
 use Rattle.tokens.specs.Lexing.{laid}
 use Rattle.tokens.proofs.LaidLaws.{laid-one, laid-more}
 
@@ -19,7 +19,7 @@ laid-laid n k done new held e h =
     let m : n + length (done ++ new) ≡ k + length new = simp length-append (omega arith) in
     rw (a, take-at p (drop k held) k l, d, m) (append-assoc (take n held) done (new ++ drop (k + length new) held) ∙ rw append-assoc)
 
--- A part of the words that were laid, and the words before them.
+-- A part of the words that were laid.
 module _ (n : ℕ) (all held : List ℕ) (inside : n ≤ length held) where
   pub laid-part : (x y z : List ℕ) (from to : ℕ) → all ≡ x ++ (y ++ z) → from ≡ n + length x → to ≡ from + length y → drop from (take to (laid n all held)) ≡ y
   laid-part x y z from to e f t =
@@ -33,23 +33,7 @@ module _ (n : ℕ) (all held : List ℕ) (inside : n ≤ length held) where
       (sym (append-assoc x (y ++ z) rest ∙ ap (λ (ws : List ℕ). x ++ ws) (append-assoc y z rest)))) in
       rw (w, take-at (p ++ y) (z ++ rest) to m, drop-at p y from l)
 
-  pub laid-before : take n (laid n all held) ≡ take n held
-  laid-before = take-at (take n held) (all ++ drop (n + length all) held) n (length-take-le n held inside)
-
 -- Two words alone.
 pub laid-two : (n v w : ℕ) (held : List ℕ) → n + 1 < length held → set (set held n v) (n + 1) w ≡ laid n (v ∷ w ∷ []) held
 laid-two n v w held h =
     ap (λ (ws : List ℕ). set ws (n + 1) w) (laid-one n v held (omega arith)) ∙ laid-more n w (v ∷ []) held (omega arith)
-
--- A word put in front of words that were laid.
-pub laid-front : (n v : ℕ) (ys held : List ℕ) → n < length held → set (laid (n + 1) ys held) n v ≡ laid n (v ∷ ys) held
-laid-front n v ys [] h = let z : ⊥ = omega arith in absurd z
-laid-front zero v ys (x ∷ t) h =
-    let e : 0 + 1 + length ys ≡ suc (length ys) = omega arith in
-    let d : 0 + suc (length ys) ≡ suc (length ys) = omega arith in
-    rw (e, d)
-laid-front (suc n) v ys (x ∷ t) h =
-    let a : suc n + 1 ≡ suc (n + 1) = omega arith in
-    let b : suc (n + 1) + length ys ≡ suc (n + 1 + length ys) = omega arith in
-    let c : suc n + suc (length ys) ≡ suc (n + suc (length ys)) = omega arith in
-    rw (a, b, c) (ap (λ (l : List ℕ). x ∷ l) (laid-front n v ys t (omega arith)))

@@ -1,6 +1,7 @@
 -- Laws that the proofs of the functions cite, and that callers use.
 pub mod ComplaintLaws
 pub mod LaidLaws
+pub mod KeptRowLaws
 pub mod LyricRowLaws
 pub mod PartsLaidLaws
 pub mod BulkLaws
@@ -21,7 +22,7 @@ pub mod MetadataLaws
 pub mod GoodLaws
 pub mod SettingLaws
 pub mod KeyLaws
-pub mod NotedLaws
+pub mod SongSaysLaws
 pub mod FrontLaws
 pub mod DefinitionLaws
 pub mod HeldLaws

@@ -6,7 +6,7 @@ use mathlib.Core.Option.{Option, none, some, orElse}
 use native.Mathlib.Omega.{arith}
 use borrow.Author.Tests.{eqb-true}
 use lib.Dec.{eqb}
-use lib.ListN.{length, take, drop, set, length-set, length-append}
+use lib.ListN.{length, take, drop, set, length-append}
 use Rattle.songcode.specs.Lists.{if_then_else_}
 use Rattle.songcode.specs.Complaints.{Complaint, complaint, complainIf, earliest}
 use Rattle.songcode.specs.answer.Lines.{Block, blocks}
@@ -24,7 +24,8 @@ use Rattle.songcode.proofs.BlockKinds.{by-kind}
 use Rattle.text.specs.Refusals.{refusalOf}
 use Rattle.tokens.specs.TokenWords.{tokenWords}
 use Rattle.tokens.specs.Lexing.{laid}
-use Rattle.tokens.proofs.LaidLaws.{laid-one, laid-more, laid-length}
+use Rattle.tokens.specs.Kept.{KeptFrom}
+use Rattle.tokens.proofs.LaidLaws.{laid-one, laid-more, laid-length, laid-front, laid-before}
 use Rattle.score.specs.declared.stretches.Stretch.{Stretch}
 use Rattle.score.specs.Places.{headWord, stretchOf}
 use Rattle.outlines.specs.declared.readings.Outline.{Outline}
@@ -44,12 +45,12 @@ use Rattle.laying.specs.Metadata.{MetadataEnds}
 use Rattle.laying.specs.Fronts.{DefinitionFits, Front}
 use Rattle.laying.specs.Scores.{Begins, Loads}
 use Rattle.laying.specs.Loading.{Held, entered, blocksFrom, definitionsFrom, Leaves, Loading, LoadsOne}
+use Rattle.laying.proofs.KeptRowLaws.{kept-on}
 use Rattle.laying.proofs.ComplaintLaws.{earliest-none, UpTo, Behind, first-wins, gather-behind}
 use Rattle.laying.proofs.WeightLaws.{weight-behind, run-words}
 use Rattle.laying.proofs.ReachedLaws.{definition-reach}
 use Rattle.laying.proofs.FitLaws.{run-good}
 use Rattle.laying.proofs.CleanLaws.{clean}
-use Rattle.laying.proofs.LaidLaws.{laid-front}
 use Rattle.laying.proofs.FrontLaws.{front-held, front-kept, no-definition, front-grows}
 use Rattle.laying.proofs.DefinitionLaws as definitions
 use Rattle.laying.proofs.DefinitionLaws.{
@@ -65,7 +66,7 @@ use Rattle.laying.proofs.DefinitionLaws.{
   sections-later,
 }
 use Rattle.laying.proofs.FaultLineLaws.{definition-line, definitions-behind, section-line}
-use Rattle.laying.proofs.HeldLaws.{laid-there, laid-before, fault-is, text-is, text-fits, outline-is}
+use Rattle.laying.proofs.HeldLaws.{laid-there, fault-is, text-is, text-fits, outline-is}
 
 -- No definition is loaded yet.
 module _ (s ws : List ℕ) (p : Place) (faultless : textFaults (blocksOf s) ≡ []) (m : MetadataEnds s p) where
@@ -96,12 +97,13 @@ module _ (s ws : List ℕ) (p : Place) (faultless : textFaults (blocksOf s) ≡ 
         texts = a .1;
       }
 
-  pub loading-first : length s ≤ 65536 → length s < length ws → Loading s (set ws 0 0) 0 p
+  pub loading-first : length s ≤ 65536 → KeptFrom s ws 0 → Loading s (set ws 0 0) 0 p
   unfolding idOf definitionOf
-  loading-first small room =
+  loading-first small kept =
+      let room = kept .room in
       record {
         small = small;
-        room = rw (length-set ws 0 0) room;
+        kept = rw (laid-one 0 0 ws (omega arith)) (kept-on 0 (0 ∷ []) refl (omega arith) (omega arith) kept);
         filled = omega arith;
         done = [];
         front = no-definition (songOf s .definitions) (set ws 0 0) (rw (laid-one 0 0 ws (omega arith)) refl);
@@ -143,7 +145,7 @@ module _ (s ws : List ℕ) (mark : ℕ) (p : Place) (w : Loading s ws mark p) (i
   room-there =
       let a = weight-behind s (p .number) (p .at) inside two-bytes in
       let b = w .filled in
-      let c = w .room in
+      let c = w .kept .room in
       rw (r .pattern) (omega arith)
 
   pub reached : mark + 2 + length new ≤ e .pattern .next
@@ -179,7 +181,7 @@ module _ (s ws : List ℕ) (mark : ℕ) (p : Place) (w : Loading s ws mark p) (i
     end-inside =
         let a = reached in
         let b = r .pattern-placed .ends in
-        let c = w .room in
+        let c = w .kept .room in
         let d = same-room in
         omega arith
 
@@ -349,12 +351,14 @@ module _ (s ws : List ℕ) (mark : ℕ) (p : Place) (w : Loading s ws mark p) (i
         loading-next =
             let a = reached in
             let b = x .onward in
-            let c = w .room in
             let l = length-append (w .done) (new-definition ∷ []) in
-            let m = one-length found-outline vs refl in
+            let row = row-with found-outline ++ (0 ∷ []) in
+            let k = length-append (row-with found-outline) (0 ∷ []) in
+            let i = end-inside in
+            let j = same-room in
             record {
               small = w .small;
-              room = omega arith;
+              kept = rw (entered-is found-outline) (kept-on mark row (omega arith) (omega arith) (omega arith) (w .kept));
               filled = omega arith;
               done = w .done ++ (new-definition ∷ []);
               front = front-next;
@@ -375,7 +379,14 @@ module _ (s ws : List ℕ) (mark : ℕ) (p : Place) (w : Loading s ws mark p) (i
 -- A refusal ends the loading.
 pub loads-refused : (s ws : List ℕ) (p : Place) (r : Loaded) → LoadsOne s ws p r → (r .refusal .number ≡ 0 → ⊥) → Loads s ws r
 loads-refused s ws p r w n =
-    record { refused = w .refused; clear = λ z. absurd (n z); ready = λ z. absurd (n z); begins = λ z. absurd (n z); filled = λ z. absurd (n z) }
+    record {
+      refused = w .refused;
+      clear = λ z. absurd (n z);
+      ready = λ z. absurd (n z);
+      kept = λ z. absurd (n z);
+      begins = λ z. absurd (n z);
+      filled = λ z. absurd (n z);
+    }
 
 -- All definitions are loaded where the first section begins.
 only-sections : (bs : List Block) → blockOrder 2 bs ≡ [] → (definitionBlocks bs ≡ []) × (sectionBlocks bs ≡ bs)
@@ -434,9 +445,10 @@ module _ (s ws : List ℕ) (mark : ℕ) (p : Place) (w : Loading s ws mark p) (f
         clear = λ z. w .clear ∙ ap (definitionsReferences (w .earlier)) none-left;
         ready = λ z. record {
           small = w .small;
-          room = w .room;
+          room = let r = w .kept .room in omega arith;
           front = subst (λ ds. Front (songOf s .definitions) ds ws mark) all-done (w .front);
         };
+        kept = λ z. w .kept;
         begins = λ z. begins-there;
         filled = λ z. w .filled;
       }

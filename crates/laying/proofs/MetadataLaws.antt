@@ -24,13 +24,13 @@ use Rattle.settings.specs.declared.kinds.BlockKind.the-variants.{Metadata, Defi
 use Rattle.settings.specs.Kinds.{blockKindIs}
 use Rattle.sections.specs.declared.blocks.Place.{Place}
 use Rattle.sections.specs.declared.runs.Run.{Run}
-use Rattle.sections.specs.declared.runs.Test.the-variants.{Empty, Full}
-use Rattle.sections.specs.Runs.{textLines, passing, passes, linesOf, Longest}
-use Rattle.sections.specs.BlockParts.{blockAt, linesPast}
+use Rattle.sections.specs.declared.runs.Test.the-variants.{Full}
+use Rattle.sections.specs.Runs.{textLines, passing, passes, blankLine, linesOf, Longest}
+use Rattle.sections.specs.BlockParts.{blockAt, linesPast, NextAt}
 use Rattle.sections.specs.Slots.{slotBy, slotOf, Setting, settingAmong}
 use Rattle.sections.proofs.RunLaws.{lines-next}
-use Rattle.sections.proofs.NextLaws.{blocks-start, blocks-over, next-is}
-use Rattle.laying.specs.Metadata.{Skips, linesBefore, MetadataEnds}
+use Rattle.sections.proofs.NextLaws.{blocks-start, blocks-over}
+use Rattle.laying.specs.Metadata.{linesBefore, MetadataEnds}
 use Rattle.laying.proofs.CleanLaws.{clean, no-metadata}
 use Rattle.laying.proofs.LineNumberLaws.{run-behind, run-passed, lines-reached}
 
@@ -61,9 +61,6 @@ pub not-definition : {k : BlockKind} → (k ≡ metadata) ⊎ (k ≡ section) �
 not-definition (inl e) h = let z : metadata ≡ definition = sym e ∙ h in zero-is-not-one cc
 not-definition (inr e) h = let z : section ≡ definition = sym e ∙ h in zero-is-not-one cc
 
-pub skips : (s : List ℕ) (n at : ℕ) (r : Run) → Longest s Empty n at r → 1 ≤ n → n ≤ at + 1 → Skips s n at (record { number = n + r .lines; at = r .next })
-skips s n at r w one fits = record { next = next-is s n at r w one fits; lines = run-passed s Empty n at r w }
-
 -- The first setting of lines behind others; blank lines say none.
 among-append : (k : ℕ) (xs ys : List Line) → settingAmong k (xs ++ ys) ≡ orElse (settingAmong k xs) (settingAmong k ys)
 unfolding settingAmong orElse if_then_else_
@@ -79,19 +76,19 @@ among-both : (k : ℕ) (xs ys us vs : List Line) → settingAmong k xs ≡ setti
     → settingAmong k (xs ++ us) ≡ settingAmong k (ys ++ vs)
 among-both k xs ys us vs e f = among-append k xs us ∙ rw (e, f) (sym (among-append k ys vs))
 
-blank-slot : (l : Line) → passing Empty l ≡ true → slotOf l ≡ 13
-unfolding passing passes isEmpty slotOf slotBy kindOfLine kindOf
+blank-slot : (l : Line) → blankLine l ≡ true → slotOf l ≡ 13
+unfolding blankLine isEmpty slotOf slotBy kindOfLine kindOf
 blank-slot l e = of (l .text) refl e
   where
     of : (t : List Byte) → l .text ≡ t → isEmpty t ≡ true → slotOf l ≡ 13
     of [] h f = rw h
     of (b ∷ bs) h f = true-is-not-false f refl
 
-blank-among : (k : ℕ) → k < 8 → (ls : List Line) → settingAmong k (taken (passing Empty) ls) ≡ none
+blank-among : (k : ℕ) → k < 8 → (ls : List Line) → settingAmong k (taken blankLine ls) ≡ none
 unfolding settingAmong taken if_then_else_
 blank-among k h [] = refl
 blank-among k h (l ∷ ls) =
-    by-cases (passing Empty l)
+    by-cases (blankLine l)
     (λ e. let n : eqb 13 k ≡ false = ne-eqb 13 k (λ z. let w : ⊥ = omega arith in w) in rw (e, blank-slot l e, n) (blank-among k h ls))
     (λ e. rw e)
 
@@ -129,20 +126,19 @@ pub record Come (s : List ℕ) (p : Place) : Type 0 where
   pub metadata-said : metadataLines (blocksOf s) ≡ said ++ metadataLines (blocks (textLines s (p .number) (p .at)))
   pub keys : (k : ℕ) → k < 8 → settingAmong k lines ≡ settingAmong k said
 
-pub come-start : (s : List ℕ) (p : Place) → textFaults (blocksOf s) ≡ [] → Skips s 1 0 p → Come s p
+pub come-start : (s : List ℕ) (p : Place) → textFaults (blocksOf s) ≡ [] → NextAt s 1 0 p → Come s p
 unfolding settingAmong
 come-start s p h w =
-    let n = w .next in
-    let same = blocks-start s ∙ n .same in
+    let same = blocks-start s ∙ w .same in
     record {
-      number = n .number;
-      counted = n .counted;
-      inside = n .inside;
-      opens = λ i. sym (n .same) ∙ n .there i;
+      number = w .number;
+      counted = w .counted;
+      inside = w .inside;
+      opens = λ i. sym (w .same) ∙ w .there i;
       order = ap (blockOrder 0) (sym same) ∙ clean (blocksOf s) h .order;
       definitions = ap definitionBlocks (sym same);
       sections = ap sectionBlocks (sym same);
-      lines = taken (passing Empty) (textLines s 1 0);
+      lines = taken blankLine (textLines s 1 0);
       before = w .lines;
       said = [];
       metadata-said = ap metadataLines same;
@@ -154,18 +150,18 @@ module _ (s : List ℕ) (p : Place) (c : Come s p) (inside : p .at < length s) w
   block = blockAt s (p .number) (p .at)
 
   module _ (kind : blockKind block ≡ metadata) (r : Run) (q : Place) (w : Longest s Full (p .number) (p .at) r)
-      (v : Skips s (p .number + r .lines) (r .next) q) where
+      (v : NextAt s (p .number + r .lines) (r .next) q) where
     full : passing Full (blockAt s (p .number) (p .at) .first) ≡ true
     full = begins-full s (p .number) (p .at) (λ e. let z : metadata ≡ section = sym kind ∙ e in zero-is-not-one cc)
 
     behind : blocks (linesPast s (p .number) (p .at)) ≡ blocks (textLines s (q .number) (q .at))
-    behind = ap blocks (sym (block-past s (p .number) (p .at) inside full) ∙ sym (run-behind s Full (p .number) (p .at) r w)) ∙ v .next .same
+    behind = ap blocks (sym (block-past s (p .number) (p .at) inside full) ∙ sym (run-behind s Full (p .number) (p .at) r w)) ∙ v .same
 
     opened : blocks (textLines s (p .number) (p .at)) ≡ block ∷ blocks (textLines s (q .number) (q .at))
     opened = c .opens inside ∙ ap (λ bs. blockAt s (p .number) (p .at) ∷ bs) behind
 
     gap : List Line
-    gap = taken (passing Empty) (textLines s (p .number + r .lines) (r .next))
+    gap = taken blankLine (textLines s (p .number + r .lines) (r .next))
 
     passed-over : textLines s 1 0 ≡ (c .lines ++ ((block .first ∷ block .others) ++ gap)) ++ textLines s (q .number) (q .at)
     unfolding gap
@@ -173,7 +169,7 @@ module _ (s : List ℕ) (p : Place) (c : Come s p) (inside : p .at < length s) w
         let b = blockAt s (p .number) (p .at) .first ∷ blockAt s (p .number) (p .at) .others in
         let e = run-passed s Full (p .number) (p .at) r w ∙ ap (λ ls. ls ++ textLines s (p .number + r .lines) (r .next))
         (block-lines s (p .number) (p .at) inside full) in
-        let f : textLines s (p .number) (p .at) ≡ (b ++ taken (passing Empty) (textLines s (p .number + r .lines) (r .next))) ++ textLines s (q .number) (q .at)
+        let f : textLines s (p .number) (p .at) ≡ (b ++ taken blankLine (textLines s (p .number + r .lines) (r .next))) ++ textLines s (q .number) (q .at)
         = e ∙ ap (λ ls. b ++ ls) (v .lines) ∙ sym (append-assoc b _ _) in
         c .before ∙ ap (λ ls. c .lines ++ ls) f ∙ sym (append-assoc (c .lines) _ _)
 
@@ -211,7 +207,7 @@ module _ (s : List ℕ) (p : Place) (c : Come s p) (inside : p .at < length s) w
     pub come-further : p .at < q .at
     unfolding linesOf
     come-further =
-        let a = v .next .onward in
+        let a = v .onward in
         let b = w .counted in
         let k = some-taken (r .lines) (textLines s (r .number) (r .at)) (block .first) (block .others)
         (w .lines ∙ block-lines s (p .number) (p .at) inside full) in
@@ -219,12 +215,11 @@ module _ (s : List ℕ) (p : Place) (c : Come s p) (inside : p .at < length s) w
 
     pub come-next : Come s q
     come-next =
-        let n = v .next in
         record {
-          number = n .number;
-          counted = n .counted;
-          inside = n .inside;
-          opens = λ i. sym (n .same) ∙ n .there i;
+          number = v .number;
+          counted = v .counted;
+          inside = v .inside;
+          opens = λ i. sym (v .same) ∙ v .there i;
           order = ordered;
           definitions = sym fewer ∙ c .definitions;
           sections = sym left-over ∙ c .sections;

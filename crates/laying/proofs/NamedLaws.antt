@@ -27,11 +27,11 @@ use Rattle.laying.specs.Laying.{runTokens, Names, namedAt}
 
 -- What the tokens of a pattern are: those of its items, or the reference alone.
 unfoldable pub Shape : List Token → Pattern → Type 0
-Shape ts (items r) = (ts ≡ writeItems r []) × (depth r ≤ 1) × (references r ≡ [])
+Shape ts (items r) = (ts ≡ writeItems r []) × (depth r ≤ loopsDeep) × (references r ≡ [])
 Shape ts (named n) = ts ≡ reference n ∷ []
 
 pub pattern-shape : (ls : List Line) (p : Pattern) → patternIn ls ≡ some p → Shape (runTokens ls) p
-unfolding patternIn Shape WrittenPattern loopsDeep runTokens
+unfolding patternIn Shape WrittenPattern runTokens
 pattern-shape [] p e = none-some refl e
 pattern-shape (l ∷ ls) (items r) e = let w = pattern-sound l ls (items r) e in (text-lines-complete (w .0) ∙ sym (appended r), w .1, w .2)
 pattern-shape (l ∷ ls) (named n) e = text-lines-complete (pattern-sound l ls (named n) e)

@@ -7,6 +7,7 @@ use native.Mathlib.Omega.{arith}
 use lib.ListN.{length, length-append, length-map}
 use Rattle.songcode.specs.answer.Sections.{lyricLine}
 use Rattle.tokens.specs.Lexing.{laid}
+use Rattle.tokens.specs.Kept.{KeptFrom}
 use Rattle.tokens.proofs.LaidLaws.{laid-length}
 use Rattle.score.specs.Sections.{cutsBy}
 use Rattle.sections.specs.declared.blocks.SectionRead.{SectionRead}
@@ -16,6 +17,7 @@ use Rattle.laying.specs.Laying.{weight, saidWeight}
 use Rattle.laying.specs.Rows.{readWord, cutsSaid, hasCut, leadSaid, patternSaid, tailSaid, lyricsSaid, partsSaid, PlacesAre}
 use Rattle.score.proofs.ViewLaws.{lyrics-size}
 use Rattle.laying.proofs.LaidLaws.{laid-laid}
+use Rattle.laying.proofs.KeptRowLaws.{kept-on}
 use Rattle.laying.proofs.WeightLaws.{run-words, said-words}
 
 -- So many words are laid from a place on.
@@ -95,6 +97,11 @@ module _ (s : List ℕ) (r : SectionRead) (at : ℕ) (held : List ℕ)
           let a = lead-small in
           let l = done-length second in
           omega arith
+
+      pub kept-lines : KeptFrom s held at → KeptFrom s two begun
+      kept-lines k =
+          let f = second .filled in
+          rw (second .there) (kept-on at (cutsSaid (r .modifiers) ++ leadSaid s r) f (second .inside) (omega arith) k)
 
       module _ {three : List ℕ} {ended : ℕ} (three-laid : three ≡ laid begun (patternSaid s r) two)
           (three-fill : ended ≡ begun + length (patternSaid s r)) where

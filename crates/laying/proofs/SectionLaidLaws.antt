@@ -21,7 +21,7 @@ use Rattle.songcode.proofs.ListLaws.{append-is-nil, by-cases, Each}
 use Rattle.songcode.proofs.PatternLaws.{none-some}
 use Rattle.tokens.specs.TokenWords.{tokenWords}
 use Rattle.tokens.specs.Lexing.{laid}
-use Rattle.tokens.proofs.LaidLaws.{laid-length}
+use Rattle.tokens.proofs.LaidLaws.{laid-length, laid-front, laid-before}
 use Rattle.settings.specs.Cuts.{cutIs, CutFits}
 use Rattle.outlines.specs.declared.readings.Outline.{Outline}
 use Rattle.outlines.specs.Words.{lookUp}
@@ -52,7 +52,7 @@ use Rattle.laying.specs.Laying.{runTokens, saidTokens, weight, saidWeigh
 use Rattle.laying.specs.Scores.{namedText, Carries, Ready, sideItems}
 use Rattle.laying.specs.Rows.{meterOf, tempoOf, readCut, hasCut, cutsSaid, leadSaid, patternSaid, tailSaid, lyricsSaid, partsSaid, PlacesAre}
 use Rattle.laying.specs.Rows.{aboutSection, outlineBy, textAt, toldTexts, bulk, RoomFor, Before, SongKeys, Lays}
-use Rattle.laying.proofs.LaidLaws.{laid-part, laid-before, laid-front}
+use Rattle.laying.proofs.LaidLaws.{laid-part}
 use Rattle.laying.proofs.FrontLaws.{front-kept}
 use Rattle.laying.proofs.ReadyLaws.{ready-carries}
 use Rattle.laying.proofs.WeightLaws.{run-few, said-words}
@@ -68,7 +68,7 @@ use Rattle.laying.proofs.TextLaws.{side-carries, items-carries, carries
 
 -- A cut that is read is said on a line.
 cuts-said : (a b : Option Setting) (v w : ℕ) → length (cutsBy (readCut (cutSaid a) || readCut (cutSaid b)) v w) ≤ cutsThere a b
-unfolding cutSaid readCut cutIs bind cutsThere isSome if_then_else_ cutsBy
+unfolding cutSaid cutIs bind cutsThere isSome if_then_else_ cutsBy
 cuts-said none none v w = omega arith
 cuts-said none (some x) v w = most (readCut (cutSaid (some x)))
   where

@@ -6,7 +6,7 @@ use Rattle.songcode.specs.Lists.{isSome}
 use Rattle.songcode.specs.Song as song
 use Rattle.songcode.specs.Song.{Items, Pattern, items, named, Side}
 use Rattle.songcode.specs.answer.Tokens.{Token, tokens, reference}
-use Rattle.songcode.specs.answer.PatternText.{loopsDeep, sideText}
+use Rattle.songcode.specs.answer.PatternText.{sideText}
 use Rattle.songcode.proofs.ListLaws.{Each}
 use Rattle.songcode.proofs.PatternLaws.{none-some}
 use Rattle.songcode.proofs.SideAgree.{side-references, side-sound}
@@ -27,7 +27,7 @@ use Rattle.laying.proofs.NamedLaws.{Shape}
 -- A lead-in or tail.
 pub side-row : (o : Option Setting) (y : Option Side) → bind o sideSaid ≡ y → (bind o sideSaid ≡ none → o ≡ none) → Each Good (saidTokens o)
     → (tokenWords (saidTokens o) ≡ sideRow y) × SideFits y
-unfolding saidTokens tokenWords bind sideSaid sideOn sideRow itemsRow SideFits loopsDeep
+unfolding saidTokens tokenWords bind sideSaid sideOn sideRow itemsRow SideFits
 side-row none y e clean good = rw (← e) (refl, tt)
 side-row (some x) y e clean good = go (sideText (x .text)) refl
   where
@@ -56,7 +56,7 @@ pattern-row (named n) ts h good =
 
 -- The cuts.
 pub cut-there : (o : Option song.Cut) → readCut (cutIs o) ≡ isSome o
-unfolding readCut cutIs isSome
+unfolding cutIs isSome
 cut-there none = refl
 cut-there (some c) = refl
 

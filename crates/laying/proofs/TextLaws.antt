@@ -49,9 +49,9 @@ readText find ws t = record { at = t; outline = outlined find (drop (t .from) (t
 
 module _ (ws : List ℕ) (find : ℕ → Outline) (t : Stretch) where
   -- Items without a reference.
-  pub plain-carries : (r : Items) (ts : List Token) → ts ≡ writeItems r [] → Each Good ts → depth r ≤ 1 → references r ≡ []
+  pub plain-carries : (r : Items) (ts : List Token) → ts ≡ writeItems r [] → Each Good ts → depth r ≤ loopsDeep → references r ≡ []
       → drop (t .from) (take (t .to) ws) ≡ tokenWords ts → Carries ws (readText find ws t) (some r)
-  unfolding Carries KnowsItems
+  unfolding Carries KnowsItems loopsDeep
   plain-carries r ts e good deep plain stands =
       let f : ℕ → Option Items = λ n. none in
       let fit = items-fit r ts e good in
@@ -59,7 +59,7 @@ module _ (ws : List ℕ) (find : ℕ → Outline) (t : Stretch) where
       let known : KnowsItems (some r) (outlined find (drop (t .from) (take (t .to) ws))) = items-known find ws t r there fit deep in
       let walkable = plain-walkable ws f r fit plain (omega arith) in (
         known .0 .filled,
-        known .2 plain,
+        known .1 plain,
         λ n. row-meaning ws f n r t walkable there ∙ ap (λ (q : Items). rowWords (measuresOf n none q)) (putIn-same f r plain),
       )
 
@@ -72,7 +72,7 @@ module _ (ws : List ℕ) (find : ℕ → Outline) (t : Stretch) where
   pub side-carries : (o : Option Setting) (y : Option Side) → bind o sideSaid ≡ y → (bind o sideSaid ≡ none → o ≡ none) → Each Good (saidTokens o)
       → t .to ≡ t .from + length (tokenWords (saidTokens o)) → drop (t .from) (take (t .to) ws) ≡ tokenWords (saidTokens o) → Carries ws
       (readText find ws t) (sideItems y)
-  unfolding saidTokens tokenWords bind sideSaid sideOn sideItems loopsDeep
+  unfolding saidTokens tokenWords bind sideSaid sideOn sideItems
   side-carries none y e clean good size stands = rw (← e) (empty-carries (omega arith) stands)
   side-carries (some x) y e clean good size stands = go (sideText (x .text)) refl
     where

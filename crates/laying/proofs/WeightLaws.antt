@@ -1,26 +1,27 @@
 -- How many bytes some lines have, each with one for its line end, and that their tokens are no more.
 use Prim.Native.Nat.{ℕ, zero, suc, _+_, _-_, _<_, _≤_}
-use mathlib.Core.Path.{_≡_, refl, sym, ap, _∙_}
+use mathlib.Core.Path.{_≡_, sym, ap, _∙_}
 use mathlib.Core.List.{List, [], _∷_, _++_}
 use mathlib.Core.Bool.{Bool}
 use mathlib.Core.Option.{Option, none, some}
 use native.Mathlib.Omega.{arith}
 use borrow.Author.Tests.{ltb-true, ltb-false, eqb-true}
 use lib.Dec.{eqb, ltb}
-use lib.ListN.{length, take, drop, getD, length-append, length-take, length-drop}
+use lib.ListN.{length, take, drop, length-append, length-take, length-drop}
 use Rattle.songcode.specs.Lists.{if_then_else_, taken, left}
 use Rattle.songcode.specs.Bytes.{Byte, placed, isBlank, notBlank}
-use Rattle.songcode.specs.answer.Lines.{Line, cr, inside, ending}
+use Rattle.songcode.specs.answer.Lines.{Line}
 use Rattle.songcode.specs.answer.Keys.{settingIn}
 use Rattle.songcode.specs.answer.Sections.{behindFirst, settingOf, isPatternLine, notPatternLine, patternRun, notDashes, body}
-use Rattle.songcode.specs.answer.Tokens.{Token, Class, blank, semi, double, bracket, closing, plain, class, Lexed, word, lexedBy, lexed, tokens, tokensOf}
+use Rattle.songcode.specs.answer.Tokens.{tokens, tokensOf}
 use Rattle.songcode.proofs.ByteLaws.{length-placed}
 use Rattle.songcode.proofs.ListLaws.{by-cases, taken-left}
-use Rattle.text.specs.Spans.{end, part, longer, lineLength, breakWidth, breakLength, frontBlanks, solidLength, lineOf, lineAt, lineText}
-use Rattle.text.proofs.SpanLaws.{by-ending}
+use Rattle.text.specs.Spans.{part, lineLength, frontBlanks, solidLength, lineOf, lineAt, lineText}
 use Rattle.text.proofs.TrimLaws.{solid-le}
-use Rattle.text.proofs.WalkLaws.{whole, next-is, next-further, cr-breaks}
+use Rattle.text.proofs.WalkLaws.{whole, next-is, next-further}
 use Rattle.tokens.specs.TokenWords.{tokenWords}
+use Rattle.tokens.proofs.LineFitLaws.{line-fits, front-le}
+use Rattle.tokens.proofs.FewLaws.{tokens-few, words-length}
 use Rattle.sections.specs.declared.runs.Test.the-variants.{Full}
 use Rattle.sections.specs.Runs.{textLines, passing}
 use Rattle.sections.specs.BlockParts.{blockAt, lateLines}
@@ -42,44 +43,6 @@ weight-taken p ls = let h = weight-parts p ls in omega arith
 
 pub weight-left : (p : Line → Bool) (ls : List Line) → weight (left p ls) ≤ weight ls
 weight-left p ls = let h = weight-parts p ls in omega arith
-
--- The first line of a text and its line end lie in the text; a line without line end is the last.
-cr-width : (bs : List ℕ) → breakWidth cr (end (getD bs 0 0)) ≤ suc (length bs)
-unfolding breakWidth ending if_then_else_
-cr-width [] = omega arith
-cr-width (b ∷ bs) = by-ending b (λ e. rw e (omega arith)) (λ e. rw e (omega arith)) (λ e. rw e (omega arith))
-
-record Fits (bs : List ℕ) : Type 0 where
-  line : lineLength bs ≤ length bs
-  both : whole bs ≤ length bs
-  last : whole bs ≤ lineLength bs → length bs ≤ lineLength bs
-
-line-fits : (bs : List ℕ) → Fits bs
-unfolding lineLength longer breakLength breakWidth
-line-fits [] = record { line = omega arith; both = omega arith; last = λ e. omega arith }
-line-fits (b ∷ bs) =
-    let h = line-fits bs in
-    let p = h .line in
-    let q = h .both in
-    by-ending b
-    (λ e. record {
-      line = rw e (omega arith);
-      both = rw e (omega arith);
-      last = rw e (λ (z : suc (lineLength bs) + breakLength (drop (lineLength bs) bs) ≤ suc (lineLength bs)). let k = h .last (omega arith) in
-          omega arith);
-    })
-    (λ e. record { line = rw e (omega arith); both = rw (e, e) (omega arith); last = rw (e, e) (λ (z : 0 + 1 ≤ 0). let x : ⊥ = omega arith in absurd x) })
-    (λ e. record {
-      line = rw e (omega arith);
-      both = rw (e, e) (omega (arith, cr-width bs));
-      last = rw (e, e) (λ (z : 0 + breakWidth cr (end (getD bs 0 0)) ≤ 0). let x : ⊥ = omega (arith, cr-breaks (end (getD bs 0 0))) in
-          absurd x);
-    })
-
-front-le : (bs : List ℕ) → frontBlanks bs ≤ length bs
-unfolding frontBlanks if_then_else_
-front-le [] = omega arith
-front-le (b ∷ bs) = let h = front-le bs in by-cases (isBlank (record { place = 0; value = b })) (λ e. rw e (omega arith)) (λ e. rw e (omega arith))
 
 -- The line at a place: its bytes, and the next line.
 pub record LineThere (s : List ℕ) (n at : ℕ) : Type 0 where
@@ -222,41 +185,7 @@ weight-section s n at h =
     let two = settings-weight 11 12 (λ (e : 11 ≡ 12). let z : ⊥ = omega arith in z) (left isPatternLine (left notPatternLine ls)) in
     omega arith
 
--- Each token has a byte of its own.
-word-few : (w : List Byte) (ts : List Token) → length (word w ts) ≤ length w + length ts
-unfolding word
-word-few [] ts = omega arith
-word-few (b ∷ w) ts = omega arith
-
-lexed-by-few : (k : Class) (b : Byte) (l : Lexed) → length (lexedBy k b l .front) + length (lexedBy k b l .rest) ≤ suc (length (l .front) + length (l .rest))
-unfolding lexedBy
-lexed-by-few blank b l = let h = word-few (l .front) (l .rest) in omega arith
-lexed-by-few semi b l = let h = word-few (l .front) (l .rest) in omega arith
-lexed-by-few double b l = let h = word-few (l .front) (l .rest) in omega arith
-lexed-by-few bracket b l = let h = word-few (l .front) (l .rest) in omega arith
-lexed-by-few closing b l = omega arith
-lexed-by-few plain b l = omega arith
-
-lexed-few : (bs : List Byte) → length (lexed bs .front) + length (lexed bs .rest) ≤ length bs
-unfolding lexed
-lexed-few [] = omega arith
-lexed-few (b ∷ bs) =
-    let h = lexed-few bs in
-    let k = lexed-by-few (class b) b (lexed bs) in
-    omega arith
-
-pub tokens-few : (bs : List Byte) → length (tokens bs) ≤ length bs
-unfolding tokens
-tokens-few bs =
-    let h = lexed-few bs in
-    let k = word-few (lexed bs .front) (lexed bs .rest) in
-    omega arith
-
-pub words-length : (ts : List Token) → length (tokenWords ts) ≡ length ts
-unfolding tokenWords
-words-length [] = refl
-words-length (t ∷ ts) = ap suc (words-length ts)
-
+-- The tokens of lines are no more than their bytes.
 lines-few : (l : Line) (ls : List Line) → length (tokensOf l ls) < weight (l ∷ ls)
 unfolding tokensOf weight
 lines-few l [] = let h = tokens-few (l .text) in omega arith

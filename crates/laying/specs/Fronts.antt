@@ -5,7 +5,7 @@ use mathlib.Core.List.{List, [], _∷_, _++_}
 use mathlib.Core.Option.{Option, none, some}
 use lib.ListN.{length, take}
 use Rattle.songcode.specs.Song.{Items, Definition}
-use Rattle.songcode.specs.answer.PatternText.{depth, references}
+use Rattle.songcode.specs.answer.PatternText.{depth, loopsDeep, references}
 use Rattle.songcode.specs.description.Fits.{ReferAll}
 use Rattle.score.specs.Standing.{ItemsFit}
 use Rattle.outlines.specs.Rows.{definitionsRow}
@@ -13,7 +13,7 @@ use Rattle.outlines.specs.Rows.{definitionsRow}
 -- The items of a definition can be played from their words; its references are right among all definitions.
 pub record DefinedFits (all : List Definition) (r : Items) : Type 0 where
   pub words : ItemsFit r
-  pub shallow : depth r ≤ 1
+  pub shallow : depth r ≤ loopsDeep
   pub refers : ReferAll all (references r)
 
 unfoldable pub TextFits : List Definition → Option Items → Type 0

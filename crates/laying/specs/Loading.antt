@@ -14,6 +14,7 @@ use Rattle.songcode.specs.answer.References.{definitionOf, itemsOf, putIn, defi
 use Rattle.songcode.specs.description.WrittenSong.{idOf}
 use Rattle.songcode.specs.answer.Answer.{blocksOf, songOf}
 use Rattle.text.specs.Refusals.{refusalOf}
+use Rattle.tokens.specs.Kept.{KeptFrom}
 use Rattle.score.specs.declared.stretches.Stretch.{Stretch}
 use Rattle.score.specs.Places.{headWord}
 use Rattle.score.specs.Standing.{Stands}
@@ -69,9 +70,10 @@ pub record Leaves (s : List ℕ) (count : ℕ) (seen : List ℕ) (p : Place) : T
   pub texts : flatMap (λ b. definitionFaults (b .others)) (definitionBlocks (blocksFrom s p)) ≡ []
 
 -- The definitions before the place stand at the row's front, in their order; the last one first they are the earlier ones. Stage 3 complains of none.
+-- What is kept behind them is right.
 pub record Loading (s ws : List ℕ) (mark : ℕ) (p : Place) : Type 0 where
   pub small : length s ≤ 65536
-  pub room : length s < length ws
+  pub kept : KeptFrom s ws (mark + 1)
   pub filled : mark ≤ p .at
   pub done : List Definition
   pub front : Front (songOf s .definitions) done ws mark

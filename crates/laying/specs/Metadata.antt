@@ -1,23 +1,16 @@
 -- Where the metadata of a chart ends: which blocks stand from there on, and which keys before.
 use Prim.Native.Nat.{ℕ, _+_, _-_, _<_, _≤_}
 use mathlib.Core.Path.{_≡_}
-use mathlib.Core.List.{List, [], _∷_, _++_}
+use mathlib.Core.List.{List, [], _∷_}
 use lib.ListN.{length}
-use Rattle.songcode.specs.Lists.{taken}
 use Rattle.songcode.specs.answer.Lines.{blocks}
 use Rattle.songcode.specs.answer.Answer.{blocksOf}
 use Rattle.songcode.specs.answer.SongText.{blockOrder, metadataLines, definitionBlocks, sectionBlocks}
 use Rattle.sections.specs.declared.blocks.Place.{Place}
 use Rattle.sections.specs.declared.runs.Run.{Run}
-use Rattle.sections.specs.declared.runs.Test.the-variants.{Empty}
-use Rattle.sections.specs.Runs.{textLines, passing, linesOf}
-use Rattle.sections.specs.BlockParts.{blockAt, linesPast, NextAt}
+use Rattle.sections.specs.Runs.{textLines, linesOf}
+use Rattle.sections.specs.BlockParts.{blockAt, linesPast}
 use Rattle.sections.specs.Slots.{settingAmong}
-
--- The next block from a line on, and that only blank lines stand before it.
-pub record Skips (s : List ℕ) (n at : ℕ) (r : Place) : Type 0 where
-  pub next : NextAt s n at r
-  pub lines : textLines s n at ≡ taken (passing Empty) (textLines s n at) ++ textLines s (r .number) (r .at)
 
 -- All lines before a place.
 unfoldable pub linesBefore : Place → Run

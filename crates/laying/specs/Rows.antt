@@ -54,7 +54,7 @@ unfolding if_then_else_
 placeWord start stop = if eqb start stop then 0 else start * 65536 + (stop - start)
 
 -- The words of the cuts as the code reads them.
-unfoldable pub readCut : CutRead → Bool
+abbrev pub readCut : CutRead → Bool
 readCut (read.Cut c) = true
 readCut read.Not = false
 
@@ -63,7 +63,6 @@ readWord (read.Cut c) = c .measures .0 * 262144 + c .beats .0 * 16
 readWord read.Not = 0
 
 unfoldable pub hasCut : Modifiers → Bool
-unfolding readCut
 hasCut m = readCut (m .front) || readCut (m .back)
 
 unfoldable pub cutsSaid : Modifiers → List ℕ

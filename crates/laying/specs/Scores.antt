@@ -1,5 +1,5 @@
 -- When the buffer holds the definitions of a song, and the texts of a section.
-use Prim.Native.Nat.{ℕ, _<_, _≤_}
+use Prim.Native.Nat.{ℕ, _+_, _<_, _≤_}
 use mathlib.Core.Path.{_≡_}
 use mathlib.Core.List.{List, []}
 use mathlib.Core.Bool.{Bool, false, not}
@@ -15,6 +15,7 @@ use Rattle.songcode.specs.answer.Playing.{measuresOf}
 use Rattle.songcode.specs.answer.SongText.{sectionBlocks}
 use Rattle.songcode.specs.answer.Answer.{blocksOf, songOf}
 use Rattle.text.specs.Refusals.{refusalOf}
+use Rattle.tokens.specs.Kept.{KeptFrom}
 use Rattle.score.specs.declared.stretches.Stretch.{Stretch}
 use Rattle.score.specs.Places.{stretchOf}
 use Rattle.player.specs.Walks.{rowOf}
@@ -64,11 +65,13 @@ pub record Begins (s : List ℕ) (p : Place) : Type 0 where
   pub all : blocks (textLines s (p .number) (p .at)) ≡ sectionBlocks (blocksOf s)
   pub sections : sectionsFrom s p ≡ songOf s .sections
 
--- The definitions are loaded: what stage 3 refuses of them; where it refuses nothing, they are ready and the sections follow.
+-- The definitions are loaded: what stage 3 refuses of them; where it refuses nothing, they are ready, what is kept behind them is right, and the sections
+-- follow.
 pub record Loads (s : List ℕ) (ws : List ℕ) (r : Loaded) : Type 0 where
   pub refused : (r .refusal .number ≡ 0 → ⊥) → r .refusal ≡ refusalOf (earliest (referenceFaults (songOf s)))
   pub clear : r .refusal .number ≡ 0 → definitionsReferences [] (songOf s .definitions) ≡ []
   pub ready : r .refusal .number ≡ 0 → Ready s ws (r .mark)
+  pub kept : r .refusal .number ≡ 0 → KeptFrom s ws (r .mark + 1)
   pub begins : r .refusal .number ≡ 0 → Begins s (r .sections)
   pub filled : r .refusal .number ≡ 0 → r .mark ≤ r .sections .at
 

@@ -20,6 +20,7 @@ ghost use Prim.Native.Nat.{_+_, _≤_, _<_};
 ghost use lib.ListN.{length};
 ghost use Rattle.songcode.specs.answer.Answer.{blocksOf};
 ghost use Rattle.songcode.specs.answer.SongText.{textFaults, blockKind, definition};
+ghost use Rattle.tokens.specs.Kept.{KeptFrom};
 ghost use Rattle.laying.specs.Metadata.{MetadataEnds};
 ghost use Rattle.sections.specs.BlockParts.{blockAt};
 ghost use Rattle.laying.specs.Scores.{Loads};
@@ -34,7 +35,7 @@ pub struct Loaded {
 
 // The two words in front of a definition's text, and the mark behind it.
 fn enter(words: &mut [u32], mark: usize, end: usize, id: usize, o: Outline)
-    requires { ⌜ (mark + 2 ≤ end) × (end < length (now words)) × (end ≤ 65537) × (id ≤ 9999) × (o .sizes ≤ 33) × (o .measures ≤ 65536) ⌝ }
+    requires { ⌜ (mark + 2 ≤ end) × (end < length (now words)) × (end ≤ 65537) × (id ≤ 9999) × (o .sizes ≤ 33) × (o .measures ≤ 65536) × (o .depth ≤ 7) ⌝ }
     ensures { λ _. ⌜ now (words .exit) ≡ entered mark end id o (now (words .entry)) ⌝ }
 {
     let head = head_word(end - mark, id);
@@ -69,7 +70,7 @@ fn load_one(s: &[u8], p: Place, mark: usize, words: &mut [u32]) -> Loaded
 
 // The definitions from a block on, and the place of the first section.
 pub fn load(s: &[u8], first: Place, words: &mut [u32]) -> Loaded
-    requires { ⌜ (textFaults (blocksOf (now s)) ≡ []) × MetadataEnds (now s) first × (length (now s) ≤ 65536) × (length (now s) < length (now words)) ⌝ }
+    requires { ⌜ (textFaults (blocksOf (now s)) ≡ []) × MetadataEnds (now s) first × (length (now s) ≤ 65536) × KeptFrom (now s) (now words) 0 ⌝ }
     ensures { λ r. ⌜ Loads (now (s .entry)) (now (words .exit)) r × (length (now (words .exit)) ≡ length (now (words .entry))) ⌝ }
 {
     words[0] = 0;

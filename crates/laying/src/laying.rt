@@ -3,21 +3,24 @@ use sections::Run;
 use sections::Said;
 use text::line_at;
 use tokens::end_line;
+use tokens::lay_line;
 use tokens::lex_line;
 ghost use mathlib.Core.Path.{_≡_};
 ghost use Prim.Native.Nat.{_+_, _≤_};
 ghost use lib.ListN.{length};
 ghost use Rattle.tokens.specs.TokenWords.{tokenWords};
 ghost use Rattle.tokens.specs.Lexing.{laid};
+ghost use Rattle.tokens.specs.Kept.{KeptFrom};
 ghost use Rattle.sections.specs.Runs.{linesOf};
 ghost use Rattle.sections.specs.BlockParts.{Placed};
 ghost use Rattle.sections.specs.Slots.{settingAt};
 ghost use Rattle.sections.specs.Values.{Inside};
 ghost use Rattle.laying.specs.Laying.{runTokens, saidTokens, weight, saidWeight};
 
-// The words of the lines of a run from n on, a line end between neighbours; the new fill is returned.
+// The words of the lines of a run from n on, a line end between neighbours; the new fill is returned. What is kept of a line is copied.
 pub fn lay_run(s: &[u8], run: Run, words: &mut [u32], n: usize) -> usize
-    requires { ⌜ Placed (now s) run × (length (now s) ≤ 65536) × (n + weight (linesOf (now s) run) ≤ length (now words)) ⌝ }
+    requires { ⌜ Placed (now s) run × (length (now s) ≤ 65536) × (n + weight (linesOf (now s) run) ≤ length (now words))
+        × KeptFrom (now s) (now words) n ⌝ }
     ensures held { λ r. ⌜ now (words .exit) ≡ laid n (tokenWords (runTokens (linesOf (now (s .entry)) run))) (now (words .entry)) ⌝ }
     ensures fill { λ r. ⌜ r ≡ n + length (tokenWords (runTokens (linesOf (now (s .entry)) run))) ⌝ }
 {
@@ -25,7 +28,7 @@ pub fn lay_run(s: &[u8], run: Run, words: &mut [u32], n: usize) -> usize
         return n;
     }
     let first = line_at(s, run.number, run.at);
-    let mut fill = lex_line(s, first.start, first.stop, words, n);
+    let mut fill = lay_line(s, first.start, first.stop, words, n);
     let mut line = run.number + 1;
     let mut at = first.next;
     let mut left = run.lines - 1;
@@ -35,7 +38,7 @@ pub fn lay_run(s: &[u8], run: Run, words: &mut [u32], n: usize) -> usize
         }
         let found = line_at(s, line, at);
         let begun = end_line(words, fill);
-        fill = lex_line(s, found.start, found.stop, words, begun);
+        fill = lay_line(s, found.start, found.stop, words, begun);
         line += 1;
         at = found.next;
         left -= 1;

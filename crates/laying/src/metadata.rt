@@ -3,39 +3,27 @@ use sections::Place;
 use sections::Run;
 use sections::Test;
 use sections::kind_at;
+use sections::next_block;
 use sections::run_of;
 use settings::BlockKind;
 ghost use mathlib.Core.Path.{_≡_};
 ghost use mathlib.Core.List.{[]};
-ghost use Prim.Native.Nat.{_+_, _≤_};
-ghost use lib.ListN.{length};
+ghost use Prim.Native.Nat.{_≤_};
 ghost use Rattle.songcode.specs.answer.Answer.{blocksOf};
 ghost use Rattle.songcode.specs.answer.SongText.{textFaults};
-ghost use Rattle.laying.specs.Metadata.{linesBefore, Skips, MetadataEnds};
-
-// Where the next block begins, from a line on, behind the blank lines; the end of the text where there is none.
-pub fn skip_blanks(s: &[u8], number: usize, at: usize) -> Place
-    requires { ⌜ (1 ≤ number) × (number ≤ at + 1) × (at ≤ length (now s)) ⌝ }
-    ensures { λ r. ⌜ Skips (now (s .entry)) number at r ⌝ }
-{
-    let blank = run_of(s, Test::Empty, number, at);
-    Place {
-        number: number + blank.lines,
-        at: blank.next,
-    }
-}
+ghost use Rattle.laying.specs.Metadata.{linesBefore, MetadataEnds};
 
 // Where the first block begins that is no metadata; the end of the text where there is none.
 pub fn metadata_end(s: &[u8]) -> Place
     requires { ⌜ textFaults (blocksOf (now s)) ≡ [] ⌝ }
     ensures { λ r. ⌜ MetadataEnds (now (s .entry)) r ⌝ }
 {
-    let mut place = skip_blanks(s, 1, 0);
+    let mut place = next_block(s, 1, 0);
     while place.at < s.len() {
         match kind_at(s, place.number, place.at) {
             BlockKind::Metadata => {
                 let block = run_of(s, Test::Full, place.number, place.at);
-                place = skip_blanks(s, place.number + block.lines, block.next);
+                place = next_block(s, place.number + block.lines, block.next);
             }
             BlockKind::Definition => {
                 return place;

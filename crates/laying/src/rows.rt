@@ -16,6 +16,7 @@ ghost use Rattle.songcode.specs.Bytes.{placed};
 ghost use Rattle.songcode.specs.answer.Sections.{lyricLine};
 ghost use Rattle.text.specs.Spans.{part};
 ghost use Rattle.tokens.specs.Lexing.{laid};
+ghost use Rattle.tokens.specs.Kept.{KeptFrom};
 ghost use Rattle.settings.specs.Cuts.{CutFits};
 ghost use Rattle.score.specs.Sections.{bit, lyricRow};
 ghost use Rattle.score.specs.Fitting.{LyricFits, LyricsFit};
@@ -180,7 +181,8 @@ pub struct Places {
 pub fn lay_parts(s: &[u8], section: SectionRead, words: &mut [u32], at: usize) -> Places
     requires places { ⌜ Placed (now s) (section .pattern) × Placed (now s) (section .lyrics)
         × (0 < length (linesOf (now s) (section .lyrics)) → 2 ≤ section .lyrics .number)
-        × Inside (now s) (section .modifiers .before) × Inside (now s) (section .modifiers .after) × (length (now s) ≤ 65536) ⌝ }
+        × Inside (now s) (section .modifiers .before) × Inside (now s) (section .modifiers .after) × (length (now s) ≤ 65536)
+        × KeptFrom (now s) (now words) at ⌝ }
     requires cuts { ⌜ CutFits (section .modifiers .front) × CutFits (section .modifiers .back) ⌝ }
     requires room { ⌜ at + (2 + (saidWeight (settingAt (now s) (section .modifiers .before)) + weight (linesOf (now s) (section .pattern))
         + saidWeight (settingAt (now s) (section .modifiers .after)) + 2 * length (linesOf (now s) (section .lyrics)))) ≤ length (now words) ⌝ }

@@ -18,9 +18,10 @@ use sections::Place;
 use sections::SectionRead;
 use sections::meet;
 ghost use mathlib.Core.Path.{_≡_};
-ghost use Prim.Native.Nat.{_+_, _≤_, _<_};
+ghost use Prim.Native.Nat.{_<_};
 ghost use lib.ListN.{length, take, drop};
 ghost use Rattle.songcode.specs.answer.Answer.{songOf};
+ghost use Rattle.tokens.specs.Kept.{KeptFrom};
 ghost use Rattle.outlines.specs.Readings.{outlined};
 ghost use Rattle.outlines.specs.Words.{lookUp};
 ghost use Rattle.sections.specs.Onward.{Onward};
@@ -98,7 +99,7 @@ fn told_texts(words: &[u32], p: Places, o: Outline) -> Texts
 
 // The section at a place of the text, laid into the row from another place on.
 pub fn lay_section(s: &[u8], p: Place, song: Keys, at: usize, words: &mut [u32]) -> Opened
-    requires place { ⌜ Onward (now s) p × (p .at < length (now s)) × RoomFor (now s) p at × (length (now s) + 16 ≤ length (now words)) ⌝ }
+    requires place { ⌜ Onward (now s) p × (p .at < length (now s)) × RoomFor (now s) p at × KeptFrom (now s) (now words) at ⌝ }
     requires row { ⌜ Before (now s) (now words) at × SongKeys (songOf (now s)) song ⌝ }
     ensures lays { λ r. ⌜ Lays (now (s .entry)) p song at (now (words .entry)) (now (words .exit)) r ⌝ }
     ensures length { λ r. ⌜ length (now (words .exit)) ≡ length (now (words .entry)) ⌝ }

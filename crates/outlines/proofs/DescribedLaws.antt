@@ -9,6 +9,7 @@ use borrow.Author.Tests.{eq-eqb, eqb-true, eqb-false}
 use lib.Dec.{eqb}
 use Rattle.songcode.specs.Lists.{if_then_else_}
 use Rattle.songcode.specs.Song.{Item, measure, loop, refer, Items, one, next}
+use Rattle.songcode.specs.answer.PatternText.{depth, loopsDeep}
 use Rattle.songcode.specs.answer.Playing.{positions}
 use Rattle.songcode.specs.answer.References.{putIn}
 use Rattle.songcode.specs.answer.Meter.{fits, allFitItem, allFit}
@@ -61,11 +62,15 @@ described-tells own put = record { sizes = sizes-told put; wants = refl; chord =
 
 pub described-sketches : (own put : Items) → Sketches (outlineBy own put) own
 unfolding outlineBy
-described-sketches own put = record { filled = refl; loops = refl; refers = refl }
+described-sketches own put = record { filled = refl; depth = refl; refers = refl }
 
 pub described-small : (own put : Items) → outlineBy own put .sizes ≤ 33
 unfolding outlineBy sizesOf
 described-small own put = first-between (λ n. allFit n put) 32 1 .1
+
+pub described-shallow : (own put : Items) → depth own ≤ loopsDeep → outlineBy own put .depth ≤ 7
+unfolding outlineBy loopsDeep
+described-shallow own put h = omega arith
 
 -- A number that divides exactly those that pass is the first that passes.
 first-is : (test : ℕ → Bool) (s k m : ℕ) → 1 ≤ m → m ≤ s → s ≤ m + k → ((n : ℕ) → m ≤ n → n < m + k → divides s n ≡ test n) → firstFrom test k m ≡ s
@@ -82,9 +87,9 @@ first-is test s (suc k) m a b c e =
     let t = sym (e m (omega arith) (omega arith)) ∙ large-not s m a (omega (arith, z)) in
     rw t (first-is test s k (m + 1) (omega arith) (omega (arith, z)) (omega arith) (λ n h l. e n (omega arith) (omega arith))))
 
-same-outline : {a a' b b' c c' f f' g g' i i' : Bool} {d d' h h' : ℕ} → a ≡ a' → b ≡ b' → c ≡ c' → d ≡ d' → f ≡ f' → g ≡ g' → h ≡ h' → i ≡ i'
-    → _≡_ {A = Outline} (record { empty = a; loops = b; refers = c; sizes = d; wants = f; chord = g; measures = h; whole = i })
-    (record { empty = a'; loops = b'; refers = c'; sizes = d'; wants = f'; chord = g'; measures = h'; whole = i' })
+same-outline : {a a' c c' f f' g g' i i' : Bool} {b b' d d' h h' : ℕ} → a ≡ a' → b ≡ b' → c ≡ c' → d ≡ d' → f ≡ f' → g ≡ g' → h ≡ h' → i ≡ i'
+    → _≡_ {A = Outline} (record { empty = a; depth = b; refers = c; sizes = d; wants = f; chord = g; measures = h; whole = i })
+    (record { empty = a'; depth = b'; refers = c'; sizes = d'; wants = f'; chord = g'; measures = h'; whole = i' })
 same-outline p q r s t u v w = rw (p, q, r, s, t, u, v, w) refl
 
 -- So it is the described one.
@@ -93,6 +98,6 @@ pub tells-described : (find : ℕ → Option Items) (o : Outline) (r : Items) �
 unfolding outlineOf outlineBy sizesOf
 tells-described find o r k t low high =
     let put = putIn find r in
-    same-outline (k .filled) (k .loops) (k .refers)
+    same-outline (k .filled) (k .depth) (k .refers)
     (sym (first-is (λ n. allFit n put) (o .sizes) 32 1 (omega arith) low high (λ n h l. t .sizes n h (omega arith))))
     (t .wants) (t .chord) (t .measures) (t .whole)

@@ -1,12 +1,12 @@
 -- The fault of a definition's references is the one that the stage gives.
-use Prim.Native.Nat.{ℕ, _≤_}
+use Prim.Native.Nat.{ℕ, _+_, _≤_}
 use mathlib.Core.Path.{_≡_, refl, sym, ap, _∙_}
 use mathlib.Core.List.{List, [], _∷_, flatMap}
 use mathlib.Core.Bool.{Bool, true, false, _||_, not}
 use mathlib.Core.Option.{Option, none, some, Option·getD, bind}
 use native.Mathlib.Omega.{arith}
-use borrow.Author.Tests.{leb-true, leb-false, le-leb, lt-leb}
-use lib.Dec.{leb}
+use borrow.Author.Tests.{leb-true, leb-false, le-ltb, lt-ltb}
+use lib.Dec.{leb, ltb}
 use lib.ListN.{take, drop}
 use Rattle.songcode.specs.Lists.{any}
 use Rattle.songcode.specs.Complaints.{Complaint, earliest}
@@ -27,26 +27,23 @@ use Rattle.outlines.proofs.ChordLaws.{or-false}
 use Rattle.outlines.proofs.GivenLaws.{has, given, TenOrEleven, refusal-ten, refusal-other, given-first, when-ten, when-eleven, when-either}
 use Rattle.outlines.proofs.GivenLaws.{fault-either, fault-ten, fault-eleven, has-append}
 use Rattle.outlines.proofs.FaultTrees.{faultItems, items-fault, items-missing}
-use Rattle.outlines.proofs.DeepLaws.{flawed, looped, deepItems, items-deep, items-put-deep}
+use Rattle.outlines.proofs.DeepLaws.{flawed, deepItems, items-deep, items-put}
 
 -- A found definition, put in.
-found-items : (i : Option Items) (o : Outline) (n : ℕ) → KnowsItems i o → (leb 1 (depth (Option·getD i (one (refer n)))) ≡ o .loops)
-    × (depth (Option·getD i (one (refer n))) ≤ 1)
+found-items : (i : Option Items) (o : Outline) (n : ℕ) → KnowsItems i o → depth (Option·getD i (one (refer n))) ≡ o .depth
 unfolding KnowsItems depth depthI vacant
-found-items none o n k = (rw k, omega arith)
-found-items (some r) o n k = (sym (k .0 .loops), k .1)
+found-items none o n k = rw k
+found-items (some r) o n k = sym (k .0 .depth)
 
-found : (d : Option Definition) (m : Bool) (o : Outline) (n : ℕ) → Knows d m o
-    → (leb 1 (depth (Option·getD (bind d (λ e. e .items)) (one (refer n)))) ≡ o .loops)
-    × (depth (Option·getD (bind d (λ e. e .items)) (one (refer n))) ≤ 1)
+found : (d : Option Definition) (m : Bool) (o : Outline) (n : ℕ) → Knows d m o → depth (Option·getD (bind d (λ e. e .items)) (one (refer n))) ≡ o .depth
 unfolding Knows bind depth depthI vacant
-found none m o n k = (rw (k .1), omega arith)
+found none m o n k = rw (k .1)
 found (some d) m o n k = found-items (d .items) o n (k .1)
 
-beyond-one : (k : ℕ) → not (leb k 1) ≡ leb 2 k
-beyond-one k = by-cases (leb k 1)
-    (λ e. let h = leb-true k 1 e in rw (e, lt-leb 2 k (omega arith)))
-    (λ e. let h = leb-false k 1 e in rw (e, le-leb 2 k (omega arith)))
+beyond : (k m : ℕ) → not (leb k m) ≡ ltb m k
+beyond k m = by-cases (leb k m)
+    (λ e. rw (e, le-ltb m k (leb-true k m e)))
+    (λ e. rw (e, lt-ltb m k (leb-false k m e)))
 
 read-faults : (missing : ℕ → Bool) (find : ℕ → Outline) (r : Items) → ItemsFit r
     → allFaults missing find faultless (tokenWords (writeItems r [])) ≡ faultItems missing find r faultless
@@ -79,7 +76,7 @@ module _ (ds : List Definition) (missing : ℕ → Bool) (find : ℕ → Outline
       has-append 11 (faultOf n) (flatMap faultOf ns) ∙ rw (fault-eleven (definitionOf n ds) (missing n) (find n) head (knows n) (h .0), all-eleven ns (h .1))
 
   -- What a reference puts in is as deep as its outline tells.
-  put-right : (n : ℕ) → (leb 1 (depth (putInItem (itemsOf ds) (refer n))) ≡ looped missing find n) × (depth (putInItem (itemsOf ds) (refer n)) ≤ 1)
+  put-right : (n : ℕ) → depth (putInItem (itemsOf ds) (refer n)) ≡ find n .depth
   unfolding putInItem itemsOf bind
   put-right n = found (definitionOf n ds) (missing n) (find n) n (knows n)
 
@@ -95,24 +92,27 @@ module _ (ds : List Definition) (missing : ℕ → Bool) (find : ℕ → Outline
       has-append 10 (flatMap faultOf (references r)) (depthFault ds r head)
       ∙ rw (all-ten (references r), when-ten (not (leb (depth (putIn (itemsOf ds) r)) loopsDeep)) head) (or-false (any missing (references r)))
 
-  complaints-eleven : (r : Items) → depth r ≤ 1 → any missing (references r) ≡ false
-      → has 11 (definitionReferences ds (some r) head) ≡ (any (flawed missing find) (references r) || deepItems missing find r)
-  unfolding definitionReferences depthFault faultOf loopsDeep
+  complaints-eleven : (r : Items) → depth r ≤ loopsDeep → any missing (references r) ≡ false
+      → has 11 (definitionReferences ds (some r) head) ≡ (any (flawed missing find) (references r) || deepItems missing find 0 r)
+  unfolding definitionReferences depthFault faultOf
   complaints-eleven r d e =
+      let z : depth (putIn (itemsOf ds) r) ≡ 0 + depth (putIn (itemsOf ds) r) = omega arith in
       has-append 11 (flatMap faultOf (references r)) (depthFault ds r head)
-      ∙ rw (all-eleven (references r) e, when-eleven (not (leb (depth (putIn (itemsOf ds) r)) 1)) head)
-      (ap (λ b. any (flawed missing find) (references r) || b) (beyond-one (depth (putIn (itemsOf ds) r))
-      ∙ items-put-deep missing find (itemsOf ds) put-right r d))
+      ∙ rw (all-eleven (references r) e, when-eleven (not (leb (depth (putIn (itemsOf ds) r)) loopsDeep)) head)
+      (ap (λ b. any (flawed missing find) (references r) || b) (beyond (depth (putIn (itemsOf ds) r)) loopsDeep ∙ ap (ltb loopsDeep) z
+      ∙ items-put missing find (itemsOf ds) put-right r 0 (omega arith)))
 
   start-missing : (r : Items) → faultItems missing find r faultless .missing ≡ any missing (references r)
   unfolding faultless
   start-missing r = items-missing missing find r faultless
 
-  start-deep : (r : Items) → depth r ≤ 1 → faultItems missing find r faultless .deep ≡ (any (flawed missing find) (references r) || deepItems missing find r)
-  unfolding faultless
-  start-deep r d = items-deep missing find r faultless d refl
+  start-deep : (r : Items) → depth r ≤ loopsDeep
+      → faultItems missing find r faultless .deep ≡ (any (flawed missing find) (references r) || deepItems missing find 0 r)
+  unfolding faultless loopsDeep
+  start-deep r d = items-deep missing find r faultless 0 refl (omega arith)
 
-  items-given : (r : Items) → depth r ≤ 1 → refusal (faultNumber (faultItems missing find r faultless)) head ≡ earliest (definitionReferences ds (some r) head)
+  items-given : (r : Items) → depth r ≤ loopsDeep
+      → refusal (faultNumber (faultItems missing find r faultless)) head ≡ earliest (definitionReferences ds (some r) head)
   items-given r d =
       let g = faultItems missing find r faultless in
       let cs = definitionReferences ds (some r) head in
@@ -122,11 +122,11 @@ module _ (ds : List Definition) (missing : ℕ → Bool) (find : ℕ → Outline
       let a : earliest cs ≡ given true (has 11 cs) head = rw (complaints-ten r, t) at e in
       refusal-ten g (has 11 cs) head (start-missing r ∙ t) ∙ sym a)
       (λ t.
-      let a : earliest cs ≡ given false (any (flawed missing find) (references r) || deepItems missing find r) head = rw
+      let a : earliest cs ≡ given false (any (flawed missing find) (references r) || deepItems missing find 0 r) head = rw
       (complaints-ten r, t, complaints-eleven r d t) at e in
-      refusal-other g (any (flawed missing find) (references r) || deepItems missing find r) head (start-missing r ∙ t) (start-deep r d) ∙ sym a)
+      refusal-other g (any (flawed missing find) (references r) || deepItems missing find 0 r) head (start-missing r ∙ t) (start-deep r d) ∙ sym a)
 
-  pub fault-given : (ws : List ℕ) (s : Stretch) (r : Items) → Stands ws s r → ItemsFit r → depth r ≤ 1
+  pub fault-given : (ws : List ℕ) (s : Stretch) (r : Items) → Stands ws s r → ItemsFit r → depth r ≤ loopsDeep
       → refusal (faultIn missing find (drop (s .from) (take (s .to) ws))) head ≡ earliest (definitionReferences ds (some r) head)
   unfolding faultIn
   fault-given ws s r p h d = rw (stands-written ws s r p, read-faults missing find r h) (items-given r d)

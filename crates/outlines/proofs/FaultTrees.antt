@@ -1,8 +1,8 @@
 -- The words of written items lead from faults to faults as the items' references do.
-use Prim.Native.Nat.{ℕ, zero, suc, _+_, _*_, _/_, _%_, _^_, _<_}
+use Prim.Native.Nat.{ℕ, zero, suc, _+_, _-_, _*_, _/_, _%_, _^_, _<_}
 use mathlib.Core.Path.{_≡_, refl, sym, ap, _∙_}
 use mathlib.Core.List.{List, _∷_}
-use mathlib.Core.Bool.{Bool, true, false, _||_}
+use mathlib.Core.Bool.{Bool, _||_}
 use native.Mathlib.Omega.{arith}
 use borrow.Author.Tests.{ne-eqb}
 use Rattle.songcode.specs.Lists.{if_then_else_, any}
@@ -17,11 +17,19 @@ use Rattle.tokens.specs.Signs.{kindOf}
 use Rattle.score.specs.Standing.{ChordFits, ChordsFit, ItemFits, ItemsFit}
 use Rattle.outlines.specs.declared.readings.Outline.{Outline}
 use Rattle.outlines.specs.declared.faults.Faults.{Faults}
+use Rattle.outlines.specs.Readings.{innerLevel}
 use Rattle.outlines.specs.Faults.{referenceRead, bracketRead, faultsRead, allFaults}
 use Rattle.outlines.proofs.ChordLaws.{or-false, or-assoc}
 
-abbrev pub set-inside : Bool → Faults → Faults
-set-inside b g = record { inside = b; missing = g .missing; deep = g .deep }
+abbrev at-level : ℕ → Faults → Faults
+at-level l g = record { level = l; missing = g .missing; deep = g .deep }
+
+-- Into a loop, and out of it.
+abbrev pub sunk : Faults → Faults
+sunk g = at-level (innerLevel (g .level)) g
+
+abbrev pub risen : Faults → Faults
+risen g = at-level (g .level - 1) g
 
 module _ (missing : ℕ → Bool) (find : ℕ → Outline) where
   unfoldable mutual
@@ -29,7 +37,7 @@ module _ (missing : ℕ → Bool) (find : ℕ → Outline) where
 
     pub faultItem : Item → Faults → Faults
     faultItem (measure m) g = g
-    faultItem (loop r n) g = set-inside false (faultItems r (set-inside true g))
+    faultItem (loop r n) g = risen (faultItems r (sunk g))
     faultItem (refer n) g = referenceRead (missing n) (find n) g
 
     pub faultItems : Items → Faults → Faults
@@ -49,7 +57,7 @@ module _ (missing : ℕ → Bool) (find : ℕ → Outline) where
   sound-fault again g h = refl
   sound-fault silence g h = refl
 
-  closes-fault : (n : ℕ) (g : Faults) → n < 67108864 → faultsRead missing find g (tokenWord (closes n)) ≡ set-inside false g
+  closes-fault : (n : ℕ) (g : Faults) → n < 67108864 → faultsRead missing find g (tokenWord (closes n)) ≡ risen g
   unfolding faultsRead bracketRead if_then_else_ tokenWord
   closes-fault n g h = let a : (56 * 2 ^ 26 + n) / 67108864 ≡ 56 = omega arith in rw a
 
@@ -82,7 +90,7 @@ module _ (missing : ℕ → Bool) (find : ℕ → Outline) where
   separator-fault (byColon aLineEnd nothing) g k = refl
   separator-fault (byColon aLineEnd aLineEnd) g k = refl
 
-  opens-fault : (g : Faults) (k : List Token) → allFaults missing find g (tokenWords (opens ∷ k)) ≡ allFaults missing find (set-inside true g) (tokenWords k)
+  opens-fault : (g : Faults) (k : List Token) → allFaults missing find g (tokenWords (opens ∷ k)) ≡ allFaults missing find (sunk g) (tokenWords k)
   unfolding tokenWords tokenWord allFaults faultsRead bracketRead if_then_else_
   opens-fault g k = refl
 
@@ -94,8 +102,8 @@ module _ (missing : ℕ → Bool) (find : ℕ → Outline) where
     item-fault (measure m) g k h = sounds-fault (m .sounds) g (writeRemovers (m .removers) k) h ∙ removers-fault (m .removers) g k
     item-fault (loop r n) g k h =
         opens-fault g (writeItems r (closes n ∷ k))
-        ∙ items-fault r (set-inside true g) (closes n ∷ k) (h .2)
-        ∙ ap (λ (t : Faults). allFaults missing find t (tokenWords k)) (closes-fault n (faultItems r (set-inside true g)) (h .1))
+        ∙ items-fault r (sunk g) (closes n ∷ k) (h .2)
+        ∙ ap (λ (t : Faults). allFaults missing find t (tokenWords k)) (closes-fault n (faultItems r (sunk g)) (h .1))
     item-fault (refer n) g k h = ap (λ (t : Faults). allFaults missing find t (tokenWords k)) (refer-fault n g h)
 
     pub items-fault : (r : Items) (g : Faults) (k : List Token) → ItemsFit r
@@ -112,7 +120,7 @@ module _ (missing : ℕ → Bool) (find : ℕ → Outline) where
 
     item-missing : (i : Item) (g : Faults) → faultItem i g .missing ≡ (g .missing || any missing (referencesI i))
     item-missing (measure m) g = sym (or-false (g .missing))
-    item-missing (loop r n) g = items-missing r (set-inside true g)
+    item-missing (loop r n) g = items-missing r (sunk g)
     item-missing (refer n) g = ap (λ b. g .missing || b) (sym (or-false (missing n)))
 
     pub items-missing : (r : Items) (g : Faults) → faultItems r g .missing ≡ (g .missing || any missing (references r))

@@ -7,7 +7,7 @@ use mathlib.Core.Option.{Option, none, some, bind}
 use native.Mathlib.Omega.{arith}
 use lib.ListN.{take, drop}
 use Rattle.songcode.specs.Song.{Items, Definition}
-use Rattle.songcode.specs.answer.PatternText.{depth, references}
+use Rattle.songcode.specs.answer.PatternText.{depth, loopsDeep, references}
 use Rattle.songcode.specs.answer.References.{definitionOf, itemsOf, putInItem}
 use Rattle.songcode.specs.description.Fits.{Refers, ReferAll}
 use Rattle.songcode.proofs.ListLaws.{Each}
@@ -31,7 +31,7 @@ found-told d e q m o k f g p = tells (e .items) g (knows d f k)
     knows c h w = let z : Knows (some e) m o = rw h at w in z .1
 
     tells : (i : Option Items) → i ≡ some q → KnowsItems i o → Tells o q
-    tells i h w = let z : KnowsItems (some q) o = rw h at w in z .2 p
+    tells i h w = let z : KnowsItems (some q) o = rw h at w in z .1 p
 
 refer-told : (ds : List Definition) (missing : ℕ → Bool) (find : ℕ → Outline) → Known ds missing find → (n : ℕ) → Refers ds n → Told find (itemsOf ds) n
 unfolding Told Known putInItem itemsOf bind
@@ -50,11 +50,11 @@ unfolding Each
 none-told find f [] e = tt
 none-told find f (n ∷ ns) e = let z : _≡_ {A = ℕ} 0 1 = cc in absurd (omega arith)
 
-pub items-known : (find : ℕ → Outline) (ws : List ℕ) (s : Stretch) (r : Items) → Stands ws s r → ItemsFit r → depth r ≤ 1
+pub items-known : (find : ℕ → Outline) (ws : List ℕ) (s : Stretch) (r : Items) → Stands ws s r → ItemsFit r → depth r ≤ loopsDeep
     → KnowsItems (some r) (outlined find (drop (s .from) (take (s .to) ws)))
 unfolding KnowsItems
 items-known find ws s r p h d =
-    (outline-sketches find ws s r p h, d, λ e. plain e)
+    (outline-sketches find ws s r p h d, λ e. plain e)
   where
     plain : references r ≡ [] → Tells (outlined find (drop (s .from) (take (s .to) ws))) r
     plain e = let t = outline-tells find (λ n. none) ws s r p h d (none-told find (λ n. none) (references r) e) in rw (putIn-same (λ n. none) r e) at t

@@ -42,16 +42,15 @@ closed-one s h = rw (ne-eqb (s .positions) 0 (λ z. omega arith))
 record Within (s t : Reading) (p : ℕ) : Type 0 where
   positions : t .positions ≡ min 33 (s .positions + p)
   sizes : t .sizes ≡ s .sizes
-  row : t .row ≡ s .row
-  before : t .before ≡ s .before
+  count : t .count ≡ s .count
 
 within-more : (k : ℕ) (s t : Reading) (p : ℕ) → Within s t p → Within s (sounded k t) (suc p)
 unfolding sounded
-within-more k s t p w = let e = w .positions in record { positions = rw e (omega arith); sizes = w .sizes; row = w .row; before = w .before }
+within-more k s t p w = let e = w .positions in record { positions = rw e (omega arith); sizes = w .sizes; count = w .count }
 
 within-one : (k : ℕ) (s : Reading) → Within s (sounded k s) 1
 unfolding sounded
-within-one k s = record { positions = refl; sizes = refl; row = refl; before = refl }
+within-one k s = record { positions = refl; sizes = refl; count = refl }
 
 all-within : (xs : Sounds) (s : Reading) → Within s (heardAll xs s) (soundCount xs)
 unfolding heardAll heardIn soundCount
@@ -66,8 +65,7 @@ removed-within (suc n) s t p w = let e : p + suc n ≡ suc (p + n) = omega arith
 -- A measure, and its end.
 pub record Measured (s t : Reading) (p : ℕ) : Type 0 where
   pub sizes : t .sizes ≡ joined (s .sizes) (min 33 p)
-  pub row : t .row ≡ min 65536 (s .row + 1)
-  pub before : t .before ≡ s .before
+  pub count : t .count ≡ min 65536 (s .count + 1)
 
 pub measure-closed : (find : ℕ → Outline) (m : Measure) (s : Reading) → s .positions ≡ 0 → Measured s (closed (afterItem find (measure m) s)) (positions m)
 unfolding afterItem positions measured
@@ -77,7 +75,7 @@ measure-closed find m s h =
     let e = w .positions in
     let k = sounds-some (m .sounds) in
     let g : t .positions ≡ min 33 (soundCount (m .sounds) + m .removers) = omega arith in
-    rw (closed-one t (omega arith)) (record { sizes = rw (w .sizes, g); row = rw (w .row); before = w .before })
+    rw (closed-one t (omega arith)) (record { sizes = rw (w .sizes, g); count = rw (w .count) })
 
 pub and-assoc : (a b c : Bool) → ((a && b) && c) ≡ (a && (b && c))
 and-assoc true b c = refl
@@ -104,7 +102,8 @@ module _ (find : ℕ → Outline) (f : ℕ → Option Items) (n : ℕ) (low : 1 
         ∙ joined-fits (s .sizes) (min 33 (positions m)) n low high
         ∙ ap (λ b. divides (s .sizes) n && b) (capped-fits (positions m) n low high)
     item-sizes (loop r k) s e t =
-        ap (λ (x : Reading). divides (x .sizes) n) (closed-same (loopShut k (closed (after find r (opened s)))) (closed-none (after find r (opened s))))
+        ap (λ (x : Reading). divides (x .sizes) n)
+        (closed-same (loopShut k (s .count) (closed (after find r (opened s)))) (closed-none (after find r (opened s))))
         ∙ items-sizes r (opened s) e t
     item-sizes (refer k) s e t =
         ap (λ (x : Reading). divides (x .sizes) n) (closed-same (referred (find k) s) e)

@@ -7,10 +7,10 @@ use mathlib.Core.Option.{Option, none}
 use native.Mathlib.Omega.{arith}
 use native.Mathlib.Nat.{mod-one}
 use borrow.Author.Tests.{eq-eqb}
-use lib.ListN.{take, drop}
+use lib.ListN.{take, drop, replicate}
 use Rattle.songcode.specs.Lists.{isEmpty}
 use Rattle.songcode.specs.Song.{Items}
-use Rattle.songcode.specs.answer.PatternText.{depth, references}
+use Rattle.songcode.specs.answer.PatternText.{depth, loopsDeep, references}
 use Rattle.songcode.proofs.WrittenBefore.{writeItems}
 use Rattle.songcode.specs.answer.References.{putIn}
 use Rattle.songcode.specs.answer.Meter.{allFit, stray}
@@ -21,12 +21,12 @@ use Rattle.score.specs.Standing.{ItemsFit, Stands}
 use Rattle.score.proofs.StandingLaws.{stands-written}
 use Rattle.outlines.specs.declared.readings.Outline.{Outline}
 use Rattle.outlines.specs.Sizes.{divides}
-use Rattle.outlines.specs.Readings.{started, closed, wordsRead, summed, outlined}
+use Rattle.outlines.specs.Readings.{started, closed, Nested, wordsRead, outside, summed, outlined}
 use Rattle.outlines.specs.Told.{Tells, Told}
 use Rattle.outlines.proofs.TreeLaws.{after, items-read}
 use Rattle.outlines.proofs.ChordLaws.{closed-chord, closed-wants, items-chord, items-wants}
 use Rattle.outlines.proofs.MeterLaws.{items-sizes}
-use Rattle.outlines.proofs.CountLaws.{items-plays}
+use Rattle.outlines.proofs.CountLaws.{items-adds}
 use Rattle.outlines.proofs.WholeLaws.{closed-whole, items-whole}
 
 divides-one : (n : ℕ) → divides 1 n ≡ true
@@ -34,26 +34,26 @@ unfolding divides
 divides-one n = eq-eqb _ 0 (mod-one n)
 
 -- The end state of the items.
-sum-tells : (find : ℕ → Outline) (f : ℕ → Option Items) (e : Bool) (r : Items) → ItemsFit r → depth r ≤ 1 → Each (Told find f) (references r)
+sum-tells : (find : ℕ → Outline) (f : ℕ → Option Items) (e : Bool) (r : Items) → ItemsFit r → Each (Told find f) (references r)
     → Tells (summed e (closed (after find r started))) (putIn f r)
 unfolding summed started
-sum-tells find f e r h d t =
-    let p = items-plays find f r started d refl t in
+sum-tells find f e r h t =
     record {
       sizes = λ n low high. items-sizes find f n low high r started refl t ∙ ap (λ b. b && allFit n (putIn f r)) (divides-one n);
       wants = closed-wants (after find r started) ∙ items-wants find f r started h t ∙ and-true (stray none (putIn f r));
       chord = closed-chord (after find r started) ∙ items-chord find f r started h t;
       whole = closed-whole (after find r started) ∙ items-whole find f r started h t;
-      measures = p ∙ omega arith;
+      measures = items-adds find f r started refl t ∙ omega arith;
     }
 
-pub read-whole : (find : ℕ → Outline) (r : Items) → ItemsFit r → wordsRead find started (tokenWords (writeItems r [])) ≡ after find r started
-unfolding tokenWords wordsRead
-read-whole find r h = items-read find r started [] h
+pub read-whole : (find : ℕ → Outline) (r : Items) → ItemsFit r → depth r ≤ loopsDeep
+    → wordsRead find outside (tokenWords (writeItems r [])) .reading ≡ after find r started
+unfolding tokenWords wordsRead outside started loopsDeep
+read-whole find r h d = ap (λ (x : Nested). x .reading) (items-read find r started (replicate loopsDeep 0) [] h (omega arith) (omega arith) .read)
 
-pub outline-tells : (find : ℕ → Outline) (f : ℕ → Option Items) (ws : List ℕ) (s : Stretch) (r : Items) → Stands ws s r → ItemsFit r → depth r ≤ 1
+pub outline-tells : (find : ℕ → Outline) (f : ℕ → Option Items) (ws : List ℕ) (s : Stretch) (r : Items) → Stands ws s r → ItemsFit r → depth r ≤ loopsDeep
     → Each (Told find f) (references r)
     → Tells (outlined find (drop (s .from) (take (s .to) ws))) (putIn f r)
 unfolding outlined
 outline-tells find f ws s r p h d t =
-    rw (stands-written ws s r p, read-whole find r h) (sum-tells find f (isEmpty (tokenWords (writeItems r []))) r h d t)
+    rw (stands-written ws s r p, read-whole find r h d) (sum-tells find f (isEmpty (tokenWords (writeItems r []))) r h t)

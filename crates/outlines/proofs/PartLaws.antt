@@ -13,9 +13,8 @@ use Rattle.songcode.specs.Lists.{isEmpty}
 use Rattle.songcode.proofs.ListLaws.{by-cases}
 use Rattle.score.specs.Places.{wordOf}
 use Rattle.outlines.specs.declared.readings.Outline.{Outline}
-use Rattle.outlines.specs.declared.readings.Reading.{Reading}
 use Rattle.outlines.specs.declared.faults.Faults.{Faults}
-use Rattle.outlines.specs.Readings.{wordRead, wordsRead}
+use Rattle.outlines.specs.Readings.{Nested, wordRead, wordsRead}
 use Rattle.outlines.specs.Faults.{faultsRead, allFaults}
 
 part-next : (ws : List ℕ) (to i w : ℕ) → i < min to (length ws) → w ≡ wordOf ws to i → drop i (take to ws) ≡ w ∷ drop (i + 1) (take to ws)
@@ -34,14 +33,14 @@ part-empty ws to i = by-cases (leb (min to (length ws)) i)
     (λ e. rw (e, part-next ws to i (wordOf ws to i) (leb-false _ _ e) refl))
 
 -- The outline of a stretch.
-pub read-next : (find : ℕ → Outline) (ws : List ℕ) (to i w end : ℕ) (s t goal : Reading) → i < end → end ≡ min to (length ws) → w ≡ wordOf ws to i
+pub read-next : (find : ℕ → Outline) (ws : List ℕ) (to i w end : ℕ) (s t goal : Nested) → i < end → end ≡ min to (length ws) → w ≡ wordOf ws to i
     → t ≡ wordRead find s w
     → wordsRead find s (drop i (take to ws)) ≡ goal → wordsRead find t (drop (i + 1) (take to ws)) ≡ goal
 unfolding wordsRead
 read-next find ws to i w end s t goal h k e f g =
     ap (λ x. wordsRead find x (drop (i + 1) (take to ws))) f ∙ sym (ap (wordsRead find s) (part-next ws to i w (omega arith) e)) ∙ g
 
-pub read-over : (find : ℕ → Outline) (ws : List ℕ) (to i end : ℕ) (s goal : Reading) → end ≤ i → end ≡ min to (length ws)
+pub read-over : (find : ℕ → Outline) (ws : List ℕ) (to i end : ℕ) (s goal : Nested) → end ≤ i → end ≡ min to (length ws)
     → wordsRead find s (drop i (take to ws)) ≡ goal → s ≡ goal
 unfolding wordsRead
 read-over find ws to i end s goal h k g = sym (ap (wordsRead find s) (part-over ws to i (omega arith))) ∙ g

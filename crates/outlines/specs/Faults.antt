@@ -1,25 +1,29 @@
 -- What is wrong with the references of a text, read word by word.
-use Prim.Native.Nat.{ℕ}
+use Prim.Native.Nat.{ℕ, _+_, _-_}
 use mathlib.Core.List.{List, [], _∷_}
-use mathlib.Core.Bool.{Bool, true, false, _||_, _&&_}
-use lib.Dec.{eqb}
+use mathlib.Core.Bool.{Bool, false, _||_}
+use lib.Dec.{eqb, ltb}
 use Rattle.songcode.specs.Lists.{if_then_else_}
+use Rattle.songcode.specs.answer.PatternText.{loopsDeep}
 use Rattle.tokens.specs.Signs.{kindOf, numberOf}
 use Rattle.outlines.specs.declared.readings.Outline.{Outline}
 use Rattle.outlines.specs.declared.faults.Faults.{Faults}
+use Rattle.outlines.specs.Readings.{innerLevel}
 
-unfoldable pub tooDeep : Bool → Outline → Bool
-tooDeep inside o = (o .empty || o .refers) || (inside && o .loops)
+-- A definition that is empty or holds a reference, or whose loops pass the limit where it is put in.
+unfoldable pub tooDeep : ℕ → Outline → Bool
+unfolding loopsDeep
+tooDeep level o = (o .empty || o .refers) || ltb loopsDeep (level + o .depth)
 
 unfoldable pub referenceRead : Bool → Outline → Faults → Faults
 unfolding tooDeep
-referenceRead missing o f = record { inside = f .inside; missing = f .missing || missing; deep = f .deep || tooDeep (f .inside) o }
+referenceRead missing o f = record { level = f .level; missing = f .missing || missing; deep = f .deep || tooDeep (f .level) o }
 
 unfoldable pub bracketRead : ℕ → Faults → Faults
 unfolding if_then_else_
 bracketRead k f =
-    if eqb k 57 then record { inside = true; missing = f .missing; deep = f .deep }
-    else (if eqb k 56 then record { inside = false; missing = f .missing; deep = f .deep }
+    if eqb k 57 then record { level = innerLevel (f .level); missing = f .missing; deep = f .deep }
+    else (if eqb k 56 then record { level = f .level - 1; missing = f .missing; deep = f .deep }
     else f)
 
 -- Each word, with what references find.
@@ -33,7 +37,7 @@ allFaults missing find f [] = f
 allFaults missing find f (w ∷ ws) = allFaults missing find (faultsRead missing find f w) ws
 
 unfoldable pub faultless : Faults
-faultless = record { inside = false; missing = false; deep = false }
+faultless = record { level = 0; missing = false; deep = false }
 
 unfoldable pub faultNumber : Faults → ℕ
 unfolding if_then_else_

@@ -3,7 +3,6 @@ use Prim.Native.Nat.{ℕ, _+_, min}
 use mathlib.Core.List.{List, [], _∷_, _++_, flatMap}
 use mathlib.Core.Bool.{false, not}
 use mathlib.Core.Option.{Option, none, some}
-use lib.Dec.{leb}
 use lib.ListN.{length}
 use Rattle.songcode.specs.Lists.{isEmpty, isSome}
 use Rattle.songcode.specs.Song.{Items, Definition, Song}
@@ -30,7 +29,7 @@ unfolding depth references isEmpty sizesOf stray isSome lastItems count isWhole
 outlineBy own put =
     record {
       empty = false;
-      loops = leb 1 (depth own);
+      depth = depth own;
       refers = not (isEmpty (references own));
       sizes = sizesOf put;
       wants = stray none put;

@@ -4,7 +4,6 @@ use mathlib.Core.Path.{_≡_}
 use mathlib.Core.Option.{Option, none, some}
 use mathlib.Core.List.{List, []}
 use mathlib.Core.Bool.{Bool, true, false, not}
-use lib.Dec.{leb}
 use Rattle.songcode.specs.Lists.{isEmpty, isSome}
 use Rattle.songcode.specs.Complaints.{Complaint, complaint}
 use Rattle.songcode.specs.Song.{Items, refer, Definition}
@@ -30,16 +29,16 @@ pub record Tells (o : Outline) (r : Items) : Type 0 where
 unfoldable pub Told : (ℕ → Outline) → (ℕ → Option Items) → ℕ → Type 0
 Told find f n = Tells (find n) (putInItem f (refer n))
 
--- Of the items alone: there are some, whether they have a loop, and whether they hold a reference.
+-- Of the items alone: there are some, how deep their loops are, and whether they hold a reference.
 pub record Sketches (o : Outline) (r : Items) : Type 0 where
   pub filled : o .empty ≡ false
-  pub loops : o .loops ≡ leb 1 (depth r)
+  pub depth : o .depth ≡ depth r
   pub refers : o .refers ≡ not (isEmpty (references r))
 
 -- The outline of a definition: an empty one's says that it is empty, and another's what its items say, where no reference is to be put in.
 unfoldable pub KnowsItems : Option Items → Outline → Type 0
 KnowsItems none o = o ≡ vacant
-KnowsItems (some r) o = Sketches o r × (depth r ≤ 1) × (references r ≡ [] → Tells o r)
+KnowsItems (some r) o = Sketches o r × (references r ≡ [] → Tells o r)
 
 unfoldable pub Knows : Option Definition → Bool → Outline → Type 0
 unfolding KnowsItems

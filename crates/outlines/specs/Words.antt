@@ -11,13 +11,13 @@ use Rattle.outlines.specs.declared.readings.Outline.{Outline}
 
 -- The outline of an empty text.
 unfoldable pub vacant : Outline
-vacant = record { empty = true; loops = false; refers = false; sizes = 1; wants = false; chord = false; whole = true; measures = 0 }
+vacant = record { empty = true; depth = 0; refers = false; sizes = 1; wants = false; chord = false; whole = true; measures = 0 }
 
--- From the top bit down: measures 17, sizes 6, and a bit for each answer.
+-- From the top bit down: measures 17, sizes 6, four answers of a bit each, depth 3, one more answer.
 unfoldable pub outlineWord : Outline → ℕ
 unfolding bit
 outlineWord o =
-    o .measures * 32768 + o .sizes * 512 + bit (o .wants) * 256 + bit (o .empty) * 128 + bit (o .chord) * 64 + bit (o .refers) * 32 + bit (o .loops) * 4
+    o .measures * 32768 + o .sizes * 512 + bit (o .wants) * 256 + bit (o .empty) * 128 + bit (o .chord) * 64 + bit (o .refers) * 32 + o .depth * 4
     + bit (o .whole) * 2
 
 unfoldable pub isSet : ℕ → ℕ → Bool
@@ -28,7 +28,7 @@ unfolding isSet
 outlineIn w =
     record {
       empty = isSet w 128;
-      loops = isSet w 4;
+      depth = w / 4 % 8;
       refers = isSet w 32;
       sizes = w / 512 % 64;
       wants = isSet w 256;

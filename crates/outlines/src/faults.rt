@@ -1,7 +1,8 @@
 // What is wrong with the references of a definition, in one pass over its words.
 use super::readings::Outline;
-use super::signs::both;
 use super::signs::either;
+use super::signs::inner_level;
+use super::signs::outer_level;
 use super::words::is_missing;
 use super::words::outline_for;
 use score::Stretch;
@@ -10,27 +11,41 @@ use score::word_at;
 use text::REFERENCE_KIND;
 use text::REFERENCE_UNDEFINED;
 use tokens::CLOSES;
+use tokens::LOOPS_DEEP;
 use tokens::OPENS;
 use tokens::REFERENCE;
 use tokens::kind;
 use tokens::number;
 ghost use mathlib.Core.Path.{_≡_};
+ghost use Prim.Native.Nat.{_+_};
+ghost use lib.Dec.{ltb};
 ghost use lib.ListN.{take, drop};
+ghost use Rattle.songcode.specs.answer.PatternText.{loopsDeep};
 ghost use Rattle.outlines.specs.Faults.{tooDeep, referenceRead, bracketRead, faultsRead, faultNumber, faultIn};
 ghost use Rattle.outlines.specs.Words.{lookUp, isMissing};
 
-// Whether the place at hand is in a loop; whether a reference was to no earlier definition; whether one was too deep.
+// In how many loops the place at hand is; whether a reference was to no earlier definition; whether one was too deep.
 pub struct Faults {
-    pub inside: bool,
+    pub level: usize,
     pub missing: bool,
     pub deep: bool,
 }
 
-// A definition that is empty or holds a reference, or has loops and is put into one.
-pub fn too_deep(inside: bool, o: Outline) -> bool
-    ensures { λ r. ⌜ r ≡ tooDeep inside o ⌝ }
+// Whether loops so deep pass the limit where they are put in at that level.
+fn past_limit(level: usize, depth: usize) -> bool
+    ensures { λ r. ⌜ r ≡ ltb loopsDeep (level + depth) ⌝ }
 {
-    either(either(o.empty, o.refers), both(inside, o.loops))
+    if LOOPS_DEEP < level {
+        return true;
+    }
+    LOOPS_DEEP - level < depth
+}
+
+// A definition that is empty or holds a reference, or whose loops pass the limit.
+pub fn too_deep(level: usize, o: Outline) -> bool
+    ensures { λ r. ⌜ r ≡ tooDeep level o ⌝ }
+{
+    either(either(o.empty, o.refers), past_limit(level, o.depth))
 }
 
 // A reference to a definition of that outline.
@@ -38,9 +53,9 @@ pub fn judge_reference(missing: bool, o: Outline, f: Faults) -> Faults
     ensures { λ r. ⌜ r ≡ referenceRead missing o f ⌝ }
 {
     Faults {
-        inside: f.inside,
+        level: f.level,
         missing: either(f.missing, missing),
-        deep: either(f.deep, too_deep(f.inside, o)),
+        deep: either(f.deep, too_deep(f.level, o)),
     }
 }
 
@@ -50,14 +65,14 @@ pub fn pass_bracket(k: u32, f: Faults) -> Faults
 {
     if k == OPENS {
         return Faults {
-            inside: true,
+            level: inner_level(f.level),
             missing: f.missing,
             deep: f.deep,
         };
     }
     if k == CLOSES {
         return Faults {
-            inside: false,
+            level: outer_level(f.level),
             missing: f.missing,
             deep: f.deep,
         };
@@ -92,7 +107,7 @@ pub fn reference_fault(words: &[u32], text: Stretch) -> usize
     let end = least(text.to, words.len());
     let mut i = text.from;
     let mut f = Faults {
-        inside: false,
+        level: 0,
         missing: false,
         deep: false,
     };

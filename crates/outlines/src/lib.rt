@@ -1,4 +1,5 @@
 // What a definition's text says, summed up once: for its references, its measures' sizes, its `%` and its length.
+mod around;
 mod even;
 mod faults;
 mod outlining;

@@ -1,9 +1,14 @@
 // The outline of a text, and the state in which it is read, word by word.
+use super::around::keep;
+use super::around::kept;
 use super::signs::both;
 use super::signs::capped_sum;
 use super::signs::capped_times;
+use super::signs::deeper_of;
 use super::signs::either;
+use super::signs::inner_level;
 use super::signs::one_more;
+use super::signs::outer_level;
 use super::signs::unless;
 use super::sizes::join;
 use tokens::AGAIN;
@@ -15,14 +20,14 @@ use tokens::is_position;
 use tokens::kind;
 use tokens::number;
 ghost use mathlib.Core.Path.{_≡_};
-ghost use Rattle.outlines.specs.Readings.{started, sounded, closed, opened, loopShut, referred, stepOf, summed};
+ghost use Rattle.outlines.specs.Readings.{started, sounded, closed, opened, loopShut, referred, Nested, nested, stepOf, summed};
 
-// What a text says: whether it is empty, has a loop, holds a reference; then with its references put in: the sizes of its measures,
-// whether a `%` stands before every chord, whether it has a chord, whether it has no remover, and how many measures it plays, 65,536 where
+// What a text says: whether it is empty, how deep its loops are, whether it holds a reference; then with its references put in: the sizes
+// of its measures, whether a `%` stands before every chord, whether it has a chord, whether it has no remover, and how many measures it plays, 65,536 where
 // they are more.
 pub struct Outline {
     pub empty: bool,
-    pub loops: bool,
+    pub depth: usize,
     pub refers: bool,
     pub sizes: usize,
     pub wants: bool,
@@ -31,32 +36,33 @@ pub struct Outline {
     pub measures: usize,
 }
 
-// A text read up to some place: the positions of the measure at hand, the measures of the row at hand, and those played before it.
+// A text read up to some place: the positions of the measure at hand, how many measures the row at hand has so far, how many loops are
+// open around it, and how many were at most.
 pub struct Reading {
-    pub loops: bool,
     pub refers: bool,
     pub wants: bool,
     pub chord: bool,
     pub whole: bool,
     pub sizes: usize,
     pub positions: usize,
-    pub row: usize,
-    pub before: usize,
+    pub count: usize,
+    pub level: usize,
+    pub deepest: usize,
 }
 
 pub fn start() -> Reading
     ensures { λ r. ⌜ r ≡ started ⌝ }
 {
     Reading {
-        loops: false,
         refers: false,
         sizes: 1,
         wants: false,
         chord: false,
         whole: true,
         positions: 0,
-        row: 0,
-        before: 0,
+        count: 0,
+        level: 0,
+        deepest: 0,
     }
 }
 
@@ -65,15 +71,15 @@ pub fn sound(k: u32, s: Reading) -> Reading
     ensures { λ r. ⌜ r ≡ sounded k s ⌝ }
 {
     Reading {
-        loops: s.loops,
         refers: s.refers,
         sizes: s.sizes,
         wants: either(s.wants, unless(k == AGAIN, s.chord)),
         chord: either(s.chord, k < CHORDS),
         whole: unless(s.whole, k == REMOVER),
         positions: one_more(s.positions),
-        row: s.row,
-        before: s.before,
+        count: s.count,
+        level: s.level,
+        deepest: s.deepest,
     }
 }
 
@@ -82,15 +88,15 @@ pub fn sound_chord(s: Reading) -> Reading
     ensures { λ r. ⌜ r ≡ sounded 0 s ⌝ }
 {
     Reading {
-        loops: s.loops,
         refers: s.refers,
         sizes: s.sizes,
         wants: s.wants,
         chord: true,
         whole: s.whole,
         positions: one_more(s.positions),
-        row: s.row,
-        before: s.before,
+        count: s.count,
+        level: s.level,
+        deepest: s.deepest,
     }
 }
 
@@ -102,15 +108,15 @@ pub fn close(s: Reading) -> Reading
         return s;
     }
     Reading {
-        loops: s.loops,
         refers: s.refers,
         sizes: join(s.sizes, s.positions),
         wants: s.wants,
         chord: s.chord,
         whole: s.whole,
         positions: 0,
-        row: capped_sum(s.row, 1),
-        before: s.before,
+        count: capped_sum(s.count, 1),
+        level: s.level,
+        deepest: s.deepest,
     }
 }
 
@@ -118,33 +124,34 @@ pub fn close(s: Reading) -> Reading
 pub fn open(s: Reading) -> Reading
     ensures { λ r. ⌜ r ≡ opened s ⌝ }
 {
+    let level = inner_level(s.level);
     Reading {
-        loops: true,
         refers: s.refers,
         sizes: s.sizes,
         wants: s.wants,
         chord: s.chord,
         whole: s.whole,
         positions: s.positions,
-        row: 0,
-        before: capped_sum(s.before, s.row),
+        count: 0,
+        level,
+        deepest: deeper_of(s.deepest, level),
     }
 }
 
-// A closing bracket behind the last measure: the row is played `n` times.
-pub fn shut_loop(n: u32, s: Reading) -> Reading
-    ensures { λ r. ⌜ r ≡ loopShut n s ⌝ }
+// A closing bracket behind the last measure: the row is played `n` times, behind the `outer` measures before its loop.
+pub fn shut_loop(n: u32, outer: usize, s: Reading) -> Reading
+    ensures { λ r. ⌜ r ≡ loopShut n outer s ⌝ }
 {
     Reading {
-        loops: s.loops,
         refers: s.refers,
         sizes: s.sizes,
         wants: s.wants,
         chord: s.chord,
         whole: s.whole,
         positions: s.positions,
-        row: 0,
-        before: capped_sum(s.before, capped_times(n, s.row)),
+        count: capped_sum(outer, capped_times(n, s.count)),
+        level: outer_level(s.level),
+        deepest: s.deepest,
     }
 }
 
@@ -153,31 +160,33 @@ pub fn refer(o: Outline, s: Reading) -> Reading
     ensures { λ r. ⌜ r ≡ referred o s ⌝ }
 {
     Reading {
-        loops: s.loops,
         refers: true,
         sizes: join(s.sizes, o.sizes),
         wants: either(s.wants, unless(o.wants, s.chord)),
         chord: either(s.chord, o.chord),
         whole: both(s.whole, o.whole),
         positions: s.positions,
-        row: capped_sum(s.row, o.measures),
-        before: s.before,
+        count: capped_sum(s.count, o.measures),
+        level: s.level,
+        deepest: s.deepest,
     }
 }
 
-// Any word but a reference.
-pub fn advance(s: Reading, w: u32) -> Reading
-    ensures { λ r. ⌜ r ≡ stepOf s w ⌝ }
+// Any word but a reference: the number of a row waits in `around` from an opening bracket to the closing one.
+pub fn advance(around: &mut [usize], s: Reading, w: u32) -> Reading
+    ensures { λ r. ⌜ _≡_ {A = Nested} (nested r (now (around .exit))) (stepOf (nested s (now (around .entry))) w) ⌝ }
 {
     let k = kind(w);
     if is_position(k) {
         return sound(k, s);
     }
     if k == OPENS {
+        keep(around, s.level, s.count);
         return open(s);
     }
     if k == CLOSES {
-        return shut_loop(number(w), close(s));
+        let outer = kept(around, outer_level(s.level));
+        return shut_loop(number(w), outer, close(s));
     }
     close(s)
 }
@@ -189,12 +198,12 @@ pub fn sum_up(empty: bool, s: Reading) -> Outline
     let c = close(s);
     Outline {
         empty,
-        loops: c.loops,
+        depth: c.deepest,
         refers: c.refers,
         sizes: c.sizes,
         wants: c.wants,
         chord: c.chord,
         whole: c.whole,
-        measures: capped_sum(c.before, c.row),
+        measures: c.count,
     }
 }

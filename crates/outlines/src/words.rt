@@ -8,7 +8,7 @@ ghost use Prim.Native.Nat.{_≤_, _*_};
 ghost use Rattle.outlines.specs.Words.{isSet, outlineWord, outlineIn, isMissing, lookUp};
 ghost use Rattle.score.specs.Sections.{bit};
 
-// What the fields of the word weigh: the measures, the sizes, and a bit for each answer.
+// What the fields of the word weigh: the measures, the sizes, the depth, and a bit for each answer.
 const MEASURES: usize = 32768;
 
 const SIZES: usize = 512;
@@ -21,12 +21,14 @@ const CHORD: usize = 64;
 
 const REFERS: usize = 32;
 
-const LOOPS: usize = 4;
+const DEPTH: usize = 4;
 
 const WHOLE: usize = 2;
 
-// How many sizes there are.
-const SIZES_MOST: usize = 64;
+// How many sizes and depths there are.
+const ALL_SIZES: usize = 64;
+
+const ALL_DEPTHS: usize = 8;
 
 fn weighed(b: bool, weight: usize) -> usize
     requires { ⌜ weight ≤ 256 ⌝ }
@@ -37,14 +39,13 @@ fn weighed(b: bool, weight: usize) -> usize
 
 // An outline as a word.
 pub fn outline_word(o: Outline) -> u32
-    requires { ⌜ (o .sizes ≤ 33) × (o .measures ≤ 65536) ⌝ }
+    requires { ⌜ (o .sizes ≤ 33) × (o .measures ≤ 65536) × (o .depth ≤ 7) ⌝ }
     ensures { λ r. ⌜ r ≡ outlineWord o ⌝ }
 {
     let wants = weighed(o.wants, WANTS);
     let empty = weighed(o.empty, EMPTY);
     let chord = weighed(o.chord, CHORD);
     let refers = weighed(o.refers, REFERS);
-    let loops = weighed(o.loops, LOOPS);
     let whole = weighed(o.whole, WHOLE);
     (o.measures * MEASURES
         + o.sizes * SIZES
@@ -52,7 +53,7 @@ pub fn outline_word(o: Outline) -> u32
         + empty
         + chord
         + refers
-        + loops
+        + o.depth * DEPTH
         + whole) as u32
 }
 
@@ -70,9 +71,9 @@ fn outline_in(word: u32) -> Outline
     let w = word as usize;
     Outline {
         empty: is_set(w, EMPTY),
-        loops: is_set(w, LOOPS),
+        depth: w / DEPTH % ALL_DEPTHS,
         refers: is_set(w, REFERS),
-        sizes: w / SIZES % SIZES_MOST,
+        sizes: w / SIZES % ALL_SIZES,
         wants: is_set(w, WANTS),
         chord: is_set(w, CHORD),
         whole: is_set(w, WHOLE),
@@ -94,7 +95,7 @@ pub fn outline_for(words: &[u32], x: u32) -> Outline
     if is_missing(words, x) {
         return Outline {
             empty: true,
-            loops: false,
+            depth: 0,
             refers: false,
             sizes: 1,
             wants: false,

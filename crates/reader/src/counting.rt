@@ -12,23 +12,24 @@ ghost use Prim.Native.Nat.{_+_, _≤_};
 ghost use lib.ListN.{length};
 ghost use Rattle.songcode.specs.answer.SongText.{textFaults};
 ghost use Rattle.songcode.specs.answer.Answer.{inputFaults, blocksOf};
+ghost use Rattle.tokens.specs.Kept.{Unmarked, KeptFrom};
 ghost use Rattle.reader.specs.Answers.{Counted};
 
 // A chart that stages 1 and 2 have passed; `words` is the row that its texts are laid into.
 fn count_song(text: &[u8], words: &mut [u32]) -> Answer
-    requires { ⌜ (inputFaults (now text) ≡ []) × (textFaults (blocksOf (now text)) ≡ []) × (length (now text) + 16 ≤ length (now words)) ⌝ }
+    requires { ⌜ (inputFaults (now text) ≡ []) × (textFaults (blocksOf (now text)) ≡ []) × KeptFrom (now text) (now words) 0 ⌝ }
     ensures { λ r. ⌜ Counted (now (text .entry)) r ⌝ }
 {
     let chart = judge(text, words);
     counted(chart.totals)
 }
 
-// Every text of every length is answered, with the row that its texts are laid into if stages 1 and 2 pass it.
+// Every text of every length is answered, with the row that stage 2 keeps tokens in and that its texts are laid into if stages 1 and 2 pass it.
 pub fn count_in(text: &[u8], words: &mut [u32]) -> Answer
-    requires { ⌜ (inputFaults (now text) ≡ [] → length (now text) + 16 ≤ length (now words)) ⌝ }
+    requires { ⌜ (length (now text) ≤ 65536 → length (now text) + 16 ≤ length (now words)) × Unmarked (now words) ⌝ }
     ensures { λ r. ⌜ Counted (now (text .entry)) r ⌝ }
 {
-    let early = first_stages(text);
+    let early = first_stages(text, words);
     if early.number != 0 {
         return refused(early.number, early.line);
     }

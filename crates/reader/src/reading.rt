@@ -16,8 +16,12 @@ ghost use Prim.Native.Nat.{_+_, _≤_};
 ghost use lib.ListN.{length};
 ghost use Rattle.songcode.specs.answer.SongText.{textFaults};
 ghost use Rattle.songcode.specs.answer.Answer.{inputFaults, blocksOf};
+ghost use Rattle.tokens.specs.Kept.{Unmarked, KeptFrom};
 ghost use Rattle.reader.specs.Answers.{lent, Promised};
 ghost use Rattle.reader.specs.Room.{isShort, answeredBy};
+
+// The row of a chart of at most 512 bytes.
+const SMALL_ROW: usize = 528;
 
 // "keys table under 8, or another table too short" for a song of these counts.
 fn is_short(a: Answer, room: Room) -> bool
@@ -62,7 +66,7 @@ fn read_song(
     beats: &mut [u32],
     items: &mut [u64],
 ) -> Answer
-    requires { ⌜ (inputFaults (now text) ≡ []) × (textFaults (blocksOf (now text)) ≡ []) × (length (now text) + 16 ≤ length (now words)) ⌝ }
+    requires { ⌜ (inputFaults (now text) ≡ []) × (textFaults (blocksOf (now text)) ≡ []) × KeptFrom (now text) (now words) 0 ⌝ }
     ensures { λ r. ⌜ Promised (now (text .entry))
         (lent (now (keys .entry)) (now (sections .entry)) (now (measures .entry)) (now (beats .entry)) (now (items .entry))) r
         (lent (now (keys .exit)) (now (sections .exit)) (now (measures .exit)) (now (beats .exit)) (now (items .exit))) ⌝ }
@@ -83,7 +87,47 @@ fn read_song(
     answer
 }
 
-// The same for a chart of at most 2,048 bytes, as nearly all are: a small buffer is soon cleared.
+// Every text that is not longer than the row, and every length of every table; longer texts are refused by stage 1.
+fn read_in(
+    text: &[u8],
+    words: &mut [u32],
+    keys: &mut [u32],
+    sections: &mut [u64],
+    measures: &mut [u32],
+    beats: &mut [u32],
+    items: &mut [u64],
+) -> Answer
+    requires { ⌜ (length (now text) ≤ 65536 → length (now text) + 16 ≤ length (now words)) × Unmarked (now words) ⌝ }
+    ensures { λ r. ⌜ Promised (now (text .entry))
+        (lent (now (keys .entry)) (now (sections .entry)) (now (measures .entry)) (now (beats .entry)) (now (items .entry))) r
+        (lent (now (keys .exit)) (now (sections .exit)) (now (measures .exit)) (now (beats .exit)) (now (items .exit))) ⌝ }
+{
+    let early = first_stages(text, words);
+    if early.number != 0 {
+        return refused(early.number, early.line);
+    }
+    read_song(text, words, keys, sections, measures, beats, items)
+}
+
+// The same for a chart of at most 512 bytes: a small buffer is soon cleared.
+fn read_small(
+    text: &[u8],
+    keys: &mut [u32],
+    sections: &mut [u64],
+    measures: &mut [u32],
+    beats: &mut [u32],
+    items: &mut [u64],
+) -> Answer
+    requires { ⌜ length (now text) + 16 ≤ 528 ⌝ }
+    ensures { λ r. ⌜ Promised (now (text .entry))
+        (lent (now (keys .entry)) (now (sections .entry)) (now (measures .entry)) (now (beats .entry)) (now (items .entry))) r
+        (lent (now (keys .exit)) (now (sections .exit)) (now (measures .exit)) (now (beats .exit)) (now (items .exit))) ⌝ }
+{
+    let mut words = [0u32; SMALL_ROW];
+    read_in(text, &mut words, keys, sections, measures, beats, items)
+}
+
+// The same for a chart of at most 2,048 bytes, as nearly all are.
 fn read_short(
     text: &[u8],
     keys: &mut [u32],
@@ -92,16 +136,16 @@ fn read_short(
     beats: &mut [u32],
     items: &mut [u64],
 ) -> Answer
-    requires { ⌜ (inputFaults (now text) ≡ []) × (textFaults (blocksOf (now text)) ≡ []) × (length (now text) + 16 ≤ 2064) ⌝ }
+    requires { ⌜ length (now text) + 16 ≤ 2064 ⌝ }
     ensures { λ r. ⌜ Promised (now (text .entry))
         (lent (now (keys .entry)) (now (sections .entry)) (now (measures .entry)) (now (beats .entry)) (now (items .entry))) r
         (lent (now (keys .exit)) (now (sections .exit)) (now (measures .exit)) (now (beats .exit)) (now (items .exit))) ⌝ }
 {
     let mut words = [0u32; SHORT_ROW];
-    read_song(text, &mut words, keys, sections, measures, beats, items)
+    read_in(text, &mut words, keys, sections, measures, beats, items)
 }
 
-// The same for any chart that stage 1 has passed.
+// The same for any chart.
 fn read_long(
     text: &[u8],
     keys: &mut [u32],
@@ -110,13 +154,12 @@ fn read_long(
     beats: &mut [u32],
     items: &mut [u64],
 ) -> Answer
-    requires { ⌜ (inputFaults (now text) ≡ []) × (textFaults (blocksOf (now text)) ≡ []) × (length (now text) + 16 ≤ 65552) ⌝ }
     ensures { λ r. ⌜ Promised (now (text .entry))
         (lent (now (keys .entry)) (now (sections .entry)) (now (measures .entry)) (now (beats .entry)) (now (items .entry))) r
         (lent (now (keys .exit)) (now (sections .exit)) (now (measures .exit)) (now (beats .exit)) (now (items .exit))) ⌝ }
 {
     let mut words = [0u32; LONG_ROW];
-    read_song(text, &mut words, keys, sections, measures, beats, items)
+    read_in(text, &mut words, keys, sections, measures, beats, items)
 }
 
 // Every text of every length and every length of every table is answered.
@@ -132,9 +175,8 @@ pub fn read(
         (lent (now (keys .entry)) (now (sections .entry)) (now (measures .entry)) (now (beats .entry)) (now (items .entry))) r
         (lent (now (keys .exit)) (now (sections .exit)) (now (measures .exit)) (now (beats .exit)) (now (items .exit))) ⌝ }
 {
-    let early = first_stages(text);
-    if early.number != 0 {
-        return refused(early.number, early.line);
+    if text.len() <= 512 {
+        return read_small(text, keys, sections, measures, beats, items);
     }
     if text.len() <= 2048 {
         return read_short(text, keys, sections, measures, beats, items);

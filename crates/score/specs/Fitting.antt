@@ -5,17 +5,17 @@ use mathlib.Core.List.{List, [], _∷_}
 use mathlib.Core.Option.{Option, none, some, Option·getD}
 use lib.ListN.{length}
 use Rattle.songcode.specs.Song.{Items, Cut, Side, Pattern, items, named, LyricLine, Section, Song}
-use Rattle.songcode.specs.answer.PatternText.{depth, references}
+use Rattle.songcode.specs.answer.PatternText.{depth, loopsDeep, references}
 use Rattle.songcode.specs.answer.Playing.{timeOf, bpmOf, repeats}
 use Rattle.songcode.specs.answer.Lyrics.{Styled, wordsOf, styled, countOf}
 use Rattle.songcode.specs.answer.Tables.{offset}
 use Rattle.score.specs.Standing.{ItemsFit}
 use Rattle.score.specs.Sections.{sideRow}
 
--- Items that hold no reference, with loops one deep.
+-- Items that hold no reference, with loops within the limit.
 pub record PlainFits (r : Items) : Type 0 where
   pub words : ItemsFit r
-  pub shallow : depth r ≤ 1
+  pub shallow : depth r ≤ loopsDeep
   pub plain : references r ≡ []
 
 unfoldable pub SideFits : Option Side → Type 0

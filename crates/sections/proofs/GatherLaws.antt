@@ -11,9 +11,8 @@ use borrow.Author.Tests.{eqb-true, eqb-false}
 use Rattle.songcode.specs.answer.Lines.{Line}
 use Rattle.songcode.proofs.ListLaws.{by-cases}
 use Rattle.sections.specs.declared.slots.Said.{Said}
-use Rattle.sections.specs.declared.gathering.Gathered.{Gathered}
 use Rattle.sections.specs.Slots.{slotOf, Setting, SaysLine, settingAt}
-use Rattle.sections.specs.Gathering.{saidBy, saidIn, Sought, FirstSaid, SoughtBy, FirstOfEach}
+use Rattle.sections.specs.Gathering.{saidBy, Sought, FirstSaid, SoughtBy, FirstOfEach}
 use Rattle.sections.proofs.SlotLaws.{setting-none, setting-some, among-here, among-later, among-none}
 
 -- Before the first line nothing is found.
@@ -98,14 +97,17 @@ unfolding orElse
 there-alone none = refl
 there-alone (some x) = refl
 
-pub sought-end : {s : List ℕ} {rest all : List Line} {g : Gathered} → rest ≡ [] → SoughtBy s rest all (g .lines) (g .starts) (g .stops) → FirstOfEach s all g
-sought-end {s} {g = g} i h =
-    record {
-      each =
-          λ slot below. let x = h .each slot below in
-          record { setting = there-alone (settingAt s (saidIn g slot)) ∙ rw (← among-none slot i) (x .first); inside = x .inside };
-    }
+module _ {s : List ℕ} {lines starts stops : List ℕ} where
+  pub sought-end : {rest all : List Line} → rest ≡ [] → SoughtBy s rest all lines starts stops → FirstOfEach s all lines starts stops
+  sought-end i h =
+      record {
+        wide = h .wide;
+        each =
+            λ slot below. let x = h .each slot below in
+            record { setting = there-alone (settingAt s (saidBy lines starts stops slot)) ∙ rw (← among-none slot i) (x .first); inside = x .inside };
+      }
 
--- The setting that is read there is the first of its number.
-pub said-first : {s : List ℕ} {ls : List Line} {g : Gathered} (slot : ℕ) {r : Said} → slot < 13 → FirstOfEach s ls g → r ≡ saidIn g slot → FirstSaid s ls slot r
-said-first slot small f e = rw e (f .each slot small)
+  -- The setting that is read there is the first of its number.
+  pub said-first : {ls : List Line} (slot : ℕ) {r : Said} → slot < 13 → FirstOfEach s ls lines starts stops → r ≡ saidBy lines starts stops slot
+      → FirstSaid s ls slot r
+  said-first slot small f e = rw e (f .each slot small)

@@ -90,26 +90,31 @@ pattern-there header (l ∷ ls) h = some-there (sectionText l ls) (complainIf-ni
     some-there none e = true-is-not-false refl e
     some-there (some q) e = refl
 
+-- The block at a place, whose lines end before another one, and the next block behind it.
+module _ (s : List ℕ) (p q : Place) (n at : ℕ) (o : Onward s p) (inside : p .at < length s) (past : textLines s n at ≡ linesPast s (p .number) (p .at))
+    (e : NextAt s n at q) where
+  block-behind : blocks (linesPast s (p .number) (p .at)) ≡ blocks (textLines s (q .number) (q .at))
+  block-behind = ap blocks (sym past) ∙ e .same
+
+  pub block-opened : blocks (textLines s (p .number) (p .at)) ≡ blockAt s (p .number) (p .at) ∷ blocks (textLines s (q .number) (q .at))
+  block-opened = o .opens inside ∙ ap (λ bs. blockAt s (p .number) (p .at) ∷ bs) block-behind
+
+  fair-next : (sectionFaults (blockAt s (p .number) (p .at)) ≡ []) × (flatMap sectionFaults (blocks (textLines s (q .number) (q .at))) ≡ [])
+  unfolding flatMap
+  fair-next = append-is-nil (sectionFaults (blockAt s (p .number) (p .at))) (flatMap sectionFaults (blocks (textLines s (q .number) (q .at))))
+      (ap (flatMap sectionFaults) (sym block-opened) ∙ o .fair)
+
+  pub onward-next : Onward s q
+  onward-next = record { number = e .number; counted = e .counted; inside = e .inside; opens = λ h. sym (e .same) ∙ e .there h; fair = fair-next .1 }
+
 module _ (s : List ℕ) (p : Place) (x : Parts) (q : Place) (o : Onward s p) (inside : p .at < length s) (w : PartsAt s (p .number) (p .at) x)
     (e : NextAt s (x .lyrics .number + x .lyrics .lines) (x .lyrics .next) q) where
   block : Block
   block = blockAt s (p .number) (p .at)
 
-  behind : blocks (linesPast s (p .number) (p .at)) ≡ blocks (textLines s (q .number) (q .at))
+  past : textLines s (x .lyrics .number + x .lyrics .lines) (x .lyrics .next) ≡ linesPast s (p .number) (p .at)
   unfolding linesBehind
-  behind = ap blocks (sym (w .past)) ∙ e .same
-
-  opened : blocks (textLines s (p .number) (p .at)) ≡ block ∷ blocks (textLines s (q .number) (q .at))
-  unfolding block
-  opened = o .opens inside ∙ ap (λ bs. blockAt s (p .number) (p .at) ∷ bs) behind
-
-  no-faults : (sectionFaults block ≡ []) × (flatMap sectionFaults (blocks (textLines s (q .number) (q .at))) ≡ [])
-  unfolding flatMap
-  no-faults = append-is-nil (sectionFaults block) (flatMap sectionFaults (blocks (textLines s (q .number) (q .at))))
-      (ap (flatMap sectionFaults) (sym opened) ∙ o .fair)
-
-  next-onward : Onward s q
-  next-onward = record { number = e .number; counted = e .counted; inside = e .inside; opens = λ h. sym (e .same) ∙ e .there h; fair = no-faults .1 }
+  past = w .past
 
   header-is : sectionAt s p .header ≡ p .number
   unfolding sectionAt sectionIn blockAt lineOf
@@ -121,14 +126,14 @@ module _ (s : List ℕ) (p : Place) (x : Parts) (q : Place) (o : Onward s p) (in
       let n = p .number in
       let f = blocks-from (n + 1) (linesPast s n (p .at)) (each-left (From (n + 1)) (passing Full) (textLines s (n + 1) (lineAt s n (p .at) .next))
       (from-lines s (n + 1) (lineAt s n (p .at) .next))) in
-      rw header-is (firsts-later n (blocks (textLines s (q .number) (q .at))) (subst (Firsts (n + 1)) behind f))
+      rw header-is (firsts-later n (blocks (textLines s (q .number) (q .at))) (subst (Firsts (n + 1)) (block-behind s p q _ _ o inside past e) f))
 
   has-pattern : patternIn (linesOf s (x .pattern)) ≡ some (sectionAt s p .pattern)
   unfolding sectionAt sectionIn block
   has-pattern =
       let b = block in
       let ls = patternRun (body b) in
-      ap patternIn (w .pattern) ∙ pattern-there (b .first .number) ls (clean-order b (no-faults .0) .2)
+      ap patternIn (w .pattern) ∙ pattern-there (b .first .number) ls (clean-order b (fair-next s p q _ _ o inside past e .0) .2)
 
   pub section-passes : Passes s p (record { section = x; next = q })
   unfolding sectionsFrom sectionAt block
@@ -139,9 +144,9 @@ module _ (s : List ℕ) (p : Place) (x : Parts) (q : Place) (o : Onward s p) (in
         read = w;
         says = parts-say s (p .number) (p .at) x w;
         written = has-pattern;
-        opened = opened;
-        first = ap (map sectionIn) opened;
-        onward = next-onward;
+        opened = block-opened s p q _ _ o inside past e;
+        first = ap (map sectionIn) (block-opened s p q _ _ o inside past e);
+        onward = onward-next s p q _ _ o inside past e;
         further = omega arith;
         later = later;
       }

@@ -2,7 +2,7 @@
 use mathlib.Core.Option.{Option·getD}
 use Prim.Native.Nat.{ℕ, _+_, _<_, _≤_}
 use mathlib.Core.Path.{_≡_}
-use mathlib.Core.List.{List, [], _∷_}
+use mathlib.Core.List.{List, [], _∷_, _++_}
 use lib.ListN.{length}
 use Rattle.songcode.specs.Lists.{taken, left}
 use Rattle.songcode.specs.answer.Lines.{Line, Block, blocks}
@@ -15,7 +15,7 @@ use Rattle.sections.specs.declared.blocks.Parts.{Parts}
 use Rattle.sections.specs.declared.blocks.Place.{Place}
 use Rattle.sections.specs.declared.blocks.SectionRead.{SectionRead}
 use Rattle.sections.specs.declared.blocks.DefinitionRead.{DefinitionRead}
-use Rattle.sections.specs.Runs.{textLines, passing, linesOf, linesBehind}
+use Rattle.sections.specs.Runs.{textLines, passing, blankLine, linesOf, linesBehind}
 use Rattle.sections.specs.Values.{KeysAre, ModifiersAre}
 
 -- The block whose first line begins at a place, and the lines behind it.
@@ -102,12 +102,14 @@ pub record DefinitionAt (s : List ℕ) (n at : ℕ) (r : DefinitionRead) : Type 
   pub past : linesBehind s (r .pattern) ≡ linesPast s n at
   pub onward : at + 1 ≤ r .pattern .next
 
--- The next block from a line on, if there is one: it begins at the place that is answered, which is else the end of the text.
+-- The next block from a line on, if there is one: it begins at the place that is answered, which is else the end of the text. Only blank lines
+-- stand before it.
 pub record NextAt (s : List ℕ) (n at : ℕ) (r : Place) : Type 0 where
   pub number : 1 ≤ r .number
   pub counted : r .number ≤ r .at + 1
   pub onward : at ≤ r .at
   pub inside : r .at ≤ length s
+  pub lines : textLines s n at ≡ taken blankLine (textLines s n at) ++ textLines s (r .number) (r .at)
   pub same : blocks (textLines s n at) ≡ blocks (textLines s (r .number) (r .at))
   pub over : length s ≤ r .at → blocks (textLines s n at) ≡ []
   pub there : r .at < length s → blocks (textLines s n at) ≡ blockAt s (r .number) (r .at) ∷ blocks (linesPast s (r .number) (r .at))

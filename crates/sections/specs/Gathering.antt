@@ -6,16 +6,12 @@ use mathlib.Core.List.{List}
 use lib.ListN.{length, getD}
 use Rattle.songcode.specs.answer.Lines.{Line}
 use Rattle.sections.specs.declared.slots.Said.{Said}
-use Rattle.sections.specs.declared.gathering.Gathered.{Gathered}
 use Rattle.sections.specs.Slots.{settingAmong, settingAt}
 use Rattle.sections.specs.Values.{Inside}
 
 -- The setting of a number, from three rows: of lines, of first bytes and of ends.
 abbrev pub saidBy : List ℕ → List ℕ → List ℕ → ℕ → Said
 saidBy lines starts stops slot = record { line = getD lines slot 0; start = getD starts slot 0; stop = getD stops slot 0 }
-
-abbrev pub saidIn : Gathered → ℕ → Said
-saidIn g slot = saidBy (g .lines) (g .starts) (g .stops) slot
 
 -- Of a part of the lines, the rest is still to come: the setting that was found, or else the first one of its number in the rest, is the first among all.
 pub record Sought (s : List ℕ) (rest all : List Line) (slot : ℕ) (r : Said) : Type 0 where
@@ -32,5 +28,6 @@ pub record SoughtBy (s : List ℕ) (rest all : List Line) (lines starts stops : 
   pub wide : (length lines ≡ 13) × (length starts ≡ 13) × (length stops ≡ 13)
   pub each : (slot : ℕ) → slot < 13 → Sought s rest all slot (saidBy lines starts stops slot)
 
-pub record FirstOfEach (s : List ℕ) (ls : List Line) (g : Gathered) : Type 0 where
-  pub each : (slot : ℕ) → slot < 13 → FirstSaid s ls slot (saidIn g slot)
+pub record FirstOfEach (s : List ℕ) (ls : List Line) (lines starts stops : List ℕ) : Type 0 where
+  pub wide : (length lines ≡ 13) × (length starts ≡ 13) × (length stops ≡ 13)
+  pub each : (slot : ℕ) → slot < 13 → FirstSaid s ls slot (saidBy lines starts stops slot)

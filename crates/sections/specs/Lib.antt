@@ -6,3 +6,4 @@ pub mod Gathering
 pub mod BlockParts
 pub mod SectionSays
 pub mod Onward
+pub mod Numbered

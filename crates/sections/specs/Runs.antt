@@ -11,7 +11,7 @@ use Rattle.songcode.specs.answer.Sections.{Kind, kindOf, keyLine, modifierLine,
 use Rattle.text.specs.Spans.{spansFrom, lineText}
 use Rattle.sections.specs.declared.runs.Run.{Run}
 use Rattle.sections.specs.declared.runs.Test.{Test}
-use Rattle.sections.specs.declared.runs.Test.the-variants.{Empty, Full, Body, Early, Pattern}
+use Rattle.sections.specs.declared.runs.Test.the-variants.{Full, Body, Early, Pattern}
 
 -- The lines of a text from a place on, where the line of that number begins.
 unfoldable pub textLines : List ℕ → ℕ → ℕ → List Line
@@ -32,15 +32,34 @@ isPatternText bs = isPatternKind (kindOf bs)
 -- The tests of lines, by their texts.
 unfoldable pub passes : Test → List Byte → Bool
 unfolding isEmpty inBody isPatternText
-passes Empty bs = isEmpty bs
 passes Full bs = not (isEmpty bs)
 passes Body bs = inBody bs
 passes Early bs = inBody bs && not (isPatternText bs)
 passes Pattern bs = inBody bs && isPatternText bs
 
+-- A line passes a test as far as its first bytes say; a `--` they do not tell. Where it opens so, only a `--` fails it.
+unfoldable pub opens : Test → List Byte → Bool
+unfolding isEmpty isPatternText
+opens Full bs = not (isEmpty bs)
+opens Body bs = not (isEmpty bs)
+opens Early bs = not (isPatternText bs)
+opens Pattern bs = not (isEmpty bs) && isPatternText bs
+
+unfoldable pub parted : Test → List Byte → Bool
+unfolding is
+parted Full bs = false
+parted Body bs = is "--" bs
+parted Early bs = false
+parted Pattern bs = is "--" bs
+
 unfoldable pub passing : Test → Line → Bool
 unfolding passes
 passing t l = passes t (l .text)
+
+-- A blank line.
+unfoldable pub blankLine : Line → Bool
+unfolding isEmpty
+blankLine l = isEmpty (l .text)
 
 -- The lines of a run, and those behind it.
 unfoldable pub linesOf : List ℕ → Run → List Line

@@ -11,6 +11,8 @@ use settings::BlockKind;
 use settings::block_kind;
 use settings::head_in;
 use text::line_at;
+use text::line_start;
+use text::past_blank;
 ghost use mathlib.Core.Path.{_≡_};
 ghost use Prim.Native.Nat.{_+_, _≤_, _<_};
 ghost use lib.ListN.{length};
@@ -55,10 +57,22 @@ pub fn next_block(s: &[u8], number: usize, at: usize) -> Place
     requires { ⌜ (1 ≤ number) × (number ≤ at + 1) × (at ≤ length (now s)) ⌝ }
     ensures { λ r. ⌜ NextAt (now (s .entry)) number at r ⌝ }
 {
-    let blank = run_of(s, Test::Empty, number, at);
+    let mut lines = 0;
+    let mut next = at;
+    while next < s.len() {
+        let behind = past_blank(s, next);
+        if behind == next {
+            return Place {
+                number: number + lines,
+                at: next,
+            };
+        }
+        lines += 1;
+        next = behind;
+    }
     Place {
-        number: number + blank.lines,
-        at: blank.next,
+        number: number + lines,
+        at: next,
     }
 }
 
@@ -67,10 +81,8 @@ pub fn kind_at(s: &[u8], number: usize, at: usize) -> BlockKind
     requires { ⌜ at ≤ length (now s) ⌝ }
     ensures { λ r. ⌜ r ≡ blockKindIs (blockKind (blockAt (now (s .entry)) number at)) ⌝ }
 {
-    let first = line_at(s, number, at);
-    let a = first.start;
-    let e = first.stop;
-    block_kind(&s[a..e])
+    let a = line_start(s, at);
+    block_kind(&s[a..])
 }
 
 // The lyric lines of a block, from its `--` on.

@@ -1,8 +1,10 @@
 // What settings say: the time and bpm among keys; repeats, cuts, lead-in and tail among modifiers.
+use super::gathering::SLOTS;
 use super::gathering::gather;
-use super::gathering::said_in;
+use super::gathering::said_by;
 use super::runs::Run;
 use super::slots::Said;
+use super::slots::nothing_said;
 use settings::CutRead;
 use settings::bpm_in;
 use settings::cut_in;
@@ -15,6 +17,9 @@ ghost use lib.ListN.{length};
 ghost use Rattle.settings.specs.Cuts.{CutFits};
 ghost use Rattle.sections.specs.Runs.{linesOf};
 ghost use Rattle.sections.specs.Slots.{settingAt};
+ghost use mathlib.Core.List.{List};
+ghost use Rattle.songcode.specs.answer.Lines.{Line};
+ghost use Rattle.sections.specs.Gathering.{FirstOfEach};
 ghost use Rattle.sections.specs.Values.{numberOr, timeSaid, bpmSaid, repeatSaid, cutSaid, KeysAre, ModifiersAre};
 
 // The numbers of the settings (`key_number`, `modifier_number`).
@@ -104,16 +109,47 @@ fn cut_said(s: &[u8], said: Said) -> CutRead
     cut_in(&s[a..e])
 }
 
+// What gathered keys say.
+pub fn keys_by(s: &[u8], lines: &[usize], starts: &[usize], stops: &[usize]) -> Keys
+    requires { ⌜ ((ls : List Line) × FirstOfEach (now s) ls (now lines) (now starts) (now stops)) ⌝ }
+    ensures { λ r. ⌜ ((ls : List Line) → FirstOfEach (now (s .entry)) ls (now (lines .entry)) (now (starts .entry)) (now (stops .entry)) → KeysAre ls r) ⌝ }
+{
+    Keys {
+        time: time_said(s, said_by(lines, starts, stops, TIME)),
+        bpm: bpm_said(s, said_by(lines, starts, stops, BPM)),
+    }
+}
+
+// What gathered modifiers say.
+fn modifiers_by(s: &[u8], lines: &[usize], starts: &[usize], stops: &[usize]) -> Modifiers
+    requires { ⌜ ((ls : List Line) × FirstOfEach (now s) ls (now lines) (now starts) (now stops)) ⌝ }
+    ensures { λ r. ⌜ ((ls : List Line) → FirstOfEach (now (s .entry)) ls (now (lines .entry)) (now (starts .entry)) (now (stops .entry))
+        → ModifiersAre (now (s .entry)) ls r) ⌝ }
+{
+    let before = said_by(lines, starts, stops, BEFORE);
+    let after = said_by(lines, starts, stops, AFTER);
+    Modifiers {
+        repeat: repeat_said(s, said_by(lines, starts, stops, REPEAT)),
+        front: cut_said(s, said_by(lines, starts, stops, CUT_START)),
+        back: cut_said(s, said_by(lines, starts, stops, CUT_END)),
+        before,
+        after,
+    }
+}
+
 // What the keys say among the lines of a run.
 pub fn keys_of(s: &[u8], run: Run) -> Keys
     requires { ⌜ (1 ≤ run .number) × (run .number ≤ run .at + 1) × (run .at ≤ length (now s)) ⌝ }
     ensures { λ r. ⌜ KeysAre (linesOf (now (s .entry)) run) r ⌝ }
 {
-    let found = gather(s, run);
-    Keys {
-        time: time_said(s, said_in(found, TIME)),
-        bpm: bpm_said(s, said_in(found, BPM)),
+    if run.lines == 0 {
+        return Keys { time: 0, bpm: 511 };
     }
+    let mut lines = [0usize; SLOTS];
+    let mut starts = [0usize; SLOTS];
+    let mut stops = [0usize; SLOTS];
+    gather(s, run, &mut lines, &mut starts, &mut stops);
+    keys_by(s, &lines, &starts, &stops)
 }
 
 // What the modifiers say among the lines of a run.
@@ -121,14 +157,18 @@ pub fn modifiers_of(s: &[u8], run: Run) -> Modifiers
     requires { ⌜ (1 ≤ run .number) × (run .number ≤ run .at + 1) × (run .at ≤ length (now s)) ⌝ }
     ensures { λ r. ⌜ ModifiersAre (now (s .entry)) (linesOf (now (s .entry)) run) r ⌝ }
 {
-    let found = gather(s, run);
-    let before = said_in(found, BEFORE);
-    let after = said_in(found, AFTER);
-    Modifiers {
-        repeat: repeat_said(s, said_in(found, REPEAT)),
-        front: cut_said(s, said_in(found, CUT_START)),
-        back: cut_said(s, said_in(found, CUT_END)),
-        before,
-        after,
+    if run.lines == 0 {
+        return Modifiers {
+            repeat: 1,
+            front: CutRead::Not,
+            back: CutRead::Not,
+            before: nothing_said(),
+            after: nothing_said(),
+        };
     }
+    let mut lines = [0usize; SLOTS];
+    let mut starts = [0usize; SLOTS];
+    let mut stops = [0usize; SLOTS];
+    gather(s, run, &mut lines, &mut starts, &mut stops);
+    modifiers_by(s, &lines, &starts, &stops)
 }

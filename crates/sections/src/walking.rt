@@ -22,7 +22,7 @@ pub struct Met {
 }
 
 // Past the section at a place, its settings unread.
-pub fn pass(s: &[u8], p: Place) -> Passed
+fn pass(s: &[u8], p: Place) -> Passed
     requires { ⌜ Onward (now s) p × (p .at < length (now s)) ⌝ }
     ensures { λ r. ⌜ Passes (now (s .entry)) p r ⌝ }
 {

@@ -39,7 +39,7 @@ number-none none e h = refl
 number-none (some m) e h = let z : _≡_ {A = ℕ} 0 1 = cc in absurd (omega arith)
 
 pub number-there : (o : Option ℕ) {r : Bool} {m : Number} → r ≡ isNumber m → m ≡ numberOf o → r ≡ isSome o
-unfolding isNumber numberOf isSome
+unfolding numberOf isSome
 number-there none e h = e ∙ rw h
 number-there (some n) e h = e ∙ rw h
 

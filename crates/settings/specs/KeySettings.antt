@@ -9,7 +9,7 @@ use Rattle.tokens.specs.declared.numbers.Number.the-variants.{Is, Not}
 use Rattle.settings.specs.declared.keys.KeyName.{KeyName}
 use Rattle.settings.specs.declared.keys.KeyName.the-variants.{Name, Artist, Original, Capo, Bpm, Time, Warning, End, Unknown}
 
-unfoldable pub isNumber : Number → Bool
+abbrev pub isNumber : Number → Bool
 isNumber (Is n) = true
 isNumber Not = false
 

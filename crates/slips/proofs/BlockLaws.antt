@@ -2,7 +2,7 @@
 use Prim.Native.Nat.{ℕ, zero, suc, _+_, _<_, _≤_}
 use mathlib.Core.Path.{_≡_, refl, sym, ap, _∙_, subst}
 use mathlib.Core.Logic.{_⊎_, inl, inr, ⊎-elim}
-use mathlib.Core.List.{List, [], _∷_, map, List·Memᴰ, List·Memᴰ·head, List·Memᴰ·tail, List·Memᴰ·not-nil, List·Memᴰ·cases-cons}
+use mathlib.Core.List.{List, [], _∷_, List·Memᴰ, List·Memᴰ·head, List·Memᴰ·tail, List·Memᴰ·not-nil, List·Memᴰ·cases-cons}
 use mathlib.Core.List.{Memᴰ·append-left, Memᴰ·append-right}
 use native.Mathlib.Omega.{arith}
 use borrow.Author.Tests.{ltb-true, ltb-false}
@@ -26,15 +26,7 @@ use Rattle.sections.proofs.NextLaws.{blocks-start, blocks-over}
 use Rattle.sections.proofs.BlockLaws.{others-are, past-are}
 use Rattle.slips.specs.BlocksMet.{OpensAt, Holds, Behind}
 use Rattle.slips.specs.Finds.{LineOf, InBlock}
-use Rattle.slips.proofs.LineLaws.{From}
-
-pub in-map : {A B : Type 0} (f : A → B) (xs : List A) {y : B} → List·Memᴰ y (map f xs) → (x : A) × List·Memᴰ x xs × (y ≡ f x)
-in-map f [] m = absurd (List·Memᴰ·not-nil m)
-in-map f (x ∷ xs) m =
-    ⊎-elim
-    (λ e. (x, List·Memᴰ·head refl, e))
-    (λ i. let r = in-map f xs i in (r .0, List·Memᴰ·tail (r .1), r .2))
-    (List·Memᴰ·cases-cons m)
+use Rattle.sections.proofs.LineLaws.{From, in-map}
 
 -- A block's lines are lines of the file.
 pub in-blocks : {ls : List Line} {bs : List Block} → WrittenBlocks ls bs → (b : Block) → List·Memᴰ b bs

@@ -6,7 +6,6 @@ pub mod ReadingLaws
 pub mod CutLaws
 pub mod LineReadLaws
 pub mod TextReadLaws
-pub mod LineLaws
 pub mod BlockLaws
 pub mod DefinitionLaws
 pub mod RuledLaws

@@ -1,7 +1,7 @@
 -- A text read token by token, and line by line.
 use Prim.Native.Nat.{ℕ, zero, suc, _+_, _-_, _/_, _<_, _≤_}
 use mathlib.Core.Path.{_≡_, refl, sym, ap, _∙_, subst}
-use mathlib.Core.List.{List, [], _∷_, _++_, append-assoc}
+use mathlib.Core.List.{List, [], _∷_, _++_, append-nil, append-assoc}
 use native.Mathlib.Omega.{arith}
 use lib.ListN.{length, take}
 use Rattle.songcode.specs.answer.Tokens.{Token, lineEnd}
@@ -21,7 +21,7 @@ use Rattle.slips.specs.Places.{Whole}
 use Rattle.slips.specs.Strays.{heard, hearingSign}
 use Rattle.slips.specs.Misfits.{fittingSign, fitted}
 use Rattle.slips.specs.Readings.{Follows}
-use Rattle.slips.proofs.LineLaws.{From}
+use Rattle.sections.proofs.LineLaws.{From}
 use Rattle.slips.proofs.StartLaws.{whole-line}
 use Rattle.slips.proofs.StrayLaws.{hearing-sign, sign-within, heard-behind}
 use Rattle.slips.proofs.MisfitLaws.{fitting-sign, fitted-behind}
@@ -81,11 +81,11 @@ unfolding MarksFrom
 marked-none s at to h = h
 
 -- No line is left.
-pub lines-none : (s : List ℕ) (n at left : ℕ) → left ≡ 0 → MarkedLines s (take left (From s n at)) []
+lines-none : (s : List ℕ) (n at left : ℕ) → left ≡ 0 → MarkedLines s (take left (From s n at)) []
 unfolding MarkedLines
 lines-none s n at left h = subst (λ (k : ℕ). MarkedLines s (take k (From s n at)) []) (sym h) refl
 
-pub lines-past : (s : List ℕ) (n at left : ℕ) → length s ≤ at → MarkedLines s (take left (From s n at)) []
+lines-past : (s : List ℕ) (n at left : ℕ) → length s ≤ at → MarkedLines s (take left (From s n at)) []
 unfolding MarkedLines
 lines-past s n at left h = subst (λ (ls : List Line). MarkedLines s ls []) (sym (ap (take left) (spans-over s n at h) ∙ take-nothing left)) refl
   where
@@ -94,7 +94,7 @@ lines-past s n at left h = subst (λ (ls : List Line). MarkedLines s ls []) (sym
     take-nothing (suc k) = refl
 
 -- One more line.
-pub lines-more : (s : List ℕ) (n at left : ℕ) {l : Line} → Found s n at l → at < length s → (left ≡ 0 → ⊥) → (here rest : List Mark)
+lines-more : (s : List ℕ) (n at left : ℕ) {l : Line} → Found s n at l → at < length s → (left ≡ 0 → ⊥) → (here rest : List Mark)
     → MarksFrom s (l .start) (l .stop) here → MarkedLines s (take (left - 1) (From s (n + 1) (l .next))) rest
     → MarkedLines s (take left (From s n at)) (here ++ (endMark (l .stop) ∷ rest))
 unfolding MarkedLines
@@ -106,5 +106,30 @@ lines-more s n at left {l} f h z here rest m r =
     subst (λ (ls : List Line). MarkedLines s ls (here ++ (endMark (l .stop) ∷ rest))) (sym all) (here, rest, whole, m, r, refl)
 
 -- Some marks, others and one between, behind marks that were read before.
-pub regroup : (done here ms : List Mark) (m : Mark) → (done ++ (here ++ (m ∷ []))) ++ ms ≡ done ++ (here ++ (m ∷ ms))
+regroup : (done here ms : List Mark) (m : Mark) → (done ++ (here ++ (m ∷ []))) ++ ms ≡ done ++ (here ++ (m ∷ ms))
 regroup done here ms m = append-assoc done (here ++ (m ∷ [])) ms ∙ ap (λ (ns : List Mark). done ++ ns) (append-assoc here (m ∷ []) ms)
+
+-- Lines are read one behind the other: of what was read so far a claim holds, and its marks with those of the lines that are left are those of all.
+abbrev pub Within : (List Mark → Type 0) → List ℕ → List Line → ℕ → ℕ → ℕ → Type 0
+Within F s all n at left = (done : List Mark) × F done × ((ms : List Mark) → MarkedLines s (take left (From s n at)) ms → MarkedLines s all (done ++ ms))
+
+module _ (F : List Mark → Type 0) (s : List ℕ) (all : List Line) (n at left : ℕ) (w : Within F s all n at left) where
+  ended : MarkedLines s (take left (From s n at)) [] → (marks : List Mark) × MarkedLines s all marks × F marks
+  ended m = (w .0, subst (MarkedLines s all) (append-nil (w .0)) (w .2 [] m), w .1)
+
+  pub within-none : left ≡ 0 → (marks : List Mark) × MarkedLines s all marks × F marks
+  within-none h = ended (lines-none s n at left h)
+
+  pub within-past : length s ≤ at → (marks : List Mark) × MarkedLines s all marks × F marks
+  within-past h = ended (lines-past s n at left h)
+
+  pub within-next : (G : List Mark → Type 0) {l : Line} → Found s n at l → at < length s → (left ≡ 0 → ⊥) → (here : List Mark)
+      → MarksFrom s (l .start) (l .stop) here → ((done : List Mark) → F done → G (done ++ (here ++ (endMark (l .stop) ∷ []))))
+      → Within G s all (n + 1) (l .next) (left - 1)
+  within-next G {l} f h z here m g = (
+    w .0 ++ (here ++ (endMark (l .stop) ∷ [])),
+    g (w .0) (w .1),
+    λ ms k.
+        subst (MarkedLines s all) (sym (regroup (w .0) here ms (endMark (l .stop))))
+        (w .2 (here ++ (endMark (l .stop) ∷ ms)) (lines-more s n at left f h z here ms m k)),
+  )

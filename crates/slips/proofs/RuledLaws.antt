@@ -22,6 +22,8 @@ use Rattle.settings.specs.Kinds.{kindIs, blockKindIs}
 use Rattle.settings.proofs.ValueLaws.{kindOf-placeless}
 use Rattle.text.specs.declared.lines.Line as text
 use Rattle.text.specs.Spans.{part, lineText}
+use Rattle.sections.specs.declared.runs.Run.{Run}
+use Rattle.sections.specs.Runs.{linesOf}
 use Rattle.sections.specs.BlockParts.{blockAt}
 use Rattle.slips.specs.declared.spots.Spot.{Spot}
 use Rattle.slips.specs.declared.slip.Slip.{Slip}
@@ -86,3 +88,9 @@ modifier-long s l e =
   where
     apart : {X : Type 0} → lineNumber (kindIs patternLine) ≡ lineNumber (kindIs modifierLine) → X
     apart z = absurd (omega arith)
+
+-- What is found on the lines of a run is found of the text that they are.
+pub ruled-lines : (s : List ℕ) (w : Whose) (run : Run) (x : Slip) {ls : List Line} → linesOf s run ≡ ls
+    → ((m : Line) (ms : List Line) → linesOf s run ≡ m ∷ ms → Ruled s w (linesOf s run) (x .clause) (x .from))
+    → (m : Line) (ms : List Line) → ls ≡ m ∷ ms → Ruled s w (m ∷ ms) (x .clause) (x .from)
+ruled-lines s w run x e h m ms o = subst (λ (ls : List Line). Ruled s w ls (x .clause) (x .from)) (e ∙ o) (h m ms (e ∙ o))

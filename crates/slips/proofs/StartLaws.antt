@@ -22,7 +22,7 @@ use Rattle.text.proofs.TrimLaws.{solid-le}
 use Rattle.slips.specs.Places.{Unended, Whole}
 use Rattle.slips.proofs.PlaceLaws.{same-line}
 use Rattle.slips.proofs.FindLaws.{no-lf, no-cr}
-use Rattle.slips.proofs.LineLaws.{each-line}
+use Rattle.sections.proofs.LineLaws.{each-line}
 
 -- As many blanks as there are bytes, at most.
 front-among : (n : ℕ) (bs : List ℕ) → frontBlanks (take n bs) ≤ n

@@ -1,6 +1,7 @@
 // How many bytes of a word that is wrong, or may not stand where it stands, are the beginning of a right one.
 use super::signs::capped;
 use grammar::Kind;
+use text::byte_at;
 use tokens::longest_base;
 ghost use Prim.Native.Nat.{_≤_};
 ghost use lib.ListN.{length};
@@ -10,32 +11,24 @@ const EXTENSION_MOST: usize = 31;
 
 const DIGITS_MOST: usize = 4;
 
-// Where the first `$` of a word stands, or its end.
-pub fn dollar_at(w: &[u8]) -> usize
-    ensures { λ r. ⌜ r ≤ length (now (w .entry)) ⌝ }
-{
-    let mut i = 0;
-    while i < w.len() {
-        if w[i] == b'$' {
-            return i;
-        }
-        i += 1;
+// A `$` or, where all are asked for, a sign that no extension holds.
+fn is_sign(b: u8, all: bool) -> bool {
+    match b {
+        b'$' => true,
+        b'%' => all,
+        b'_' => all,
+        b'=' => all,
+        _ => false,
     }
-    i
-}
-
-// A sign that no extension holds.
-fn is_sign(b: u8) -> bool {
-    b == b'%' || b == b'_' || b == b'=' || b == b'$'
 }
 
 // Where the first such sign of a word stands, or its end.
-fn sign_at(w: &[u8]) -> usize
+pub fn sign_at(w: &[u8], all: bool) -> usize
     ensures { λ r. ⌜ r ≤ length (now (w .entry)) ⌝ }
 {
     let mut i = 0;
     while i < w.len() {
-        if is_sign(w[i]) {
+        if is_sign(w[i], all) {
             return i;
         }
         i += 1;
@@ -43,20 +36,21 @@ fn sign_at(w: &[u8]) -> usize
     i
 }
 
-// How many digits behind the first byte begin a number: no zero first, and at most four.
+// Whether a byte may follow so many digits of a number: no zero comes first.
+fn is_digit_behind(n: usize, b: u8) -> bool {
+    if b == b'0' {
+        return 0 < n;
+    }
+    b'0' < b && b <= b'9'
+}
+
+// How many digits behind the first byte begin a number, at most four.
 fn digits_behind(w: &[u8]) -> usize
     ensures { λ r. ⌜ r ≤ 4 ⌝ }
 {
     let mut n = 0;
     while n < DIGITS_MOST {
-        if w.len() <= n + 1 {
-            return n;
-        }
-        let b = w[n + 1];
-        if b < b'0' || b'9' < b {
-            return n;
-        }
-        if n == 0 && b == b'0' {
+        if !is_digit_behind(n, byte_at(w, n + 1)) {
             return n;
         }
         n += 1;
@@ -66,35 +60,27 @@ fn digits_behind(w: &[u8]) -> usize
 
 // What a word with this first byte would be: a reference, a loop's end, a remover, or a chord, `%` or `_`.
 pub fn kind_begun(first: u8) -> Kind {
-    if first == b'$' {
-        return Kind::Reference;
+    match first {
+        b'$' => Kind::Reference,
+        b']' => Kind::Closes,
+        b'=' => Kind::Remover,
+        _ => Kind::Sound,
     }
-    if first == b']' {
-        return Kind::Closes;
-    }
-    if first == b'=' {
-        return Kind::Remover;
-    }
-    Kind::Sound
 }
 
 // How many bytes of a word may stand, if such a word may: a sign with the digits of its number, a sign alone, a chord with its extension.
 pub fn bytes_begun(w: &[u8]) -> usize {
-    if w.len() == 0 {
-        return 0;
+    match byte_at(w, 0) {
+        b'$' | b']' => digits_behind(w) + 1,
+        b'%' | b'_' | b'=' => 1,
+        _ => {
+            let base = longest_base(w);
+            if base.length == 0 {
+                return 0;
+            }
+            let most = capped(base.length, EXTENSION_MOST);
+            let sign = sign_at(w, true);
+            if sign < most { sign } else { most }
+        }
     }
-    let first = w[0];
-    if first == b'$' || first == b']' {
-        return digits_behind(w) + 1;
-    }
-    if first == b'%' || first == b'_' || first == b'=' {
-        return 1;
-    }
-    let base = longest_base(w);
-    if base.length == 0 {
-        return 0;
-    }
-    let most = capped(base.length, EXTENSION_MOST);
-    let sign = sign_at(w);
-    if sign < most { sign } else { most }
 }

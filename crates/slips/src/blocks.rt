@@ -1,17 +1,15 @@
 // Slips in the order of blocks and lines: refusals 3, 6 and 8.
+use super::definitions::definition_lines;
 use super::keys::in_metadata;
 use super::keys::modifier_slip;
 use super::keys::whole_line;
+use super::signs::minus;
 use super::slip::Slip;
-use super::slip::at_place;
-use super::slip::beside;
-use super::slip::counted;
+use super::slip::noted;
 use super::spots::Spot;
-use super::survey::head_of;
-use super::survey::index_of;
-use super::survey::survey_of;
-use sections::Test;
-use sections::run_of;
+use super::survey::body_line;
+use sections::Place;
+use sections::section_parts;
 use settings::Kind;
 use settings::characters;
 use settings::head_in;
@@ -20,7 +18,6 @@ use settings::kind_of;
 use text::Line;
 use text::byte_at;
 use text::is_tail;
-use text::line_at;
 use tokens::Number;
 ghost use Prim.Native.Nat.{_+_, _≤_, _<_};
 ghost use mathlib.Core.Path.{_≡_};
@@ -57,30 +54,26 @@ const NAME_MOST: usize = 50;
 
 // Refusal 3.
 pub fn order_slip(s: &[u8], l: Line) -> Slip {
-    let v = survey_of(s);
-    let body = v.body;
-    let section = v.section;
     if byte_at(s, l.start) == b'@' {
-        return beside(whole_line(METADATA_LATE, l), body.number);
+        return whole_line(METADATA_LATE, l, body_line(s, true));
     }
-    beside(whole_line(DEFINITION_LATE, l), section.number)
+    whole_line(DEFINITION_LATE, l, body_line(s, false))
 }
 
-// Refusal 6.
+// Refusal 6: the number of a head that is well formed is that of its own definition or of an earlier one.
 pub fn head_slip(s: &[u8], l: Line) -> Slip
     requires { ⌜ (l .start ≤ l .stop) × (l .stop ≤ length (now s)) ⌝ }
 {
     let a = l.start;
     let e = l.stop;
     let Number::Is(n) = head_in(&s[a..e]) else {
-        return whole_line(HEAD_MALFORMED, l);
+        return whole_line(HEAD_MALFORMED, l, 0);
     };
-    let v = survey_of(s);
-    let before = head_of(v, index_of(v, n));
-    if 0 < before && before < l.number {
-        return counted(beside(whole_line(HEAD_TWICE, l), before), n, 0, 0);
+    let d = definition_lines(s, n);
+    if d.number <= l.number {
+        return noted(HEAD_TWICE, a, e, minus(d.number, 1), n);
     }
-    whole_line(HEAD_TOO_MANY, l)
+    whole_line(HEAD_TOO_MANY, l, 0)
 }
 
 // Where a header's name ends: at its first `!`, or with the line.
@@ -121,63 +114,56 @@ fn header_slip(s: &[u8], l: Line) -> Slip
     requires { ⌜ (l .start ≤ l .stop) × (l .stop ≤ length (now s)) ⌝ }
 {
     let a = l.start;
-    let q = name_stop(s, l.start, l.stop);
+    let q = name_stop(s, a, l.stop);
     let n = characters(&s[a..q]);
     if n == 0 {
-        return whole_line(NAME_EMPTY, l);
+        return whole_line(NAME_EMPTY, l, 0);
     }
     if NAME_MOST < n {
-        let from = behind_characters(s, a, q, NAME_MOST);
-        return counted(at_place(NAME_LONG, from, q), n, 0, 0);
+        return noted(NAME_LONG, behind_characters(s, a, q, NAME_MOST), q, 0, n);
     }
-    whole_line(NO_PATTERN, l)
+    whole_line(NO_PATTERN, l, 0)
 }
 
-// The line behind a section's pattern.
-fn line_behind_pattern(s: &[u8], p: Spot) -> usize
-    requires { ⌜ (p .block .number ≤ p .block .at + 1) × (p .block .at ≤ length (now s)) ⌝ }
+// The line behind the pattern of the section that begins at a place.
+fn line_behind_pattern(s: &[u8], p: Place) -> usize
+    requires { ⌜ (1 ≤ p .number) × (p .number ≤ p .at + 1) ⌝ }
 {
-    let block = p.block;
-    let header = line_at(s, block.number, block.at);
-    if s.len() <= block.at {
+    if s.len() <= p.at {
         return 0;
     }
-    let early = run_of(s, Test::Early, block.number + 1, header.next);
-    let pattern = run_of(s, Test::Pattern, early.number + early.lines, early.next);
-    pattern.number + pattern.lines
+    let parts = section_parts(s, p.number, p.at);
+    let late = parts.late;
+    late.number
 }
 
 // Refusal 8 on a line of a section behind its header.
 fn body_slip(s: &[u8], p: Spot) -> Slip
-    requires { ⌜ (p .line .start ≤ p .line .stop) × (p .line .stop ≤ length (now s)) × (p .block .number ≤ p .block .at + 1)
-        × (p .block .at ≤ length (now s)) ⌝ }
+    requires { ⌜ (p .line .start ≤ p .line .stop) × (p .line .stop ≤ length (now s)) × (1 ≤ p .block .number)
+        × (p .block .number ≤ p .block .at + 1) × (p .block .at ≤ length (now s)) ⌝ }
 {
-    let l = p.line;
-    let block = p.block;
-    let a = l.start;
-    let e = l.stop;
-    if is_dashes(&s[a..e]) {
-        return beside(whole_line(DASHES_BARE, l), block.number);
+    let a = p.line.start;
+    let e = p.line.stop;
+    let w = &s[a..e];
+    if is_dashes(w) {
+        return whole_line(DASHES_BARE, p.line, p.block.number);
     }
-    match kind_of(&s[a..e]) {
-        Kind::Key => whole_line(PATTERN_LATE, l),
+    match kind_of(w) {
         Kind::Modifier => modifier_slip(s, p),
-        Kind::Pattern => beside(whole_line(PATTERN_LATE, l), line_behind_pattern(s, p)),
+        _ => whole_line(PATTERN_LATE, p.line, line_behind_pattern(s, p.block)),
     }
 }
 
 // Refusal 8.
 pub fn line_slip(s: &[u8], p: Spot) -> Slip
-    requires { ⌜ (p .line .start ≤ p .line .stop) × (p .line .stop ≤ length (now s)) × (p .block .number ≤ p .block .at + 1)
-        × (p .block .at ≤ length (now s)) ⌝ }
+    requires { ⌜ (p .line .start ≤ p .line .stop) × (p .line .stop ≤ length (now s)) × (1 ≤ p .block .number)
+        × (p .block .number ≤ p .block .at + 1) × (p .block .at ≤ length (now s)) ⌝ }
 {
-    let l = p.line;
-    let block = p.block;
-    if in_metadata(s, p) {
-        return beside(whole_line(LINE_IN_METADATA, l), block.number);
+    if in_metadata(s, p.block) {
+        return whole_line(LINE_IN_METADATA, p.line, p.block.number);
     }
-    if block.number == l.number {
-        return header_slip(s, l);
+    if p.block.number == p.line.number {
+        return header_slip(s, p.line);
     }
     body_slip(s, p)
 }

@@ -1,5 +1,9 @@
 // Slips in counts and lengths: refusals 14 to 17.
 use super::blocks::name_stop;
+use super::keys::whole_line;
+use super::references::DEEP_OR_EMPTY;
+use super::references::EMPTY;
+use super::references::known_before;
 use super::signs::capped;
 use super::signs::minus;
 use super::signs::named_number;
@@ -7,21 +11,16 @@ use super::slip::Slip;
 use super::slip::at_place;
 use super::slip::beside;
 use super::spots::Spot;
-use super::survey::Survey;
 use super::survey::block_behind;
-use super::survey::index_of;
-use super::survey::lines_of;
-use super::survey::survey_of;
 use sections::Place;
 use sections::Run;
-use sections::kind_at;
 use sections::section_parts;
-use settings::BlockKind;
+use settings::is_number;
 use settings::lyric_words;
 use text::Line;
+use text::byte_at;
 use text::is_blank;
 use text::line_at;
-use tokens::Number;
 use tokens::number_in;
 ghost use Prim.Native.Nat.{_+_, _≤_, _<_};
 ghost use mathlib.Core.Path.{_≡_};
@@ -51,15 +50,10 @@ pub fn header_name(clause: usize, s: &[u8], l: Line) -> Slip
 }
 
 // Whether a section's pattern is empty: it names a definition without lines.
-fn is_empty(s: &[u8], v: Survey, pattern: Run) -> bool
+fn is_empty(s: &[u8], known: &[u8], pattern: Run) -> bool
     requires { ⌜ (pattern .at ≤ length (now s)) × (length (now s) ≤ 65536) ⌝ }
 {
-    let named = named_number(s, pattern);
-    if named == 0 {
-        return false;
-    }
-    let run = lines_of(s, v, index_of(v, named));
-    run.lines == 0
+    byte_at(known, named_number(s, pattern)) == EMPTY
 }
 
 // Refusal 15.
@@ -67,29 +61,20 @@ pub fn cut_slip(s: &[u8], p: Spot) -> Slip
     requires { ⌜ (p .line .start ≤ p .line .stop) × (p .line .stop ≤ length (now s)) × (1 ≤ p .block .number)
         × (p .block .number ≤ p .block .at + 1) × (length (now s) ≤ 65536) ⌝ }
 {
-    let l = p.line;
-    let block = p.block;
-    if s.len() <= block.at {
+    if s.len() <= p.block.at {
         return at_place(0, 0, 0);
     }
-    let v = survey_of(s);
-    let parts = section_parts(s, block.number, block.at);
-    if is_empty(s, v, parts.pattern) {
+    let parts = section_parts(s, p.block.number, p.block.at);
+    let known = known_before(s, p.block.at, DEEP_OR_EMPTY);
+    if is_empty(s, &known, parts.pattern) {
         let late = parts.late;
-        let first = line_at(s, late.number, late.at);
-        return beside(
-            at_place(MODIFIER_ON_EMPTY, first.start, first.stop),
-            block.number,
+        return whole_line(
+            MODIFIER_ON_EMPTY,
+            line_at(s, late.number, late.at),
+            p.block.number,
         );
     }
-    header_name(CUTS_TAKE_ALL, s, l)
-}
-
-fn is_count(w: &[u8]) -> bool {
-    match number_in(1, 9999, w) {
-        Number::Is(_) => true,
-        Number::Not => false,
-    }
+    header_name(CUTS_TAKE_ALL, s, p.line)
 }
 
 // Where the last word begins: behind the last blank.
@@ -134,7 +119,7 @@ fn bare_line(s: &[u8], l: Line) -> Slip
     if u == e {
         return at_place(COUNT_MISSING, e, e);
     }
-    if !is_count(&s[u + 1..e]) {
+    if !is_number(number_in(1, 9999, &s[u + 1..e])) {
         if s[k] == b'_' {
             return at_place(COUNT_WRONG, k, e);
         }
@@ -152,9 +137,8 @@ fn counted_line(s: &[u8], run: Run) -> usize
 {
     let mut n = run.number;
     let mut at = run.at;
-    let mut left = run.lines;
     while at < s.len() {
-        if left == 0 {
+        if run.next <= at {
             return 0;
         }
         let l = line_at(s, n, at);
@@ -164,36 +148,29 @@ fn counted_line(s: &[u8], run: Run) -> usize
         }
         n += 1;
         at = l.next;
-        left -= 1;
     }
     0
 }
 
 // The same among the lines that are taken of the block at a place.
-fn counted_in_block(s: &[u8], v: Survey, p: Place) -> usize
+fn counted_in_block(s: &[u8], known: &[u8], p: Place) -> usize
     requires { ⌜ (1 ≤ p .number) × (p .number ≤ p .at + 1) × (p .at < length (now s)) × (length (now s) ≤ 65536) ⌝ }
 {
     let parts = section_parts(s, p.number, p.at);
-    match kind_at(s, p.number, p.at) {
-        BlockKind::Metadata => 0,
-        BlockKind::Definition => 0,
-        BlockKind::Section => {
-            if is_empty(s, v, parts.pattern) {
-                0
-            } else {
-                counted_line(s, parts.lyrics)
-            }
-        }
+    if is_empty(s, known, parts.pattern) {
+        return 0;
     }
+    counted_line(s, parts.lyrics)
 }
 
 // The same in the whole song.
-fn counted_in_song(s: &[u8], v: Survey) -> usize
+fn counted_in_song(s: &[u8]) -> usize
     requires { ⌜ length (now s) ≤ 65536 ⌝ }
 {
+    let known = known_before(s, s.len(), DEEP_OR_EMPTY);
     let mut p = Place { number: 1, at: 0 };
     while p.at < s.len() {
-        let n = counted_in_block(s, v, p);
+        let n = counted_in_block(s, &known, p);
         if n != 0 {
             return n;
         }
@@ -207,7 +184,7 @@ pub fn count_slip(s: &[u8], l: Line) -> Slip
     requires { ⌜ (l .start ≤ l .stop) × (l .stop ≤ length (now s)) × (length (now s) ≤ 65536) ⌝ }
     ensures { λ r. ⌜ BareOn (now (s .entry)) l (r .clause) (r .from) (r .to) ⌝ }
 {
-    beside(bare_line(s, l), counted_in_song(s, survey_of(s)))
+    beside(bare_line(s, l), counted_in_song(s))
 }
 
 // Refusal 17; its numbers are known where the section is played.
@@ -216,13 +193,11 @@ pub fn sum_slip(s: &[u8], p: Spot) -> Slip
         × (p .block .number ≤ p .block .at + 1) × (length (now s) ≤ 65536) ⌝ }
     ensures { λ r. ⌜ (r .clause ≡ 1) × NameOn (now (s .entry)) (p .line) (r .from) (r .to) ⌝ }
 {
-    let l = p.line;
-    let block = p.block;
-    let name = header_name(1, s, l);
-    if s.len() <= block.at {
+    let name = header_name(1, s, p.line);
+    if s.len() <= p.block.at {
         return name;
     }
-    let parts = section_parts(s, block.number, block.at);
+    let parts = section_parts(s, p.block.number, p.block.at);
     let lyrics = parts.lyrics;
     beside(name, minus(capped(lyrics.number, lyrics.lines), 1))
 }

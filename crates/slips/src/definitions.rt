@@ -1,6 +1,6 @@
 // The definition of a number, block by block.
+use super::survey::NO_RUN;
 use super::survey::block_behind;
-use super::survey::no_run;
 use sections::Place;
 use sections::Run;
 use sections::kind_at;
@@ -43,5 +43,5 @@ pub fn definition_lines(s: &[u8], number: usize) -> Run
         }
         p = block_behind(s, p);
     }
-    no_run()
+    NO_RUN
 }

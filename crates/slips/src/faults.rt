@@ -2,13 +2,13 @@
 use super::signs::CLOSES;
 use super::signs::COLON;
 use super::signs::OPENS;
+use super::signs::REFERENCE;
 use super::signs::REMOVER;
 use super::signs::SEMICOLON;
 use super::signs::WRONG;
-use super::signs::is_sound;
 use grammar::Check;
-use grammar::is_alone;
 use grammar::row;
+use text::byte_at;
 use tokens::has_slip;
 use tokens::longest_base;
 ghost use mathlib.Core.Path.{_≡_};
@@ -75,37 +75,29 @@ fn wants(place: usize) -> bool {
     place <= JOINS || place == ENDED
 }
 
-// Whether a `$n` is all that was read.
-pub fn stands_alone(c: Check) -> bool {
-    let place = c.place;
-    is_alone(place)
-}
-
 // A word that is no token.
 fn wrong_clause(w: &[u8]) -> usize
     ensures { λ r. ⌜ (1 ≤ r) × (r ≤ 22) ⌝ }
 {
-    if w.len() == 0 {
-        return NO_CHORD;
-    }
-    if w[0] == b'$' {
-        return REFERENCE_MALFORMED;
-    }
-    if w[0] != b']' {
-        let base = longest_base(w);
-        if base.length == 0 {
-            return NO_CHORD;
+    match byte_at(w, 0) {
+        b'$' => REFERENCE_MALFORMED,
+        b']' => {
+            if w.len() == 1 {
+                LOOP_COUNT_MISSING
+            } else {
+                LOOP_COUNT_WRONG
+            }
         }
-        return if has_slip(w) {
-            EXTENSION_SIGN
-        } else {
-            EXTENSION_LONG
-        };
-    }
-    if w.len() == 1 {
-        LOOP_COUNT_MISSING
-    } else {
-        LOOP_COUNT_WRONG
+        _ => {
+            let base = longest_base(w);
+            if base.length == 0 {
+                NO_CHORD
+            } else if has_slip(w) {
+                EXTENSION_SIGN
+            } else {
+                EXTENSION_LONG
+            }
+        }
     }
 }
 
@@ -140,31 +132,39 @@ fn closing_clause(place: usize, last: u32, loops: usize) -> usize
     }
 }
 
+// A `[` or a remover: a clause of its own where an item is to come.
+fn wanted_clause(place: usize, clause: usize) -> usize
+    requires { ⌜ (1 ≤ clause) × (clause ≤ 22) ⌝ }
+    ensures { λ r. ⌜ (1 ≤ r) × (r ≤ 22) ⌝ }
+{
+    if wants(place) { clause } else { NOT_PARTED }
+}
+
+// A reference, or a token that sounds: this may not stand behind removers.
+fn sound_clause(place: usize, sign: u32) -> usize
+    ensures { λ r. ⌜ (1 ≤ r) × (r ≤ 22) ⌝ }
+{
+    if sign != REFERENCE && place == REMOVED {
+        REMOVER_INSIDE
+    } else {
+        NOT_PARTED
+    }
+}
+
 // A token behind a text that was right so far.
 pub fn token_clause(c: Check, last: u32, sign: u32, w: &[u8]) -> usize
     ensures { λ r. ⌜ (1 ≤ r) × (r ≤ 22) ⌝ }
 {
     let at = c.place;
     let place = row(at);
-    if sign == WRONG {
-        return wrong_clause(w);
-    }
-    if sign == SEMICOLON || sign == COLON {
-        return separator_clause(place, last);
-    }
-    if sign == CLOSES {
-        return closing_clause(place, last, c.loops);
-    }
-    if sign == OPENS && wants(place) {
-        return LOOP_IN_LOOP;
-    }
-    if sign == REMOVER && wants(place) {
-        return REMOVER_FIRST;
-    }
-    if is_sound(sign) && place == REMOVED {
-        REMOVER_INSIDE
-    } else {
-        NOT_PARTED
+    match sign {
+        WRONG => wrong_clause(w),
+        CLOSES => closing_clause(place, last, c.loops),
+        OPENS => wanted_clause(place, LOOP_IN_LOOP),
+        COLON => separator_clause(place, last),
+        SEMICOLON => separator_clause(place, last),
+        REMOVER => wanted_clause(place, REMOVER_FIRST),
+        _ => sound_clause(place, sign),
     }
 }
 

@@ -1,10 +1,8 @@
 // Slips in key and modifier lines: refusals 4 and 5, and those of 8 that are about modifiers.
 use super::slip::Slip;
-use super::slip::at_place;
-use super::slip::beside;
-use super::slip::counted;
+use super::slip::noted;
 use super::spots::Spot;
-use super::survey::no_run;
+use sections::Place;
 use sections::Run;
 use sections::find;
 use sections::slot_of;
@@ -44,50 +42,44 @@ const BPM: usize = 4;
 
 const TIME: usize = 5;
 
-// Whether the block is metadata.
-pub fn in_metadata(s: &[u8], p: Spot) -> bool
-    requires { ⌜ p .block .at ≤ length (now s) ⌝ }
+// Whether the block that begins at a place is metadata.
+pub fn in_metadata(s: &[u8], p: Place) -> bool
+    requires { ⌜ p .at ≤ length (now s) ⌝ }
 {
-    let block = p.block;
-    let first = line_at(s, block.number, block.at);
+    let first = line_at(s, p.number, p.at);
     byte_at(s, first.start) == b'@'
 }
 
-// The whole line.
-pub fn whole_line(clause: usize, l: Line) -> Slip {
-    at_place(clause, l.start, l.stop)
+// The whole line, and one more.
+pub fn whole_line(clause: usize, l: Line, other: usize) -> Slip {
+    noted(clause, l.start, l.stop, other, 0)
 }
 
-// The name with the sign before it.
-fn name_of(clause: usize, s: &[u8], l: Line) -> Slip
+// The name with the sign before it, one more line, and the number of what is named.
+fn name_of(clause: usize, s: &[u8], l: Line, other: usize, slot: usize) -> Slip
     requires { ⌜ (l .start ≤ l .stop) × (l .stop ≤ length (now s)) ⌝ }
 {
-    at_place(clause, l.start, name_end(s, l.start, l.stop))
+    noted(clause, l.start, name_end(s, l.start, l.stop), other, slot)
 }
 
-// The lines from the first of all metadata on, or from the first behind the section's header.
-fn lines_above(s: &[u8], p: Spot) -> Run
-    requires { ⌜ (p .block .number ≤ p .block .at + 1) × (p .block .at ≤ length (now s)) ⌝ }
+// The lines from the first of all metadata on, or from the first behind the header of the section that begins at a place.
+fn lines_above(s: &[u8], p: Place, lines: usize) -> Run
+    requires { ⌜ (p .number ≤ p .at + 1) × (p .at ≤ length (now s)) ⌝ }
     ensures { λ r. ⌜ (1 ≤ r .number) × (r .number ≤ r .at + 1) × (r .at ≤ length (now (s .entry))) ⌝ }
 {
-    let l = p.line;
-    let block = p.block;
-    if in_metadata(s, p) {
+    let header = line_at(s, p.number, p.at);
+    if s.len() <= p.at || in_metadata(s, p) {
         return Run {
             number: 1,
             at: 0,
-            lines: l.number,
+            lines,
             next: 0,
         };
     }
-    let header = line_at(s, block.number, block.at);
-    if s.len() <= block.at {
-        return no_run();
-    }
     Run {
-        number: block.number + 1,
+        number: p.number + 1,
         at: header.next,
-        lines: l.number,
+        lines,
         next: 0,
     }
 }
@@ -97,7 +89,7 @@ fn earlier(s: &[u8], p: Spot, slot: usize) -> usize
     requires { ⌜ (p .block .number ≤ p .block .at + 1) × (p .block .at ≤ length (now s)) × (slot < 13) ⌝ }
 {
     let l = p.line;
-    let said = find(s, slot, lines_above(s, p));
+    let said = find(s, slot, lines_above(s, p.block, l.number));
     if said.line < l.number { said.line } else { 0 }
 }
 
@@ -106,25 +98,18 @@ pub fn key_slip(s: &[u8], p: Spot) -> Slip
     requires { ⌜ (p .line .start ≤ p .line .stop) × (p .line .stop ≤ length (now s)) × (p .block .number ≤ p .block .at + 1)
         × (p .block .at ≤ length (now s)) ⌝ }
 {
-    let l = p.line;
-    let block = p.block;
-    let slot = slot_of(s, l.number, l.start, l.stop);
+    let slot = slot_of(s, p.line.number, p.line.start, p.line.stop);
     if SLOTS <= slot {
-        return counted(name_of(KEY_UNKNOWN, s, l), slot, 0, 0);
+        return name_of(KEY_UNKNOWN, s, p.line, 0, slot);
     }
-    if !in_metadata(s, p) && slot != BPM && slot != TIME {
-        return counted(
-            beside(name_of(KEY_NOT_HERE, s, l), block.number),
-            slot,
-            0,
-            0,
-        );
+    if slot != BPM && slot != TIME && !in_metadata(s, p.block) {
+        return name_of(KEY_NOT_HERE, s, p.line, p.block.number, slot);
     }
     let before = earlier(s, p, slot);
     if before != 0 {
-        return counted(beside(name_of(KEY_TWICE, s, l), before), slot, 0, 0);
+        return name_of(KEY_TWICE, s, p.line, before, slot);
     }
-    counted(beside(whole_line(KEY_LATE, l), block.number), slot, 0, 0)
+    noted(KEY_LATE, p.line.start, p.line.stop, p.block.number, slot)
 }
 
 // Refusal 5.
@@ -134,9 +119,9 @@ pub fn setting_slip(s: &[u8], l: Line) -> Slip
     let slot = slot_of(s, l.number, l.start, l.stop);
     let q = setting_start(s, l.start, l.stop);
     if q == l.stop {
-        return counted(at_place(SETTING_MISSING, q, q), slot, 0, 0);
+        return noted(SETTING_MISSING, q, q, 0, slot);
     }
-    counted(at_place(SETTING_WRONG, q, l.stop), slot, 0, 0)
+    noted(SETTING_WRONG, q, l.stop, 0, slot)
 }
 
 // Refusal 8 on a modifier line.
@@ -144,15 +129,13 @@ pub fn modifier_slip(s: &[u8], p: Spot) -> Slip
     requires { ⌜ (p .line .start ≤ p .line .stop) × (p .line .stop ≤ length (now s)) × (p .block .number ≤ p .block .at + 1)
         × (p .block .at ≤ length (now s)) ⌝ }
 {
-    let l = p.line;
-    let block = p.block;
-    let slot = slot_of(s, l.number, l.start, l.stop);
+    let slot = slot_of(s, p.line.number, p.line.start, p.line.stop);
     if SLOTS <= slot {
-        return name_of(MODIFIER_UNKNOWN, s, l);
+        return name_of(MODIFIER_UNKNOWN, s, p.line, 0, 0);
     }
     let before = earlier(s, p, slot);
     if before != 0 {
-        return counted(beside(name_of(MODIFIER_TWICE, s, l), before), slot, 0, 0);
+        return name_of(MODIFIER_TWICE, s, p.line, before, slot);
     }
-    beside(whole_line(MODIFIER_EARLY, l), block.number)
+    whole_line(MODIFIER_EARLY, p.line, p.block.number)
 }

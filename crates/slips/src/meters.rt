@@ -6,8 +6,6 @@ use super::referring::read_pattern;
 use super::signs::capped;
 use super::slip::Slip;
 use super::slip::at_place;
-use super::slip::beside;
-use super::slip::counted;
 use super::survey::block_of;
 use sections::section_parts;
 use settings::setting_start;
@@ -20,42 +18,34 @@ ghost use Rattle.slips.specs.Readings.{ReadsSide, ToldStray, ToldMisfit}
 
 const STRAY: usize = 13;
 
-// What was read, for refusal 12: the measure that does not fit.
-fn misfit_slip(x: Reading, header: usize, time: usize) -> Slip
-    ensures { λ r. ⌜ ToldMisfit x time r ⌝ }
-{
-    let m = x.misfit;
-    Slip {
-        clause: if m.found { 1 } else { 0 },
-        from: m.from,
-        to: m.to,
-        other: header,
-        first: m.positions,
-        second: time,
-        third: x.measures,
-    }
-}
-
-// For refusal 13: the stray `%`.
-fn stray_slip(x: Reading, header: usize, time: usize) -> Slip
-    ensures { λ r. ⌜ ToldStray x r ⌝ }
-{
-    let m = x.stray;
-    let measure = capped(x.before, 1);
-    if m.found {
-        let found = beside(at_place(1, m.from, capped(m.from, 1)), header);
-        return counted(found, 0, time, measure);
-    }
-    counted(beside(at_place(0, 0, 0), header), 0, time, measure)
-}
-
+// What was read: for refusal 13 the stray `%`, for 12 the measure that does not fit.
 fn reading_slip(x: Reading, header: usize, refusal: usize, time: usize) -> Slip
     ensures { λ r. ⌜ (refusal ≡ 13 → ToldStray x r) × (refusal ≡ 12 → ToldMisfit x time r) ⌝ }
 {
+    let stray = x.stray;
+    let misfit = x.misfit;
+    let to = capped(stray.from, 1);
+    let measure = capped(x.before, 1);
     if refusal == STRAY {
-        return stray_slip(x, header, time);
+        return Slip {
+            clause: if stray.found { 1 } else { 0 },
+            from: stray.from,
+            to,
+            other: header,
+            first: 0,
+            second: time,
+            third: measure,
+        };
     }
-    misfit_slip(x, header, time)
+    Slip {
+        clause: if misfit.found { 1 } else { 0 },
+        from: misfit.from,
+        to: misfit.to,
+        other: header,
+        first: misfit.positions,
+        second: time,
+        third: x.measures,
+    }
 }
 
 // A lead-in or tail.

@@ -1,7 +1,7 @@
 // Slips in pattern text, refusal 7: the text is read up to where it first stops being the beginning of a right one.
 use super::beginnings::bytes_begun;
-use super::beginnings::dollar_at;
 use super::beginnings::kind_begun;
+use super::beginnings::sign_at;
 use super::faults::COLON_NOT_HERE;
 use super::faults::LOOP_COUNT_WRONG;
 use super::faults::LOOP_OPEN;
@@ -10,25 +10,18 @@ use super::faults::REMOVER_INSIDE;
 use super::faults::SEPARATOR_LAST;
 use super::faults::end_clause;
 use super::faults::line_end_clause;
-use super::faults::stands_alone;
 use super::faults::token_clause;
-use super::signs::CLOSES;
 use super::signs::COLON;
 use super::signs::OPENS;
 use super::signs::REFERENCE;
-use super::signs::WRONG;
 use super::signs::capped;
-use super::signs::is_sound;
 use super::signs::minus;
 use super::signs::sign_of;
 use super::signs::token_from;
 use super::slip::Slip;
 use super::slip::at_place;
-use super::slip::beside;
-use super::slip::counted;
 use super::spots::Spot;
 use grammar::Check;
-use grammar::Place;
 use grammar::is_alone;
 use grammar::is_bad;
 use grammar::line_between;
@@ -48,7 +41,7 @@ use text::line_at;
 ghost use mathlib.Core.Path.{_≡_};
 ghost use mathlib.Core.List.{List, [], _∷_, _++_};
 ghost use mathlib.Core.Bool.{true};
-ghost use Prim.Native.Nat.{ℕ, _+_, _≤_, _<_};
+ghost use Prim.Native.Nat.{ℕ, _+_, _-_, _*_, _≤_, _<_};
 ghost use lib.ListN.{length};
 ghost use Rattle.songcode.specs.answer.Lines.{Line};
 ghost use Rattle.songcode.specs.answer.Tokens.{Token, lineEnd};
@@ -57,13 +50,11 @@ ghost use Rattle.tokens.specs.TokenWords.{tokenWord};
 ghost use Rattle.tokens.specs.Fitting.{Fit};
 ghost use Rattle.tokens.specs.Lexing.{tokensFrom};
 ghost use Rattle.slips.specs.Rules.{isEarlier, Latest, Told, piece};
-ghost use Rattle.slips.specs.RulesRead.{amiss, misnamed, isStuck, isSide, backOf, Going, Steps, Reads, upTo};
+ghost use Rattle.slips.specs.RulesRead.{misnamed, isStuck, isSide, backOf, Going, Steps, Reads, upTo};
 ghost use Rattle.slips.specs.Rules.{Ruled};
 ghost use Rattle.slips.specs.RulesRead.{ReadAll, RuledAt, sideLine};
-ghost use Rattle.slips.specs.declared.patterns.Whose.the-variants.{Definition, Section, Side};
+ghost use Rattle.slips.specs.declared.patterns.Whose.the-variants.{Side};
 ghost use Rattle.sections.specs.Runs.{linesOf};
-ghost use Rattle.sections.specs.BlockParts.{blockAt};
-ghost use Rattle.songcode.specs.answer.Sections.{patternRun, body};
 
 // Whose text it is: a definition's, a section's, a lead-in's or tail's.
 pub enum Whose {
@@ -120,18 +111,7 @@ fn blamed(r: Reading, clause: usize, from: usize, to: usize, stop: usize) -> Rea
     }
 }
 
-// Whether a `$n` that was read may not stand in the text that it stands in.
-fn is_amiss(whose: Whose, p: Place) -> bool
-    ensures { λ r. ⌜ r ≡ amiss whose p ⌝ }
-{
-    match whose {
-        Whose::Definition => false,
-        Whose::Section => !is_alone(p),
-        Whose::Side => true,
-    }
-}
-
-// Whether a `$n` stands where this text has none.
+// Whether a `$n` was read that may not stand in this text.
 fn is_misnamed(whose: Whose, c: Check) -> bool
     ensures { λ r. ⌜ r ≡ misnamed whose c ⌝ }
 {
@@ -139,7 +119,11 @@ fn is_misnamed(whose: Whose, c: Check) -> bool
         return false;
     }
     let place = c.place;
-    is_amiss(whose, place)
+    match whose {
+        Whose::Definition => false,
+        Whose::Section => !is_alone(place),
+        Whose::Side => true,
+    }
 }
 
 // Whether no right text goes on from here.
@@ -163,50 +147,28 @@ fn is_side(whose: Whose) -> bool
     }
 }
 
-// "without `:` and `$`"; what stands directly behind a `]` is a wrong count, whatever it is.
-fn is_barred(whose: Whose, sign: u32, w: &[u8]) -> bool {
+// "without `:` and `$`": the clause of a token that may not stand, 0 where it may; what stands directly behind a `]` is a wrong count, whatever it is.
+fn barred_clause(whose: Whose, sign: u32, w: &[u8]) -> usize
+    ensures { λ r. ⌜ (19 ≤ r + 19 * (1 - r)) × (r ≤ 20) ⌝ }
+{
     if !is_side(whose) {
-        return false;
+        return 0;
     }
     if sign == COLON {
-        return true;
+        return COLON_NOT_HERE;
     }
-    byte_at(w, 0) != b']' && dollar_at(w) < w.len()
+    if byte_at(w, 0) != b']' && sign_at(w, false) < w.len() {
+        return REFERENCE_NOT_HERE;
+    }
+    0
 }
 
-// Where in a word that begins at a place the text stops being the beginning of a right one.
-fn stop_in_word(whose: Whose, c: Check, w: &[u8], from: usize) -> usize {
+// Where in a token that begins at a place the text stops being the beginning of a right one.
+fn stop_of(whose: Whose, c: Check, w: &[u8], from: usize) -> usize {
     if is_stuck(whose, step_kind(c, kind_begun(byte_at(w, 0)))) {
         return from;
     }
-    let end = if is_side(whose) {
-        dollar_at(w)
-    } else {
-        w.len()
-    };
-    let begun = bytes_begun(w);
-    if begun < end {
-        return capped(from, begun);
-    }
-    capped(from, end)
-}
-
-// The same for any token.
-fn stop_of(whose: Whose, c: Check, sign: u32, w: &[u8], from: usize) -> usize {
-    if sign == WRONG || sign == CLOSES || is_sound(sign) || sign == REFERENCE {
-        return stop_in_word(whose, c, w, from);
-    }
-    from
-}
-
-fn barred_clause(sign: u32) -> usize
-    ensures { λ r. ⌜ (19 ≤ r) × (r ≤ 20) ⌝ }
-{
-    if sign == COLON {
-        COLON_NOT_HERE
-    } else {
-        REFERENCE_NOT_HERE
-    }
+    capped(from, bytes_begun(w))
 }
 
 // The place that is to change where a token is behind a right beginning: the token, what stands in it behind its `]`, or the token before it.
@@ -235,21 +197,12 @@ fn blame_reference(r: Reading, sign: u32, from: usize, to: usize) -> Reading
     blamed(r, REFERENCE_NOT_HERE, r.from, r.to, from)
 }
 
-// The place of the last `[` behind one more token.
-fn opened(before: usize, sign: u32, from: usize) -> usize
-    ensures { λ r. ⌜ (before ≤ from → r ≤ from) × (sign ≡ 57 → r ≡ from) × ((sign ≡ 57 → ⊥) → r ≡ before) ⌝ }
-{
-    if sign == OPENS {
-        return from;
-    }
-    before
-}
-
+// A token with which a right text goes on; a `[` is remembered.
 fn passed(r: Reading, check: Check, sign: u32, from: usize, to: usize) -> Reading
     ensures { λ x. ⌜ (x .check ≡ check) × (x .clause ≡ 0) × (x .from ≡ from) × (r .open ≤ from → x .open ≤ from) × (sign ≡ 57 → x .open ≡ from)
         × ((sign ≡ 57 → ⊥) → x .open ≡ r .open) ⌝ }
 {
-    let open = opened(r.open, sign, from);
+    let open = if sign == OPENS { from } else { r.open };
     Reading {
         check,
         last: sign,
@@ -269,18 +222,19 @@ fn blame(s: &[u8], whose: Whose, r: Reading, word: u32, from: usize, to: usize) 
     ensures { λ x. ⌜ (r .from ≤ from → Told from (backOf r) (x .clause) (x .spot)) ⌝ }
 {
     let sign = sign_of(word);
-    let before = r.check;
-    let stop = stop_of(whose, before, sign, &s[from..to], from);
-    if is_barred(whose, sign, &s[from..to]) {
-        return blamed(r, barred_clause(sign), from, to, stop);
+    let w = &s[from..to];
+    let stop = stop_of(whose, r.check, w, from);
+    let barred = barred_clause(whose, sign, w);
+    if barred != 0 {
+        return blamed(r, barred, from, to, stop);
     }
-    if is_misnamed(whose, step_check(before, word)) {
+    if is_misnamed(whose, step_check(r.check, word)) {
         return blame_reference(r, sign, from, to);
     }
-    if is_misplaced(whose, before) {
+    if is_misplaced(whose, r.check) {
         return blame_reference(r, sign, from, to);
     }
-    let clause = token_clause(before, r.last, sign, &s[from..to]);
+    let clause = token_clause(r.check, r.last, sign, w);
     blame_token(r, clause, from, to, stop)
 }
 
@@ -310,9 +264,10 @@ fn read_token(s: &[u8], whose: Whose, r: Reading, word: u32, from: usize, to: us
 
 // Whether a section's text is a `$n` so far, and so ends here.
 fn is_misplaced(whose: Whose, c: Check) -> bool {
+    let place = c.place;
     match whose {
         Whose::Definition => false,
-        Whose::Section => stands_alone(c),
+        Whose::Section => is_alone(place),
         Whose::Side => false,
     }
 }
@@ -426,13 +381,15 @@ fn read_lines(s: &[u8], whose: Whose, run: Run) -> Reading
 fn slip_in(r: Reading, header: usize) -> Slip
     ensures { λ x. ⌜ (x .clause ≡ r .clause) × (x .from ≡ r .spot) ⌝ }
 {
-    let second = if r.open == 0 { r.stop } else { r.open };
-    counted(
-        beside(at_place(r.clause, r.spot, r.past), header),
-        r.stop,
-        second,
-        0,
-    )
+    Slip {
+        clause: r.clause,
+        from: r.spot,
+        to: r.past,
+        other: header,
+        first: r.stop,
+        second: if r.open == 0 { r.stop } else { r.open },
+        third: 0,
+    }
 }
 
 // A text that is not right, on these lines.
@@ -450,34 +407,12 @@ fn side_slip(s: &[u8], p: Spot) -> Slip
     ensures { λ x. ⌜ (p .line .start < p .line .stop
         → Ruled (now (s .entry)) Side (sideLine (now (s .entry)) (p .line) ∷ []) (x .clause) (x .from)) ⌝ }
 {
-    let l = p.line;
-    let block = p.block;
-    if l.stop <= l.start {
-        return at_place(0, l.start, l.stop);
+    if p.line.stop <= p.line.start {
+        return at_place(0, p.line.start, p.line.stop);
     }
-    let q = setting_start(s, l.start + 1, l.stop);
-    let r = read_line(s, Whose::Side, reading_from(q), q, l.stop);
-    slip_in(read_end(r), block.number)
-}
-
-// The pattern of a section.
-fn section_slip(s: &[u8], number: usize, at: usize) -> Slip
-    requires { ⌜ (1 ≤ number) × (number ≤ at + 1) × (at < length (now s)) × (length (now s) ≤ 65536) ⌝ }
-    ensures { λ x. ⌜ ((m : Line) (ms : List Line) → patternRun (body (blockAt (now (s .entry)) number at)) ≡ m ∷ ms
-        → Ruled (now (s .entry)) Section (m ∷ ms) (x .clause) (x .from)) ⌝ }
-{
-    let parts = section_parts(s, number, at);
-    text_slip(s, Whose::Section, parts.pattern, number)
-}
-
-// The text of a definition.
-fn definition_slip(s: &[u8], number: usize, at: usize) -> Slip
-    requires { ⌜ (1 ≤ number) × (number ≤ at + 1) × (at < length (now s)) × (length (now s) ≤ 65536) ⌝ }
-    ensures { λ x. ⌜ ((m : Line) (ms : List Line) → blockAt (now (s .entry)) number at .others ≡ m ∷ ms
-        → Ruled (now (s .entry)) Definition (m ∷ ms) (x .clause) (x .from)) ⌝ }
-{
-    let read = read_definition(s, number, at);
-    text_slip(s, Whose::Definition, read.pattern, number)
+    let q = setting_start(s, p.line.start + 1, p.line.stop);
+    let r = read_line(s, Whose::Side, reading_from(q), q, p.line.stop);
+    slip_in(read_end(r), p.block.number)
 }
 
 // Refusal 7.
@@ -486,20 +421,24 @@ pub fn pattern_slip(s: &[u8], p: Spot) -> Slip
         × (p .block .at ≤ length (now s)) × (length (now s) ≤ 65536) ⌝ }
     ensures { λ x. ⌜ RuledAt (now (s .entry)) (p .line) (p .block) x ⌝ }
 {
-    let l = p.line;
-    let block = p.block;
-    let a = l.start;
-    let e = l.stop;
-    if s.len() <= block.at {
+    let a = p.line.start;
+    let e = p.line.stop;
+    if s.len() <= p.block.at {
         return at_place(0, a, e);
     }
-    match kind_at(s, block.number, block.at) {
+    match kind_at(s, p.block.number, p.block.at) {
         BlockKind::Metadata => at_place(0, a, e),
-        BlockKind::Definition => definition_slip(s, block.number, block.at),
+        BlockKind::Definition => {
+            let read = read_definition(s, p.block.number, p.block.at);
+            text_slip(s, Whose::Definition, read.pattern, p.block.number)
+        }
         BlockKind::Section => match kind_of(&s[a..e]) {
             Kind::Key => at_place(0, a, e),
             Kind::Modifier => side_slip(s, p),
-            Kind::Pattern => section_slip(s, block.number, block.at),
+            Kind::Pattern => {
+                let parts = section_parts(s, p.block.number, p.block.at);
+                text_slip(s, Whose::Section, parts.pattern, p.block.number)
+            }
         },
     }
 }

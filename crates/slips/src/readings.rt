@@ -52,22 +52,19 @@ pub fn reading_in(time: usize) -> Reading
             found: false,
             from: 0,
         },
-        misfit: no_measure(),
+        misfit: NO_MEASURE,
         measures: 0,
         before: 0,
     }
 }
 
-fn no_measure() -> Misfit
-    ensures { λ r. ⌜ r ≡ noMeasure ⌝ }
-{
-    Misfit {
-        positions: 0,
-        from: 0,
-        to: 0,
-        found: false,
-    }
-}
+// Between two measures.
+const NO_MEASURE: Misfit = Misfit {
+    positions: 0,
+    from: 0,
+    to: 0,
+    found: false,
+};
 
 // One more token: the first chord or `%` settles it.
 fn hear(x: Stray, sign: u32, from: usize) -> Stray
@@ -124,7 +121,7 @@ fn close(x: Misfit, time: usize) -> Misfit
         return x;
     }
     if time % x.positions == 0 {
-        return no_measure();
+        return NO_MEASURE;
     }
     Misfit {
         positions: x.positions,

@@ -1,175 +1,97 @@
 // Slips in references: refusals 10 and 11.
+use super::definitions::definition_lines;
 use super::signs::CLOSES;
 use super::signs::OPENS;
 use super::signs::REFERENCE;
+use super::signs::Token;
+use super::signs::minus;
 use super::signs::number_of;
 use super::signs::sign_of;
 use super::signs::token_from;
 use super::slip::Slip;
 use super::slip::at_place;
-use super::slip::beside;
-use super::slip::counted;
-use super::spots::Spot;
-use super::survey::Survey;
-use super::survey::head_of;
-use super::survey::index_of;
-use super::survey::lines_of;
-use super::survey::survey_of;
+use super::slip::noted;
+use super::survey::NO_RUN;
+use super::survey::block_behind;
+use sections::Place;
 use sections::Run;
-use sections::Test;
 use sections::kind_at;
-use sections::run_of;
+use sections::next_block;
+use sections::read_definition;
+use sections::section_parts;
 use settings::BlockKind;
+use text::byte_at;
 use text::line_at;
 ghost use Prim.Native.Nat.{_+_, _≤_, _<_};
 ghost use lib.ListN.{length};
 
-// The clause of refusal 10.
-const UNDEFINED: usize = 1;
+// The clause of a reference that names no earlier definition (refusal 10), or one that has a reference itself (refusal 11).
+const NONE_OR_DEEP: usize = 1;
 
-// The clauses of refusal 11.
-const DEEP: usize = 1;
+// What is known of a definition: 0 where there is none or it has a reference itself; or its other clauses of refusal 11, that it has a loop (and is
+// meant in one) or no lines; or that nothing is wrong with it.
+const LOOPS: u8 = 2;
 
-const LOOPS: usize = 2;
+pub const EMPTY: u8 = 3;
 
-const EMPTY: usize = 3;
+const FINE: u8 = 4;
 
-// What the text of each definition holds: lines at all, a reference, a loop.
-struct Traits {
-    full: [bool; 26],
-    refers: [bool; 26],
-    loops: [bool; 26],
-}
+// Definitions are numbered below this.
+const NUMBERS: usize = 10000;
 
-// What a text holds.
-struct Held {
-    refers: bool,
-    loops: bool,
-}
+// The two refusals.
+const NOT_DEFINED: usize = 10;
 
-// The search for a reference at fault: the refusal, the line of the block's head, whether a loop is open; once one is found, its clause, its place
-// and its number.
+pub const DEEP_OR_EMPTY: usize = 11;
+
+// The search for a reference at fault: 0 before the first loop, 1 behind one, 2 in one; of the last token the clause, 0 where nothing is wrong with it,
+// its place and its number.
 struct Search {
-    refusal: usize,
-    head: usize,
-    inside: bool,
+    loops: usize,
     clause: usize,
     from: usize,
     to: usize,
     number: usize,
 }
 
-// With one more token.
-fn held_after(x: Held, sign: u32) -> Held {
-    Held {
-        refers: x.refers || sign == REFERENCE,
-        loops: x.loops || sign == OPENS,
+// The clause of a reference to a definition of which this is known, 0 where nothing is wrong with it.
+fn clause_of(known: u8, loops: usize) -> usize {
+    match known {
+        0 => NONE_OR_DEEP,
+        LOOPS => { if loops == 2 { 2 } else { 0 } }
+        EMPTY => 3,
+        _ => 0,
     }
 }
 
-fn held_in_line(s: &[u8], x: Held, from: usize, to: usize) -> Held
-    requires { ⌜ (from ≤ to) × (to ≤ length (now s)) × (to ≤ 65536) ⌝ }
-{
-    let mut held = x;
-    let mut at = from;
-    while at < to {
-        let t = token_from(s, at, to);
-        if t.next == at {
-            return held;
-        }
-        held = held_after(held, sign_of(t.word));
-        at = t.next;
+fn loops_after(loops: usize, sign: u32) -> usize {
+    match sign {
+        OPENS => 2,
+        CLOSES => 1,
+        _ => loops,
     }
-    held
-}
-
-fn held_in(s: &[u8], run: Run) -> Held
-    requires { ⌜ length (now s) ≤ 65536 ⌝ }
-{
-    let mut x = Held {
-        refers: false,
-        loops: false,
-    };
-    let mut at = run.at;
-    let mut left = run.lines;
-    while at < s.len() {
-        if left == 0 {
-            return x;
-        }
-        let l = line_at(s, 0, at);
-        x = held_in_line(s, x, l.start, l.stop);
-        at = l.next;
-        left -= 1;
-    }
-    x
-}
-
-fn traits_of(s: &[u8], v: Survey) -> Traits
-    requires { ⌜ length (now s) ≤ 65536 ⌝ }
-{
-    let mut full = [false; 26];
-    let mut refers = [false; 26];
-    let mut loops = [false; 26];
-    let mut i = 0;
-    while i < 26 {
-        let run = lines_of(s, v, i);
-        let x = held_in(s, run);
-        full[i] = run.lines != 0;
-        refers[i] = x.refers;
-        loops[i] = x.loops;
-        i += 1;
-    }
-    Traits {
-        full,
-        refers,
-        loops,
-    }
-}
-
-// The clause of a reference to the i-th definition, 0 where nothing is wrong with it.
-fn clause_of(v: Survey, t: Traits, x: Search, i: usize) -> usize {
-    let head = head_of(v, i);
-    if x.refusal == 10 {
-        return if head == 0 || x.head <= head {
-            UNDEFINED
-        } else {
-            0
-        };
-    }
-    if 26 <= i {
-        return 0;
-    }
-    if !t.full[i] {
-        return EMPTY;
-    }
-    if t.refers[i] {
-        return DEEP;
-    }
-    if x.inside && t.loops[i] { LOOPS } else { 0 }
 }
 
 // The search behind one more token.
-fn search_token(v: Survey, t: Traits, x: Search, word: u32, from: usize, to: usize) -> Search {
-    let sign = sign_of(word);
-    let number = number_of(word);
-    let refers = sign == REFERENCE;
-    let clause = if refers {
-        clause_of(v, t, x, index_of(v, number))
+fn search_token(known: &[u8], x: Search, t: Token) -> Search {
+    let sign = sign_of(t.word);
+    let number = number_of(t.word);
+    let clause = if sign == REFERENCE {
+        clause_of(byte_at(known, number), x.loops)
     } else {
         0
     };
     Search {
-        refusal: x.refusal,
-        head: x.head,
-        inside: sign == OPENS || (x.inside && sign != CLOSES),
+        loops: loops_after(x.loops, sign),
         clause,
-        from,
-        to,
+        from: t.from,
+        to: t.next,
         number,
     }
 }
 
-fn search_line(s: &[u8], v: Survey, traits: Traits, x: Search, from: usize, to: usize) -> Search
+// A line up to the first reference at fault.
+fn search_line(s: &[u8], known: &[u8], x: Search, from: usize, to: usize) -> Search
     requires { ⌜ (from ≤ to) × (to ≤ length (now s)) × (to ≤ 65536) ⌝ }
 {
     let mut search = x;
@@ -179,7 +101,7 @@ fn search_line(s: &[u8], v: Survey, traits: Traits, x: Search, from: usize, to: 
         if t.next == at {
             return search;
         }
-        search = search_token(v, traits, search, t.word, t.from, t.next);
+        search = search_token(known, search, t);
         if search.clause != 0 {
             return search;
         }
@@ -188,64 +110,104 @@ fn search_line(s: &[u8], v: Survey, traits: Traits, x: Search, from: usize, to: 
     search
 }
 
-fn search_lines(s: &[u8], v: Survey, t: Traits, x: Search, run: Run) -> Search
+// The same of lines.
+fn search_lines(s: &[u8], known: &[u8], run: Run) -> Search
     requires { ⌜ length (now s) ≤ 65536 ⌝ }
 {
-    let mut search = x;
-    let mut at = run.at;
-    let mut left = run.lines;
-    while at < s.len() {
-        if left == 0 || search.clause != 0 {
-            return search;
-        }
-        let l = line_at(s, 0, at);
-        search = search_line(s, v, t, search, l.start, l.stop);
-        at = l.next;
-        left -= 1;
-    }
-    search
-}
-
-// The pattern lines of the block that begins at a place.
-pub fn pattern_of(s: &[u8], number: usize, at: usize) -> Run
-    requires { ⌜ (number ≤ at + 1) × (at < length (now s)) ⌝ }
-{
-    let first = line_at(s, number, at);
-    match kind_at(s, number, at) {
-        BlockKind::Metadata => run_of(s, Test::Empty, number + 1, first.next),
-        BlockKind::Definition => run_of(s, Test::Full, number + 1, first.next),
-        BlockKind::Section => {
-            let early = run_of(s, Test::Early, number + 1, first.next);
-            run_of(s, Test::Pattern, early.number + early.lines, early.next)
-        }
-    }
-}
-
-// Refusals 10 and 11.
-pub fn reference_slip(s: &[u8], p: Spot, refusal: usize) -> Slip
-    requires { ⌜ (p .block .number ≤ p .block .at + 1) × (length (now s) ≤ 65536) ⌝ }
-{
-    let block = p.block;
-    if s.len() <= block.at {
-        return at_place(0, 0, 0);
-    }
-    let v = survey_of(s);
-    let none = Search {
-        refusal,
-        head: block.number,
-        inside: false,
+    let mut search = Search {
+        loops: 0,
         clause: 0,
         from: 0,
         to: 0,
         number: 0,
     };
-    let run = pattern_of(s, block.number, block.at);
-    let x = search_lines(s, v, traits_of(s, v), none, run);
-    let other = head_of(v, index_of(v, x.number));
-    counted(
-        beside(at_place(x.clause, x.from, x.to), other),
-        x.number,
-        0,
-        0,
-    )
+    let mut at = run.at;
+    while at < s.len() {
+        if run.next <= at || search.clause != 0 {
+            return search;
+        }
+        let l = line_at(s, 0, at);
+        search = search_line(s, known, search, l.start, l.stop);
+        at = l.next;
+    }
+    search
+}
+
+// What is known of a definition with these lines: for refusal 10 it is enough that there is one. To its own text none is known, so that any
+// reference in it is at fault.
+fn trait_of(s: &[u8], run: Run, refusal: usize) -> u8
+    requires { ⌜ length (now s) ≤ 65536 ⌝ }
+{
+    if refusal == NOT_DEFINED {
+        return FINE;
+    }
+    if run.lines == 0 {
+        return EMPTY;
+    }
+    let x = search_lines(s, &s[0..0], run);
+    if x.clause != 0 {
+        return 0;
+    }
+    if x.loops == 0 { FINE } else { LOOPS }
+}
+
+// A block: the number of the definition that it is, or more than any has, and its pattern lines.
+struct Lines {
+    number: usize,
+    run: Run,
+}
+
+fn lines_at(s: &[u8], p: Place) -> Lines
+    requires { ⌜ (1 ≤ p .number) × (p .number ≤ p .at + 1) × (p .at < length (now s)) ⌝ }
+{
+    match kind_at(s, p.number, p.at) {
+        BlockKind::Metadata => Lines {
+            number: NUMBERS,
+            run: NO_RUN,
+        },
+        BlockKind::Definition => {
+            let d = read_definition(s, p.number, p.at);
+            let run = d.pattern;
+            Lines { number: d.id, run }
+        }
+        BlockKind::Section => {
+            let parts = section_parts(s, p.number, p.at);
+            let run = parts.pattern;
+            Lines {
+                number: NUMBERS,
+                run,
+            }
+        }
+    }
+}
+
+// What is known of each definition that begins before a place, by its number.
+pub fn known_before(s: &[u8], at: usize, refusal: usize) -> [u8; 10000]
+    requires { ⌜ (at ≤ length (now s)) × (length (now s) ≤ 65536) ⌝ }
+{
+    let mut known = [0; 10000];
+    let mut p = next_block(s, 1, 0);
+    while p.at < at {
+        let lines = lines_at(s, p);
+        let number = lines.number;
+        if number < NUMBERS {
+            known[number] = trait_of(s, lines.run, refusal);
+        }
+        p = block_behind(s, p);
+    }
+    known
+}
+
+// Refusals 10 and 11.
+pub fn reference_slip(s: &[u8], p: Place, refusal: usize) -> Slip
+    requires { ⌜ (1 ≤ p .number) × (p .number ≤ p .at + 1) × (length (now s) ≤ 65536) ⌝ }
+{
+    if s.len() <= p.at {
+        return at_place(0, 0, 0);
+    }
+    let known = known_before(s, p.at, refusal);
+    let lines = lines_at(s, p);
+    let x = search_lines(s, &known, lines.run);
+    let d = definition_lines(s, x.number);
+    noted(x.clause, x.from, x.to, minus(d.number, 1), x.number)
 }

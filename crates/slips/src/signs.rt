@@ -48,11 +48,6 @@ pub fn number_of(word: u32) -> usize
     (word % SIGN) as usize
 }
 
-// A chord, `%` or `_`.
-pub fn is_sound(sign: u32) -> bool {
-    sign < CHORDS || REMOVER < sign
-}
-
 // A token: its word, the place of its first byte, and the place behind its last.
 pub struct Token {
     pub word: u32,

@@ -28,7 +28,7 @@ pub fn at_place(clause: usize, from: usize, to: usize) -> Slip
     }
 }
 
-// The same with one more line.
+// A slip with one more line.
 pub fn beside(x: Slip, other: usize) -> Slip
     ensures { λ r. ⌜ (r .clause ≡ x .clause) × (r .from ≡ x .from) × (r .to ≡ x .to) ⌝ }
 {
@@ -43,18 +43,16 @@ pub fn beside(x: Slip, other: usize) -> Slip
     }
 }
 
-// The same with its numbers.
-pub fn counted(x: Slip, first: usize, second: usize, third: usize) -> Slip
-    ensures { λ r. ⌜ (r .clause ≡ x .clause) × (r .from ≡ x .from) × (r .to ≡ x .to) ⌝ }
-{
+// A clause and its place, one more line and a number.
+pub fn noted(clause: usize, from: usize, to: usize, other: usize, first: usize) -> Slip {
     Slip {
-        clause: x.clause,
-        from: x.from,
-        to: x.to,
-        other: x.other,
+        clause,
+        from,
+        to,
+        other,
         first,
-        second,
-        third,
+        second: 0,
+        third: 0,
     }
 }
 

@@ -1,8 +1,8 @@
 // A line by its number, and the block that it stands in.
 use super::survey::block_of;
 use sections::Place;
+use sections::line_numbered;
 use text::Line;
-use text::line_at;
 ghost use Prim.Native.Nat.{_+_, _<_, _≤_};
 ghost use mathlib.Core.Path.{_≡_};
 ghost use lib.ListN.{length};
@@ -18,24 +18,6 @@ pub struct Spot {
     pub block: Place,
 }
 
-// The line with this number; the end of the text where there is none.
-fn line_of_number(s: &[u8], wanted: usize) -> Line
-    ensures { λ r. ⌜ (r .start ≤ r .stop) × (r .stop ≤ length (now (s .entry))) × (r .number ≤ r .start + 1) × (1 ≤ r .number) ⌝ }
-    ensures { λ r. ⌜ ((l : Line) → LineOf (now (s .entry)) wanted l → r ≡ l) ⌝ }
-{
-    let mut number = 1;
-    let mut at = 0;
-    while at < s.len() {
-        let line = line_at(s, number, at);
-        if number == wanted {
-            return line;
-        }
-        at = line.next;
-        number += 1;
-    }
-    line_at(s, number, at)
-}
-
 // Both.
 pub fn spot_of(s: &[u8], wanted: usize) -> Spot
     ensures { λ r. ⌜ (r .line .start ≤ r .line .stop) × (r .line .stop ≤ length (now (s .entry))) × (r .line .number ≤ r .line .start + 1)
@@ -45,7 +27,7 @@ pub fn spot_of(s: &[u8], wanted: usize) -> Spot
     ensures { λ r. ⌜ ((b : Block) (m : songcode.Line) → InBlock (now (s .entry)) wanted b m
         → (r .block .at < length (now (s .entry))) × (blockAt (now (s .entry)) (r .block .number) (r .block .at) ≡ b)) ⌝ }
 {
-    let line = line_of_number(s, wanted);
+    let line = line_numbered(s, wanted);
     let block = block_of(s, wanted);
     Spot { line, block }
 }

@@ -14,9 +14,10 @@ use super::references::reference_slip;
 use super::signs::wide;
 use super::slip::Slip;
 use super::slip::at_place;
-use super::slip::counted;
+use super::slip::noted;
 use super::spots::Spot;
 use super::spots::spot_of;
+use text::byte_at;
 use text::good_bytes;
 ghost use Prim.Native.Nat.{_+_, _≤_};
 ghost use lib.ListN.{length};
@@ -30,11 +31,9 @@ const NO_CHARACTER: usize = 2;
 // Refusal 2.
 fn byte_slip(s: &[u8]) -> Slip {
     let at = good_bytes(s);
-    if s.len() <= at {
-        return at_place(0, 0, 0);
-    }
-    let clause = if s[at] == 0 { ZERO_BYTE } else { NO_CHARACTER };
-    counted(at_place(clause, at, at + 1), wide(s[at]), 0, 0)
+    let byte = wide(byte_at(s, at));
+    let clause = if byte == 0 { ZERO_BYTE } else { NO_CHARACTER };
+    noted(clause, at, at + 1, 0, byte)
 }
 
 // The slip of every refusal but 7, 12, 13, 16 and 17.
@@ -43,17 +42,15 @@ fn slip_on(s: &[u8], p: Spot, refusal: usize) -> Slip
     requires { ⌜ (p .line .number ≤ p .line .start + 1) × (1 ≤ p .line .number) ⌝ }
     requires { ⌜ (1 ≤ p .block .number) × (p .block .number ≤ p .block .at + 1) × (p .block .at ≤ length (now s)) ⌝ }
 {
-    let l = p.line;
     match refusal {
         2 => byte_slip(s),
-        3 => order_slip(s, l),
+        3 => order_slip(s, p.line),
         4 => key_slip(s, p),
-        5 => setting_slip(s, l),
-        6 => head_slip(s, l),
+        5 => setting_slip(s, p.line),
+        6 => head_slip(s, p.line),
         8 => line_slip(s, p),
-        10 => reference_slip(s, p, refusal),
-        11 => reference_slip(s, p, refusal),
-        14 => header_name(1, s, l),
+        10 | 11 => reference_slip(s, p.block, refusal),
+        14 => header_name(1, s, p.line),
         15 => cut_slip(s, p),
         _ => at_place(1, 0, 0),
     }

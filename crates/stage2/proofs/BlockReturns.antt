@@ -51,15 +51,15 @@ unfolding ends
 text-ended c nine end r a b d = rw (← b, ← unless-late (c .carried .turn) noSection, ← a) d
 
 module _ (k : Carried) (l : Line) where
-  pub in-metadata : (note : ℕ) (m : List Bool) (q : Pending) (c : State) → note ≡ keyJudged (k .metadata) l → m ≡ marked (keyOf l) (k .metadata)
-      → q ≡ nothingPending → c ≡ blockState place.Metadata (carried (k .turn) m (k .count)) q
-      → judged note c ≡ judged (keyJudged (k .metadata) l) (metadataState k l)
-  in-metadata note m q c a b d e = rw (a, e, b, d) refl
+  module _ (own : ℕ) (m : List Bool) (c : State) (o : own ≡ keyJudged (k .metadata) l) (b : m ≡ marked (keyOf l) (k .metadata))
+      (e : c ≡ blockState place.Metadata (carried (k .turn) m (k .count)) nothingPending) where
+    pub in-metadata : judged own c ≡ judged (keyJudged (k .metadata) l) (metadataState k l)
+    in-metadata = rw (o, e, b) refl
 
-  pub opened-metadata : (behind note : ℕ) (j : Judged) → behind ≡ least (complainIf (ltb 0 (k .turn)) 3 (l .number))
-      → j ≡ judged (keyJudged (k .metadata) l) (metadataState k l) → note ≡ min behind (j .note) → judged note (j .state) ≡ opening metadata k l
-  unfolding opening late
-  opened-metadata behind note j a d e = rw (e, d, a) refl
+    pub opened-metadata : (behind note : ℕ) → behind ≡ least (complainIf (ltb 0 (k .turn)) 3 (l .number)) → note ≡ min behind own
+        → judged note c ≡ opening metadata k l
+    unfolding opening late
+    opened-metadata behind note a d = rw (d, a, o, e, b) refl
 
 pub opened-definition : (k : Carried) (n behind turn count : ℕ) (q : Pending) (c : State) → behind ≡ least (complainIf (ltb 1 (k .turn)) 3 n)
     → turn ≡ max (k .turn) 1 → count ≡ min (k .count) 25 → q ≡ nothingPending → c ≡ blockState place.Head (carried turn (k .metadata) (count + 1)) q

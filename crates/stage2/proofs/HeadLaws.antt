@@ -18,7 +18,6 @@ use Rattle.songcode.specs.answer.Sections.{twiceBy, behindFirst}
 use Rattle.songcode.specs.answer.SongText.{headIn}
 use Rattle.songcode.proofs.ListLaws.{any-append, both-pass, by-cases}
 use Rattle.tokens.specs.Decimals.{numberOf}
-use Rattle.settings.specs.KeySettings.{isNumber}
 use Rattle.text.specs.Ranks.{least}
 use Rattle.stage2.specs.Heads.{hasHead, headAgain, headJudged, orZero, withHead}
 use Rattle.stage2.proofs.MarkLaws.{said}
@@ -57,7 +56,7 @@ same-line false line = omega arith
 module _ (m : ℕ) (ids : List ℕ) (n : ℕ) (seen : List ℕ) (a : HeadsAgree m ids n seen) where
   beyond : 26 ≤ n → (o : Option ℕ) (l : Line) → headJudged (numberOf o) m ids (l .number) ≡ min
       (least (complainIf (not (isSome o) || leb 26 n) 6 (l .number))) (least (twiceBy 6 o seen l))
-  unfolding headJudged headAgain twiceBy least numberOf isNumber isSome
+  unfolding headJudged headAgain twiceBy least numberOf isSome
   beyond g none l = refl
   beyond g (some x) l =
       let c : leb 26 m ≡ true = le-leb 26 m (omega arith) in
@@ -65,7 +64,7 @@ module _ (m : ℕ) (ids : List ℕ) (n : ℕ) (seen : List ℕ) (a : HeadsAgree 
 
   within : n < 26 → (o : Option ℕ) (l : Line) → Counts o → headJudged (numberOf o) m ids (l .number) ≡ min
       (least (complainIf (not (isSome o) || leb 26 n) 6 (l .number))) (least (twiceBy 6 o seen l))
-  unfolding headJudged headAgain hasHead twiceBy least Counts numberOf isNumber isSome
+  unfolding headJudged headAgain hasHead twiceBy least Counts numberOf isSome
   within g none l c = refl
   within g (some x) l c = let e : m ≡ n = omega arith in rw (a .2 g x c, e) refl
 

@@ -19,7 +19,6 @@ use Rattle.tokens.specs.Decimals.{numberOf}
 use Rattle.tokens.specs.declared.numbers.Number.{Number}
 use Rattle.tokens.specs.declared.numbers.Number.the-variants.{Is, Not}
 use Rattle.text.specs.Spans.{part}
-use Rattle.settings.specs.KeySettings.{isNumber}
 use Rattle.settings.proofs.OfLineLaws.{lineFrom, head-of-line}
 use Rattle.text.specs.Ranks.{least}
 use Rattle.stage2.specs.Heads.{hasHead, headAgain, headJudged, orZero, withHead}
@@ -52,12 +51,12 @@ module _ (x n : ℕ) (ids : List ℕ) (i : ℕ) (long : n ≤ length ids) where
 -- What heads are complained of.
 module _ (head : Number) (n : ℕ) (ids : List ℕ) where
   pub head-malformed : (line r : ℕ) → head ≡ Not → r ≡ least (complainIf true 6 line) → r ≡ headJudged head n ids line
-  unfolding headJudged headAgain isNumber
+  unfolding headJudged headAgain
   head-malformed line r e p = let l = least-le (complainIf true 6 line) in rw e (p ∙ omega arith)
 
   pub head-formed : (line x a b r : ℕ) (many has : Bool) → head ≡ Is x → many ≡ leb 26 n → has ≡ hasHead n ids x
       → a ≡ least (complainIf many 6 line) → b ≡ least (complainIf has 6 line) → r ≡ min a b → r ≡ headJudged head n ids line
-  unfolding headJudged headAgain isNumber
+  unfolding headJudged headAgain
   head-formed line x a b r many has e m s p q z = rw (e, ← m, ← s, ← p, ← q) z
 
   pub heads-full : 26 ≤ n → ids ≡ withHead head n ids

@@ -29,7 +29,7 @@ use Rattle.text.specs.Ranks.{least}
 use Rattle.stage2.specs.LineNotes.{isCut, settingFine, settingNumber, modifierNote}
 
 number-there : (o : Option ℕ) → isNumber (numberOf o) ≡ isSome o
-unfolding isNumber numberOf isSome
+unfolding numberOf isSome
 number-there none = refl
 number-there (some n) = refl
 

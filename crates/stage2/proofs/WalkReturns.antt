@@ -19,6 +19,8 @@ use Rattle.text.specs.Spans.{part, Found, spansFrom, spans, lineText}
 use Rattle.text.specs.declared.lines.Line.{Line}
 use Rattle.text.specs.declared.Refusal.{Refusal}
 use Rattle.text.proofs.WalkLaws.{empty-line, spans-found, spans-over}
+use Rattle.tokens.specs.Kept.{Kept, KeptFrom, Unmarked, Keeps}
+use Rattle.tokens.proofs.KeptLaws.{unmarked-kept, kept-next}
 use Rattle.settings.proofs.ValueLaws.{is-placeless}
 use Rattle.settings.proofs.OfLineLaws.{lineFrom}
 use Rattle.stage2.specs.declared.states.Part.{Part}
@@ -114,3 +116,24 @@ pub told : (s : List ℕ) (x : ℕ) (f : Refusal) → length s ≤ 65536 → x �
     → f ≡ refusalOf (earliest (textFaults (blocksOf s)))
 unfolding spans
 told s x f h e g = g ∙ (ap refusalAt e ∙ stage-walked s h)
+
+-- The row where a line may begin: it is as long as it was, and its marks are right; they end before the line.
+pub record Marks (s before words : List ℕ) (at : ℕ) : Type 0 where
+  pub same : length words ≡ length before
+  pub all : Kept s words 0 (length s + 1)
+  pub earlier : at < length s → Kept s words 0 at
+
+pub marks-first : (s words : List ℕ) → Unmarked words → Marks s words words 0
+marks-first s words u = record { same = refl; all = unmarked-kept s words 0 (length s + 1) u; earlier = λ h. unmarked-kept s words 0 0 u }
+
+module _ (s before words : List ℕ) (at : ℕ) (m : Marks s before words at) (room : length s + 16 ≤ length before) where
+  pub marks-next : (n : ℕ) (l : Line) (after : List ℕ) → length s ≤ 65536 → at < length s → Found s n at l → Keeps s (l .start) (l .stop) words after
+      → Marks s before after (l .next)
+  marks-next n l after small there f h =
+      let same = m .same in
+      let k = kept-next s words after n at l f there (omega arith) small (m .earlier there) h in
+      record { same = k .0 ∙ same; all = k .1; earlier = k .2 }
+
+  pub marks-last : KeptFrom s words 0 × (length words ≡ length before)
+  marks-last = let same = m .same in
+      (record { room = omega arith; kept = m .all }, same)

@@ -31,8 +31,10 @@ ghost use lib.ListN.{length};
 ghost use Rattle.songcode.specs.Complaints.{complainIf};
 ghost use Rattle.songcode.specs.answer.SongText.{metadata, section, kindOfText};
 ghost use Rattle.text.specs.Spans.{lineText};
-ghost use Rattle.stage2.specs.States.{blockState, metadataState, headState, keyJudged, judged, opening, fineFor, closing};
+ghost use Rattle.stage2.specs.States.{blockState, carried, metadataState, headState, keyJudged, judged, opening, fineFor, closing};
 ghost use Rattle.text.specs.Ranks.{least};
+ghost use Rattle.stage2.specs.Walk.{nothingPending};
+ghost use Rattle.stage2.specs.declared.states.Place.the-variants.{Metadata};
 
 // A block that begins, or the gap between two, with what is pending against it.
 pub fn block_state(place: Place, carried: Carried, pending: Pending) -> State
@@ -49,6 +51,18 @@ pub fn block_state(place: Place, carried: Carried, pending: Pending) -> State
     }
 }
 
+// Behind a line of metadata, with the marks of all of it.
+fn metadata_state(k: Carried, marks: [bool; 8]) -> State
+    ensures { λ r. ⌜ r ≡ blockState Metadata (carried (k .turn) marks (k .count)) nothingPending ⌝ }
+{
+    let carried = Carried {
+        turn: k.turn,
+        metadata: marks,
+        count: k.count,
+    };
+    block_state(Place::Metadata, carried, no_pending())
+}
+
 // A line of metadata.
 pub fn in_metadata(s: &[u8], k: Carried, l: Line) -> Judged
     requires { ⌜ (l .start < l .stop) × (l .stop ≤ length (now s)) ⌝ }
@@ -57,12 +71,7 @@ pub fn in_metadata(s: &[u8], k: Carried, l: Line) -> Judged
     let marks = k.metadata;
     let noted = metadata_line(s, marks, l);
     let metadata = noted.marks;
-    let carried = Carried {
-        turn: k.turn,
-        metadata,
-        count: k.count,
-    };
-    let state = block_state(Place::Metadata, carried, no_pending());
+    let state = metadata_state(k, metadata);
     Judged {
         note: noted.note,
         state,
@@ -74,9 +83,11 @@ fn open_metadata(s: &[u8], k: Carried, l: Line) -> Judged
     ensures { λ r. ⌜ r ≡ opening metadata k (lineText (now (s .entry)) l) ⌝ }
 {
     let late = complain_if(0 < k.turn, BLOCK_ORDER, l.number);
-    let j = in_metadata(s, k, l);
-    let note = least_of(late, j.note);
-    let state = j.state;
+    let marks = k.metadata;
+    let noted = metadata_line(s, marks, l);
+    let note = least_of(late, noted.note);
+    let metadata = noted.marks;
+    let state = metadata_state(k, metadata);
     Judged { note, state }
 }
 

@@ -26,10 +26,11 @@ use text::Line;
 use text::complain_if;
 use text::least_of;
 ghost use mathlib.Core.Path.{_≡_};
-ghost use Prim.Native.Nat.{_<_, _≤_};
+ghost use Prim.Native.Nat.{_+_, _<_, _≤_};
 ghost use lib.ListN.{length};
 ghost use Rattle.songcode.specs.answer.Sections.{kindOfLine, keyNameOf};
 ghost use Rattle.text.specs.Spans.{lineText};
+ghost use Rattle.tokens.specs.Kept.{Keeps};
 ghost use Rattle.settings.specs.Kinds.{kindIs};
 ghost use Rattle.stage2.specs.States.{marked, keyOf, keyJudged, judged, bodyJudged, bodyState};
 ghost use Rattle.settings.specs.Names.{keyIs};
@@ -142,12 +143,13 @@ pub fn modifier_line(s: &[u8], c: State, p: Part, l: Line) -> Judged
 }
 
 // A pattern line of a section.
-pub fn pattern_line(s: &[u8], c: State, p: Part, l: Line) -> Judged
-    requires { ⌜ (l .start < l .stop) × (l .stop ≤ length (now s)) × (l .stop ≤ 65536) ⌝ }
+pub fn pattern_line(s: &[u8], words: &mut [u32], c: State, p: Part, l: Line) -> Judged
+    requires { ⌜ (l .start < l .stop) × (l .stop ≤ length (now s)) × (l .stop ≤ 65536) × (length (now s) + 16 ≤ length (now words)) ⌝ }
     ensures { λ r. ⌜ r ≡ onPattern p c (lineText (now (s .entry)) l) ⌝ }
+    ensures keeps { λ r. ⌜ Keeps (now (s .entry)) (l .start) (l .stop) (now (words .entry)) (now (words .exit)) ⌝ }
 {
     let note = complain_if(past_pattern(p), BAD_LINE, l.number);
-    let pending = pattern_pending(s, p, c.pending, l);
+    let pending = pattern_pending(s, words, p, c.pending, l);
     let keys = c.keys;
     let modifiers = c.modifiers;
     let carried = c.carried;
@@ -163,15 +165,16 @@ pub fn pattern_line(s: &[u8], c: State, p: Part, l: Line) -> Judged
 }
 
 // A line between a section's header and its `--`.
-pub fn body_line(s: &[u8], c: State, p: Part, l: Line) -> Judged
-    requires { ⌜ (l .start < l .stop) × (l .stop ≤ length (now s)) × (l .stop ≤ 65536) ⌝ }
+pub fn body_line(s: &[u8], words: &mut [u32], c: State, p: Part, l: Line) -> Judged
+    requires { ⌜ (l .start < l .stop) × (l .stop ≤ length (now s)) × (l .stop ≤ 65536) × (length (now s) + 16 ≤ length (now words)) ⌝ }
     ensures { λ r. ⌜ r ≡ judged (bodyJudged p (c .keys) (c .modifiers) (lineText (now (s .entry)) l))
         (bodyState p c (lineText (now (s .entry)) l)) ⌝ }
+    ensures keeps { λ r. ⌜ Keeps (now (s .entry)) (l .start) (l .stop) (now (words .entry)) (now (words .exit)) ⌝ }
 {
     let kind = line_kind(s, l);
     match kind {
         Kind::Key => key_line(s, c, p, l),
         Kind::Modifier => modifier_line(s, c, p, l),
-        Kind::Pattern => pattern_line(s, c, p, l),
+        Kind::Pattern => pattern_line(s, words, c, p, l),
     }
 }

@@ -1,7 +1,7 @@
 // What is pending of a pattern's text, line by line.
 use super::states::Part;
 use super::states::Pending;
-use grammar::check_line;
+use grammar::check_kept;
 use grammar::line_between;
 use grammar::start;
 use text::BAD_PATTERN;
@@ -9,9 +9,10 @@ use text::Line;
 use text::NO_COMPLAINT;
 use text::rank;
 ghost use mathlib.Core.Path.{_≡_};
-ghost use Prim.Native.Nat.{_<_, _≤_};
+ghost use Prim.Native.Nat.{_+_, _<_, _≤_};
 ghost use lib.ListN.{length};
 ghost use Rattle.text.specs.Spans.{lineText};
+ghost use Rattle.tokens.specs.Kept.{Keeps};
 ghost use Rattle.stage2.specs.Walk.{nothingPending, patternBegun, patternMore, patternPending};
 
 // Nothing is pending.
@@ -28,11 +29,12 @@ pub fn no_pending() -> Pending
 }
 
 // The first line of a pattern's text: its number is the one that a fault of the text names.
-fn first_line(s: &[u8], q: Pending, l: Line) -> Pending
-    requires { ⌜ (l .start < l .stop) × (l .stop ≤ length (now s)) × (l .stop ≤ 65536) ⌝ }
+fn first_line(s: &[u8], words: &mut [u32], q: Pending, l: Line) -> Pending
+    requires { ⌜ (l .start < l .stop) × (l .stop ≤ length (now s)) × (l .stop ≤ 65536) × (length (now s) + 16 ≤ length (now words)) ⌝ }
     ensures { λ r. ⌜ r ≡ patternBegun (lineText (now (s .entry)) l) q ⌝ }
+    ensures keeps { λ r. ⌜ Keeps (now (s .entry)) (l .start) (l .stop) (now (words .entry)) (now (words .exit)) ⌝ }
 {
-    let check = check_line(s, l.start, l.stop, start());
+    let check = check_kept(s, l.start, l.stop, words, start());
     let bad = rank(BAD_PATTERN, l.number);
     Pending {
         want: NO_COMPLAINT,
@@ -43,12 +45,13 @@ fn first_line(s: &[u8], q: Pending, l: Line) -> Pending
 }
 
 // One more line of it.
-fn next_line(s: &[u8], q: Pending, l: Line) -> Pending
-    requires { ⌜ (l .start < l .stop) × (l .stop ≤ length (now s)) × (l .stop ≤ 65536) ⌝ }
+fn next_line(s: &[u8], words: &mut [u32], q: Pending, l: Line) -> Pending
+    requires { ⌜ (l .start < l .stop) × (l .stop ≤ length (now s)) × (l .stop ≤ 65536) × (length (now s) + 16 ≤ length (now words)) ⌝ }
     ensures { λ r. ⌜ r ≡ patternMore (lineText (now (s .entry)) l) q ⌝ }
+    ensures keeps { λ r. ⌜ Keeps (now (s .entry)) (l .start) (l .stop) (now (words .entry)) (now (words .exit)) ⌝ }
 {
     let before = q.check;
-    let check = check_line(s, l.start, l.stop, line_between(before));
+    let check = check_kept(s, l.start, l.stop, words, line_between(before));
     Pending {
         want: q.want,
         bare: q.bare,
@@ -58,14 +61,15 @@ fn next_line(s: &[u8], q: Pending, l: Line) -> Pending
 }
 
 // A pattern line; past the pattern's run it adds nothing.
-pub fn pattern_pending(s: &[u8], p: Part, q: Pending, l: Line) -> Pending
-    requires { ⌜ (l .start < l .stop) × (l .stop ≤ length (now s)) × (l .stop ≤ 65536) ⌝ }
+pub fn pattern_pending(s: &[u8], words: &mut [u32], p: Part, q: Pending, l: Line) -> Pending
+    requires { ⌜ (l .start < l .stop) × (l .stop ≤ length (now s)) × (l .stop ≤ 65536) × (length (now s) + 16 ≤ length (now words)) ⌝ }
     ensures { λ r. ⌜ r ≡ patternPending p (lineText (now (s .entry)) l) q ⌝ }
+    ensures keeps { λ r. ⌜ Keeps (now (s .entry)) (l .start) (l .stop) (now (words .entry)) (now (words .exit)) ⌝ }
 {
     match p {
-        Part::Keys => first_line(s, q, l),
-        Part::Early => first_line(s, q, l),
-        Part::Pattern => next_line(s, q, l),
+        Part::Keys => first_line(s, words, q, l),
+        Part::Early => first_line(s, words, q, l),
+        Part::Pattern => next_line(s, words, q, l),
         Part::Behind => q,
     }
 }

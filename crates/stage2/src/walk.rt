@@ -26,27 +26,29 @@ use text::line_at;
 use text::rank;
 use text::refusal_at;
 ghost use mathlib.Core.Path.{_≡_};
-ghost use Prim.Native.Nat.{_<_, _≤_};
+ghost use Prim.Native.Nat.{_+_, _<_, _≤_};
 ghost use lib.ListN.{length};
 ghost use Rattle.songcode.specs.Complaints.{earliest};
 ghost use Rattle.songcode.specs.answer.SongText.{textFaults};
 ghost use Rattle.songcode.specs.answer.Answer.{blocksOf};
 ghost use Rattle.text.specs.Refusals.{refusalOf};
 ghost use Rattle.text.specs.Spans.{lineText};
+ghost use Rattle.tokens.specs.Kept.{Keeps, KeptFrom, Unmarked};
 ghost use Rattle.stage2.specs.declared.states.Place.the-variants.{Body};
 ghost use Rattle.stage2.specs.States.{firstState, judged, definitionState, lyricsState, judgedAt, judge, ends};
 ghost use Rattle.text.specs.Ranks.{none};
 
 // A pattern line of a definition.
-fn in_definition(s: &[u8], c: State, p: Part, l: Line) -> Judged
-    requires { ⌜ (l .start < l .stop) × (l .stop ≤ length (now s)) × (l .stop ≤ 65536) ⌝ }
+fn in_definition(s: &[u8], words: &mut [u32], c: State, p: Part, l: Line) -> Judged
+    requires { ⌜ (l .start < l .stop) × (l .stop ≤ length (now s)) × (l .stop ≤ 65536) × (length (now s) + 16 ≤ length (now words)) ⌝ }
     ensures { λ r. ⌜ r ≡ judged none (definitionState p c (lineText (now (s .entry)) l)) ⌝ }
+    ensures keeps { λ r. ⌜ Keeps (now (s .entry)) (l .start) (l .stop) (now (words .entry)) (now (words .exit)) ⌝ }
 {
     let carried = c.carried;
     let state = block_state(
         Place::Definition,
         carried,
-        pattern_pending(s, p, c.pending, l),
+        pattern_pending(s, words, p, c.pending, l),
     );
     Judged {
         note: NO_COMPLAINT,
@@ -82,41 +84,44 @@ fn in_lyrics(c: State, bare: usize) -> Judged
     }
 }
 
-fn in_body(s: &[u8], c: State, p: Part, l: Line) -> Judged
-    requires { ⌜ (l .start < l .stop) × (l .stop ≤ length (now s)) × (l .stop ≤ 65536) ⌝ }
+fn in_body(s: &[u8], words: &mut [u32], c: State, p: Part, l: Line) -> Judged
+    requires { ⌜ (l .start < l .stop) × (l .stop ≤ length (now s)) × (l .stop ≤ 65536) × (length (now s) + 16 ≤ length (now words)) ⌝ }
     ensures { λ r. ⌜ r ≡ judgedAt (Body p) c (lineText (now (s .entry)) l) ⌝ }
+    ensures keeps { λ r. ⌜ Keeps (now (s .entry)) (l .start) (l .stop) (now (words .entry)) (now (words .exit)) ⌝ }
 {
     let a = l.start;
     let e = l.stop;
     if is_dashes(&s[a..e]) {
         return in_lyrics(c, rank(BAD_LINE, l.number));
     }
-    body_line(s, c, p, l)
+    body_line(s, words, c, p, l)
 }
 
 // A line that is not blank, where it stands.
-fn in_place(s: &[u8], c: State, l: Line) -> Judged
-    requires { ⌜ (l .start < l .stop) × (l .stop ≤ length (now s)) × (l .stop ≤ 65536) ⌝ }
+fn in_place(s: &[u8], words: &mut [u32], c: State, l: Line) -> Judged
+    requires { ⌜ (l .start < l .stop) × (l .stop ≤ length (now s)) × (l .stop ≤ 65536) × (length (now s) + 16 ≤ length (now words)) ⌝ }
     ensures { λ r. ⌜ r ≡ judgedAt (c .place) c (lineText (now (s .entry)) l) ⌝ }
+    ensures keeps { λ r. ⌜ Keeps (now (s .entry)) (l .start) (l .stop) (now (words .entry)) (now (words .exit)) ⌝ }
 {
     let place = c.place;
     match place {
         Place::Between => open_block(s, c.carried, l),
         Place::Metadata => in_metadata(s, c.carried, l),
-        Place::Head => in_definition(s, c, Part::Keys, l),
-        Place::Definition => in_definition(s, c, Part::Pattern, l),
-        Place::Body(p) => in_body(s, c, p, l),
+        Place::Head => in_definition(s, words, c, Part::Keys, l),
+        Place::Definition => in_definition(s, words, c, Part::Pattern, l),
+        Place::Body(p) => in_body(s, words, c, p, l),
         Place::Lyrics => in_lyrics(c, NO_COMPLAINT),
     }
 }
 
 // A line: what it is complained of, and the state behind it. A blank one ends the block.
-fn judge_line(s: &[u8], c: State, l: Line) -> Judged
-    requires { ⌜ (l .start ≤ l .stop) × (l .stop ≤ length (now s)) × (l .stop ≤ 65536) ⌝ }
+fn judge_line(s: &[u8], words: &mut [u32], c: State, l: Line) -> Judged
+    requires { ⌜ (l .start ≤ l .stop) × (l .stop ≤ length (now s)) × (l .stop ≤ 65536) × (length (now s) + 16 ≤ length (now words)) ⌝ }
     ensures { λ r. ⌜ r ≡ judge c (lineText (now (s .entry)) l) ⌝ }
+    ensures keeps { λ r. ⌜ Keeps (now (s .entry)) (l .start) (l .stop) (now (words .entry)) (now (words .exit)) ⌝ }
 {
     if l.start < l.stop {
-        return in_place(s, c, l);
+        return in_place(s, words, c, l);
     }
     let note = close_block(c);
     let k = c.carried;
@@ -147,10 +152,11 @@ fn end_text(c: State) -> usize
     least_of(closing, nine)
 }
 
-// Stage 2: the refusal of the complaint that goes first.
-pub fn stage_two(s: &[u8]) -> Refusal
-    requires { ⌜ length (now s) ≤ 65536 ⌝ }
+// Stage 2: the refusal of the complaint that goes first. The words of each pattern line are kept in the row.
+pub fn stage_two(s: &[u8], words: &mut [u32]) -> Refusal
+    requires { ⌜ (length (now s) ≤ 65536) × (length (now s) + 16 ≤ length (now words)) × Unmarked (now words) ⌝ }
     ensures { λ r. ⌜ r ≡ refusalOf (earliest (textFaults (blocksOf (now (s .entry))))) ⌝ }
+    ensures kept { λ r. ⌜ KeptFrom (now (s .entry)) (now (words .exit)) 0 × (length (now (words .exit)) ≡ length (now (words .entry))) ⌝ }
 {
     let mut c = first_state();
     let mut ids = [0; DEFINITIONS];
@@ -159,7 +165,7 @@ pub fn stage_two(s: &[u8]) -> Refusal
     let mut n = 1;
     while at < s.len() {
         let l = line_at(s, n, at);
-        let j = judge_line(s, c, l);
+        let j = judge_line(s, words, c, l);
         let d = j.state;
         let place = d.place;
         let k = c.carried;

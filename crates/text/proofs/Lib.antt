@@ -8,6 +8,7 @@ pub mod RefusalLaws
 pub mod RankLaws
 pub mod SpanLaws
 pub mod WalkLaws
+pub mod StartLaws
 pub mod CutLaws
 pub mod TrimLaws
 pub mod LineLaws

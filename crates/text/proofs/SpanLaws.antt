@@ -11,13 +11,14 @@ use lib.Dec.{eqb, leb}
 use lib.ListN.{length, take, getD, drop, drop-of-length-le, List·getD-eq-default}
 use lib.Seq.{drop-cons, getD-drop, take-suc, length-take-le}
 use Rattle.songcode.specs.Lists.{if_then_else_}
+use Rattle.songcode.specs.Bytes.{isBlank}
 use Rattle.songcode.specs.answer.Lines.{Ending, lf, cr, inside, ending}
 use Rattle.songcode.proofs.ListLaws.{by-cases}
 use Rattle.text.proofs.TestLaws.{false-not-true}
 use Rattle.text.specs.Spans.{blank, end, ends, longer, lineLength, breakWidth, breakLength, frontBlanks, grown, solidLength}
 
 -- What a byte is to lines.
-end-inside : (b : ℕ) → (b ≡ 10 → ⊥) → (b ≡ 13 → ⊥) → end b ≡ inside
+pub end-inside : (b : ℕ) → (b ≡ 10 → ⊥) → (b ≡ 13 → ⊥) → end b ≡ inside
 unfolding ending if_then_else_
 end-inside b p q = rw (ne-eqb _ _ p, ne-eqb _ _ q)
 
@@ -28,6 +29,11 @@ end-lf b e = rw e
 end-cr : (b : ℕ) → b ≡ 13 → end b ≡ cr
 unfolding ending if_then_else_
 end-cr b e = rw e
+
+-- A blank ends no line.
+pub blank-inside : (b : ℕ) → blank b ≡ true → end b ≡ inside
+unfolding isBlank
+blank-inside b e = end-inside b (λ z. false-not-true (rw z at e)) (λ z. false-not-true (rw z at e))
 
 -- A byte above both ends no line.
 pub ends-above : (b : ℕ) → 13 < b → false ≡ ends (end b)
@@ -83,6 +89,10 @@ module _ (s : List ℕ) (i : ℕ) (h : length s ≤ i) where
   pub front-over : frontBlanks (drop i s) ≡ 0
   unfolding frontBlanks
   front-over = rw (drop-of-length-le s h)
+
+  pub break-past : breakLength (drop i s) ≡ 0
+  unfolding breakLength
+  break-past = rw (drop-of-length-le s h)
 
   break-over : breakLength (drop i s) ≡ breakWidth (end (getD s i 0)) (end (getD s (i + 1) 0))
   unfolding breakLength breakWidth ending if_then_else_

@@ -4,7 +4,7 @@ use mathlib.Core.Path.{_≡_}
 use mathlib.Core.List.{List, [], _∷_}
 use mathlib.Core.Bool.{Bool, true, false}
 use lib.ListN.{length, take, drop, getD}
-use Rattle.songcode.specs.Lists.{if_then_else_}
+use Rattle.songcode.specs.Lists.{if_then_else_, isEmpty}
 use Rattle.songcode.specs.Bytes.{Byte, placed, isBlank}
 use Rattle.songcode.specs.answer.Lines.{Ending, lf, cr, inside, ending}
 use Rattle.songcode.specs.answer.Lines as songcode
@@ -104,6 +104,11 @@ spans s = spansFrom 1 0 0 s
 -- A line as songcode has it: its number and its bytes with their places.
 abbrev pub lineText : List ℕ → Line → songcode.Line
 lineText s l = record { number = l .number; text = placed (l .start) (part (l .start) (l .stop) s) }
+
+-- The place behind a blank line; where the line there is not blank, the place itself.
+unfoldable pub pastBlank : List ℕ → ℕ → ℕ
+unfolding if_then_else_ isEmpty
+pastBlank s at = if isEmpty (lineText s (lineAt s 0 at) .text) then lineAt s 0 at .next else at
 
 -- The text is empty, or its last byte ends a line: one more line stands behind, an empty one. The first test says so of what stands before.
 unfoldable pub isEnd : Ending → Bool

@@ -13,6 +13,8 @@ pub use lines::Line;
 pub use lines::front_blanks;
 pub use lines::is_blank;
 pub use lines::line_at;
+pub use lines::line_start;
+pub use lines::past_blank;
 pub use lines::solid_len;
 pub use ranks::NO_COMPLAINT;
 pub use ranks::NO_SECTION_RANK;

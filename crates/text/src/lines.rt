@@ -3,7 +3,7 @@ use super::byte_at;
 ghost use mathlib.Core.Path.{_≡_};
 ghost use Prim.Native.Nat.{_+_, _≤_, max};
 ghost use lib.ListN.{length, drop};
-ghost use Rattle.text.specs.Spans.{blank, end, ends, lineLength, frontBlanks, solidLength, breakLength, Found};
+ghost use Rattle.text.specs.Spans.{blank, end, ends, lineLength, frontBlanks, solidLength, breakLength, Found, pastBlank};
 
 // A line's number, the places of its first byte and behind its last one that is no blank, and the place of the next line.
 pub struct Line {
@@ -110,5 +110,34 @@ pub fn line_at(s: &[u8], n: usize, at: usize) -> Line
         start: a,
         stop: a + k,
         next: e + w,
+    }
+}
+
+// Where the line that begins at a place has its first byte that is no blank; its end where it has none.
+pub fn line_start(s: &[u8], at: usize) -> usize
+    ensures { λ r. ⌜ (r ≡ at + frontBlanks (drop at (now (s .entry)))) × (at ≤ r) × (r ≤ max at (length (now (s .entry)))) ⌝ }
+{
+    let mut i = at;
+    while i < s.len() {
+        if !is_blank(s[i]) {
+            return i;
+        }
+        i += 1;
+    }
+    i
+}
+
+// The place behind the blank line that begins at a place; the place itself where the line there is not blank.
+pub fn past_blank(s: &[u8], at: usize) -> usize
+    ensures { λ r. ⌜ (r ≡ pastBlank (now (s .entry)) at) × (at ≤ r) × (r ≤ max at (length (now (s .entry)))) ⌝ }
+{
+    let a = line_start(s, at);
+    if s.len() <= a {
+        return a;
+    }
+    if is_end(s[a]) {
+        a + break_len(s, a)
+    } else {
+        at
     }
 }

@@ -12,3 +12,6 @@ pub mod ReadLaws
 pub mod LaidLaws
 pub mod KindLaws
 pub mod TokensFit
+pub mod LineFitLaws
+pub mod FewLaws
+pub mod KeptLaws

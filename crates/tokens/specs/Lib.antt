@@ -4,4 +4,5 @@ pub mod Signs
 pub mod Bases
 pub mod Decimals
 pub mod Lexing
+pub mod Kept
 pub mod Fitting

@@ -1,5 +1,6 @@
 // The tokens of pattern text as words; base chords, decimals, words.
 mod bases;
+mod keeping;
 mod lexing;
 mod numbers;
 mod signs;
@@ -9,6 +10,8 @@ pub use bases::Base;
 pub use bases::is_base;
 pub use bases::longest_base;
 pub use bases::spelling_of;
+pub use keeping::keep_line;
+pub use keeping::lay_line;
 pub use lexing::Lexed;
 pub use lexing::end_line;
 pub use lexing::lex_line;
@@ -20,6 +23,7 @@ pub use signs::CHORDS;
 pub use signs::CLOSES;
 pub use signs::COLON;
 pub use signs::LINE_END;
+pub use signs::LOOPS_DEEP;
 pub use signs::OPENS;
 pub use signs::REFERENCE;
 pub use signs::REMOVER;

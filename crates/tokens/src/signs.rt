@@ -47,6 +47,9 @@ pub const AGAIN_WORD: u32 = AGAIN * KIND;
 
 pub const SILENCE_WORD: u32 = SILENCE * KIND;
 
+// "No loop in a loop": so many loops are open at once.
+pub const LOOPS_DEEP: usize = 1;
+
 // The number above a word's 26 low bits, and the number in them.
 pub fn kind(w: u32) -> u32
     ensures { λ r. ⌜ r ≡ kindOf w ⌝ }

@@ -7,11 +7,9 @@ use judging::Chart;
 use keys::write_keys;
 use songs::write_song;
 ghost use mathlib.Core.Path.{_≡_};
-ghost use mathlib.Core.List.{[]};
 ghost use Prim.Native.Nat.{_≤_};
 ghost use lib.ListN.{length};
-ghost use Rattle.songcode.specs.answer.Answer.{inputFaults, blocksOf, songOf};
-ghost use Rattle.songcode.specs.answer.SongText.{textFaults};
+ghost use Rattle.songcode.specs.answer.Answer.{songOf};
 ghost use Rattle.songcode.specs.answer.Tables.{tables};
 ghost use Rattle.judging.specs.Charts.{Writable, Roomy};
 ghost use Rattle.packing.specs.Written.{written};
@@ -26,7 +24,7 @@ pub fn write_tables(
     beats: &mut [u32],
     items: &mut [u64],
 )
-    requires chart { ⌜ (inputFaults (now s) ≡ []) × (textFaults (blocksOf (now s)) ≡ []) × Writable (now s) (now words) chart ⌝ }
+    requires chart { ⌜ Writable (now s) (now words) chart ⌝ }
     requires room { ⌜ (8 ≤ length (now keys)) × Roomy (tables (songOf (now s))) (now sections) (now measures) (now beats) (now items) ⌝ }
     ensures keys { λ _. ⌜ now (keys .exit) ≡ written (tables (songOf (now (s .entry))) .keys) (now (keys .entry)) ⌝ }
     ensures sections { λ _. ⌜ now (sections .exit) ≡ written (tables (songOf (now (s .entry))) .sections) (now (sections .entry)) ⌝ }

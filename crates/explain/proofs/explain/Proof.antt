@@ -1,12 +1,12 @@
 use native.Mathlib.Omega.{arith}
-use Rattle.judging.proofs.StageLaws.{input-small}
+use Rattle.tokens.proofs.KeptLaws.{unmarked-zeros}
 use Rattle.explain.proofs.ExplainLaws.{found-nowhere, found-at}
 use borrow.Author.Needs.{needs}
 use Rattle.explain.proofs.explain.Statement.{statement}
 use Rattle.explain.proofs.explain.Tie as tie
 
 count-in-requires : tie.Need-count-in-requires
-count-in-requires c κs = λ k. omega (arith, input-small (c .before .before .args .text .now) k)
+count-in-requires c κs = ((λ k. omega arith), unmarked-zeros 65552)
 
 returns : tie.Need-returns
 returns c =

@@ -11,12 +11,12 @@ use Rattle.writing.proofs.write_tables.Tie as tie
 write-keys-requires : tie.Need-write-keys-requires
 write-keys-requires c κs =
     let q = c .before .before .before .before .before .before .before .before .before .before in
-    (keys-inside (q .pre .0 .2 .laid), q .pre .1 .0)
+    (keys-inside (q .pre .0 .laid), q .pre .1 .0)
 
 write-song-requires : tie.Need-write-song-requires
 write-song-requires c κs =
     let q = c .before .before .before .before .before .before .before .before .before .before .before .before .before .before .before .before .before in
-    let w = q .pre .0 .2 in
+    let w = q .pre .0 in
     ((w .laid, w .holds .items), q .pre .1 .1)
 
 returns : tie.Need-returns
@@ -25,7 +25,7 @@ returns c =
     let song = c .before .before .before .before .before .before .before .before in
     let keys = song .before .before .before .before .before .before .before in
     let q = keys .before .before .before .before .before .before .before .before .before .before .before in (
-      keys .write-keys .ensures ∙ ap (λ (ws : List ℕ). written ws (q .args .keys .now)) (laid-keys (q .pre .0 .2 .laid)),
+      keys .write-keys .ensures ∙ ap (λ (ws : List ℕ). written ws (q .args .keys .now)) (laid-keys (q .pre .0 .laid)),
       song .write-song .ensures,
     )
 

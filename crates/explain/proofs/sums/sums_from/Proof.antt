@@ -24,7 +24,7 @@ loop-holds : tie.Need-loop-holds Inv-loop μ-loop
 loop-holds c =
     let q = c .before .before .pre in (
       q .0 .0 .onward,
-      row-is-start (q .0 .0) (q .0 .1) (q .0 .2),
+      row-is-start (q .0 .0) (q .0 .1) (q .0 .2) (q .0 .3),
       refl,
       unrefused-start (q .0 .0) (q .1 .1) (q .1 .2),
       λ y m h. subst (λ (ys : List Section). List·Memᴰ y ys) (sym (q .0 .0 .sections)) m,
@@ -34,15 +34,14 @@ lay-section-requires : tie.Need-lay-section-requires Inv-loop μ-loop
 lay-section-requires c κs =
     let i = c .before .before .before .loop .inv in
     let h = c .before .before .before .before .before .before .pre in
-    ((i .0, c .before .if1 .taken, i .1 .room, rw (i .2) (h .0 .3)), (row-before (i .1), h .1 .0))
+    ((i .0, c .before .if1 .taken, i .1 .room, i .1 .kept), (row-before (i .1), h .1 .0))
 
 section-counts-requires : tie.Need-section-counts-requires Inv-loop μ-loop
 section-counts-requires c κs =
     let q = c .before .before .before .before .before .before in
     let w = q .lay-section .ensures in
     let i = q .before .before .before .before .loop .inv in
-    let h = q .before .before .before .before .before .before .before .pre in
-    (_, laid-summable (q .lay-section .result) (i .3) (i .1) (w .0) (rw (i .2) (h .0 .3)) (w .1))
+    (_, laid-summable (q .lay-section .result) (i .3) (i .1) (w .0) (w .1))
 
 same-length : tie.Need-same-length Inv-loop μ-loop
 same-length c =
@@ -55,10 +54,9 @@ returns c =
     let w = q .lay-section .ensures in
     let l = q .before .before .before .before in
     let i = l .loop .inv in
-    let h = l .before .before .before .pre in
     let counts = c .section-counts in
     sums-found (q .lay-section .result) (w .0 .opens) (l .before .before .before .args .line) (i .4) (c .before .before .if2 .taken) (counts .result)
-    (counts .ensures _ (laid-summable (q .lay-section .result) (i .3) (i .1) (w .0) (rw (i .2) (h .0 .3)) (w .1)))
+    (counts .ensures _ (laid-summable (q .lay-section .result) (i .3) (i .1) (w .0) (w .1)))
 
 loop-less : tie.Need-loop-less Inv-loop μ-loop
 loop-less c =
@@ -70,12 +68,11 @@ loop-again c =
     let q = c .before .before .before .before .before .before in
     let w = q .lay-section .ensures in
     let l = q .before .before .before .before in
-    let i = l .loop .inv in
-    let h = l .before .before .before .pre in (
+    let i = l .loop .inv in (
       w .0 .opens .met .onward,
-      row-is-next (q .lay-section .result) (i .1) (w .0) (rw (i .2) (h .0 .3)) (w .1),
+      row-is-next (q .lay-section .result) (i .1) (w .0) (w .1),
       w .1 ∙ i .2,
-      unrefused-next (q .lay-section .result) (i .3) (i .1) (w .0) (rw (i .2) (h .0 .3)) (w .1),
+      unrefused-next (q .lay-section .result) (i .3) (i .1) (w .0) (w .1),
       still-ahead (q .lay-section .result) (w .0 .opens) (l .before .before .before .args .line) (i .4) (c .before .if2 .left),
     )
 

@@ -1,49 +1,64 @@
 -- Line by line, as long as they are key lines.
-use Prim.Native.Nat.{_+_, _-_, _≤_}
+use Prim.Native.Nat.{ℕ, _+_, _-_, _≤_}
 use mathlib.Core.Path.{_≡_, refl, sym, _∙_}
+use mathlib.Core.List.{List}
 use native.Mathlib.Omega.{arith}
 use lib.ListN.{length}
-use Rattle.songcode.specs.Lists.{taken}
+use Rattle.songcode.specs.Lists.{taken, left}
 use Rattle.songcode.specs.answer.Sections.{isKeyLine}
 use Rattle.sections.specs.Runs.{textLines}
 use Rattle.flat.specs.Sheets.{puts}
-use Rattle.flat.specs.Taken.{lineBytes}
-use Rattle.flat.proofs.LineLaws.{keys-over, keys-step, keys-end, no-key}
+use Rattle.flat.specs.Taken.{lineBytes, Reaches}
+use Rattle.flat.proofs.LineLaws.{keys-over, keys-step, keys-end, no-key, left-over, left-step, left-end}
 use borrow.Author.Needs.{needs}
 use Rattle.flat.proofs.lines.put_keys.Statement.{statement}
 use Rattle.flat.proofs.lines.put_keys.Tie as tie
+
+reached : (s : List ℕ) (n at k next : ℕ) → textLines s k next ≡ left isKeyLine (textLines s k next) → 1 ≤ k → k ≤ next + 1 → next ≤ length s
+    → at ≤ next → left isKeyLine (textLines s k next) ≡ left isKeyLine (textLines s n at)
+    → Reaches s at (left isKeyLine (textLines s n at)) (record { number = k; at = next })
+reached s n at k next here a b c d same = record { number = a; counted = b; onward = d; inside = c; lines = here ∙ same }
 
 abbrev Inv-loop : tie.InvT-loop
 Inv-loop s number from copy₀ at k₀ next₀ out₀ copy k next out =
     (1 ≤ k) × (k ≤ next + 1) × (next ≤ length s) × (length copy ≡ length copy₀)
     × (puts (lineBytes (taken isKeyLine (textLines s k next))) (record { copy = copy; at = out })
     ≡ puts (lineBytes (taken isKeyLine (textLines s k₀ next₀))) (record { copy = copy₀; at = out₀ }))
+    × (next₀ ≤ next) × (left isKeyLine (textLines s k next) ≡ left isKeyLine (textLines s k₀ next₀))
 
 abbrev μ-loop : tie.MeasureT-loop
 μ-loop s number from copy₀ at k₀ next₀ out₀ copy k next out = length s - next
 
 loop-holds : tie.Need-loop-holds Inv-loop μ-loop
-loop-holds c = (omega arith, omega arith, omega arith, refl, refl)
+loop-holds c = (omega arith, omega arith, omega arith, refl, refl, omega arith, refl)
 
 returns : tie.Need-returns Inv-loop μ-loop
 returns c =
     let q = c .before .before .before .before .before .before in
     let l = q .loop in
-    let s = q .before .before .before .args .s .now in
-    let other = keys-end s (l .k) (l .next) _ (c .before .before .before .before .line-at .ensures)
-    (c .before .before .before .before .before .loop-test .taken)
-    _ (no-key .0) (sym (c .enum-told2 .given .1) ∙ c .before .before .kind-of .ensures) in
-    sym other ∙ l .inv .4
+    let e = q .before .before .before .args in
+    let s = e .s .now in
+    let found = c .before .before .before .before .line-at .ensures in
+    let inside = c .before .before .before .before .before .loop-test .taken in
+    let kind = sym (c .enum-told2 .given .1) ∙ c .before .before .kind-of .ensures in (
+      sym (keys-end s (l .k) (l .next) _ found inside _ (no-key .0) kind) ∙ l .inv .4,
+      reached s (e .number) (e .from) (l .k) (l .next) (left-end s (l .k) (l .next) found inside _ (no-key .0) kind)
+          (l .inv .0) (l .inv .1) (l .inv .2) (l .inv .5) (l .inv .6),
+    )
 
 returns-2 : tie.Need-returns-2 Inv-loop μ-loop
 returns-2 c =
     let q = c .before .before .before .before .before .before in
     let l = q .loop in
-    let s = q .before .before .before .args .s .now in
-    let other = keys-end s (l .k) (l .next) _ (c .before .before .before .before .line-at .ensures)
-    (c .before .before .before .before .before .loop-test .taken)
-    _ (no-key .1) (sym (c .enum-told3 .given .1) ∙ c .before .before .kind-of .ensures) in
-    sym other ∙ l .inv .4
+    let e = q .before .before .before .args in
+    let s = e .s .now in
+    let found = c .before .before .before .before .line-at .ensures in
+    let inside = c .before .before .before .before .before .loop-test .taken in
+    let kind = sym (c .enum-told3 .given .1) ∙ c .before .before .kind-of .ensures in (
+      sym (keys-end s (l .k) (l .next) _ found inside _ (no-key .1) kind) ∙ l .inv .4,
+      reached s (e .number) (e .from) (l .k) (l .next) (left-end s (l .k) (l .next) found inside _ (no-key .1) kind)
+          (l .inv .0) (l .inv .1) (l .inv .2) (l .inv .5) (l .inv .6),
+    )
 
 loop-again : tie.Need-loop-again Inv-loop μ-loop
 loop-again c =
@@ -51,15 +66,22 @@ loop-again c =
     let q = k .before .before .before .before in
     let l = q .loop in
     let s = q .before .before .before .args .s .now in
-    let more = keys-step s (l .k) (l .next) _ (k .before .before .line-at .ensures) (k .before .before .before .loop-test .taken) _ _
-    (sym (c .before .before .before .before .enum-told .given .1) ∙ k .kind-of .ensures) (c .before .before .put-line .ensures) (l .inv .4) in
-    (omega arith, omega arith, omega arith, search needs, more)
+    let found = k .before .before .line-at .ensures in
+    let inside = k .before .before .before .loop-test .taken in
+    let kind = sym (c .before .before .before .before .enum-told .given .1) ∙ k .kind-of .ensures in
+    let more = keys-step s (l .k) (l .next) _ found inside _ _ kind (c .before .before .put-line .ensures) (l .inv .4) in
+    let far = l .inv .5 in
+    (omega arith, omega arith, omega arith, search needs, more, omega arith, left-step s (l .k) (l .next) found inside kind ∙ l .inv .6)
 
 returns-3 : tie.Need-returns-3 Inv-loop μ-loop
 returns-3 c =
     let l = c .before .loop in
-    let s = c .before .before .before .before .args .s .now in
-    sym (keys-over s (l .k) (l .next) _ (c .loop-test .left)) ∙ l .inv .4
+    let e = c .before .before .before .before .args in
+    let s = e .s .now in
+    let over = c .loop-test .left in (
+      sym (keys-over s (l .k) (l .next) _ over) ∙ l .inv .4,
+      reached s (e .number) (e .from) (l .k) (l .next) (left-over s (l .k) (l .next) over) (l .inv .0) (l .inv .1) (l .inv .2) (l .inv .5) (l .inv .6),
+    )
 
 pub put-keys-spec : {M : Type 1} → statement M
 put-keys-spec =

@@ -12,7 +12,7 @@ use Rattle.judging.proofs.WholeLaws.{laid-ready, laid-row}
 use Rattle.flat.specs.Measures.{Lent}
 use Rattle.flat.specs.Blocks.{flatFrom, putBlocks}
 use Rattle.flat.proofs.RowLaws.{seen-plays, seen-next}
-use Rattle.flat.proofs.SectionLaws.{blocks-next, none-left}
+use Rattle.flat.proofs.SectionLaws.{section-first, leads-first, blocks-next, none-left}
 use Rattle.flat.proofs.SongLaws.{HeardIn, heard-all}
 use borrow.Author.Needs.{needs}
 use Rattle.flat.proofs.songs.put_sections.Statement.{statement}
@@ -53,38 +53,45 @@ loop-holds c =
     )
 
 section-at-requires : tie.Need-section-at-requires Inv-loop μ-loop
-section-at-requires c κs = let h = ahead-low (c .before .before .before .loop .inv .1) in omega arith
+section-at-requires c κs = let h = ahead-low (c .before .before .loop .inv .1) in omega arith
 
 put-section-requires : tie.Need-put-section-requires Inv-loop μ-loop
 unfolding Each
 put-section-requires c κs =
     let y = c .before .before .before .before in
-    let l = y .before .before .before .before .loop in
-    let q = y .before .before .before .before .before .before .before .before .before .before in
+    let l = y .before .before .before .loop in
+    let q = y .before .before .before .before .before .before .before .before .before in
     let s = q .args .s .now in
-    let first = y .before .pass .ensures .first in
+    let inside = y .before .if1 .taken in
+    let first = section-first (l .inv .2) inside in
     let heard = subst (λ (xs : List Section). Each (HeardIn s) xs) first (l .inv .3) .0 in
     let p = seen-plays (laid-ready (q .pre .0 .3)) first (l .inv .1) (y .section-at .ensures) (c .before .before .before .arrangement-in .ensures) in
-    ((l .inv .2, y .before .before .if1 .taken), (p .0, (p .1, (p .2, (heard, l .inv .4)))))
+    ((l .inv .2, inside), (p .0, (p .1, (p .2, (heard, l .inv .4)))))
+
+loop-less : tie.Need-loop-less Inv-loop μ-loop
+loop-less c =
+    let done = c .before .before .before .before .before .before .before in
+    omega (arith, done .put-section .ensures .1 .0 .further, done .before .before .before .before .before .before .if1 .taken)
 
 loop-again : tie.Need-loop-again Inv-loop μ-loop
 unfolding Each
 loop-again c =
     let y = c .before .before .before .before .before .before .before .before .before .before .before .before in
-    let l = y .before .before .before .before .loop in
-    let q = y .before .before .before .before .before .before .before .before .before .before in
+    let l = y .before .before .before .loop in
+    let q = y .before .before .before .before .before .before .before .before .before in
     let s = q .args .s .now in
-    let met = y .before .pass in
-    let done = c .before .before .before .before .before .before .before .put-section in (
+    let done = c .before .before .before .before .before .before .before .put-section in
+    let next = done .ensures .1 .0 in
+    let first = leads-first next in (
       l .inv .0,
-      seen-next (laid-ready (q .pre .0 .3)) (met .ensures .first) (l .inv .1) (y .section-at .ensures),
-      met .ensures .onward,
-      subst (λ (xs : List Section). Each (HeardIn s) xs) (met .ensures .first) (l .inv .3) .1,
-      done .ensures .1,
+      seen-next (laid-ready (q .pre .0 .3)) first (l .inv .1) (y .section-at .ensures),
+      next .onward,
+      subst (λ (xs : List Section). Each (HeardIn s) xs) first (l .inv .3) .1,
+      done .ensures .1 .1,
       done .kept .1 .1 .1 .1 .0 ∙ l .inv .5,
       done .kept .1 .1 .1 .1 .1 .0 ∙ l .inv .6,
       done .kept .1 .1 .1 .1 .1 .1 .0 ∙ l .inv .7,
-      ap (putBlocks (flatFrom s (met .result .next))) (done .ensures .0) ∙ sym (blocks-next s (l .place) (met .result .next) _ (met .ensures .opened))
+      ap (putBlocks (flatFrom s (done .result .next))) (done .ensures .0) ∙ sym (blocks-next s (l .place) (done .result .next) _ (next .opened))
           ∙ l .inv .8,
     )
 
@@ -97,5 +104,5 @@ returns c =
 pub put-sections-spec : {M : Type 1} → statement M
 put-sections-spec =
     tie.close
-    (tie.spec Inv-loop μ-loop loop-holds (λ c κs. (c .before .before .loop .inv .2, c .if1 .taken)) section-at-requires (λ c κs. search needs)
-    put-section-requires (λ c. search needs) loop-again (λ c. search needs) (λ c. search needs) (λ c. search needs) returns)
+    (tie.spec Inv-loop μ-loop loop-holds section-at-requires (λ c κs. search needs) put-section-requires loop-less loop-again
+    (λ c. search needs) (λ c. search needs) (λ c. search needs) returns)

@@ -12,10 +12,10 @@ returns : tie.Need-returns
 returns c z = absurd (c .if1 .taken z)
 
 -- There is room behind the sections.
-room : (c : tie.After-rows) → c .before .before .before .before .before .before .before .args .outcome .rows .to + 8
-    ≤ length (c .before .before .before .before .before .before .before .args .words .now)
+room : (c : tie.After-rows) → c .before .before .before .before .before .before .before .before .before .before .args .outcome .rows .to + 8
+    ≤ length (c .before .before .before .before .before .before .before .before .before .before .args .words .now)
 room c =
-    let pre = c .before .before .before .before .before .before .before .pre in
+    let pre = c .before .before .before .before .before .before .before .before .before .before .pre in
     let short = pre .1 (c .before .if1 .left) .1 .short in
     omega arith
 
@@ -30,16 +30,16 @@ part-lay-keys-start c = let h = room c in omega arith
 
 lay-keys-requires : tie.Need-lay-keys-requires
 lay-keys-requires c κs =
-    let q = c .before .before .before .before .before .before .before .before in
+    let q = c .before .before .before .before .before .before .before .before .before .before .before in
     let h = room (c .before) in
     let w = q .args .words .now in
     let at = q .args .outcome .rows .to in
     let a = length-drop at w in
-    (q .pre .0 .0, q .pre .0 .1, q .pre .0 .2, q .pre .0 .3, simp (length-take, length-drop) (omega arith))
+    ((q .pre .0 .0, q .pre .0 .1, q .pre .0 .2), (q .pre .0 .3, simp (length-take, length-drop) (omega arith)))
 
 returns-2 : tie.Need-returns-2
 returns-2 c z =
-    let q = c .before .before .before .before .before .before .before .before .before .before .before in
+    let q = c .before .before .before .before .before .before .before .before .before .before .before .before .before .before in
     let row = q .pre .1 z in
     (keys-added (row .1) (row .0) (q .pre .0 .4) (c .before .before .lay-keys .ensures) refl, search needs)
 

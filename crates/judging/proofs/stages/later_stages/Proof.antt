@@ -26,7 +26,7 @@ walk-requires : tie.Need-walk-requires
 walk-requires c κs =
     let pre = c .before .before .before .before .before .before .pre in
     let z = c .before .if1 .left in
-    ((pre .0 .begins z, pre .0 .ready z, pre .0 .filled z, pre .2), (pre .1, pre .0 .clear z))
+    ((pre .0 .begins z, pre .0 .ready z, pre .0 .filled z, pre .0 .kept z), (pre .1, pre .0 .clear z))
 
 returns-2 : tie.Need-returns-2
 returns-2 c =

@@ -33,7 +33,7 @@ loop-holds : tie.Need-loop-holds Inv-loop μ-loop
 loop-holds c =
     let h = c .before .before .before .before .pre in (
       h .0 .0 .onward,
-      row-is-start (h .0 .0) (h .0 .1) (h .0 .2),
+      row-is-start (h .0 .0) (h .0 .1) (h .0 .2) (h .0 .3),
       refl,
       references-start (h .0 .0) (h .1 .1),
       rw (c .nothing-sung .ensures, c .before .nothing-metered .ensures) (walked-start (h .0 .0)),
@@ -43,7 +43,7 @@ lay-section-requires : tie.Need-lay-section-requires Inv-loop μ-loop
 lay-section-requires c κs =
     let i = c .before .before .before .loop .inv in
     let h = c .before .before .before .before .before .before .before .before .pre in
-    ((i .0, c .before .if1 .taken, i .1 .room, rw (i .2) (h .0 .3)), (row-before (i .1), h .1 .0))
+    ((i .0, c .before .if1 .taken, i .1 .room, i .1 .kept), (row-before (i .1), h .1 .0))
 
 same-length : tie.Need-same-length Inv-loop μ-loop
 same-length c =
@@ -55,9 +55,8 @@ unfolding laterFaults
 returns c =
     let q = c .before .before .before .before .before .before .before .before in
     let i = q .before .before .before .before .loop .inv in
-    let h = q .before .before .before .before .before .before .before .before .before .pre in
     let w = q .lay-section .ensures in
-    let laid = row-is-next (q .lay-section .result) (i .1) (w .0) (rw (i .2) (h .0 .3)) (w .1) in
+    let laid = row-is-next (q .lay-section .result) (i .1) (w .0) (w .1) in
     let song = songOf (q .before .before .before .before .before .before .before .before .before .args .s .now) in
     let fault = c .before .before .before .name-fault in
     let n = c .before .if2 .taken in
@@ -76,7 +75,6 @@ with-measures-requires c κs =
     let i = q .before .before .before .before .loop .inv in
     let h = q .before .before .before .before .before .before .before .before .before .pre in
     let w = q .lay-section .ensures in
-    let laid = row-is-next (q .lay-section .result) (i .1) (w .0) (rw (i .2) (h .0 .3)) (w .1) in
     (rw (w .0 .said) (opened-measurable _ _ _ _ (w .0 .opens) (h .1 .0 .time)), lengths-small _ _ _ (i .4 .lengths))
 
 sing-requires : tie.Need-sing-requires Inv-loop μ-loop
@@ -85,7 +83,6 @@ sing-requires c κs =
     let i = q .before .before .before .before .loop .inv in
     let h = q .before .before .before .before .before .before .before .before .before .pre in
     let w = q .lay-section .ensures in
-    let laid = row-is-next (q .lay-section .result) (i .1) (w .0) (rw (i .2) (h .0 .3)) (w .1) in
     walk-sings (q .lay-section .result) (w .0) (i .0) (q .before .before .if1 .taken) (h .1 .0 .time) _ _ (i .4)
     (c .before .before .before .before .with-measures .ensures) (c .before .before .before .metered-refusal .ensures) (c .before .if3 .taken)
 
@@ -100,7 +97,7 @@ loop-again c =
     let i = q .before .before .before .before .loop .inv in
     let h = q .before .before .before .before .before .before .before .before .before .pre in
     let w = q .lay-section .ensures in
-    let laid = row-is-next (q .lay-section .result) (i .1) (w .0) (rw (i .2) (h .0 .3)) (w .1) in
+    let laid = row-is-next (q .lay-section .result) (i .1) (w .0) (w .1) in
     let song = songOf (q .before .before .before .before .before .before .before .before .before .args .s .now) in
     let fault = c .before .before .before .before .before .before .before .before .name-fault in
     let inside = q .before .before .if1 .taken in

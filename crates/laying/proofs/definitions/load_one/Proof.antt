@@ -1,5 +1,6 @@
 -- One more definition: its words are laid behind those before, and its references are looked up among them.
 use Rattle.laying.proofs.LoadLaws.{room-there, small-id, small-end, end-inside, one-length, loads-one}
+use Rattle.laying.proofs.KeptRowLaws.{kept-behind}
 use native.Mathlib.Omega.{arith}
 use borrow.Author.Needs.{needs}
 use Rattle.laying.proofs.definitions.load_one.Statement.{statement}
@@ -12,6 +13,7 @@ lay-run-requires c κs =
       r .ensures .pattern-placed,
       q .pre .0 .small,
       room-there (q .args .s .now) (q .args .words .now) (q .args .mark) (q .args .p) (q .pre .0) (q .pre .1) (q .pre .2) (r .result) (r .ensures),
+      kept-behind (omega arith) (q .pre .0 .kept),
     )
 
 enter-requires : tie.Need-enter-requires
@@ -32,6 +34,7 @@ enter-requires c κs =
           (l .ensures .0) (l .ensures .1),
       y .ensures .1 .0,
       y .ensures .1 .1,
+      y .ensures .1 .2,
     )
 
 add-next-block : tie.Need-add-next-block

@@ -1,92 +1,63 @@
--- At every line: each word is that of its key's first setting, or 0, and the setting is the first among the lines that are left.
-use Prim.Native.Nat.{ℕ, _+_, _-_, _<_, _≤_}
-use mathlib.Core.Path.{_≡_, refl, ap, _∙_}
+-- Key by key: the words before it are written, the rest of the table is as it was.
+use Prim.Native.Nat.{_-_, _≤_}
+use mathlib.Core.Path.{_≡_, refl}
 use native.Mathlib.Omega.{arith}
-use mathlib.Core.List.{List}
-use lib.ListN.{length, take, drop, getD}
-use Rattle.settings.proofs.OfLineLaws.{lineFrom}
-use Rattle.sections.specs.Runs.{textLines, linesOf}
-use Rattle.sections.proofs.SlotLaws.{left-none, left-over, left-found}
-use Rattle.laying.specs.Keys.{KeyRead}
-use Rattle.laying.proofs.NotedLaws.{cleared, keys-start, noted-length, noted-behind, noted-short, keys-next, all-short, lines-first, all-noted}
+use lib.ListN.{length}
+use Rattle.songcode.specs.answer.SongText.{metadataLines}
+use Rattle.songcode.specs.answer.Answer.{blocksOf}
+use Rattle.sections.specs.Gathering.{FirstSaid}
+use Rattle.laying.proofs.SongSaysLaws.{said-short, KeysUpTo, keys-none, keys-more, keys-all}
 use borrow.Author.Needs.{needs}
 use Rattle.laying.proofs.keys.lay_keys.Statement.{statement}
 use Rattle.laying.proofs.keys.lay_keys.Tie as tie
 
 abbrev Inv-loop : tie.InvT-loop
-Inv-loop s keys₀ n₀ at₀ left₀ keys n at left =
-    (1 ≤ n)
-    × (n ≤ at + 1)
-    × (at ≤ length s)
-    × (8 ≤ length keys)
-    × (length keys ≡ length keys₀)
-    × (drop 8 keys ≡ drop 8 keys₀)
-    × ((k : ℕ) → k < 8 → KeyRead (take left₀ (textLines s n₀ at₀)) (take left (textLines s n at)) k (getD keys k 0))
+Inv-loop s lines starts stops keys₀ k₀ keys k = (k ≤ 8) × (length keys ≡ length keys₀) × KeysUpTo s keys keys₀ k
 
 abbrev μ-loop : tie.MeasureT-loop
-μ-loop s keys₀ n₀ at₀ left₀ keys n at left = length s - at
+μ-loop s lines starts stops keys₀ k₀ keys k = 8 - k
 
 loop-holds : tie.Need-loop-holds Inv-loop μ-loop
 loop-holds c =
-    let q = c .before .before .before .before .before .before .before in
-    let z = cleared _ (q .args .keys .now) (q .pre .4) (c .before .before .before .clear-keys .ensures) in
-    let first = lines-first (c .lines-before .ensures) (q .pre .3) in
-    (omega arith, omega arith, omega arith, omega arith, refl, refl, λ k h. keys-start _ k _ (z .2 k h))
+    let q = c .before .before .before .before .before in
+    (omega arith, refl, keys-none (q .args .s .now) (q .args .keys .now))
 
-returns : tie.Need-returns Inv-loop μ-loop
-unfolding linesOf
-returns c =
-    let q = c .before .before .before .before .before .before .before .before .before .before in
-    let l = c .before .before .loop in
-    let run = c .before .before .before .lines-before in
-    let z = cleared _ (q .args .keys .now) (q .pre .4) (c .before .before .before .before .before .before .clear-keys .ensures) in
-    all-noted {run = run .result} (run .ensures) (q .pre .3) (l .keys) (q .args .keys .now)
-    (left-none (q .args .s .now) (l .n) (l .at) (l .left) (c .if1 .taken)) (l .inv .3) (l .inv .5 ∙ z .1) (l .inv .6)
+said-by-requires : tie.Need-said-by-requires Inv-loop μ-loop
+said-by-requires c κs =
+    let wide = c .before .before .before .before .before .before .before .pre .1 .0 .wide in
+    let below = c .loop-test .taken in
+    (omega arith, omega arith, omega arith)
 
-note-key-requires : tie.Need-note-key-requires Inv-loop μ-loop
-unfolding linesOf
-note-key-requires c κs =
-    let q = c .before .before .before .before .before .before .before .before .before .before .before .before in
-    let l = c .before .before .before .before .loop in
-    let run = c .before .before .before .before .before .lines-before in
-    let here = left-found (q .args .s .now) (l .n) (l .at) (l .left) (c .before .line-at .ensures)
-    (c .before .before .before .loop-test .taken) (c .before .before .if1 .left) in (
-      (search needs, search needs, l .inv .0, l .inv .3, q .pre .1, q .pre .0),
-      noted-short here (l .keys) (l .inv .3) (l .inv .6) (all-short {run = run .result} (run .ensures) (q .pre .3) (q .pre .2)),
-    )
+-- The setting that is read is the first of its key.
+found : (c : tie.After-said-by Inv-loop μ-loop)
+    → FirstSaid (c .before .before .before .before .before .before .before .before .args .s .now)
+    (metadataLines (blocksOf (c .before .before .before .before .before .before .before .before .args .s .now)))
+    (c .before .before .loop .k) (c .said-by .result)
+found c =
+    let q = c .before .before .before .before .before .before .before .before in
+    rw (c .said-by .ensures) (q .pre .1 .0 .each (c .before .before .loop .k) (c .before .loop-test .taken))
+
+key-said-requires : tie.Need-key-said-requires Inv-loop μ-loop
+key-said-requires c κs =
+    let q = c .before .before .before .before .before .before .before .before in
+    (found c .inside, q .pre .0 .1, q .pre .0 .0, said-short (q .pre .0 .2) (found c))
 
 loop-again : tie.Need-loop-again Inv-loop μ-loop
 loop-again c =
-    let q = c .before .before .before .before .before .before .before .before .before .before .before .before .before .before .before in
-    let l = c .before .before .before .before .before .before .before .loop in
-    let line = c .before .before .before .before .line-at in
-    let here = left-found (q .args .s .now) (l .n) (l .at) (l .left) (line .ensures)
-    (c .before .before .before .before .before .before .loop-test .taken) (c .before .before .before .before .before .if1 .left) in
-    let text = lineFrom (l .n) (q .args .s .now) (line .result .start) (line .result .stop) in
-    let note = c .before .before .note-key .ensures in
-    let long = ap (λ (ws : List ℕ). length ws) note ∙ noted-length text (l .keys) in
-    let eight = l .inv .3 in (
-      omega arith,
-      omega arith,
-      omega arith,
-      omega arith,
-      long ∙ l .inv .4,
-      ap (drop 8) note ∙ noted-behind text (l .keys) ∙ l .inv .5,
-      λ k h. rw note (keys-next here (l .keys) (l .inv .3) (l .inv .6) k h),
-    )
-
-returns-2 : tie.Need-returns-2 Inv-loop μ-loop
-unfolding linesOf
-returns-2 c =
     let q = c .before .before .before .before .before .before .before .before .before in
+    let l = c .before .before .before .loop in
+    let up = keys-more (q .args .s .now) (l .keys) (q .args .keys .now) (l .k) (c .key-said .result) (c .before .before .loop-test .taken) (q .pre .1 .1)
+    (found (c .before)) (c .key-said .ensures) (l .inv .2) in
+    (omega arith, up .long, up)
+
+returns : tie.Need-returns Inv-loop μ-loop
+returns c =
+    let q = c .before .before .before .before .before .before .before in
     let l = c .before .loop in
-    let run = c .before .before .lines-before in
-    let z = cleared _ (q .args .keys .now) (q .pre .4) (c .before .before .before .before .before .clear-keys .ensures) in
-    all-noted {run = run .result} (run .ensures) (q .pre .3) (l .keys) (q .args .keys .now)
-    (left-over (q .args .s .now) (l .n) (l .at) (l .left) (c .loop-test .left)) (l .inv .3) (l .inv .5 ∙ z .1) (l .inv .6)
+    keys-all (q .args .s .now) (l .keys) (q .args .keys .now) (l .k) (omega arith) (q .pre .1 .1) (l .inv .2)
 
 pub lay-keys-spec : {M : Type 1} → statement M
 lay-keys-spec =
     tie.close
-    (tie.spec Inv-loop μ-loop (λ c κs. search needs) (λ c κs. search needs) loop-holds (λ c. search needs) returns (λ c κs. search needs) note-key-requires
-    (λ c. search needs) (λ c. search needs) (λ c. search needs) loop-again (λ c. search needs) returns-2)
+    (tie.spec Inv-loop μ-loop loop-holds said-by-requires key-said-requires (λ c. search needs) (λ c. search needs) (λ c. search needs)
+    (λ c. search needs) loop-again (λ c. search needs) returns)

@@ -7,8 +7,11 @@ use lib.ListN.{length}
 use Rattle.sections.specs.Runs.{linesOf}
 use Rattle.tokens.specs.TokenWords.{tokenWords}
 use Rattle.tokens.specs.Lexing.{tokensFrom}
+use Rattle.tokens.specs.Kept.{KeptFrom}
 use Rattle.tokens.proofs.LaidLaws.{laid-none, laid-length}
+use Rattle.tokens.proofs.KeptLaws.{found-stop}
 use Rattle.laying.specs.Laying.{runTokens}
+use Rattle.laying.proofs.KeptRowLaws.{kept-on}
 use Rattle.laying.proofs.LayingLaws.{first-line, Lays, lays-none, lays-over, lays-end, lays-room, lays-next, run-laid, lines-less}
 use borrow.Author.Needs.{needs}
 use Rattle.laying.proofs.laying.lay_run.Statement.{statement}
@@ -17,6 +20,7 @@ use Rattle.laying.proofs.laying.lay_run.Tie as tie
 abbrev Inv-loop : tie.InvT-loop
 Inv-loop s words₀ n fill₀ line₀ at₀ left₀ words fill line at left =
     (line ≤ at + 2) × (at ≤ length s) × Lays s words₀ fill₀ line₀ at₀ left₀ words fill line at left
+    × KeptFrom s words fill
 
 abbrev μ-loop : tie.MeasureT-loop
 μ-loop s words₀ n fill₀ line₀ at₀ left₀ words fill line at left = length s - at
@@ -27,8 +31,8 @@ returns c = let e = c .if1 .taken in
     let a = c .before .before .before .before .args in
     (rw e (laid-none (a .n) (a .words .now)), rw e (omega arith))
 
-lex-line-requires : tie.Need-lex-line-requires Inv-loop μ-loop
-lex-line-requires c κs =
+lay-line-requires : tie.Need-lay-line-requires Inv-loop μ-loop
+lay-line-requires c κs =
     let q = c .before .before .before .before .before .before in
     let f = c .before .line-at .ensures in
     let g = first-line (q .args .run) f (c .before .before .if1 .left) (q .pre .0 .inside) in
@@ -36,28 +40,33 @@ lex-line-requires c κs =
     let over = f .over in
     let next = f .next in
     let inside = q .pre .0 .inside in
-    (f .stop, omega arith, omega arith, omega arith)
+    ((f .stop, omega arith, omega arith, omega arith), (found-stop (q .args .s .now) f, q .pre .3))
 
 loop-holds : tie.Need-loop-holds Inv-loop μ-loop
 loop-holds c =
     let q = c .before .before .before .before .before .before .before .before .before .before .before in
     let w = c .before .before .before .before .before .before .line-at .result in
     let f = c .before .before .before .before .before .before .line-at .ensures in
-    let x = c .before .before .before .before .lex-line in
+    let x = c .before .before .before .before .lay-line in
     let counted = q .pre .0 .counted in
     let inside = q .pre .0 .inside in
     let over = f .over in
     let onward = f .onward in
     let g = first-line (q .args .run) f (c .before .before .before .before .before .before .before .if1 .left) inside in
     let r = g .room in
-    let l : length (x .last .1 .1 .1 .0) ≡ length (q .args .words .now) = ap length (x .ensures .0) ∙ laid-length (q .args .n)
-    (tokenWords (tokensFrom (w .start) (w .stop) (q .args .s .now))) (q .args .words .now) (omega arith) in
-    (omega arith, omega arith, lays-none (q .args .s .now) (x .last .1 .1 .1 .0) (x .result) _ _ _ (omega arith))
+    let new = tokenWords (tokensFrom (w .start) (w .stop) (q .args .s .now)) in
+    let l : length (x .last .1 .1 .1 .0) ≡ length (q .args .words .now) = ap length (x .ensures .0) ∙ laid-length (q .args .n) new (q .args .words .now)
+    (omega arith) in (
+      omega arith,
+      omega arith,
+      lays-none (q .args .s .now) (x .last .1 .1 .1 .0) (x .result) _ _ _ (omega arith),
+      rw (x .ensures .0) (kept-on (q .args .n) new (x .ensures .1 .0) (omega arith) (omega arith) (q .pre .3)),
+    )
 
 same-length : tie.Need-same-length Inv-loop μ-loop
 same-length c =
     let q = c .before .before .before .before .before .before .before .before .before .before .before .before .before .before in
-    let x = c .before .before .before .before .before .before .before .lex-line in
+    let x = c .before .before .before .before .before .before .before .lay-line in
     let same = c .before .before .loop .inv .2 .same in
     search needs
 
@@ -65,7 +74,7 @@ returns-2 : tie.Need-returns-2 Inv-loop μ-loop
 returns-2 c =
     let q = c .before .before .before .before .before .before .before .before .before .before .before .before .before .before in
     let f = c .before .before .before .before .before .before .before .before .before .line-at .ensures in
-    let x = c .before .before .before .before .before .before .before .lex-line in
+    let x = c .before .before .before .before .before .before .before .lay-line in
     let v = c .before .before .loop in
     let i = v .inv .2 in
     let inside = q .pre .0 .inside in
@@ -81,8 +90,8 @@ end-line-requires c κs =
     let same = v .inv .2 .same in
     omega arith
 
-lex-line-requires-2 : tie.Need-lex-line-requires-2 Inv-loop μ-loop
-lex-line-requires-2 c κs =
+lay-line-requires-2 : tie.Need-lay-line-requires-2 Inv-loop μ-loop
+lay-line-requires-2 c κs =
     let q = c .before .before .before .before .before .before .before .before .before .before .before .before .before .before .before
     .before .before .before .before .before in
     let v = c .before .before .before .before .before .before .before .before .loop in
@@ -93,8 +102,13 @@ lex-line-requires-2 c κs =
     let same = v .inv .2 .same in
     let r = lays-room _ _ _ _ _ _ (v .inv .2) f (c .before .before .before .before .before .before .before .loop-test .taken)
     (c .before .before .before .before .before .before .if2 .left) in
-    let l : length (e .last .0) ≡ length (v .words) = ap length (e .ensures .0) ∙ laid-length (v .fill) (58 * 2 ^ 26 ∷ []) (v .words) (omega arith) in
-    (f .stop, omega arith, omega arith, omega arith)
+    let l : length (e .last .0) ≡ length (v .words) = ap length (e .ensures .0) ∙ laid-length (v .fill) (58 * 2 ^ 26 ∷ []) (v .words) (omega arith) in (
+      (f .stop, omega arith, omega arith, omega arith),
+      (
+        found-stop (q .args .s .now) f,
+        rw (e .ensures .0) (kept-on (v .fill) (58 * 2 ^ 26 ∷ []) (e .ensures .1) (omega arith) (omega arith) (v .inv .3)),
+      ),
+    )
 
 add-line-2 : tie.Need-add-line-2 Inv-loop μ-loop
 add-line-2 c =
@@ -113,17 +127,27 @@ loop-less c =
 loop-again : tie.Need-loop-again Inv-loop μ-loop
 loop-again c =
     let v = c .before .before .before .before .before .before .before .before .before .before .before .loop in
+    let q = c .before .before .before .before .before .before .before .before .before .before .before .before .before .before .before
+    .before .before .before .before .before .before .before .before in
+    let w = c .before .before .before .before .before .before .before .before .line-at2 .result in
     let f = c .before .before .before .before .before .before .before .before .line-at2 .ensures in
     let e = c .before .before .before .before .before .before .end-line in
-    let x = c .before .before .lex-line2 in
+    let x = c .before .before .lay-line2 in
     let over = f .over in
-    let onward = f .onward in (
+    let onward = f .onward in
+    let same = v .inv .2 .same in
+    let r = lays-room _ _ _ _ _ _ (v .inv .2) f (c .before .before .before .before .before .before .before .before .before .before .loop-test .taken)
+    (c .before .before .before .before .before .before .before .before .before .if2 .left) in
+    let new = tokenWords (tokensFrom (w .start) (w .stop) (q .args .s .now)) in
+    let ended = kept-on (v .fill) (58 * 2 ^ 26 ∷ []) (e .ensures .1) (omega arith) (omega arith) (v .inv .3) in
+    let l = laid-length (v .fill) (58 * 2 ^ 26 ∷ []) (v .words) (omega arith) in (
       omega arith,
       omega arith,
       lays-next _ _ _ _ _ _ (v .inv .2) f
           (c .before .before .before .before .before .before .before .before .before .before .loop-test .taken)
           (c .before .before .before .before .before .before .before .before .before .if2 .left) (e .ensures .0) (e .ensures .1) (x .ensures .0)
           (x .ensures .1 .0) (x .ensures .1 .1),
+      rw (x .ensures .0, e .ensures .0) (kept-on (e .result) new (x .ensures .1 .0) (omega arith) (omega arith) ended),
     )
 
 same-length-2 : tie.Need-same-length-2 Inv-loop μ-loop
@@ -135,7 +159,7 @@ returns-3 : tie.Need-returns-3 Inv-loop μ-loop
 returns-3 c =
     let q = c .before .before .before .before .before .before .before .before .before .before .before .before .before in
     let f = c .before .before .before .before .before .before .before .before .line-at .ensures in
-    let x = c .before .before .before .before .before .before .lex-line in
+    let x = c .before .before .before .before .before .before .lay-line in
     let v = c .before .loop in
     let i = v .inv .2 in
     let inside = q .pre .0 .inside in
@@ -147,6 +171,6 @@ returns-3 c =
 pub lay-run-spec : {M : Type 1} → statement M
 lay-run-spec =
     tie.close
-    (tie.spec Inv-loop μ-loop returns (λ c κs. search needs) lex-line-requires (λ c. search needs) (λ c. search needs) loop-holds
-    same-length returns-2 (λ c κs. search needs) end-line-requires lex-line-requires-2 add-line-2 (λ c. search needs) loop-less loop-again
+    (tie.spec Inv-loop μ-loop returns (λ c κs. search needs) lay-line-requires (λ c. search needs) (λ c. search needs) loop-holds
+    same-length returns-2 (λ c κs. search needs) end-line-requires lay-line-requires-2 add-line-2 (λ c. search needs) loop-less loop-again
     same-length-2 returns-3)

@@ -17,7 +17,7 @@ abbrev μ-loop : tie.MeasureT-loop
 μ-loop s place₀ place = length s - place .at
 
 loop-holds : tie.Need-loop-holds Inv-loop μ-loop
-loop-holds c = come-start (c .before .before .args .s .now) (c .skip-blanks .result) (c .before .before .pre) (c .skip-blanks .ensures)
+loop-holds c = come-start (c .before .before .args .s .now) (c .next-block .result) (c .before .before .pre) (c .next-block .ensures)
 
 loop-less : tie.Need-loop-less Inv-loop μ-loop
 loop-less c =
@@ -27,7 +27,7 @@ loop-less c =
     let kind = is-metadata _ (sym (k .kind-at .ensures) ∙ c .before .before .before .before .enum-told .given .1) in
     let inside = k .before .if1 .taken in
     let further = come-further s (q .loop .place) (q .loop .inv) inside kind (c .before .before .before .run-of .result)
-    (c .skip-blanks2 .result) (c .before .before .before .run-of .ensures) (c .skip-blanks2 .ensures) in
+    (c .next-block2 .result) (c .before .before .before .run-of .ensures) (c .next-block2 .ensures) in
     omega arith
 
 loop-again : tie.Need-loop-again Inv-loop μ-loop
@@ -37,7 +37,7 @@ loop-again c =
     let s = q .before .before .before .args .s .now in
     let kind = is-metadata _ (sym (k .kind-at .ensures) ∙ c .before .before .before .before .enum-told .given .1) in
     come-next s (q .loop .place) (q .loop .inv) (k .before .if1 .taken) kind (c .before .before .before .run-of .result)
-    (c .skip-blanks2 .result) (c .before .before .before .run-of .ensures) (c .skip-blanks2 .ensures)
+    (c .next-block2 .result) (c .before .before .before .run-of .ensures) (c .next-block2 .ensures)
 
 returns : tie.Need-returns Inv-loop μ-loop
 returns c =

@@ -1,6 +1,6 @@
 -- Each part has room behind those that are laid.
 use Rattle.laying.specs.Rows.{leadSaid, patternSaid, tailSaid, lyricsSaid}
-use Rattle.laying.proofs.PartsLaidLaws.{room-lead, room-lines, room-tail, room-lyrics, all-laid, all-places}
+use Rattle.laying.proofs.PartsLaidLaws.{room-lead, room-lines, kept-lines, room-tail, room-lyrics, all-laid, all-places}
 use borrow.Author.Needs.{needs}
 use Rattle.laying.proofs.rows.lay_parts.Statement.{statement}
 use Rattle.laying.proofs.rows.lay_parts.Tie as tie
@@ -23,7 +23,15 @@ lay-run-requires c κs =
     let p = q .pre in
     let u = cuts .lay-cuts .ensures in
     let v = lead .lay-said .ensures in
-    (p .0 .0, p .0 .5, room-lines (q .args .s .now) (q .args .section) (q .args .at) (q .args .words .now) (p .1 .1) (u .0) (u .1) (v .0) (v .1))
+    let s = q .args .s .now in
+    let r = q .args .section in
+    let at = q .args .at in
+    let held = q .args .words .now in (
+      p .0 .0,
+      p .0 .5,
+      room-lines s r at held (p .1 .1) (u .0) (u .1) (v .0) (v .1),
+      kept-lines s r at held (p .1 .1) (u .0) (u .1) (v .0) (v .1) (p .0 .6),
+    )
 
 lay-said-requires-2 : tie.Need-lay-said-requires-2
 unfolding leadSaid patternSaid tailSaid lyricsSaid

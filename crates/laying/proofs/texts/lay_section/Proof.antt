@@ -1,6 +1,7 @@
 -- A section is met, its parts are laid, what its pattern says is read, and the four words are entered in front of the parts.
 use native.Mathlib.Omega.{arith}
 use Rattle.laying.proofs.TextLaws.{even-few}
+use Rattle.laying.proofs.KeptRowLaws.{kept-behind}
 use Rattle.laying.proofs.SectionLaidLaws.{block-fits, lyrics-second, parts-room, header-asked, asked, end-inside, meter-few, tempo-small}
 use Rattle.laying.proofs.SectionLaidLaws.{same-length, lays}
 use borrow.Author.Needs.{needs}
@@ -11,7 +12,7 @@ add-lay-parts : tie.Need-add-lay-parts
 add-lay-parts c =
     let met = c .before .before .before .before .before in
     let p = met .before .before .before .pre in
-    let h = block-fits (p .0 .0) (p .0 .1) (p .0 .2) (p .0 .3) (p .1 .0) (p .1 .1) (met .meet .ensures) in
+    let h = block-fits (p .0 .0) (p .0 .1) (p .0 .2) (p .0 .3 .room) (p .1 .0) (p .1 .1) (met .meet .ensures) in
     omega arith
 
 lay-parts-requires : tie.Need-lay-parts-requires
@@ -22,14 +23,15 @@ lay-parts-requires c κs =
       (
         m .read .pattern-placed,
         m .read .lyrics-placed,
-        lyrics-second (p .0 .0) (p .0 .1) (p .0 .2) (p .0 .3) (p .1 .0) (p .1 .1) m,
+        lyrics-second (p .0 .0) (p .0 .1) (p .0 .2) (p .0 .3 .room) (p .1 .0) (p .1 .1) m,
         m .read .modifiers .before-inside,
         m .read .modifiers .after-inside,
         p .1 .0 .ready .small,
+        kept-behind (omega arith) (p .0 .3),
       ),
       (
         (m .read .modifiers .front-fits, m .read .modifiers .back-fits),
-        parts-room (p .0 .0) (p .0 .1) (p .0 .2) (p .0 .3) (p .1 .0) (p .1 .1) m,
+        parts-room (p .0 .0) (p .0 .1) (p .0 .2) (p .0 .3 .room) (p .1 .0) (p .1 .1) m,
       ),
     )
 
@@ -44,15 +46,15 @@ enter-section-requires c κs =
     let l = laid .lay-parts .ensures in
     let few = even-few (c .before .before .outline-by .result) (meter .meter-of .result) in
     let even = c .before .even-measures .ensures in
-    let h = header-asked (p .0 .0) (p .0 .1) (p .0 .2) (p .0 .3) (p .1 .0) (p .1 .1) m (l .1 .0) in
-    let a = asked (p .0 .0) (p .0 .1) (p .0 .2) (p .0 .3) (p .1 .0) (p .1 .1) m (l .1 .0) in
-    let e = end-inside (p .0 .0) (p .0 .1) (p .0 .2) (p .0 .3) (p .1 .0) (p .1 .1) m (l .1 .0) (l .0) in (
+    let h = header-asked (p .0 .0) (p .0 .1) (p .0 .2) (p .0 .3 .room) (p .1 .0) (p .1 .1) m (l .1 .0) in
+    let a = asked (p .0 .0) (p .0 .1) (p .0 .2) (p .0 .3 .room) (p .1 .0) (p .1 .1) m (l .1 .0) in
+    let e = end-inside (p .0 .0) (p .0 .1) (p .0 .2) (p .0 .3 .room) (p .1 .0) (p .1 .1) m (l .1 .0) (l .0) in (
       (
         h .0,
         h .1,
         h .2,
-        meter-few (p .0 .0) (p .0 .1) (p .0 .2) (p .0 .3) (p .1 .0) (p .1 .1) m (meter .meter-of .ensures),
-        tempo-small (p .0 .0) (p .0 .1) (p .0 .2) (p .0 .3) (p .1 .0) (p .1 .1) m (tempo .tempo-of .ensures),
+        meter-few (p .0 .0) (p .0 .1) (p .0 .2) (p .0 .3 .room) (p .1 .0) (p .1 .1) m (meter .meter-of .ensures),
+        tempo-small (p .0 .0) (p .0 .1) (p .0 .2) (p .0 .3 .room) (p .1 .0) (p .1 .1) m (tempo .tempo-of .ensures),
         omega arith,
       ),
       (a .0, a .1, a .2, a .3, a .4, a .5, a .6, a .7, e),
@@ -67,7 +69,7 @@ kept-length c =
     let met = meter .before .before .before in
     let p = met .before .before .before .pre in
     let l = laid .lay-parts .ensures in
-    same-length (p .0 .0) (p .0 .1) (p .0 .2) (p .0 .3) (p .1 .0) (p .1 .1) (met .meet .ensures) (l .1 .0) (l .0) _ (meter .meter-of .ensures)
+    same-length (p .0 .0) (p .0 .1) (p .0 .2) (p .0 .3 .room) (p .1 .0) (p .1 .1) (met .meet .ensures) (l .1 .0) (l .0) _ (meter .meter-of .ensures)
     (tempo .tempo-of .ensures) (enter .enter-section .ensures)
 
 returns : tie.Need-returns
@@ -80,7 +82,7 @@ returns c =
     let met = meter .before .before .before in
     let p = met .before .before .before .pre in
     let l = laid .lay-parts .ensures in (
-      lays (p .0 .0) (p .0 .1) (p .0 .2) (p .0 .3) (p .1 .0) (p .1 .1) (met .meet .ensures) (l .1 .0) (l .0) _ (meter .meter-of .ensures)
+      lays (p .0 .0) (p .0 .1) (p .0 .2) (p .0 .3 .room) (p .1 .0) (p .1 .1) (met .meet .ensures) (l .1 .0) (l .0) _ (meter .meter-of .ensures)
           (tempo .tempo-of .ensures) (enter .enter-section .ensures) (arg .before .before .before .before .named-at .ensures)
           (arg .before .before .outline-by .ensures) (arg .before .even-measures .ensures) (c .before .told-texts .ensures) (l .1 .1),
       kept-length c,

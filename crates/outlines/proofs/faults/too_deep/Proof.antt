@@ -5,7 +5,7 @@ use Rattle.outlines.proofs.faults.too_deep.Tie as tie
 
 returns : tie.Need-returns
 unfolding tooDeep
-returns c = rw (c .either2 .ensures, c .before .both .ensures, c .before .before .either .ensures)
+returns c = rw (c .either2 .ensures, c .before .past-limit .ensures, c .before .before .either .ensures)
 
 pub too-deep-spec : {M : Type 1} → statement M
 too-deep-spec = tie.close (tie.spec (λ c κs. search needs) (λ c κs. search needs) (λ c κs. search needs) returns)

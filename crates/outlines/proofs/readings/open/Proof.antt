@@ -5,7 +5,7 @@ use Rattle.outlines.proofs.readings.open.Tie as tie
 
 returns : tie.Need-returns
 unfolding opened
-returns c = rw (c .capped-sum .ensures)
+returns c = rw (c .deeper-of .ensures, c .before .inner-level .ensures)
 
 pub open-spec : {M : Type 1} → statement M
-open-spec = tie.close (tie.spec (λ c κs. search needs) returns)
+open-spec = tie.close (tie.spec (λ c κs. search needs) (λ c κs. search needs) returns)

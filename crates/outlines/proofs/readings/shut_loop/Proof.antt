@@ -5,7 +5,7 @@ use Rattle.outlines.proofs.readings.shut_loop.Tie as tie
 
 returns : tie.Need-returns
 unfolding loopShut
-returns c = rw (c .capped-sum .ensures, c .before .capped-times .ensures)
+returns c = rw (c .outer-level .ensures, c .before .capped-sum .ensures, c .before .before .capped-times .ensures)
 
 pub shut-loop-spec : {M : Type 1} → statement M
-shut-loop-spec = tie.close (tie.spec (λ c κs. search needs) (λ c κs. search needs) returns)
+shut-loop-spec = tie.close (tie.spec (λ c κs. search needs) (λ c κs. search needs) (λ c κs. search needs) returns)

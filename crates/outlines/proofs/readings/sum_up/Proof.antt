@@ -5,7 +5,7 @@ use Rattle.outlines.proofs.readings.sum_up.Tie as tie
 
 returns : tie.Need-returns
 unfolding summed
-returns c = rw (c .capped-sum .ensures, c .before .close .ensures)
+returns c = rw (c .close .ensures)
 
 pub sum-up-spec : {M : Type 1} → statement M
-sum-up-spec = tie.close (tie.spec (λ c κs. search needs) (λ c κs. search needs) returns)
+sum-up-spec = tie.close (tie.spec (λ c κs. search needs) returns)

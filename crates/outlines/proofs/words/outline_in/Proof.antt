@@ -7,16 +7,14 @@ returns : tie.Need-returns
 unfolding outlineIn
 returns c =
     rw (
-      ← (c .before .before .before .before .before .is-set .ensures),
-      ← (c .before .before .before .before .is-set2 .ensures),
-      ← (c .before .before .before .is-set3 .ensures),
-      ← (c .before .before .is-set4 .ensures),
-      ← (c .before .is-set5 .ensures),
-      ← (c .is-set6 .ensures),
+      ← (c .before .before .before .before .is-set .ensures),
+      ← (c .before .before .before .is-set2 .ensures),
+      ← (c .before .before .is-set3 .ensures),
+      ← (c .before .is-set4 .ensures),
+      ← (c .is-set5 .ensures),
     )
 
 pub outline-in-spec : {M : Type 1} → statement M
 outline-in-spec =
     tie.close
-    (tie.spec (λ c κs. search needs) (λ c κs. search needs) (λ c κs. search needs) (λ c κs. search needs) (λ c κs. search needs)
-    (λ c κs. search needs) returns)
+    (tie.spec (λ c κs. search needs) (λ c κs. search needs) (λ c κs. search needs) (λ c κs. search needs) (λ c κs. search needs) returns)

@@ -6,19 +6,19 @@ use Rattle.reader.proofs.counting.count_in.Tie as tie
 
 returns : tie.Need-returns
 returns c =
-    let bs = c .before .before .before .before .before .before .args .text .now in
-    let early = c .before .before .before .first-stages in
-    let is = early-refused bs (early .result) (early .ensures) (c .before .if1 .taken) in
+    let early = c .before .before .before .before .before .first-stages in
+    let bs = c .before .before .before .before .before .before .before .before .before .args .text .now in
+    let is = early-refused bs (early .result) (early .ensures .0) (c .before .if1 .taken) in
     counted-refused bs (early .result .number) (early .result .line) (c .refused .result) is (c .refused .ensures)
 
 count-song-requires : tie.Need-count-song-requires
 count-song-requires c κs =
-    let entry = c .before .before .before .before .before .before in
-    let early = c .before .before .before .first-stages in
-    let clear = first-clear (entry .args .text .now) (early .result) (early .ensures) (c .before .if1 .left) in
-    (clear .0, clear .1, entry .pre (clear .0))
+    let early = c .before .before .before .before .before .first-stages in
+    let bs = c .before .before .before .before .before .before .before .before .before .args .text .now in
+    let clear = first-clear bs (early .result) (early .ensures .0) (c .before .if1 .left) in
+    (clear .0, clear .1, early .ensures .1 (c .before .if1 .left))
 
 pub count-in-spec : {M : Type 1} → statement M
 count-in-spec =
     tie.close
-    (tie.spec (λ c κs. search needs) (λ c κs. search needs) returns count-song-requires (λ c. search needs) (λ c. search needs))
+    (tie.spec (λ c κs. search needs) (λ c κs. search needs) (λ c. search needs) returns count-song-requires (λ c. search needs) (λ c. search needs))

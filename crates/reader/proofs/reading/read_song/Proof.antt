@@ -34,7 +34,7 @@ write-tables-requires c κs =
     let song = answered-song bs _ (judged .judge .result) (entry .pre .0) (entry .pre .1) (judged .judge .ensures) _
     (ap (λ (r : Answer). r .refusal) (sym (x .ensures)) ∙ q .if1 .left) in
     let has = accepted-with-room room bs (tables (songOf bs)) .0 (song .0) .1 in (
-      (entry .pre .0, entry .pre .1, song .1),
+      song .1,
       (keys-room room (songOf bs) has, record { sections = has .sections; measures = has .measures; beats = has .beats; items = has .items }),
     )
 

@@ -1,35 +1,17 @@
-use Rattle.sections.proofs.GatherLaws.{said-first}
-use Rattle.sections.specs.Values.{timeSaid, bpmSaid}
-use mathlib.Core.Path.{ap, _∙_}
-use native.Mathlib.Omega.{arith}
+-- Where lines are left, what is gathered from them.
+use Rattle.sections.proofs.NoLinesLaws.{no-keys}
 use borrow.Author.Needs.{needs}
 use Rattle.sections.proofs.values.keys_of.Statement.{statement}
 use Rattle.sections.proofs.values.keys_of.Tie as tie
 
-time-said-requires : tie.Need-time-said-requires
-time-said-requires c κs =
-    let time = said-first 5 (omega arith) (c .before .gather .ensures) (c .said-in .ensures) in
-    (time .inside .start, time .inside .stop)
-
-bpm-said-requires : tie.Need-bpm-said-requires
-bpm-said-requires c κs =
-    let bpm = said-first 4 (omega arith) (c .before .before .before .gather .ensures) (c .said-in2 .ensures) in
-    (bpm .inside .start, bpm .inside .stop)
-
 returns : tie.Need-returns
-returns c =
-    let found = c .before .before .before .before .gather .ensures in
-    let times = c .before .before .time-said .ensures in
-    let time = said-first 5 (omega arith) found (c .before .before .before .said-in .ensures) in
-    let bpm = said-first 4 (omega arith) found (c .before .said-in2 .ensures) in
-    record {
-      time = times .0 ∙ ap timeSaid (time .setting);
-      bpm = c .bpm-said .ensures .0 ∙ ap bpmSaid (bpm .setting);
-      time-fits = times .1;
-      bpm-fits = c .bpm-said .ensures .1;
-    }
+returns c = let q = c .before .before .before .args in
+    no-keys (q .s .now) (q .run) (c .if1 .taken)
+
+returns-2 : tie.Need-returns-2
+returns-2 c = c .keys-by .ensures _ (c .before .before .before .before .before .before .before .gather .ensures)
 
 pub keys-of-spec : {M : Type 1} → statement M
-keys-of-spec =
-    tie.close
-    (tie.spec (λ c κs. search needs) (λ c κs. search needs) time-said-requires (λ c κs. search needs) bpm-said-requires returns)
+keys-of-spec = tie.close
+    (tie.spec returns (λ c. search needs) (λ c. search needs) (λ c. search needs) (λ c κs. search needs) (λ c. search needs) (λ c. search needs)
+    (λ c. search needs) (λ c κs. (_, c .before .before .before .before .before .before .gather .ensures)) returns-2)

@@ -5,10 +5,10 @@ use Rattle.slips.proofs.beginnings.sign_at.Statement.{statement}
 use Rattle.slips.proofs.beginnings.sign_at.Tie as tie
 
 abbrev Inv-loop : tie.InvT-loop
-Inv-loop w i₀ i = i ≤ length w
+Inv-loop w all i₀ i = i ≤ length w
 
 abbrev μ-loop : tie.MeasureT-loop
-μ-loop w i₀ i = length w - i
+μ-loop w all i₀ i = length w - i
 
 pub sign-at-spec : {M : Type 1} → statement M
 sign-at-spec =

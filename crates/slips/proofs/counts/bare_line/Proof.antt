@@ -9,7 +9,7 @@ use Rattle.slips.proofs.counts.bare_line.Tie as tie
 
 returns-2 : tie.Need-returns-2
 returns-2 c =
-    let q = c .before .before .before .before .before .before in
+    let q = c .before .before .before .before .before .before .before in
     let u = q .before .last-underscore .ensures in
     let w = q .before .before .last-word .ensures in
     let k = q .before .before .last-word .result in
@@ -31,7 +31,7 @@ returns-2 c =
 
 returns-4 : tie.Need-returns-4
 returns-4 c =
-    let q = c .before .before .before .before .before in
+    let q = c .before .before .before .before .before .before in
     let u = q .before .last-underscore .ensures in
     let v = q .before .last-underscore .result in
     let b = u .1 in
@@ -52,7 +52,7 @@ returns-4 c =
 
 returns-5 : tie.Need-returns-5
 returns-5 c =
-    let q = c .before .before .before .before .before in
+    let q = c .before .before .before .before .before .before in
     let u = q .before .last-underscore .ensures in
     let v = q .before .last-underscore .result in
     let w = q .before .before .last-word .ensures .0 in
@@ -77,5 +77,6 @@ pub bare-line-spec : {M : Type 1} → statement M
 bare-line-spec =
     tie.close
     (tie.spec (λ c κs. search needs) (λ c κs. search needs) (λ c κs. search needs) (λ c. search needs) (λ c. search needs)
-    (λ c. search needs) (λ c. search needs) (λ c. search needs) (λ c κs. search needs) (λ c. search needs) (λ c κs. search needs) returns-2
+    (λ c. search needs) (λ c. search needs) (λ c. search needs) (λ c κs. search needs) (λ c κs. search needs) (λ c. search needs)
+    (λ c κs. search needs) returns-2
     (λ c κs. search needs) (λ c. search needs) (λ c κs. search needs) returns-4 (λ c κs. search needs) returns-5)

@@ -5,13 +5,13 @@ use Rattle.slips.proofs.counts.counted_in_song.Statement.{statement}
 use Rattle.slips.proofs.counts.counted_in_song.Tie as tie
 
 abbrev Inv-loop : tie.InvT-loop
-Inv-loop s v p₀ p = (1 ≤ p .number) × (p .number ≤ p .at + 1) × (p .at ≤ length s)
+Inv-loop s known p₀ p = (1 ≤ p .number) × (p .number ≤ p .at + 1) × (p .at ≤ length s)
 
 abbrev μ-loop : tie.MeasureT-loop
-μ-loop s v p₀ p = length s - p .at
+μ-loop s known p₀ p = length s - p .at
 
 pub counted-in-song-spec : {M : Type 1} → statement M
 counted-in-song-spec =
     tie.close
-    (tie.spec Inv-loop μ-loop (λ c. search needs) (λ c κs. search needs) (λ c. search needs) (λ c κs. search needs) (λ c. search needs)
-    (λ c. search needs) (λ c. search needs))
+    (tie.spec Inv-loop μ-loop (λ c κs. search needs) (λ c. search needs) (λ c. search needs) (λ c κs. search needs) (λ c. search needs)
+    (λ c κs. search needs) (λ c. search needs) (λ c. search needs) (λ c. search needs))

@@ -5,13 +5,13 @@ use Rattle.slips.proofs.counts.counted_line.Statement.{statement}
 use Rattle.slips.proofs.counts.counted_line.Tie as tie
 
 abbrev Inv-loop : tie.InvT-loop
-Inv-loop s n₀ at₀ left₀ n at left = (n ≤ at + 1) × (at ≤ length s)
+Inv-loop s run n₀ at₀ n at = (n ≤ at + 1) × (at ≤ length s)
 
 abbrev μ-loop : tie.MeasureT-loop
-μ-loop s n₀ at₀ left₀ n at left = length s - at
+μ-loop s run n₀ at₀ n at = length s - at
 
 pub counted-line-spec : {M : Type 1} → statement M
 counted-line-spec =
     tie.close
     (tie.spec Inv-loop μ-loop (λ c. search needs) (λ c. search needs) (λ c κs. search needs) (λ c κs. search needs) (λ c. search needs)
-    (λ c. search needs) (λ c. search needs) (λ c. search needs) (λ c. search needs) (λ c. search needs))
+    (λ c. search needs) (λ c. search needs) (λ c. search needs) (λ c. search needs))

@@ -49,18 +49,14 @@ loop-again c =
 
 returns-2 : tie.Need-returns-2 Inv-loop μ-loop
 returns-2 c =
-    let q = c .before .before .before in
+    let q = c .before .before in
     let a = q .before .before .before .args in
     let i = q .loop .inv in
-    let r = c .no-run .ensures in
-    let none = r .0 in
-    let first = r .2 in
-    let at = r .3 in
-    let nowhere = lines-nowhere (a .s .now) (a .number) (q .loop .p) (c .before .if1 .left) in
-    (omega arith, omega arith, no-lines (a .s .now) (c .no-run .result) none ∙ sym (i .4 ∙ nowhere))
+    let nowhere = lines-nowhere (a .s .now) (a .number) (q .loop .p) (c .if1 .left) in
+    (omega arith, omega arith, no-lines (a .s .now) (record { number = 1; at = 0; lines = 0; next = 0 }) (omega arith) ∙ sym (i .4 ∙ nowhere))
 
 pub definition-lines-spec : {M : Type 1} → statement M
 definition-lines-spec =
     tie.close
     (tie.spec Inv-loop μ-loop (λ c κs. search needs) loop-holds (λ c κs. search needs) (λ c κs. search needs) returns (λ c κs. search needs)
-    (λ c. search needs) loop-again (λ c κs. search needs) returns-2)
+    (λ c. search needs) loop-again returns-2)

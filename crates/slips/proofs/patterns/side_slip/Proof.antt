@@ -17,7 +17,7 @@ returns c = λ h. let t = c .before .if1 .taken in
 
 returns-2 : tie.Need-returns-2
 returns-2 c =
-    let start = c .before .before .before .before .before .before .before .before .before .before .before in
+    let start = c .before .before .before .before .before .before .before .before .before in
     let a = start .args in
     let s = a .s .now in
     let l = a .p .line in

@@ -1,4 +1,3 @@
-use mathlib.Core.Path.{_∙_}
 use borrow.Author.Needs.{needs}
 use Rattle.slips.proofs.MisfitLaws.{closing-none, closing-fits, closing-misfit}
 use Rattle.slips.proofs.readings.close.Statement.{statement}
@@ -9,12 +8,11 @@ returns c = let a = c .before .before .args in closing-none (a .time) (a .x) (c 
 
 returns-2 : tie.Need-returns-2
 returns-2 c =
-    let a = c .before .before .before .before .before .args in
-    c .no-measure .ensures ∙ closing-fits (a .time) (a .x) (c .before .before .before .if1 .left) (c .before .if2 .taken)
+    let a = c .before .before .before .before .args in closing-fits (a .time) (a .x) (c .before .before .if1 .left) (c .if2 .taken)
 
 returns-3 : tie.Need-returns-3
 returns-3 c =
     let a = c .before .before .before .before .args in closing-misfit (a .time) (a .x) (c .before .before .if1 .left) (c .if2 .left)
 
 pub close-spec : {M : Type 1} → statement M
-close-spec = tie.close (tie.spec returns (λ c. search needs) (λ c κs. search needs) returns-2 returns-3)
+close-spec = tie.close (tie.spec returns (λ c. search needs) returns-2 returns-3)

@@ -4,10 +4,10 @@ use Rattle.slips.proofs.references.search_line.Statement.{statement}
 use Rattle.slips.proofs.references.search_line.Tie as tie
 
 abbrev Inv-loop : tie.InvT-loop
-Inv-loop s v traits from to search₀ at₀ search at = (at ≤ to)
+Inv-loop s known from to search₀ at₀ search at = (at ≤ to)
 
 abbrev μ-loop : tie.MeasureT-loop
-μ-loop s v traits from to search₀ at₀ search at = to - at
+μ-loop s known from to search₀ at₀ search at = to - at
 
 pub search-line-spec : {M : Type 1} → statement M
 search-line-spec =

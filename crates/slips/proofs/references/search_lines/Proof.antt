@@ -5,13 +5,13 @@ use Rattle.slips.proofs.references.search_lines.Statement.{statement}
 use Rattle.slips.proofs.references.search_lines.Tie as tie
 
 abbrev Inv-loop : tie.InvT-loop
-Inv-loop s v t search₀ at₀ left₀ search at left = Unit {0}
+Inv-loop s known run search₀ at₀ search at = Unit {0}
 
 abbrev μ-loop : tie.MeasureT-loop
-μ-loop s v t search₀ at₀ left₀ search at left = length s - at
+μ-loop s known run search₀ at₀ search at = length s - at
 
 pub search-lines-spec : {M : Type 1} → statement M
 search-lines-spec =
     tie.close
     (tie.spec Inv-loop μ-loop (λ c. search needs) (λ c. search needs) (λ c κs. search needs) (λ c κs. search needs) (λ c. search needs)
-    (λ c. search needs) (λ c. search needs) (λ c. search needs))
+    (λ c. search needs) (λ c. search needs))

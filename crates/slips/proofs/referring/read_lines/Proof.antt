@@ -1,24 +1,24 @@
 -- Line by line: the tokens read so far and those that are left are those of the run.
-use Prim.Native.Nat.{_+_, _-_, _≤_}
-use mathlib.Core.Path.{sym, subst}
-use mathlib.Core.List.{List, [], _∷_, _++_, append-nil}
+use Prim.Native.Nat.{ℕ, _+_, _-_, _≤_}
+use mathlib.Core.List.{List, []}
 use native.Mathlib.Omega.{arith}
 use lib.ListN.{length, take}
-use Rattle.slips.specs.Marks.{Mark, endMark, MarkedLines}
-use Rattle.slips.specs.Readings.{linesIn}
+use Rattle.slips.specs.declared.referring.Referring.{Referring}
+use Rattle.slips.specs.Marks.{Mark}
 use Rattle.slips.specs.Referring.{PutRead}
-use Rattle.slips.proofs.LineLaws.{From}
-use Rattle.slips.proofs.MarkLaws.{lines-none, lines-past, lines-more, regroup}
+use Rattle.sections.proofs.LineLaws.{From}
+use Rattle.slips.proofs.MarkLaws.{Within, within-none, within-past, within-next}
 use Rattle.slips.proofs.PutReadLaws.{read-none, read-both}
 use borrow.Author.Needs.{needs}
 use Rattle.slips.proofs.referring.read_lines.Statement.{statement}
 use Rattle.slips.proofs.referring.read_lines.Tie as tie
 
+abbrev Read : List ℕ → Referring → Referring → List Mark → Type 0
+Read s x y ms = PutRead s ms x y
+
 abbrev Inv-loop : tie.InvT-loop
 Inv-loop s reading₀ number₀ at₀ left₀ reading number at left =
-    (number ≤ at + 1) × (at ≤ length s)
-    × ((done : List Mark) × PutRead s done reading₀ reading
-    × ((ms : List Mark) → MarkedLines s (take left (From s number at)) ms → MarkedLines s (take left₀ (From s number₀ at₀)) (done ++ ms)))
+    (number ≤ at + 1) × (at ≤ length s) × Within (Read s reading₀ reading) s (take left₀ (From s number₀ at₀)) number at left
 
 abbrev μ-loop : tie.MeasureT-loop
 μ-loop s reading₀ number₀ at₀ left₀ reading number at left = length s - at
@@ -29,10 +29,8 @@ loop-holds c = let p = c .before .pre in (p .0, p .1, ([], read-none _ _ (p .3),
 returns : tie.Need-returns Inv-loop μ-loop
 returns c =
     let q = c .before .before in
-    let a = q .before .before .args in
-    let i = q .loop .inv .2 in
-    let n = lines-none (a .s .now) (q .loop .number) (q .loop .at) (q .loop .left) (c .if1 .taken) in
-    record { marks = i .0; marked = subst (MarkedLines (a .s .now) (linesIn (a .s .now) (a .run))) (append-nil (i .0)) (i .2 [] n); read = i .1 }
+    let w = within-none _ _ _ _ _ _ (q .loop .inv .2) (c .if1 .taken) in
+    record { marks = w .0; marked = w .1; read = w .2 }
 
 read-line-requires : tie.Need-read-line-requires Inv-loop μ-loop
 read-line-requires c κs =
@@ -48,8 +46,6 @@ loop-again : tie.Need-loop-again Inv-loop μ-loop
 loop-again c =
     let q = c .before .before .before .before in
     let a = q .before .before .args in
-    let s = a .s .now in
-    let i = q .loop .inv .2 in
     let f = c .before .line-at .ensures in
     let r = c .read-line .ensures in
     let h = c .before .before .before .loop-test .taken in
@@ -57,25 +53,14 @@ loop-again c =
     let o = f .onward in
     let v = f .over in
     let b = q .loop .inv .0 in
-    let l = c .before .line-at .result in (
-      omega arith,
-      omega arith,
-      (
-        i .0 ++ (r .marks ++ (endMark (l .stop) ∷ [])),
-        read-both (i .1) (r .read),
-        λ ms m.
-            subst (MarkedLines s (linesIn s (a .run))) (sym (regroup (i .0) (r .marks) ms (endMark (l .stop))))
-            (i .2 (r .marks ++ (endMark (l .stop) ∷ ms)) (lines-more s (q .loop .number) (q .loop .at) (q .loop .left) f h z (r .marks) ms (r .marked) m)),
-      ),
-    )
+    let G = Read (a .s .now) (a .x) (c .read-line .result) in
+    (omega arith, omega arith, within-next _ _ _ _ _ _ (q .loop .inv .2) G f h z (r .marks) (r .marked) (λ done d. read-both d (r .read)))
 
 returns-2 : tie.Need-returns-2 Inv-loop μ-loop
 returns-2 c =
-    let q = c .before in
-    let a = q .before .before .args in
-    let i = q .loop .inv .2 in
-    let n = lines-past (a .s .now) (q .loop .number) (q .loop .at) (q .loop .left) (c .loop-test .left) in
-    record { marks = i .0; marked = subst (MarkedLines (a .s .now) (linesIn (a .s .now) (a .run))) (append-nil (i .0)) (i .2 [] n); read = i .1 }
+    let l = c .before .loop in
+    let w = within-past _ _ _ (l .number) _ (l .left) (l .inv .2) (c .loop-test .left) in
+    record { marks = w .0; marked = w .1; read = w .2 }
 
 pub read-lines-spec : {M : Type 1} → statement M
 read-lines-spec =

@@ -7,12 +7,12 @@ use Rattle.slips.proofs.spots.spot_of.Tie as tie
 
 returns : tie.Need-returns
 returns c =
-    let l = c .before .line-of-number .ensures in
+    let l = c .before .line-numbered .ensures in
     let b = c .block-of .ensures in (
-      l .0,
+      (l .onward, l .inside, l .counted, l .number),
       (
         (b .number, b .counted, b .inside),
-        (l .1, λ x m i. let h = b .holds x (i .listed) (m, List·Memᴰ·tail (i .held), i .number) in (h .0, sym (h .1))),
+        (λ x i. l .is x (i .listed) (i .number), λ x m i. let h = b .holds x (i .listed) (m, List·Memᴰ·tail (i .held), i .number) in (h .0, sym (h .1))),
       ),
     )
 

@@ -5,11 +5,12 @@ use Rattle.stage2.proofs.blocks.in_metadata.Statement.{statement}
 use Rattle.stage2.proofs.blocks.in_metadata.Tie as tie
 
 returns : tie.Need-returns
-returns c = let q = c .before .before .before .before .before .before .args in
-    let m = c .before .before .before .metadata-line in
-    in-metadata (q .k) (lineText (q .s .now) (q .l)) (m .result .note) (m .result .marks) (c .before .no-pending .result)
-    (c .block-state .result) (m .ensures .0) (m .ensures .1) (c .before .no-pending .ensures) (c .block-state .ensures)
+returns c =
+    let q = c .before .before .before .before .before .args in
+    let m = c .before .before .metadata-line in
+    in-metadata (q .k) (lineText (q .s .now) (q .l)) (m .result .note) (m .result .marks) (c .metadata-state .result) (m .ensures .0) (m .ensures .1)
+    (c .metadata-state .ensures)
 
 pub in-metadata-spec : {M : Type 1} → statement M
 in-metadata-spec =
-    tie.close (tie.spec (λ c κs. search needs) (λ c κs. search needs) (λ c κs. search needs) returns)
+    tie.close (tie.spec (λ c κs. search needs) (λ c κs. search needs) returns)
