@@ -22,17 +22,17 @@ use tokens::number;
 ghost use mathlib.Core.Path.{_≡_};
 ghost use Rattle.outlines.specs.Readings.{started, sounded, closed, opened, loopShut, referred, Nested, nested, stepOf, summed};
 
-// What a text says: whether it is empty, how deep its loops are, whether it holds a reference; then with its references put in: the sizes
-// of its measures, whether a `%` stands before every chord, whether it has a chord, whether it has no remover, and how many measures it plays, 65,536 where
-// they are more.
+// What a text says: whether it is empty, whether it holds a reference; then with its references put in: whether a `%` stands before every chord, whether
+// it has a chord, whether it has no remover; how deep its own loops are; with its references put in the sizes of its measures, and how many measures it
+// plays, 65,536 where they are more.
 pub struct Outline {
     pub empty: bool,
-    pub depth: usize,
     pub refers: bool,
-    pub sizes: usize,
     pub wants: bool,
     pub chord: bool,
     pub whole: bool,
+    pub depth: usize,
+    pub sizes: usize,
     pub measures: usize,
 }
 
