@@ -7,15 +7,14 @@ use native.Mathlib.Numerals.{add-one}
 use native.Mathlib.Omega.{arith}
 use lib.Dec.{eqb, leb}
 use lib.ListN.{length, take, drop, getD, length-drop, drop-of-length-le}
-use lib.Seq.{drop-cons, drop-drop, length-take-le}
+use lib.Seq.{sets, drop-cons, drop-drop, length-take-le}
 use borrow.Rule.Slice.PartMut.{putMid}
 use borrow.Author.Tests.{eqb-true, leb-true, ne-eqb}
 use Rattle.songcode.specs.Lists.{sum, every}
 use Rattle.songcode.specs.description.Joined.{firstBeat, endBeat, follows, firstMeasure, measureCount, sectionBpm, covers, isShort, measuresJoin, joinUp}
 use Rattle.songcode.proofs.ListLaws.{both-pass, sum-append}
 use Rattle.songcode.proofs.FollowLaws.{follow-parts, end-is}
-use Rattle.packing.specs.Written.{written}
-use Rattle.packing.proofs.WrittenLaws.{Wrote, wrote-lent}
+use Rattle.songcode.proofs.MemoryLaws.{Wrote, wrote-lent}
 use Rattle.cues.specs.Cues.{lengthsAt, lengths, starts, isTimed}
 
 -- Measures that follow on one another have a beat each, so there are no more of them than first beats.
@@ -108,19 +107,19 @@ module _ (i first time bpm n m : ℕ) (sections measures : List ℕ) (l : i < le
       )
       (omega arith)
 
-  pub starts-section : (o o' all ys : List ℕ) → first + m ≤ length measures → first + m ≤ length o → first ≤ length o'
+  pub starts-section : (o o' all ys : List ℕ) → first + m ≤ length measures
       → Wrote o first o' (starts time (lengths (drop i sections) (drop first measures))) all
-      → ys ≡ written (starts time (lengthsAt bpm (take n (drop first measures)))) (take (length o' - first) (drop first o'))
+      → ys ≡ sets (take (length o' - first) (drop first o')) 0 (starts time (lengthsAt bpm (take n (drop first measures))))
       → Wrote o (first + m) (putMid first (length o' - first) o' ys)
       (starts (time + sum (lengthsAt bpm (take n (drop first measures)))) (lengths (drop (i + 1) sections) (drop (first + m) measures))) all
-  starts-section o o' all ys f g h w y =
+  starts-section o o' all ys f w y =
       let xs = lengthsAt bpm (take n (drop first measures)) in
       let rest = lengths (drop (i + 1) sections) (drop (first + m) measures) in
       let e : lengths (drop i sections) (drop first measures) ≡ xs ++ rest = rw (b, k, j) (lengths-section i sections l first measures) in
       let size : length (starts time xs) ≡ m =
       length-starts time xs ∙ length-lengthsAt bpm (take n (drop first measures))
       ∙ length-take-le n (drop first measures) (simp length-drop (omega arith)) ∙ k ∙ sym j in
-      wrote-lent o first o' (starts time xs) (starts (time + sum xs) rest) all ys m size g h
+      wrote-lent o first o' (starts time xs) (starts (time + sum xs) rest) all ys m size
       (subst (λ zs. Wrote o first o' zs all) (ap (λ zs. starts time zs) e ∙ starts-append time xs rest) w) y
 
 pub lengths-none : (i first : ℕ) (sections measures : List ℕ) → length sections ≤ i → lengths (drop i sections) (drop first measures) ≡ []

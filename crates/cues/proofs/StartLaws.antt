@@ -9,7 +9,7 @@ use lib.ListN.{length, drop, getD, set, drop-of-length-le}
 use lib.Seq.{drop-cons}
 use Rattle.songcode.specs.Lists.{sum}
 use Rattle.songcode.specs.description.Joined.{beatCount}
-use Rattle.packing.proofs.WrittenLaws.{Wrote, wrote-put}
+use Rattle.songcode.proofs.MemoryLaws.{Wrote, wrote-put}
 use Rattle.cues.specs.Cues.{beatLength, lengthsAt, starts}
 
 -- No beat lasts longer than a minute.
@@ -33,11 +33,11 @@ module _ (bpm i at : ℕ) (table : List ℕ) (l : i < length table) where
   unfolding sum
   sum-next = rw (lengths-next bpm i table l) (omega arith)
 
-  pub starts-next : (o o' all : List ℕ) → i < length o → Wrote o i o' (starts at (lengthsAt bpm (drop i table))) all
+  pub starts-next : (o o' all : List ℕ) → Wrote o i o' (starts at (lengthsAt bpm (drop i table))) all
       → Wrote o (i + 1) (set o' i at) (starts (at + beatCount (getD table i 0) * beatLength bpm) (lengthsAt bpm (drop (i + 1) table))) all
   unfolding starts
-  starts-next o o' all m w =
-      wrote-put o i o' (starts (at + beatCount (getD table i 0) * beatLength bpm) (lengthsAt bpm (drop (i + 1) table))) all at m
+  starts-next o o' all w =
+      wrote-put o i o' (starts (at + beatCount (getD table i 0) * beatLength bpm) (lengthsAt bpm (drop (i + 1) table))) all at
       (subst (λ xs. Wrote o i o' (starts at xs) all) (lengths-next bpm i table l) w)
 
 module _ (bpm i at : ℕ) (table : List ℕ) (l : length table ≤ i) where

@@ -4,9 +4,9 @@ ghost use mathlib.Core.Path.{_≡_};
 ghost use mathlib.Core.Bool.{true};
 ghost use Prim.Native.Nat.{_+_, _*_, _^_, _≤_};
 ghost use lib.ListN.{length};
+ghost use lib.Seq.{sets};
 ghost use Rattle.songcode.specs.Lists.{sum, every};
 ghost use Rattle.songcode.specs.description.Joined.{beatCount, joinUp};
-ghost use Rattle.packing.specs.Written.{written};
 ghost use Rattle.cues.specs.Cues.{beatLength, lengthsAt, lengths, starts, isTimed};
 ghost use Rattle.cues.specs.Table.{IsTable};
 
@@ -14,7 +14,7 @@ ghost use Rattle.cues.specs.Table.{IsTable};
 pub fn write_starts(sections: &[u64], measures: &[u32], cues: &mut [u64]) -> u64
     requires { ⌜ (joinUp (now sections) (now measures) ≡ true) × (every isTimed (now sections) ≡ true) × (length (now measures) ≤ length (now cues)) ⌝ }
     ensures { λ r. ⌜ r ≡ sum (lengths (now (sections .entry)) (now (measures .entry))) ⌝ }
-    ensures { λ _. ⌜ now (cues .exit) ≡ written (starts 0 (lengths (now (sections .entry)) (now (measures .entry)))) (now (cues .entry)) ⌝ }
+    ensures { λ _. ⌜ now (cues .exit) ≡ sets (now (cues .entry)) 0 (starts 0 (lengths (now (sections .entry)) (now (measures .entry)))) ⌝ }
 {
     let table = &BEAT_LENGTHS;
     let mut time: u64 = 0;
@@ -47,7 +47,7 @@ fn write_stretch(
     requires { ⌜ (length (now measures) ≤ length (now cues)) × (length (now measures) ≤ 2 ^ 21) × (time ≤ 2 ^ 53) × IsTable (now table) ⌝ }
     requires { ⌜ (1 ≤ length (now measures) → bpm ≤ 400) ⌝ }
     ensures { λ r. ⌜ (r ≡ time + sum (lengthsAt bpm (now (measures .entry)))) × (r ≤ time + length (now (measures .entry)) * 3780000000) ⌝ }
-    ensures { λ _. ⌜ now (cues .exit) ≡ written (starts time (lengthsAt bpm (now (measures .entry)))) (now (cues .entry)) ⌝ }
+    ensures { λ _. ⌜ now (cues .exit) ≡ sets (now (cues .entry)) 0 (starts time (lengthsAt bpm (now (measures .entry)))) ⌝ }
 {
     let mut at = time;
     let mut i = 0;

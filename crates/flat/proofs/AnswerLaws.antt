@@ -20,7 +20,7 @@ use Rattle.songcode.proofs.VerdictAgree.{verdict-append, last-stage}
 use Rattle.flat.specs.declared.answers.Copied.{Copied}
 use Rattle.flat.specs.Sheets.{Sheet, puts}
 use Rattle.flat.specs.Answers.{copiedOf, holding, Flattened}
-use Rattle.flat.proofs.SheetLaws.{puts-at, puts-written}
+use Rattle.flat.proofs.SheetLaws.{puts-at, puts-sets}
 
 -- 20 is one stage more.
 stages-are : (lent : ℕ) (bs : List ℕ) → verdict (flatStages lent bs) ≡ stageOr (verdict (songStages bs)) (earliest (copyFaults lent (flatCopy bs)))
@@ -101,7 +101,7 @@ module _ (text before : List ℕ) (is : songAnswer text ≡ accepted (tables (so
       let f = flat-copied (length before) text is (omega arith) (omega arith) in
       record {
         answer = ap (λ (n : ℕ). record { refusal = 0; line = 0; length = n }) same ∙ sym (ap copiedOf f);
-        copy = ap (λ (x : Sheet). x .copy) e ∙ puts-written (flatCopy text) before (omega arith) (omega arith) ∙ sym (ap (λ a. holding a before) f);
+        copy = ap (λ (x : Sheet). x .copy) e ∙ puts-sets (flatCopy text) (record { copy = before; at = 0 }) (omega arith) ∙ sym (ap (λ a. holding a before) f);
       }
 
 -- No second outcome meets the promise.

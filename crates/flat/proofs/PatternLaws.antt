@@ -5,7 +5,7 @@ use mathlib.Core.List.{List, [], _∷_, _++_, map, map-append}
 use native.Mathlib.Omega.{arith}
 use native.Mathlib.Nat.{zero-add}
 use lib.ListN.{length, take, drop, getD, length-drop, take-append-drop, List·getD-append}
-use lib.Seq.{sets, sets-eq, length-sets, take-suc, take-all, take-nil, drop-append-le, take-append-le, drop-drop}
+use lib.Seq.{sets, length-sets, take-suc, take-all, take-nil, drop-append-le, take-append-le, drop-drop}
 use Rattle.songcode.specs.Bytes.{ascii}
 use Rattle.songcode.specs.answer.Tables.{measureWord}
 use Rattle.songcode.specs.description.Layout.{field}
@@ -13,6 +13,7 @@ use Rattle.songcode.specs.description.Performance.{total}
 use Rattle.songcode.specs.EitherOrder.{Filled}
 use Rattle.songcode.specs.answer.Flat.{endLine}
 use Rattle.songcode.proofs.ListLaws.{gather-append}
+use Rattle.songcode.proofs.MemoryLaws.{first-sets}
 use Rattle.songcode.proofs.TurnedRows.{total-append}
 use Rattle.packing.specs.declared.fields.MeasureFields.{MeasureFields}
 use Rattle.packing.specs.Fields.{HoldsMeasure}
@@ -55,14 +56,11 @@ short-at (suc i) (x ∷ xs) f = short-at i xs (f .1)
 -- Two tables that hold a part.
 module _ (part : List (List ℕ)) (ms bs : List ℕ) (short : Short part)
     (many : length part ≤ length ms) (room : total part ≤ length bs) (few : total part ≤ 65536) where
-  front-sets : (t v : List ℕ) → length v ≤ length t → sets t 0 v ≡ v ++ drop (length v) t
-  front-sets t v h = sets-eq v t 0 (omega arith) ∙ ap (λ (k : ℕ). v ++ drop k t) (zero-add (length v))
-
   pub word-at : (i : ℕ) → i < length part → getD (sets ms 0 (heads 0 part)) i 0 ≡ measureWord (total (take i part)) (length (getD part i []))
   word-at i h =
       let l = length-heads 0 part in
       let e : 0 + total (take i part) ≡ total (take i part) = zero-add (total (take i part)) in
-      rw (front-sets ms (heads 0 part) (omega arith)) (List·getD-append (heads 0 part) _ 0 i (omega arith) ∙ heads-at 0 i part h ∙ rw e)
+      rw (first-sets (heads 0 part) ms (omega arith)) (List·getD-append (heads 0 part) _ 0 i (omega arith) ∙ heads-at 0 i part h ∙ rw e)
 
   measure-at : (i : ℕ) → i < length part → beatsIn (sets bs 0 (flat part)) (getD (sets ms 0 (heads 0 part)) i 0) ≡ getD part i []
   unfolding beatsIn
@@ -73,7 +71,7 @@ module _ (part : List (List ℕ)) (ms bs : List ℕ) (short : Short part)
       let z : b ≤ 32 = short-at i part short in
       let l = length-flat part in
       let d = length-drop a (flat part) in
-      rw (word-at i h, word-first a b (omega arith) (omega arith), word-beats a b (omega arith) (omega arith), front-sets bs (flat part) (omega arith))
+      rw (word-at i h, word-first a b (omega arith) (omega arith), word-beats a b (omega arith) (omega arith), first-sets (flat part) bs (omega arith))
       (ap (take b) (drop-append-le a (flat part) _ (omega arith)) ∙ take-append-le b (drop a (flat part)) _ (omega arith) ∙ beats-at i part)
 
   pub measures-held : (k : ℕ) → k ≤ length part → map (beatsIn (sets bs 0 (flat part))) (take k (sets ms 0 (heads 0 part))) ≡ take k part

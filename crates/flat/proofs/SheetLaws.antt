@@ -4,16 +4,14 @@ use mathlib.Core.Path.{_≡_, refl, sym, ap, _∙_}
 use mathlib.Core.List.{List, [], _∷_, _++_}
 use native.Mathlib.Numerals.{add-one}
 use native.Mathlib.Omega.{arith}
-use native.Mathlib.Nat.{zero-add}
 use borrow.Author.Tests.{lt-ltb, le-ltb, ltb-true, ltb-false}
 use lib.Dec.{ltb}
 use lib.ListN.{length, drop, getD, set, length-set}
-use lib.Seq.{sets, sets-eq, drop-cons}
+use lib.Seq.{sets, drop-cons}
 use Rattle.songcode.specs.Lists.{if_then_else_}
 use Rattle.songcode.specs.answer.Answer.{mostBytes}
 use Rattle.songcode.proofs.ListLaws.{by-cases}
 use Rattle.text.specs.Spans.{part}
-use Rattle.packing.specs.Written.{written}
 use Rattle.flat.specs.Sheets.{Sheet, putOne, puts}
 
 -- One byte: past the most bytes nothing is looked at, before them it is counted.
@@ -78,18 +76,13 @@ pub puts-at : (bs c : List ℕ) → puts bs (record { copy = c; at = 0 }) .at �
 puts-at bs c = puts-count bs (record { copy = c; at = 0 }) (omega arith) ∙ omega arith
 
 -- Where they are few enough, they stand in the buffer one behind the other.
-puts-sets : (bs : List ℕ) (x : Sheet) → x .at + length bs ≤ 65537 → puts bs x .copy ≡ sets (x .copy) (x .at) bs
+pub puts-sets : (bs : List ℕ) (x : Sheet) → x .at + length bs ≤ 65537 → puts bs x .copy ≡ sets (x .copy) (x .at) bs
 unfolding puts
 puts-sets [] x h = refl
 puts-sets (b ∷ bs) x h =
     let e = put-room b x (omega arith) in
     let a : putOne b x .at ≡ x .at + 1 = ap (λ (y : Sheet). y .at) e in
     puts-sets bs (putOne b x) (omega arith) ∙ rw (e, add-one (x .at)) refl
-
-pub puts-written : (bs c : List ℕ) → length bs ≤ 65536 → length bs ≤ length c → puts bs (record { copy = c; at = 0 }) .copy ≡ written bs c
-unfolding written
-puts-written bs c h f =
-    puts-sets bs (record { copy = c; at = 0 }) (omega arith) ∙ sets-eq bs c 0 (omega arith) ∙ ap (λ (k : ℕ). bs ++ drop k c) (zero-add (length bs))
 
 -- What `put` does.
 pub put-is : (b : ℕ) (c d : List ℕ) (at : ℕ) → at ≤ 65536 → d ≡ set c at b

@@ -7,13 +7,13 @@ use lib.ListN.{length, take, drop, length-append, take-append-drop}
 use lib.Seq.{take-at}
 use Rattle.songcode.specs.Song.{Section}
 use Rattle.songcode.specs.answer.Answer.{songOf}
+use Rattle.songcode.proofs.MemoryLaws.{sets-before}
 use Rattle.tokens.specs.Kept.{KeptFrom}
 use Rattle.score.specs.Sections.{sectionRow, sectionsRow}
 use Rattle.score.specs.Fitting.{SectionsFit}
 use Rattle.score.specs.Seen.{RowFrom}
 use Rattle.score.proofs.RowLaws.{fits-append, row-start, row-grows}
 use Rattle.outlines.specs.Rows.{definitionsRow, blocksRow}
-use Rattle.tokens.proofs.LaidLaws.{laid-before}
 use Rattle.sections.specs.declared.blocks.Place.{Place}
 use Rattle.sections.specs.declared.values.Keys.{Keys}
 use Rattle.sections.specs.Onward.{sectionsFrom, sectionAt}
@@ -67,15 +67,14 @@ row-is-next {s} {old} {new} {mark} {at} {p} r i l same =
     let c = i .below in
     let e = l .end in
     let big = i .kept .room in
-    let inside : at ≤ length old = omega arith in
-    let kept : take at new ≡ take at old = ap (take at) (l .words) ∙ laid-before at (sectionRow (songOf s) x) old inside in
+    let kept : take at new ≡ take at old = ap (take at) (l .words) ∙ sets-before at at (sectionRow (songOf s) x) old (omega arith) in
     record {
       ready = ready-kept (i .ready) c kept same;
       below = omega arith;
-      kept = rw (l .words) (kept-on at (sectionRow (songOf s) x) e (omega arith) (omega arith) (i .kept));
+      kept = rw (l .words) (kept-on at (sectionRow (songOf s) x) e (omega arith) (i .kept));
       room = b;
       done = i .done ++ (x ∷ []);
-      row = row-grows (songOf s) old new (mark + 1) at (r .end) (i .done) x (i .row) (l .words) e inside (omega arith);
+      row = row-grows (songOf s) old new (mark + 1) at (r .end) (i .done) x (i .row) (l .words) e (omega arith) (omega arith);
       fits = fits-append (songOf s) (i .done) x (i .fits) (l .fits);
       all = append-assoc (i .done) (x ∷ []) (sectionsFrom s (r .next))
           ∙ ap (λ (xs : List Section). i .done ++ xs) (sym (l .opens .met .first)) ∙ i .all;

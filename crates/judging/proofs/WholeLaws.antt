@@ -1,22 +1,20 @@
 -- Where the row begins with the whole song, its definitions are ready, and its sections stand one behind the other.
 use Prim.Native.Nat.{ℕ, _+_, _-_, _≤_}
 use mathlib.Core.Path.{_≡_, refl, sym, ap, _∙_}
-use mathlib.Core.List.{List, [], _∷_, _++_, append-assoc, append-nil}
+use mathlib.Core.List.{List, [], _∷_, _++_, append-assoc}
 use native.Mathlib.Omega.{arith}
 use borrow.Rule.Slice.PartMut.{putMid}
 use lib.ListN.{length, take, drop, length-append, length-drop, take-append-drop}
-use lib.Seq.{take-take, take-at, drop-at}
-use Rattle.songcode.specs.Song.{Song}
+use lib.Seq.{sets, take-take, take-at, drop-at}
 use Rattle.songcode.specs.answer.Answer.{songOf}
 use Rattle.songcode.specs.answer.Tables.{keyOrder, keyWords}
+use Rattle.songcode.proofs.MemoryLaws.{sets-sets, sets-there, sets-same, sets-lent}
 use Rattle.score.specs.declared.stretches.Stretch.{Stretch}
 use Rattle.score.specs.Sections.{sectionsRow}
 use Rattle.score.specs.Seen.{RowFrom}
 use Rattle.outlines.specs.Rows.{definitionsRow, blocksRow, scoreOf}
 use Rattle.laying.specs.Scores.{Ready}
 use Rattle.judging.specs.Charts.{Sized, Laid}
-use Rattle.packing.specs.Written.{written}
-use Rattle.packing.proofs.WrittenLaws.{Wrote, wrote-lent, wrote-end}
 
 module _ {s ws : List ℕ} {rows : Stretch} (l : Laid s ws rows) where
   abbrev front : List ℕ
@@ -106,23 +104,28 @@ module _ {s ws : List ℕ} {rows : Stretch} (l : Laid s ws rows) where
       }
 
 -- The keys are laid behind the blocks.
-pub keys-added : {s ws vs ys : List ℕ} {rows : Stretch} → Sized s ws rows → take (rows .to) ws ≡ blocksRow (songOf s) → length s + 16 ≤ length ws
-    → ys ≡ written (keyWords (songOf s)) (take (length ws - rows .to) (drop (rows .to) ws)) → vs ≡ putMid (rows .to) (length ws - rows .to) ws ys
-    → vs ≡ written (scoreOf (songOf s)) ws
-unfolding scoreOf keyWords keyOrder
-keys-added {s} {ws} {vs} {ys} {rows} z blocks room y v =
-    let to = rows .to in
+pub keys-added : {s ws vs ys : List ℕ} {rows : Stretch} → Sized s ws rows → take (rows .to) ws ≡ blocksRow (songOf s)
+    → ys ≡ sets (take (length ws - rows .to) (drop (rows .to) ws)) 0 (keyWords (songOf s)) → vs ≡ putMid (rows .to) (length ws - rows .to) ws ys
+    → vs ≡ sets ws 0 (scoreOf (songOf s))
+unfolding scoreOf
+keys-added {s} {ws} {vs} {ys} {rows} z blocks y v =
     let row = blocksRow (songOf s) in
     let keys = keyWords (songOf s) in
-    let short = z .short in
-    let start : Wrote ws to ws (keys ++ []) (row ++ keys) =
-    (row, sym (z .to), sym (take-append-drop to ws) ∙ ap (λ (l : List ℕ). l ++ drop to ws) blocks, ap (λ (l : List ℕ). row ++ l) (append-nil keys)) in
-    v ∙ wrote-end ws (to + 8) (putMid to (length ws - to) ws ys) (row ++ keys)
-    (wrote-lent ws to ws keys [] (row ++ keys) ys 8 refl (omega arith) (omega arith) start y)
+    let to = z .to in
+    let there : take (length row) ws ≡ row = rw (← to) blocks in
+    v ∙ rw y (sets-lent (rows .to) keys ws) ∙ ap (λ (l : List ℕ). sets l (rows .to) keys) (sym (sets-same row ws there))
+    ∙ sets-sets 0 (rows .to) row keys ws (omega arith)
 
-pub whole-there : (song : Song) (ws old : List ℕ) → ws ≡ written (scoreOf song) old → take (length (scoreOf song)) ws ≡ scoreOf song
-unfolding written
-whole-there song ws old e = rw e (take-at (scoreOf song) (drop (length (scoreOf song)) old) (length (scoreOf song)) refl)
+pub whole-there : {s ws old : List ℕ} {rows : Stretch} → Sized s old rows → length s + 16 ≤ length old → ws ≡ sets old 0 (scoreOf (songOf s))
+    → take (length (scoreOf (songOf s))) ws ≡ scoreOf (songOf s)
+unfolding scoreOf keyWords keyOrder
+whole-there {s} {ws} {old} z room e =
+    let row = blocksRow (songOf s) in
+    let keys = keyWords (songOf s) in
+    let to = z .to in
+    let short = z .short in
+    let l = length-append row keys in
+    rw e (sets-there 0 (row ++ keys) old (omega arith))
 
 pub sized-kept : {s ws vs : List ℕ} {rows : Stretch} → length vs ≡ length ws → Sized s ws rows → Sized s vs rows
 sized-kept e z =

@@ -15,9 +15,9 @@ ghost use mathlib.Core.Path.{_≡_};
 ghost use mathlib.Core.List.{[]};
 ghost use Prim.Native.Nat.{_+_, _≤_};
 ghost use lib.ListN.{length, take};
+ghost use lib.Seq.{sets};
 ghost use Rattle.songcode.specs.answer.Answer.{inputFaults, blocksOf, songOf};
 ghost use Rattle.songcode.specs.answer.SongText.{textFaults};
-ghost use Rattle.packing.specs.Written.{written};
 ghost use Rattle.tokens.specs.Kept.{KeptFrom};
 ghost use Rattle.outlines.specs.Rows.{blocksRow, scoreOf};
 ghost use Rattle.sections.specs.Runs.{linesOf};
@@ -46,7 +46,7 @@ fn add_keys(
         × SongSays (now s) (now lines) (now starts) (now stops) × (length (now s) + 16 ≤ length (now words)) ⌝ }
     requires row { ⌜ (outcome .totals .refusal .number ≡ 0
         → (take (outcome .rows .to) (now words) ≡ blocksRow (songOf (now s))) × Sized (now s) (now words) (outcome .rows)) ⌝ }
-    ensures { λ _. ⌜ (outcome .totals .refusal .number ≡ 0 → (now (words .exit) ≡ written (scoreOf (songOf (now (s .entry)))) (now (words .entry)))
+    ensures { λ _. ⌜ (outcome .totals .refusal .number ≡ 0 → (now (words .exit) ≡ sets (now (words .entry)) 0 (scoreOf (songOf (now (s .entry)))))
         × (length (now (words .exit)) ≡ length (now (words .entry)))) ⌝ }
 {
     let totals = outcome.totals;

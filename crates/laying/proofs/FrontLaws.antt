@@ -8,12 +8,11 @@ use native.Mathlib.Omega.{arith}
 use borrow.Author.Tests.{eq-eqb, ne-eqb}
 use lib.Dec.{eqb}
 use lib.ListN.{length, take, drop, getD, length-append, take-append-drop}
-use lib.Seq.{getD-drop, take-take, take-at}
+use lib.Seq.{sets, sets-eq, getD-drop, take-take, take-at}
 use Rattle.songcode.specs.Lists.{if_then_else_}
 use Rattle.songcode.specs.Song.{Items, Definition}
 use Rattle.songcode.specs.answer.References.{definitionOf, itemsOf, putIn}
 use Rattle.songcode.proofs.ListLaws.{by-cases}
-use Rattle.tokens.specs.Lexing.{laid}
 use Rattle.score.specs.Places.{headWord, lengthAt, idAt, placeBy, placeOf, stretchOf}
 use Rattle.score.specs.Sections.{itemsRow}
 use Rattle.score.specs.Standing.{Stands}
@@ -167,8 +166,8 @@ fits-append all (x ∷ ds) d f g = (f .0, fits-append all ds d (f .1) g)
 
 -- One more definition is laid where the mark is, and the mark behind it.
 pub front-grows : {all ds : List Definition} {ws : List ℕ} {mark end : ℕ} (d : Definition) → Front all ds ws mark → length ds < 26 → DefinitionFits all d
-    → mark ≤ length ws → end ≡ mark + length (definitionRow (itemsOf all) d)
-    → Front all (ds ++ (d ∷ [])) (laid mark (definitionRow (itemsOf all) d ++ (0 ∷ [])) ws) end
+    → end < length ws → end ≡ mark + length (definitionRow (itemsOf all) d)
+    → Front all (ds ++ (d ∷ [])) (sets ws mark (definitionRow (itemsOf all) d ++ (0 ∷ []))) end
 front-grows {all} {ds} {ws} {mark} {end} d f less fits inside e =
     let rows = definitionsRow all ds in
     let row = definitionRow (itemsOf all) d in
@@ -183,7 +182,8 @@ front-grows {all} {ds} {ws} {mark} {end} d f less fits inside e =
     let n = length-append ds (d ∷ []) in
     let rest = drop (mark + length new) ws in
     record {
-      words = rw before (ap (take (end + 1)) (sym (append-assoc rows new rest)) ∙ take-at (rows ++ new) rest (end + 1) (omega arith)) ∙ joined;
+      words = ap (take (end + 1)) (sets-eq new ws mark (omega arith) ∙ ap (λ (l : List ℕ). (l ++ new) ++ rest) before)
+          ∙ take-at (rows ++ new) rest (end + 1) (omega arith) ∙ joined;
       size = rw (rows-append all ds d) (omega arith);
       few = omega arith;
       fits = fits-append all ds d (f .fits) fits;

@@ -1,12 +1,11 @@
 -- What the tables and the buffer hold of a definition: how it is known, how it stays, how one comes, and what it plays.
-use Prim.Native.Nat.{ℕ, _+_, _≤_}
-use mathlib.Core.Path.{_≡_, refl, sym, ap, _∙_}
-use mathlib.Core.List.{List, [], _∷_, _++_, flatMap}
+use Prim.Native.Nat.{ℕ}
+use mathlib.Core.Path.{_≡_, refl, ap, _∙_}
+use mathlib.Core.List.{List, [], _∷_, flatMap}
 use mathlib.Core.Bool.{Bool, not}
 use mathlib.Core.Option.{Option, none, some, bind}
 use native.Mathlib.Omega.{arith}
-use lib.ListN.{length, take, drop, length-take}
-use lib.Seq.{take-at, drop-at, take-append-add}
+use lib.ListN.{take, drop}
 use Rattle.songcode.specs.Complaints.{earliest}
 use Rattle.songcode.specs.Lists.{if_then_else_, isSome}
 use Rattle.songcode.specs.answer.Lines.{Line}
@@ -18,7 +17,6 @@ use Rattle.songcode.proofs.ListLaws.{Each, each-map, append-is-nil, gather-nil}
 use Rattle.songcode.proofs.ReferencesAgree.{refers-sound}
 use Rattle.songcode.proofs.WrittenBefore.{appended}
 use Rattle.tokens.specs.TokenWords.{tokenWords}
-use Rattle.tokens.specs.Lexing.{laid}
 use Rattle.score.specs.declared.stretches.Stretch.{Stretch}
 use Rattle.score.specs.Places.{stretchOf}
 use Rattle.score.specs.Sections.{itemsRow}
@@ -46,18 +44,6 @@ use Rattle.laying.specs.Fronts.{TextFits}
 use Rattle.laying.specs.Loading.{HeldText, HeldItems, Held}
 use Rattle.laying.proofs.FitLaws.{Good, items-fit}
 use Rattle.laying.proofs.DefinitionLaws as definitions
-
--- New words stand in their stretch.
-pub laid-there : (fill : ℕ) (new ws : List ℕ) → fill ≤ length ws → drop fill (take (fill + length new) (laid fill new ws)) ≡ new
-laid-there fill new ws h =
-    let l : length (take fill ws) ≡ fill = length-take fill ws ∙ omega arith in
-    let a : take (length (take fill ws) + length new) (laid fill new ws) ≡ take fill ws
-    ++ take (length new) (new ++ drop (fill + length new) ws) =
-    take-append-add (take fill ws) (new ++ drop (fill + length new) ws) (length new) in
-    let b : take (length new) (new ++ drop (fill + length new) ws) ≡ new = take-at new (drop (fill + length new) ws) (length new) refl in
-    let c : take (fill + length new) (laid fill new ws) ≡ take fill ws ++ new = ap (λ (k : ℕ). take (k + length new) (laid fill new ws))
-    (sym l) ∙ a ∙ ap (λ ys. take fill ws ++ ys) b in
-    ap (drop fill) c ∙ drop-at (take fill ws) new fill l
 
 module _ (ds : List Definition) (ws : List ℕ) where
   -- What is held is known.

@@ -1,13 +1,13 @@
 -- The words of the keys table, from the settings that the code finds.
 use Prim.Native.Nat.{ℕ, zero, suc, _+_, _-_, _*_, _^_, _<_, _≤_}
-use mathlib.Core.Path.{_≡_, refl, ap, _∙_, subst}
+use mathlib.Core.Path.{_≡_, refl, sym, ap, _∙_, subst}
 use mathlib.Core.List.{List, [], _∷_, _++_, map, filterMap}
 use mathlib.Core.Logic.{⊎-elim}
 use mathlib.Core.Option.{Option, none, some, bind}
 use native.Mathlib.Omega.{arith}
 use native.Mathlib.Numerals.{add-one}
 use lib.ListN.{length, drop, getD}
-use lib.Seq.{drop-cons}
+use lib.Seq.{sets, drop-cons}
 use borrow.Author.Tests.{ne-eqb}
 use Rattle.songcode.specs.Lists.{if_then_else_}
 use Rattle.songcode.specs.Bytes.{Byte, placed}
@@ -19,7 +19,7 @@ use Rattle.songcode.specs.answer.Playing.{settingNamed}
 use Rattle.songcode.specs.answer.SongText.{metadataLines, songIn}
 use Rattle.songcode.specs.answer.Tables.{keyWord, keyOrder, keyWords}
 use Rattle.songcode.specs.answer.Answer.{inputFaults, blocksOf, songOf}
-use Rattle.packing.specs.Written.{written}
+use Rattle.songcode.proofs.MemoryLaws.{first-sets}
 use Rattle.text.specs.Spans.{part}
 use Rattle.text.proofs.WalkLaws.{part-length}
 use Rattle.sections.specs.declared.slots.Said.{Said}
@@ -108,6 +108,7 @@ module _ (s ws : List ℕ) (long : 8 ≤ length ws) (words : (k : ℕ) → k < 8
       ∙ rw (words k (omega arith), words-more lines k (omega arith), ← (add-one k))
       (ap (λ (l : List ℕ). wordOfSetting (settingAmong k lines) ∷ l) (from j (k + 1) (omega arith)))
 
-  pub keys-written : (old : List ℕ) → drop 8 ws ≡ drop 8 old → ws ≡ written (keyWords (songOf s)) old
-  unfolding written keyWords keyOrder songOf songIn
-  keys-written old same = from 8 0 (omega arith) ∙ ap (λ (l : List ℕ). wordsFrom lines 0 ++ l) same
+  pub keys-written : (old : List ℕ) → 8 ≤ length old → drop 8 ws ≡ drop 8 old → ws ≡ sets old 0 (keyWords (songOf s))
+  unfolding keyWords keyOrder songOf songIn
+  keys-written old room same =
+      from 8 0 (omega arith) ∙ ap (λ (l : List ℕ). wordsFrom lines 0 ++ l) same ∙ sym (first-sets (wordsFrom lines 0) old room)

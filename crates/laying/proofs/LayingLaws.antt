@@ -6,7 +6,7 @@ use native.Mathlib.Omega.{arith}
 use borrow.Author.Tests.{ltb-true, ltb-false, ne-eqb}
 use lib.Dec.{ltb}
 use lib.ListN.{length, take, length-append}
-use lib.Seq.{take-nil}
+use lib.Seq.{sets, length-sets, take-nil}
 use mathlib.Core.Option.{none, some}
 use Rattle.songcode.specs.Lists.{if_then_else_}
 use Rattle.songcode.specs.Bytes.{placed}
@@ -14,12 +14,12 @@ use Rattle.songcode.specs.answer.Lines as songcode
 use Rattle.songcode.specs.answer.Tokens.{Token, lineEnd, lexed, word, tokens, tokensOf}
 use Rattle.songcode.proofs.ByteLaws.{length-placed}
 use Rattle.songcode.proofs.ListLaws.{by-cases}
+use Rattle.songcode.proofs.MemoryLaws.{sets-sets}
 use Rattle.text.specs.declared.lines.Line.{Line}
 use Rattle.text.specs.Spans.{part, lineText, Found}
 use Rattle.text.proofs.WalkLaws.{part-length}
 use Rattle.tokens.specs.TokenWords.{tokenWord, tokenWords}
-use Rattle.tokens.specs.Lexing.{tokensFrom, laid}
-use Rattle.tokens.proofs.LaidLaws.{laid-none, laid-length}
+use Rattle.tokens.specs.Lexing.{tokensFrom}
 use Rattle.tokens.proofs.PartLaws.{part-none}
 use Rattle.sections.specs.declared.runs.Run.{Run}
 use Rattle.sections.specs.declared.slots.Said.{Said}
@@ -27,7 +27,6 @@ use Rattle.sections.specs.Runs.{textLines, linesOf}
 use Rattle.sections.specs.Slots.{settingAt}
 use Rattle.sections.proofs.RunLaws.{lines-found, lines-over}
 use Rattle.laying.specs.Laying.{runTokens, saidTokens, weight, saidWeight}
-use Rattle.laying.proofs.LaidLaws.{laid-laid}
 
 -- The tokens of the lines behind a first one, each behind a line end.
 unfoldable pub moreTokens : List songcode.Line → List Token
@@ -118,7 +117,7 @@ module _ {s : List ℕ} (run : Run) {l : Line} (f : Found s (run .number) (run .
 -- The lines behind the first are laid up to a line.
 pub record Lays (s : List ℕ) (held : List ℕ) (n line₀ at₀ left₀ : ℕ) (words : List ℕ) (fill line at left : ℕ) : Type 0 where
   pub done : List ℕ
-  pub table : words ≡ laid n done held
+  pub table : words ≡ sets held n done
   pub filled : fill ≡ n + length done
   pub same : length words ≡ length held
   pub all : done ++ moreWords (take left (textLines s line at)) ≡ moreWords (take left₀ (textLines s line₀ at₀))
@@ -127,7 +126,7 @@ pub record Lays (s : List ℕ) (held : List ℕ) (n line₀ at₀ left₀ : ℕ)
 pub lays-none : (s held : List ℕ) (n line at left : ℕ) → n + weight (take left (textLines s line at)) ≤ length held
     → Lays s held n line at left held n line at left
 lays-none s held n line at left h =
-    record { done = []; table = laid-none n held; filled = omega arith; same = refl; all = refl; room = h }
+    record { done = []; table = refl; filled = omega arith; same = refl; all = refl; room = h }
 
 module _ (s held : List ℕ) (n line₀ at₀ left₀ : ℕ) {words : List ℕ} {fill line at left : ℕ} (i : Lays s held n line₀ at₀ left₀ words fill line at left) where
   -- No line is left.
@@ -159,8 +158,8 @@ module _ (s held : List ℕ) (n line₀ at₀ left₀ : ℕ) {words : List ℕ} 
         let k = text-length s l (omega arith) in
         omega arith
 
-    pub lays-next : {words' words'' : List ℕ} {begun fill'' : ℕ} → words' ≡ laid fill (58 * 2 ^ 26 ∷ []) words → begun ≡ fill + 1
-        → words'' ≡ laid begun new words' → fill'' ≡ begun + length new → fill'' ≤ begun + (l .stop - l .start)
+    pub lays-next : {words' words'' : List ℕ} {begun fill'' : ℕ} → words' ≡ sets words fill (58 * 2 ^ 26 ∷ []) → begun ≡ fill + 1
+        → words'' ≡ sets words' begun new → fill'' ≡ begun + length new → fill'' ≤ begun + (l .stop - l .start)
         → Lays s held n line₀ at₀ left₀ words'' fill'' (line + 1) (l .next) (left - 1)
     lays-next {words'} {words''} {begun} {fill''} a b c d e =
         let room = lays-room in
@@ -169,15 +168,15 @@ module _ (s held : List ℕ) (n line₀ at₀ left₀ : ℕ) {words : List ℕ} 
         let x = i .done in
         let y = x ++ (58 * 2 ^ 26 ∷ []) in
         let z = y ++ new in
-        let p : words' ≡ laid n y held = a ∙ rw (i .table) (laid-laid n fill x (58 * 2 ^ 26 ∷ []) held k (omega arith)) in
+        let p : words' ≡ sets held n y = a ∙ rw (i .table) (sets-sets n fill x (58 * 2 ^ 26 ∷ []) held k) in
         let py : begun ≡ n + length y = simp length-append (omega arith) in
-        let q : words'' ≡ laid n z held = c ∙ rw p (laid-laid n begun y new held py (omega arith)) in
+        let q : words'' ≡ sets held n z = c ∙ rw p (sets-sets n begun y new held py) in
         let pz : fill'' ≡ n + length z = simp length-append (omega arith) in
         record {
           done = z;
           table = q;
           filled = pz;
-          same = rw q (laid-length n z held (omega arith));
+          same = rw q (length-sets held n z);
           all = append-assoc y new (moreWords later) ∙ append-assoc x (58 * 2 ^ 26 ∷ []) (new ++ moreWords later)
               ∙ ap (λ (ws : List ℕ). x ++ ws) (sym (more-words (lineText s l) later) ∙ ap moreWords (sym (take-first f left some-left h))) ∙ i .all;
           room = omega arith;
@@ -185,18 +184,17 @@ module _ (s held : List ℕ) (n line₀ at₀ left₀ : ℕ) {words : List ℕ} 
 
 -- The whole run is laid.
 pub run-laid : (s : List ℕ) (run : Run) (l : Line) (n : ℕ) (held table words : List ℕ) (fill₀ fill line at left : ℕ) → First s run l
-    → table ≡ laid n (tokenWords (tokensFrom (l .start) (l .stop) s)) held → fill₀ ≡ n + length
-    (tokenWords (tokensFrom (l .start) (l .stop) s)) → fill₀ ≤ length held
+    → table ≡ sets held n (tokenWords (tokensFrom (l .start) (l .stop) s)) → fill₀ ≡ n + length (tokenWords (tokensFrom (l .start) (l .stop) s))
     → (i : Lays s table fill₀ (run .number + 1) (l .next) (run .lines - 1) words fill line at left)
     → i .done ≡ moreWords (take (run .lines - 1) (textLines s (run .number + 1) (l .next)))
-    → (words ≡ laid n (tokenWords (runTokens (linesOf s run))) held) × (fill ≡ n + length (tokenWords (runTokens (linesOf s run))))
-run-laid s run l n held table words fill₀ fill line at left f a b h i e =
+    → (words ≡ sets held n (tokenWords (runTokens (linesOf s run)))) × (fill ≡ n + length (tokenWords (runTokens (linesOf s run))))
+run-laid s run l n held table words fill₀ fill line at left f a b i e =
     let x = tokenWords (tokensFrom (l .start) (l .stop) s) in
     let y = i .done in
     let w : tokenWords (runTokens (linesOf s run)) ≡ x ++ y = f .words ∙ ap (λ (ws : List ℕ). x ++ ws) (sym e) in
     let k = i .filled in
     let m : n + length (x ++ y) ≡ fill = simp length-append (omega arith) in
-    (rw w (i .table ∙ rw a (laid-laid n fill₀ x y held b h)), rw w (sym m))
+    (rw w (i .table ∙ rw a (sets-sets n fill₀ x y held b)), rw w (sym m))
 
 -- A setting that is said, and how long it is.
 pub said-some : (s : List ℕ) (r : Said) → (r .line ≡ 0 → ⊥)

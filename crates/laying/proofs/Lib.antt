@@ -1,6 +1,5 @@
 -- Laws that the proofs of the functions cite, and that callers use.
 pub mod ComplaintLaws
-pub mod LaidLaws
 pub mod KeptRowLaws
 pub mod LyricRowLaws
 pub mod PartsLaidLaws

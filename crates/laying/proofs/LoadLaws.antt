@@ -7,6 +7,7 @@ use native.Mathlib.Omega.{arith}
 use borrow.Author.Tests.{eqb-true}
 use lib.Dec.{eqb}
 use lib.ListN.{length, take, drop, set, length-append}
+use lib.Seq.{sets, length-sets, take-suc-set}
 use Rattle.songcode.specs.Lists.{if_then_else_}
 use Rattle.songcode.specs.Complaints.{Complaint, complaint, complainIf, earliest}
 use Rattle.songcode.specs.answer.Lines.{Block, blocks}
@@ -18,14 +19,13 @@ use Rattle.songcode.specs.answer.SongText.{textFaults, songIn}
 use Rattle.songcode.specs.answer.References.{definitionOf, itemsOf, definitionReferences, definitionsReferences, sectionReference, referenceFaults}
 use Rattle.songcode.specs.description.WrittenSong.{idOf}
 use Rattle.songcode.specs.answer.Answer.{blocksOf, songOf}
-use Rattle.songcode.proofs.ListLaws.{by-cases, nil-is-not-cons, append-is-nil, Each, each-append, each-map}
+use Rattle.songcode.proofs.ListLaws.{by-cases, nil-is-not-cons, append-is-nil, Each, each-append, each-map, drop-take}
+use Rattle.songcode.proofs.MemoryLaws.{sets-append, sets-front, sets-before, sets-there}
 use Rattle.songcode.proofs.PatternLaws.{none-some}
 use Rattle.songcode.proofs.BlockKinds.{by-kind}
 use Rattle.text.specs.Refusals.{refusalOf}
 use Rattle.tokens.specs.TokenWords.{tokenWords}
-use Rattle.tokens.specs.Lexing.{laid}
 use Rattle.tokens.specs.Kept.{KeptFrom}
-use Rattle.tokens.proofs.LaidLaws.{laid-one, laid-more, laid-length, laid-front, laid-before}
 use Rattle.score.specs.declared.stretches.Stretch.{Stretch}
 use Rattle.score.specs.Places.{headWord, stretchOf}
 use Rattle.outlines.specs.declared.readings.Outline.{Outline}
@@ -66,7 +66,7 @@ use Rattle.laying.proofs.DefinitionLaws.{
   sections-later,
 }
 use Rattle.laying.proofs.FaultLineLaws.{definition-line, definitions-behind, section-line}
-use Rattle.laying.proofs.HeldLaws.{laid-there, fault-is, text-is, text-fits, outline-is}
+use Rattle.laying.proofs.HeldLaws.{fault-is, text-is, text-fits, outline-is}
 
 -- No definition is loaded yet.
 module _ (s ws : List ℕ) (p : Place) (faultless : textFaults (blocksOf s) ≡ []) (m : MetadataEnds s p) where
@@ -103,10 +103,10 @@ module _ (s ws : List ℕ) (p : Place) (faultless : textFaults (blocksOf s) ≡ 
       let room = kept .room in
       record {
         small = small;
-        kept = rw (laid-one 0 0 ws (omega arith)) (kept-on 0 (0 ∷ []) refl (omega arith) (omega arith) kept);
+        kept = kept-on 0 (0 ∷ []) refl (omega arith) kept;
         filled = omega arith;
         done = [];
-        front = no-definition (songOf s .definitions) (set ws 0 0) (rw (laid-one 0 0 ws (omega arith)) refl);
+        front = no-definition (songOf s .definitions) (set ws 0 0) (take-suc-set ws 0 0 (omega arith));
         all = all-from;
         earlier = [];
         same = λ n. refl;
@@ -158,24 +158,22 @@ module _ (s ws : List ℕ) (mark : ℕ) (p : Place) (w : Loading s ws mark p) (i
   unfolding orElse
   agree n x h = ap (definitionOf n) (w .all) ∙ definition-append n (w .done) (definitionsFrom s p) ∙ rw (sym (w .same n) ∙ h) refl
 
-  module _ (mid : List ℕ) (end : ℕ) (laid-is : mid ≡ laid (mark + 2) new ws) (end-is : end ≡ mark + 2 + length new) where
+  module _ (mid : List ℕ) (end : ℕ) (laid-is : mid ≡ sets ws (mark + 2) new) (end-is : end ≡ mark + 2 + length new) where
     abbrev text : Stretch
     text = record { from = mark + 2; to = end }
 
-    starts : mark + 2 ≤ length ws
-    starts = let a = room-there in omega arith
-
     there : drop (mark + 2) (take end mid) ≡ new
-    there = rw (laid-is, end-is) (laid-there (mark + 2) new ws starts)
-
-    both-before : take (mark + 2) mid ≡ take (mark + 2) ws
-    both-before = rw laid-is (laid-before (mark + 2) new ws starts)
-
-    pub same-room : length mid ≡ length ws
-    same-room =
+    there =
         let a = room-there in
         let b = run-words (linesOf s (e .pattern)) in
-        rw laid-is (laid-length (mark + 2) new ws (omega arith))
+        let n : end - (mark + 2) ≡ length new = omega arith in
+        drop-take (mark + 2) end mid ∙ rw (laid-is, n) (sets-there (mark + 2) new ws (omega arith))
+
+    both-before : take (mark + 2) mid ≡ take (mark + 2) ws
+    both-before = rw laid-is (sets-before (mark + 2) (mark + 2) new ws (omega arith))
+
+    pub same-room : length mid ≡ length ws
+    same-room = rw laid-is (length-sets ws (mark + 2) new)
 
     pub end-inside : end < length mid
     end-inside =
@@ -199,28 +197,21 @@ module _ (s ws : List ℕ) (mark : ℕ) (p : Place) (w : Loading s ws mark p) (i
     abbrev row-with : Outline → List ℕ
     row-with o = headWord (2 + length new) (e .id) ∷ outlineWord o ∷ new
 
-    pub entered-is : (o : Outline) → entered mark end (e .id) o mid ≡ laid mark (row-with o ++ (0 ∷ [])) ws
+    pub entered-is : (o : Outline) → entered mark end (e .id) o mid ≡ sets ws mark (row-with o ++ (0 ∷ []))
     unfolding entered
     entered-is o =
-        let a = starts in
-        let i = end-inside in
-        let l = same-room in
         let n : mark + 2 ≡ mark + 1 + 1 = omega arith in
         let k : end - mark ≡ 2 + length new = omega arith in
         let z : end ≡ mark + length (row-with o) = omega arith in
-        let x : set mid (mark + 1) (outlineWord o) ≡ laid (mark + 1) (outlineWord o ∷ new) ws =
-        ap (λ (ys : List ℕ). set ys (mark + 1) (outlineWord o)) (laid-is ∙ ap (λ (j : ℕ). laid j new ws) n)
-        ∙ laid-front (mark + 1) (outlineWord o) new ws (omega arith) in
-        let y : set (laid (mark + 1) (outlineWord o ∷ new) ws) mark (headWord (2 + length new) (e .id)) ≡ laid mark (row-with o) ws =
-        laid-front mark (headWord (2 + length new) (e .id)) (outlineWord o ∷ new) ws (omega arith) in
-        rw (x, k, y, z) (laid-more mark 0 (row-with o) ws (omega arith))
+        let x : set mid (mark + 1) (outlineWord o) ≡ sets ws (mark + 1) (outlineWord o ∷ new) =
+        ap (λ (ys : List ℕ). set ys (mark + 1) (outlineWord o)) (laid-is ∙ ap (λ (j : ℕ). sets ws j new) n)
+        ∙ sets-front (mark + 1) (outlineWord o) new ws in
+        let y : set (sets ws (mark + 1) (outlineWord o ∷ new)) mark (headWord (2 + length new) (e .id)) ≡ sets ws mark (row-with o) =
+        sets-front mark (headWord (2 + length new) (e .id)) (outlineWord o ∷ new) ws in
+        rw (x, k, y, z) (sym (sets-append ws mark (row-with o) (0 ∷ [])))
 
     pub one-length : (o : Outline) (vs : List ℕ) → vs ≡ entered mark end (e .id) o mid → length vs ≡ length ws
-    one-length o vs is =
-        let a = end-inside in
-        let b = same-room in
-        let c = length-append (row-with o) (0 ∷ []) in
-        rw (is, entered-is o) (laid-length mark (row-with o ++ (0 ∷ [])) ws (omega arith))
+    one-length o vs is = rw (is, entered-is o) (length-sets ws mark (row-with o ++ (0 ∷ [])))
 
     -- What stands before the mark is found as before.
     held-mid : (n : ℕ) → Held ds mid (definitionOf n (w .earlier)) (isMissing mid n) (stretchOf mid n) (lookUp mid n)
@@ -330,11 +321,12 @@ module _ (s ws : List ℕ) (mark : ℕ) (p : Place) (w : Loading s ws mark p) (i
 
         front-next : Front ds (w .done ++ (new-definition ∷ [])) vs end
         front-next =
-            let a = starts in
+            let a = end-inside in
+            let b = same-room in
             let z : end ≡ mark + length (definitionRow (itemsOf ds) new-definition) = rw (← row-is) (omega arith) in
             let g = front-grows new-definition (w .front) few new-fits (omega arith) z in
-            let is : vs ≡ laid mark (definitionRow (itemsOf ds) new-definition ++ (0 ∷ [])) ws =
-            entered-is found-outline ∙ ap (λ (row : List ℕ). laid mark (row ++ (0 ∷ [])) ws) row-is in
+            let is : vs ≡ sets ws mark (definitionRow (itemsOf ds) new-definition ++ (0 ∷ [])) =
+            entered-is found-outline ∙ ap (λ (row : List ℕ). sets ws mark (row ++ (0 ∷ []))) row-is in
             subst (λ (ys : List ℕ). Front ds (w .done ++ (new-definition ∷ [])) ys end) (sym is) g
 
         same-next : (n : ℕ) → definitionOf n (new-definition ∷ w .earlier) ≡ definitionOf n (w .done ++ (new-definition ∷ []))
@@ -358,7 +350,7 @@ module _ (s ws : List ℕ) (mark : ℕ) (p : Place) (w : Loading s ws mark p) (i
             let j = same-room in
             record {
               small = w .small;
-              kept = rw (entered-is found-outline) (kept-on mark row (omega arith) (omega arith) (omega arith) (w .kept));
+              kept = rw (entered-is found-outline) (kept-on mark row (omega arith) (omega arith) (w .kept));
               filled = omega arith;
               done = w .done ++ (new-definition ∷ []);
               front = front-next;

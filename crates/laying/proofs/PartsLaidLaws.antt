@@ -5,10 +5,10 @@ use mathlib.Core.List.{List, _++_, append-assoc, map}
 use mathlib.Core.Bool.{Bool, true, false}
 use native.Mathlib.Omega.{arith}
 use lib.ListN.{length, length-append, length-map}
+use lib.Seq.{sets, length-sets}
 use Rattle.songcode.specs.answer.Sections.{lyricLine}
-use Rattle.tokens.specs.Lexing.{laid}
+use Rattle.songcode.proofs.MemoryLaws.{sets-sets}
 use Rattle.tokens.specs.Kept.{KeptFrom}
-use Rattle.tokens.proofs.LaidLaws.{laid-length}
 use Rattle.score.specs.Sections.{cutsBy}
 use Rattle.sections.specs.declared.blocks.SectionRead.{SectionRead}
 use Rattle.sections.specs.Runs.{linesOf}
@@ -16,32 +16,28 @@ use Rattle.sections.specs.Slots.{settingAt}
 use Rattle.laying.specs.Laying.{weight, saidWeight}
 use Rattle.laying.specs.Rows.{readWord, cutsSaid, hasCut, leadSaid, patternSaid, tailSaid, lyricsSaid, partsSaid, PlacesAre}
 use Rattle.score.proofs.ViewLaws.{lyrics-size}
-use Rattle.laying.proofs.LaidLaws.{laid-laid}
 use Rattle.laying.proofs.KeptRowLaws.{kept-on}
 use Rattle.laying.proofs.WeightLaws.{run-words, said-words}
 
 -- So many words are laid from a place on.
 pub record Done (at : ℕ) (held done words : List ℕ) (fill : ℕ) : Type 0 where
-  pub there : words ≡ laid at done held
+  pub there : words ≡ sets held at done
   pub filled : fill ≡ at + length done
   pub inside : fill ≤ length held
 
 pub done-next : {at : ℕ} {held done words : List ℕ} {fill : ℕ} (new : List ℕ) {next : List ℕ} {end : ℕ} → Done at held done words fill
-    → next ≡ laid fill new words → end ≡ fill + length new → end ≤ length held → Done at held (done ++ new) next end
+    → next ≡ sets words fill new → end ≡ fill + length new → end ≤ length held → Done at held (done ++ new) next end
 done-next {at} {held} {done} {words} {fill} new d e f r =
     let k = length-append done new in
     let g = d .filled in
     record {
-      there = e ∙ rw (d .there) (laid-laid at fill done new held (d .filled) (d .inside));
+      there = e ∙ rw (d .there) (sets-sets at fill done new held (d .filled));
       filled = omega arith;
       inside = r;
     }
 
 pub done-length : {at : ℕ} {held done words : List ℕ} {fill : ℕ} → Done at held done words fill → length words ≡ length held
-done-length {at} {held} {done} d =
-    let f = d .filled in
-    let i = d .inside in
-    ap length (d .there) ∙ laid-length at done held (omega arith)
+done-length {at} {held} {done} d = ap length (d .there) ∙ length-sets held at done
 
 cuts-few : (b : Bool) (v w : ℕ) → length (cutsBy b v w) ≤ 2
 unfolding cutsBy
@@ -74,7 +70,7 @@ module _ (s : List ℕ) (r : SectionRead) (at : ℕ) (held : List ℕ)
       let b = length-map (linesOf s (r .lyrics)) lyricLine in
       omega arith
 
-  module _ {one : List ℕ} {from : ℕ} (one-laid : one ≡ laid at (cutsSaid (r .modifiers)) held) (one-fill : from ≡ at + length (cutsSaid (r .modifiers))) where
+  module _ {one : List ℕ} {from : ℕ} (one-laid : one ≡ sets held at (cutsSaid (r .modifiers))) (one-fill : from ≡ at + length (cutsSaid (r .modifiers))) where
     first : Done at held (cutsSaid (r .modifiers)) one from
     first = let c = cuts-small in record { there = one-laid; filled = one-fill; inside = omega arith }
 
@@ -84,7 +80,7 @@ module _ (s : List ℕ) (r : SectionRead) (at : ℕ) (held : List ℕ)
         let l = done-length first in
         omega arith
 
-    module _ {two : List ℕ} {begun : ℕ} (two-laid : two ≡ laid from (leadSaid s r) one) (two-fill : begun ≡ from + length (leadSaid s r)) where
+    module _ {two : List ℕ} {begun : ℕ} (two-laid : two ≡ sets one from (leadSaid s r)) (two-fill : begun ≡ from + length (leadSaid s r)) where
       second : Done at held (cutsSaid (r .modifiers) ++ leadSaid s r) two begun
       second =
           let c = cuts-small in
@@ -101,9 +97,9 @@ module _ (s : List ℕ) (r : SectionRead) (at : ℕ) (held : List ℕ)
       pub kept-lines : KeptFrom s held at → KeptFrom s two begun
       kept-lines k =
           let f = second .filled in
-          rw (second .there) (kept-on at (cutsSaid (r .modifiers) ++ leadSaid s r) f (second .inside) (omega arith) k)
+          rw (second .there) (kept-on at (cutsSaid (r .modifiers) ++ leadSaid s r) f (omega arith) k)
 
-      module _ {three : List ℕ} {ended : ℕ} (three-laid : three ≡ laid begun (patternSaid s r) two)
+      module _ {three : List ℕ} {ended : ℕ} (three-laid : three ≡ sets two begun (patternSaid s r))
           (three-fill : ended ≡ begun + length (patternSaid s r)) where
         third : Done at held ((cutsSaid (r .modifiers) ++ leadSaid s r) ++ patternSaid s r) three ended
         third =
@@ -120,7 +116,7 @@ module _ (s : List ℕ) (r : SectionRead) (at : ℕ) (held : List ℕ)
             let l = done-length third in
             omega arith
 
-        module _ {four : List ℕ} {last : ℕ} (four-laid : four ≡ laid ended (tailSaid s r) three) (four-fill : last ≡ ended + length (tailSaid s r)) where
+        module _ {four : List ℕ} {last : ℕ} (four-laid : four ≡ sets three ended (tailSaid s r)) (four-fill : last ≡ ended + length (tailSaid s r)) where
           fourth : Done at held (((cutsSaid (r .modifiers) ++ leadSaid s r) ++ patternSaid s r) ++ tailSaid s r) four last
           fourth =
               let c = cuts-small in
@@ -138,9 +134,9 @@ module _ (s : List ℕ) (r : SectionRead) (at : ℕ) (held : List ℕ)
               let l = done-length fourth in
               omega arith
 
-          module _ {five : List ℕ} {end : ℕ} (five-laid : five ≡ laid last (lyricsSaid s r) four)
+          module _ {five : List ℕ} {end : ℕ} (five-laid : five ≡ sets four last (lyricsSaid s r))
               (five-fill : end ≡ last + 2 * length (linesOf s (r .lyrics))) where
-            pub all-laid : five ≡ laid at (partsSaid s r) held
+            pub all-laid : five ≡ sets held at (partsSaid s r)
             unfolding partsSaid
             all-laid =
                 let y = lyrics-are in
@@ -154,7 +150,7 @@ module _ (s : List ℕ) (r : SectionRead) (at : ℕ) (held : List ℕ)
                 let f : end ≡ last + length e = omega arith in
                 let h : end ≤ length held = omega arith in
                 let w = done-next e fourth five-laid f h in
-                w .there ∙ ap (λ (ws : List ℕ). laid at ws held)
+                w .there ∙ ap (λ (ws : List ℕ). sets held at ws)
                 (append-assoc ((c ++ a) ++ b) d e ∙ append-assoc (c ++ a) b (d ++ e) ∙ append-assoc c a (b ++ (d ++ e)))
 
             pub all-places : PlacesAre s r at (record { from = from; begun = begun; ended = ended; last = last; end = end })

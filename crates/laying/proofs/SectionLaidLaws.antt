@@ -8,7 +8,7 @@ use native.Mathlib.Omega.{arith}
 use borrow.Author.Tests.{eqb-true, eqb-false, ltb-true, ltb-false}
 use lib.Dec.{eqb, ltb}
 use lib.ListN.{length, take, drop, set, length-append, length-map}
-use lib.Seq.{take-take, take-set-le, take-set-lt, drop-set-lt}
+use lib.Seq.{sets, length-sets, take-set-le, take-set-lt, drop-set-lt}
 use Rattle.songcode.specs.Lists.{if_then_else_, isSome}
 use Rattle.songcode.specs.answer.Lines.{Line, Block, blocks}
 use Rattle.songcode.specs.Song.{LyricLine, named, Section}
@@ -18,10 +18,9 @@ use Rattle.songcode.specs.answer.References.{patternItems}
 use Rattle.songcode.specs.answer.Playing.{timeOf, bpmOf, repeats}
 use Rattle.songcode.specs.answer.Answer.{songOf}
 use Rattle.songcode.proofs.ListLaws.{append-is-nil, by-cases, Each}
+use Rattle.songcode.proofs.MemoryLaws.{sets-front, sets-before, sets-part}
 use Rattle.songcode.proofs.PatternLaws.{none-some}
 use Rattle.tokens.specs.TokenWords.{tokenWords}
-use Rattle.tokens.specs.Lexing.{laid}
-use Rattle.tokens.proofs.LaidLaws.{laid-length, laid-front, laid-before}
 use Rattle.settings.specs.Cuts.{cutIs, CutFits}
 use Rattle.outlines.specs.declared.readings.Outline.{Outline}
 use Rattle.outlines.specs.Words.{lookUp}
@@ -52,7 +51,6 @@ use Rattle.laying.specs.Laying.{runTokens, saidTokens, weight, saidWeigh
 use Rattle.laying.specs.Scores.{namedText, Carries, Ready, sideItems}
 use Rattle.laying.specs.Rows.{meterOf, tempoOf, readCut, hasCut, cutsSaid, leadSaid, patternSaid, tailSaid, lyricsSaid, partsSaid, PlacesAre}
 use Rattle.laying.specs.Rows.{aboutSection, outlineBy, textAt, toldTexts, bulk, RoomFor, Before, SongKeys, Lays}
-use Rattle.laying.proofs.LaidLaws.{laid-part}
 use Rattle.laying.proofs.FrontLaws.{front-kept}
 use Rattle.laying.proofs.ReadyLaws.{ready-carries}
 use Rattle.laying.proofs.WeightLaws.{run-few, said-words}
@@ -82,22 +80,22 @@ cuts-said (some x) b v w = most (readCut (cutSaid (some x)) || readCut (cutSaid 
     most false = omega arith
 
 -- The four words in front of parts that are laid.
-heads-laid : (at d c b a : ℕ) (parts held : List ℕ) → at + 3 < length held
-    → set (set (set (set (laid (at + 4) parts held) (at + 3) d) (at + 2) c) (at + 1) b) at a ≡ laid at (a ∷ b ∷ c ∷ d ∷ parts) held
-heads-laid at d c b a parts held h =
+heads-laid : (at d c b a : ℕ) (parts held : List ℕ)
+    → set (set (set (set (sets held (at + 4) parts) (at + 3) d) (at + 2) c) (at + 1) b) at a ≡ sets held at (a ∷ b ∷ c ∷ d ∷ parts)
+heads-laid at d c b a parts held =
     let e : at + 4 ≡ at + 3 + 1 = omega arith in
     let f : at + 3 ≡ at + 2 + 1 = omega arith in
     let g : at + 2 ≡ at + 1 + 1 = omega arith in
-    let x : set (laid (at + 4) parts held) (at + 3) d ≡ laid (at + 3) (d ∷ parts) held =
-    ap (λ (n : ℕ). set (laid n parts held) (at + 3) d) e ∙ laid-front (at + 3) d parts held h in
-    let y : set (laid (at + 3) (d ∷ parts) held) (at + 2) c ≡ laid (at + 2) (c ∷ d ∷ parts) held =
-    ap (λ (n : ℕ). set (laid n (d ∷ parts) held) (at + 2) c) f ∙ laid-front (at + 2) c (d ∷ parts) held (omega arith) in
-    let z : set (laid (at + 2) (c ∷ d ∷ parts) held) (at + 1) b ≡ laid (at + 1) (b ∷ c ∷ d ∷ parts) held =
-    ap (λ (n : ℕ). set (laid n (c ∷ d ∷ parts) held) (at + 1) b) g ∙ laid-front (at + 1) b (c ∷ d ∷ parts) held (omega arith) in
+    let x : set (sets held (at + 4) parts) (at + 3) d ≡ sets held (at + 3) (d ∷ parts) =
+    ap (λ (n : ℕ). set (sets held n parts) (at + 3) d) e ∙ sets-front (at + 3) d parts held in
+    let y : set (sets held (at + 3) (d ∷ parts)) (at + 2) c ≡ sets held (at + 2) (c ∷ d ∷ parts) =
+    ap (λ (n : ℕ). set (sets held n (d ∷ parts)) (at + 2) c) f ∙ sets-front (at + 2) c (d ∷ parts) held in
+    let z : set (sets held (at + 2) (c ∷ d ∷ parts)) (at + 1) b ≡ sets held (at + 1) (b ∷ c ∷ d ∷ parts) =
+    ap (λ (n : ℕ). set (sets held n (c ∷ d ∷ parts)) (at + 1) b) g ∙ sets-front (at + 1) b (c ∷ d ∷ parts) held in
     ap (λ (ws : List ℕ). set (set (set ws (at + 2) c) (at + 1) b) at a) x
     ∙ ap (λ (ws : List ℕ). set (set ws (at + 1) b) at a) y
     ∙ ap (λ (ws : List ℕ). set ws at a) z
-    ∙ laid-front at a (b ∷ c ∷ d ∷ parts) held (omega arith)
+    ∙ sets-front at a (b ∷ c ∷ d ∷ parts) held
 
 -- What stands behind a word that is stored.
 set-behind : (l : List ℕ) (i v from to : ℕ) → i < from → drop from (take to (set l i v)) ≡ drop from (take to l)
@@ -115,7 +113,7 @@ ready-kept {s} {held} {words} {mark} {at} b c kept n =
 
 -- The same words, one by one.
 five-same : (at : ℕ) (held : List ℕ) {a a' b b' c c' d d' : ℕ} {ps ps' : List ℕ} → a ≡ a' → b ≡ b' → c ≡ c' → d ≡ d' → ps ≡ ps'
-    → laid at (a ∷ b ∷ c ∷ d ∷ ps) held ≡ laid at (a' ∷ b' ∷ c' ∷ d' ∷ ps') held
+    → sets held at (a ∷ b ∷ c ∷ d ∷ ps) ≡ sets held at (a' ∷ b' ∷ c' ∷ d' ∷ ps')
 five-same at held e f g h i = rw (e, f, g, h, i) refl
 
 sized : {n n' m m' t t' : ℕ} → n ≡ n' → m ≡ m' → t ≡ t' → n * 32768 + m * 512 + t ≡ n' * 32768 + m' * 512 + t'
@@ -389,25 +387,24 @@ module _ {s : List ℕ} {p : Place} {at : ℕ} {held : List ℕ} {met : Met} {so
     text = record { from = q .begun; to = q .ended }
 
     -- The parts are laid.
-    module _ {mid : List ℕ} (there : mid ≡ laid (at + 4) (partsSaid s r) held) where
-      heads-inside : at + 4 ≤ length held
-      heads-inside =
-          let k = asked .4 in
-          let l = asked .8 in
-          omega arith
-
+    module _ {mid : List ℕ} (there : mid ≡ sets held (at + 4) (partsSaid s r)) where
       pub end-inside : q .end ≤ length mid
       end-inside =
           let l = end-is in
           let k = asked .8 in
-          let n = ap length there ∙ laid-length (at + 4) (partsSaid s r) held (omega arith) in
+          let n = ap length there ∙ length-sets held (at + 4) (partsSaid s r) in
           omega arith
 
       -- They stand in their stretches.
       part-there : (a y z : List ℕ) (from to : ℕ) → partsSaid s r ≡ a ++ (y ++ z) → from ≡ at + 4 + length a → to ≡ from + length y
           → drop from (take to mid) ≡ y
       part-there a y z from to e f t =
-          ap (λ (ws : List ℕ). drop from (take to ws)) there ∙ laid-part (at + 4) (partsSaid s r) held heads-inside a y z from to e f t
+          let l = end-is in
+          let k = asked .8 in
+          let n = ap length e in
+          let i = length-append a (y ++ z) in
+          let j = length-append y z in
+          ap (λ (ws : List ℕ). drop from (take to ws)) there ∙ sets-part (at + 4) (partsSaid s r) held a y z from to e f t (omega arith)
 
       abbrev cuts : List ℕ
       cuts = cutsSaid (r .modifiers)
@@ -480,7 +477,7 @@ module _ {s : List ℕ} {p : Place} {at : ℕ} {held : List ℕ} {met : Met} {so
             ∷ (length (x .lyrics) * 2 ^ 16 + even)
             ∷ partsRow x
 
-        row-with : words ≡ laid at (rowWith (h .even)) held
+        row-with : words ≡ sets held at (rowWith (h .even))
         unfolding aboutSection
         row-with =
             let a = places .from in
@@ -504,7 +501,7 @@ module _ {s : List ℕ} {p : Place} {at : ℕ} {held : List ℕ} {met : Met} {so
             let wc : (q .begun - q .from) * 65536 + (q .last - q .ended)
             ≡ length (sideRow (x .modifiers .before)) * 65536 + length (sideRow (x .modifiers .after)) = omega arith in
             entered ∙ ap (λ (ws : List ℕ). aboutSection r h at q ws) there
-            ∙ heads-laid at _ _ _ _ (partsSaid s r) held (omega arith) ∙ five-same at held wa wb wc i parts-same
+            ∙ heads-laid at _ _ _ _ (partsSaid s r) held ∙ five-same at held wa wb wc i parts-same
 
         pub row-end : q .end ≡ at + length (sectionRow (songOf s) x)
         unfolding sectionRow
@@ -521,18 +518,11 @@ module _ {s : List ℕ} {p : Place} {at : ℕ} {held : List ℕ} {met : Met} {so
             let b = bulk-here in
             omega arith
 
-        inside : at ≤ length held
-        inside = let b = block-fits in omega arith
-
         kept : take at words ≡ take at held
-        kept = ap (take at) row-with ∙ laid-before at (rowWith (h .even)) held inside
+        kept = ap (take at) row-with ∙ sets-before at at (rowWith (h .even)) held (omega arith)
 
         pub same-length : length words ≡ length held
-        same-length =
-            let l = end-is in
-            let z = ap length parts-same in
-            let k = asked .8 in
-            ap length row-with ∙ laid-length at (rowWith (h .even)) held (omega arith)
+        same-length = ap length row-with ∙ length-sets held at (rowWith (h .even))
 
         pub before-again : Before s words (q .end)
         before-again =
@@ -595,15 +585,10 @@ module _ {s : List ℕ} {p : Place} {at : ℕ} {held : List ℕ} {met : Met} {so
         mark-kept : take (before .mark + 1) mid ≡ take (before .mark + 1) held
         mark-kept =
             let c = before .below in
-            sym (take-take (before .mark + 1) (at + 4) mid (omega arith))
-            ∙ ap (take (before .mark + 1)) (ap (take (at + 4)) there ∙ laid-before (at + 4) (partsSaid s r) held heads-inside)
-            ∙ take-take (before .mark + 1) (at + 4) held (omega arith)
+            ap (take (before .mark + 1)) there ∙ sets-before (before .mark + 1) (at + 4) (partsSaid s r) held (omega arith)
 
         mid-length : length mid ≡ length held
-        mid-length =
-            let l = end-is in
-            let k = asked .8 in
-            ap length there ∙ laid-length (at + 4) (partsSaid s r) held (omega arith)
+        mid-length = ap length there ∙ length-sets held (at + 4) (partsSaid s r)
 
         items-pattern : eqb (namedAt mid text) 0 ≡ true → Carries words patternText (patternItems (songOf s .definitions) (x .pattern))
         unfolding outlineBy if_then_else_ patternSaid
@@ -638,9 +623,9 @@ module _ {s : List ℕ} {p : Place} {at : ℕ} {held : List ℕ} {met : Met} {so
               even ∙ ap (λ (u : Outline). evenIn u (h .meter)) said-there ∙ ap (evenIn (patternText .outline)) meter-here
               ∙ carries-even words patternText (patternItems (songOf s .definitions) (x .pattern)) (timeOf (songOf s) x) pattern-carries (range .0) (range .1)
 
-          row-laid : words ≡ laid at (sectionRow (songOf s) x) held
+          row-laid : words ≡ sets held at (sectionRow (songOf s) x)
           unfolding sectionRow
-          row-laid = row-with ∙ ap (λ (k : ℕ). laid at (rowWith k) held) even-here
+          row-laid = row-with ∙ ap (λ (k : ℕ). sets held at (rowWith k)) even-here
 
           pub lays : {t : Texts} → t ≡ toldTexts words q says → LyricsFit (map lyricLine lyrics)
               → Lays s p song at held words (record {

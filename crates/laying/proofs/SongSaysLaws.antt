@@ -6,12 +6,11 @@ use native.Mathlib.Omega.{arith}
 use borrow.Author.Tests.{eqb-true, eqb-false}
 use lib.Dec.{eqb}
 use lib.ListN.{length, drop, getD, set, length-set}
-use lib.Seq.{getD-set-same, getD-set-other, drop-set-lt}
+use lib.Seq.{sets, getD-set-same, getD-set-other, drop-set-lt}
 use Rattle.songcode.specs.answer.SongText.{metadataLines, textFaults}
 use Rattle.songcode.specs.answer.Tables.{keyWords}
 use Rattle.songcode.specs.answer.Answer.{blocksOf, songOf}
 use Rattle.songcode.proofs.ListLaws.{by-cases}
-use Rattle.packing.specs.Written.{written}
 use Rattle.sections.specs.declared.blocks.Place.{Place}
 use Rattle.sections.specs.declared.runs.Run.{Run}
 use Rattle.sections.specs.declared.slots.Said.{Said}
@@ -62,7 +61,7 @@ keys-more s ws old k w below room x e up =
           getD-set-other ws k j w 0 n ∙ up .words j (omega arith));
     }
 
-pub keys-all : (s ws old : List ℕ) (k : ℕ) → 8 ≤ k → 8 ≤ length old → KeysUpTo s ws old k → ws ≡ written (keyWords (songOf s)) old
+pub keys-all : (s ws old : List ℕ) (k : ℕ) → 8 ≤ k → 8 ≤ length old → KeysUpTo s ws old k → ws ≡ sets old 0 (keyWords (songOf s))
 keys-all s ws old k over room up =
     let long = up .long in
-    keys-written s ws (omega arith) (λ j h. up .words j (omega arith)) old (up .behind)
+    keys-written s ws (omega arith) (λ j h. up .words j (omega arith)) old room (up .behind)

@@ -6,6 +6,7 @@ use mathlib.Core.Bool.{Bool, true, false, _||_}
 use mathlib.Core.Option.{Option·getD}
 use lib.Dec.{eqb}
 use lib.ListN.{length, take, drop, set}
+use lib.Seq.{sets}
 use Rattle.songcode.specs.Lists.{if_then_else_}
 use Rattle.songcode.specs.Song.{Song}
 use Rattle.songcode.specs.answer.Lines.{Block, blocks}
@@ -15,7 +16,6 @@ use Rattle.songcode.specs.answer.Answer.{songOf}
 use Rattle.settings.specs.declared.cuts.CutRead.{CutRead}
 use Rattle.settings.specs.declared.cuts.CutRead.the-variants as read
 use Rattle.tokens.specs.TokenWords.{tokenWords}
-use Rattle.tokens.specs.Lexing.{laid}
 use Rattle.score.specs.declared.stretches.Stretch.{Stretch}
 use Rattle.score.specs.Places.{playedText}
 use Rattle.score.specs.Sections.{cutsBy, lyricRow, bit, sectionRow}
@@ -158,7 +158,7 @@ pub record Lays (s : List ℕ) (p : Place) (song : Keys) (at : ℕ) (old new : L
   pub lyrics-end : r .lyrics .to ≡ r .end
   pub said : r .meter ≡ meterOf (r .section .keys .time) (song .time)
   pub meter : r .meter ≡ timeOf (songOf s) (sectionAt s p)
-  pub words : new ≡ laid at (sectionRow (songOf s) (sectionAt s p)) old
+  pub words : new ≡ sets old at (sectionRow (songOf s) (sectionAt s p))
   pub end : r .end ≡ at + length (sectionRow (songOf s) (sectionAt s p))
   pub fits : SectionFits (songOf s) (sectionAt s p)
   pub room : RoomFor s (r .next) (r .end)

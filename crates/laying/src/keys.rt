@@ -6,10 +6,10 @@ ghost use mathlib.Core.Path.{_≡_};
 ghost use mathlib.Core.List.{[]};
 ghost use Prim.Native.Nat.{_≤_};
 ghost use lib.ListN.{length};
+ghost use lib.Seq.{sets};
 ghost use Rattle.songcode.specs.answer.SongText.{textFaults};
 ghost use Rattle.songcode.specs.answer.Tables.{keyWords};
 ghost use Rattle.songcode.specs.answer.Answer.{inputFaults, blocksOf, songOf};
-ghost use Rattle.packing.specs.Written.{written};
 ghost use Rattle.sections.specs.Slots.{settingAt};
 ghost use Rattle.sections.specs.Values.{Inside};
 ghost use Rattle.laying.specs.Keys.{wordOfSetting, ShortSetting, SongSays};
@@ -32,7 +32,7 @@ fn key_said(s: &[u8], said: Said) -> u32
 pub fn lay_keys(s: &[u8], lines: &[usize], starts: &[usize], stops: &[usize], keys: &mut [u32])
     requires text { ⌜ (inputFaults (now s) ≡ []) × (length (now s) ≤ 65536) × (textFaults (blocksOf (now s)) ≡ []) ⌝ }
     requires rows { ⌜ SongSays (now s) (now lines) (now starts) (now stops) × (8 ≤ length (now keys)) ⌝ }
-    ensures { λ _. ⌜ now (keys .exit) ≡ written (keyWords (songOf (now (s .entry)))) (now (keys .entry)) ⌝ }
+    ensures { λ _. ⌜ now (keys .exit) ≡ sets (now (keys .entry)) 0 (keyWords (songOf (now (s .entry)))) ⌝ }
 {
     let mut k = 0;
     while k < KEYS {

@@ -8,8 +8,8 @@ use tokens::lex_line;
 ghost use mathlib.Core.Path.{_≡_};
 ghost use Prim.Native.Nat.{_+_, _≤_};
 ghost use lib.ListN.{length};
+ghost use lib.Seq.{sets};
 ghost use Rattle.tokens.specs.TokenWords.{tokenWords};
-ghost use Rattle.tokens.specs.Lexing.{laid};
 ghost use Rattle.tokens.specs.Kept.{KeptFrom};
 ghost use Rattle.sections.specs.Runs.{linesOf};
 ghost use Rattle.sections.specs.BlockParts.{Placed};
@@ -21,7 +21,7 @@ ghost use Rattle.laying.specs.Laying.{runTokens, saidTokens, weight, sai
 pub fn lay_run(s: &[u8], run: Run, words: &mut [u32], n: usize) -> usize
     requires { ⌜ Placed (now s) run × (length (now s) ≤ 65536) × (n + weight (linesOf (now s) run) ≤ length (now words))
         × KeptFrom (now s) (now words) n ⌝ }
-    ensures held { λ r. ⌜ now (words .exit) ≡ laid n (tokenWords (runTokens (linesOf (now (s .entry)) run))) (now (words .entry)) ⌝ }
+    ensures held { λ r. ⌜ now (words .exit) ≡ sets (now (words .entry)) n (tokenWords (runTokens (linesOf (now (s .entry)) run))) ⌝ }
     ensures fill { λ r. ⌜ r ≡ n + length (tokenWords (runTokens (linesOf (now (s .entry)) run))) ⌝ }
 {
     if run.lines == 0 {
@@ -49,7 +49,7 @@ pub fn lay_run(s: &[u8], run: Run, words: &mut [u32], n: usize) -> usize
 // The words of a lead-in or tail, if there is one.
 pub fn lay_said(s: &[u8], said: Said, words: &mut [u32], n: usize) -> usize
     requires { ⌜ Inside (now s) said × (length (now s) ≤ 65536) × (n + saidWeight (settingAt (now s) said) ≤ length (now words)) ⌝ }
-    ensures held { λ r. ⌜ now (words .exit) ≡ laid n (tokenWords (saidTokens (settingAt (now (s .entry)) said))) (now (words .entry)) ⌝ }
+    ensures held { λ r. ⌜ now (words .exit) ≡ sets (now (words .entry)) n (tokenWords (saidTokens (settingAt (now (s .entry)) said))) ⌝ }
     ensures fill { λ r. ⌜ r ≡ n + length (tokenWords (saidTokens (settingAt (now (s .entry)) said))) ⌝ }
 {
     if said.line == 0 {

@@ -12,10 +12,10 @@ ghost use mathlib.Core.Path.{_≡_};
 ghost use mathlib.Core.List.{map, flatMap};
 ghost use Prim.Native.Nat.{_+_, _*_, _-_, _≤_, _<_};
 ghost use lib.ListN.{length};
+ghost use lib.Seq.{sets};
 ghost use Rattle.songcode.specs.Bytes.{placed};
 ghost use Rattle.songcode.specs.answer.Sections.{lyricLine};
 ghost use Rattle.text.specs.Spans.{part};
-ghost use Rattle.tokens.specs.Lexing.{laid};
 ghost use Rattle.tokens.specs.Kept.{KeptFrom};
 ghost use Rattle.settings.specs.Cuts.{CutFits};
 ghost use Rattle.score.specs.Sections.{bit, lyricRow};
@@ -75,8 +75,8 @@ fn line_word(number: usize, count: usize, style: usize) -> u32
 fn lay_lyric(s: &[u8], number: usize, start: usize, stop: usize, words: &mut [u32], n: usize)
     requires { ⌜ (1 ≤ number) × (number ≤ 65536) × (0 < start) × (start ≤ stop) × (stop ≤ length (now s)) × (length (now s) ≤ 65536)
         × (n + 1 < length (now words)) ⌝ }
-    ensures held { λ _. ⌜ now (words .exit) ≡ laid n (lyricRow (record { number = number; text = placed start (part start stop (now (s .entry))) }))
-        (now (words .entry)) ⌝ }
+    ensures held { λ _. ⌜ now (words .exit) ≡ sets (now (words .entry)) n
+        (lyricRow (record { number = number; text = placed start (part start stop (now (s .entry))) })) ⌝ }
     ensures fits { λ _. ⌜ LyricFits (record { number = number; text = placed start (part start stop (now (s .entry))) }) ⌝ }
 {
     let line = lyric_words(s, start, stop);
@@ -91,7 +91,7 @@ fn lay_lyric(s: &[u8], number: usize, start: usize, stop: usize, words: &mut [u3
 pub fn lay_lyrics(s: &[u8], run: Run, words: &mut [u32], n: usize) -> usize
     requires { ⌜ Placed (now s) run × (0 < length (linesOf (now s) run) → 2 ≤ run .number) × (length (now s) ≤ 65536)
         × (n + 2 * length (linesOf (now s) run) ≤ length (now words)) ⌝ }
-    ensures held { λ r. ⌜ now (words .exit) ≡ laid n (flatMap lyricRow (map lyricLine (linesOf (now (s .entry)) run))) (now (words .entry)) ⌝ }
+    ensures held { λ r. ⌜ now (words .exit) ≡ sets (now (words .entry)) n (flatMap lyricRow (map lyricLine (linesOf (now (s .entry)) run))) ⌝ }
     ensures fill { λ r. ⌜ r ≡ n + 2 * length (linesOf (now (s .entry)) run) ⌝ }
     ensures fits { λ r. ⌜ LyricsFit (map lyricLine (linesOf (now (s .entry)) run)) ⌝ }
 {
@@ -153,7 +153,7 @@ fn cut_word(c: CutRead) -> u32
 // The words of the two cuts, if there is one.
 fn lay_cuts(m: Modifiers, words: &mut [u32], n: usize) -> usize
     requires { ⌜ CutFits (m .front) × CutFits (m .back) × (n + 2 ≤ length (now words)) ⌝ }
-    ensures held { λ r. ⌜ now (words .exit) ≡ laid n (cutsSaid m) (now (words .entry)) ⌝ }
+    ensures held { λ r. ⌜ now (words .exit) ≡ sets (now (words .entry)) n (cutsSaid m) ⌝ }
     ensures fill { λ r. ⌜ r ≡ n + length (cutsSaid m) ⌝ }
 {
     if !has_cut(m) {
@@ -186,7 +186,7 @@ pub fn lay_parts(s: &[u8], section: SectionRead, words: &mut [u32], at: usize) -
     requires cuts { ⌜ CutFits (section .modifiers .front) × CutFits (section .modifiers .back) ⌝ }
     requires room { ⌜ at + (2 + (saidWeight (settingAt (now s) (section .modifiers .before)) + weight (linesOf (now s) (section .pattern))
         + saidWeight (settingAt (now s) (section .modifiers .after)) + 2 * length (linesOf (now s) (section .lyrics)))) ≤ length (now words) ⌝ }
-    ensures held { λ r. ⌜ now (words .exit) ≡ laid at (partsSaid (now (s .entry)) section) (now (words .entry)) ⌝ }
+    ensures held { λ r. ⌜ now (words .exit) ≡ sets (now (words .entry)) at (partsSaid (now (s .entry)) section) ⌝ }
     ensures places { λ r. ⌜ PlacesAre (now (s .entry)) section at r ⌝ }
     ensures fits { λ r. ⌜ LyricsFit (map lyricLine (linesOf (now (s .entry)) (section .lyrics))) ⌝ }
 {

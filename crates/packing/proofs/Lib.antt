@@ -3,4 +3,3 @@ pub mod Bits
 pub mod RoundTrips
 pub mod RowsRead
 pub mod ReadBackProved
-pub mod WrittenLaws

@@ -8,6 +8,7 @@ use borrow.Author.Tests.{eq-eqb, ne-eqb, lt-ltb}
 use lib.ListN.{length, take, drop, getD, replicate, set, length-take}
 use lib.Seq.{sets, take-all}
 use Rattle.songcode.specs.Lists.{if_then_else_}
+use Rattle.songcode.proofs.MemoryLaws.{sets-append}
 use Rattle.score.specs.Places.{wordOf}
 use Rattle.score.proofs.WordLaws.{word-is}
 use Rattle.tokens.specs.Signs.{kindOf}
@@ -17,7 +18,7 @@ use Rattle.player.specs.Bars.{beatsOf, Counted}
 use Rattle.player.specs.Signs.{voiceOf, chordOf, lastingOf, partOf, partsOf, soundsAs, soundingOf, positionsAt}
 use Rattle.player.specs.Page.{Ink, inked}
 use Rattle.player.proofs.SignLaws.{position-within, position-there, positions-next, part-length, parts-length}
-use Rattle.player.proofs.ContentLaws.{sets-append, inked-is, ink-eq}
+use Rattle.player.proofs.ContentLaws.{inked-is, ink-eq}
 
 -- A word n times.
 pub words-next : (n i w b : ℕ) (t goal : List ℕ) → i < n → sets t (b + i) (replicate (n - i) w) ≡ goal

@@ -1,7 +1,7 @@
 -- What a played row leaves: the words of the window in both tables, and the pen's numbers.
 use Prim.Native.Nat.{ℕ, zero, suc, _+_, _-_, _≤_}
 use mathlib.Core.Path.{_≡_, refl, sym, _∙_, subst}
-use mathlib.Core.List.{List, [], _∷_, _++_}
+use mathlib.Core.List.{List, [], _∷_}
 use mathlib.Core.Bool.{Bool, true, false}
 use native.Mathlib.Omega.{arith}
 use native.Mathlib.Numerals.{add-one}
@@ -12,6 +12,7 @@ use lib.Seq.{sets, take-nil, drop-nil}
 use Rattle.songcode.specs.answer.Playing.{keep}
 use Rattle.songcode.specs.description.Performance.{total}
 use Rattle.songcode.proofs.ListLaws.{by-cases}
+use Rattle.songcode.proofs.MemoryLaws.{sets-append}
 use Rattle.player.specs.Windows.{window, flat, heads}
 use Rattle.player.specs.declared.pens.Pen.{Pen}
 use Rattle.player.proofs.PageLaws.{measure-none, play-none, goes-on, rests}
@@ -26,10 +27,6 @@ ink-of p bs = record { pen = p; bs = bs }
 
 abbrev page-of : Pen → List ℕ → List ℕ → Page
 page-of p ms bs = record { pen = p; ms = ms; bs = bs }
-
-pub sets-append : (t : List ℕ) (i : ℕ) (xs ys : List ℕ) → sets t i (xs ++ ys) ≡ sets (sets t i xs) (i + length xs) ys
-sets-append t i [] ys = let e : i + 0 ≡ i = omega arith in rw e
-sets-append t i (x ∷ xs) ys = let e : i + suc (length xs) ≡ suc i + length xs = omega arith in rw e (sets-append (set t i x) (suc i) xs ys)
 
 pub ink-eq : (base todo m : ℕ) (s s' l l' b b' : ℕ) (bs bs' : List ℕ) → s ≡ s' → l ≡ l' → b ≡ b' → bs ≡ bs'
     → ink-of (pen-of base todo s l m b) bs ≡ ink-of (pen-of base todo s' l' m b') bs'

@@ -1,21 +1,18 @@
 -- Words of a table copied behind themselves: one law for each way through the loop, and what a copy of stored words is.
 use Prim.Native.Nat.{ℕ, suc, _+_, _-_, _*_, _<_, _≤_, min}
 use mathlib.Core.Path.{_≡_, refl, sym, _∙_, subst}
-use mathlib.Core.List.{List, [], _∷_, _++_, map, append-assoc}
+use mathlib.Core.List.{List, [], _∷_, map}
 use native.Mathlib.Omega.{arith}
 use borrow.Author.Tests.{leb-true, leb-false}
 use lib.Dec.{leb}
 use lib.ListN.{length, take, drop, set, getD}
-use lib.Seq.{sets, sets-eq, length-sets, set-out, drop-cons, drop-set-add, take-set-le, length-take-le, take-append-seam, drop-at}
+use lib.Seq.{sets, length-sets, drop-cons, drop-set-add, take-set-le}
 use Rattle.songcode.specs.answer.Tables.{measureWord}
 use Rattle.songcode.specs.description.Performance.{total}
 use Rattle.songcode.proofs.ListLaws.{by-cases}
+use Rattle.songcode.proofs.MemoryLaws.{sets-out, sets-there}
 use Rattle.player.specs.Windows.{heads}
 use Rattle.player.specs.Again.{copyOf, same, later}
-
-pub sets-out : (t xs : List ℕ) (i : ℕ) → length t ≤ i → sets t i xs ≡ t
-sets-out t [] i h = refl
-sets-out t (x ∷ xs) i h = rw (set-out t i x h) (sets-out t xs (suc i) (omega arith))
 
 -- Words before the place of a store are as they were.
 untouched-before : (t : List ℕ) (j k i v : ℕ) → k ≤ i → take k (drop j (set t (j + i) v)) ≡ take k (drop j t)
@@ -62,19 +59,13 @@ copy-over f t goal from to n i e h g =
     (λ q. let l = leb-false (to - from) i q in sym (sets-out t (map f (take (to - from - i) (drop (from + i) t))) (to + i) (omega arith)) ∙ g)
 
 -- A copy of words that were stored is the same words stored again.
-stored : (t xs : List ℕ) (from : ℕ) → from + length xs ≤ length t → take (length xs) (drop from (sets t from xs)) ≡ xs
-stored t xs from h =
-    let r = drop (from + length xs) t in
-    let e : sets t from xs ≡ take from t ++ (xs ++ r) = sets-eq xs t from h ∙ append-assoc (take from t) xs r in
-    rw (e, drop-at (take from t) (xs ++ r) from (length-take-le from t (omega arith))) (take-append-seam xs r)
-
 pub sets-again : (f : ℕ → ℕ) (t xs : List ℕ) (from to : ℕ) → to ≡ from + length xs → copyOf f (sets t from xs) from to ≡ sets (sets t from xs) to (map f xs)
 unfolding copyOf
 sets-again f t xs from to e =
     let n : to - from ≡ length xs = omega arith in
     let l = length-sets t from xs in
     by-cases (leb (from + length xs) (length t))
-    (λ q. let h = leb-true (from + length xs) (length t) q in rw (n, stored t xs from h))
+    (λ q. let h = leb-true (from + length xs) (length t) q in rw (n, sets-there from xs t h))
     (λ q.
     let h = leb-false (from + length xs) (length t) q in
     sets-out (sets t from xs) (map f (take (to - from) (drop from (sets t from xs)))) to (omega arith)

@@ -12,6 +12,7 @@ use Rattle.songcode.specs.description.Performance.{total}
 use Rattle.songcode.proofs.TurnedRows.{total-append}
 use Rattle.songcode.proofs.ListLaws.{by-cases}
 use Rattle.songcode.proofs.CutLaws.{total-take-le}
+use Rattle.songcode.proofs.MemoryLaws.{sets-append}
 use Rattle.player.specs.declared.pens.Pen.{Pen}
 use Rattle.player.specs.declared.playing.Plan.{Plan}
 use Rattle.player.specs.declared.playing.Counts.{Counts}
@@ -20,7 +21,7 @@ use Rattle.player.specs.Page.{Page, Fine, play, page}
 use Rattle.player.specs.Arrangements.{Opening, Plays}
 use Rattle.player.specs.Windows.{window, firstBeat, lastBeat, keptOf, wholeOf, sectionRow, flat, heads}
 use Rattle.player.proofs.PageLaws.{fine-play, play-append}
-use Rattle.player.proofs.ContentLaws.{Done, played, sets-append}
+use Rattle.player.proofs.ContentLaws.{Done, played}
 use Rattle.player.proofs.ShortLaws.{Short, short-times, total-short, total-few}
 use Rattle.player.proofs.WindowLaws.{total-window, window-none, window-filled, length-flat, length-heads, flat-append, heads-append}
 use Rattle.player.proofs.PartLaws.{section-part, uncut-window, filled-section, window-room}

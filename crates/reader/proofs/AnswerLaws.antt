@@ -7,6 +7,7 @@ use borrow.Author.Tests.{eqb-true, eqb-false}
 use lib.Dec.{eqb}
 use native.Mathlib.Omega.{arith}
 use lib.ListN.{length}
+use lib.Seq.{sets}
 use Rattle.songcode.specs.Lists.{if_then_else_, when}
 use Rattle.songcode.specs.Complaints.{complaint, complainIf, earlier, earliest}
 use Rattle.songcode.specs.Song.{Song}
@@ -23,7 +24,6 @@ use Rattle.judging.proofs.VerdictLaws.{late-refused, song-accepted}
 use Rattle.judging.specs.declared.sums.Totals.{Totals}
 use Rattle.reader.specs.declared.answers.Answer.{Answer}
 use Rattle.reader.specs.declared.answers.Room as code
-use Rattle.packing.specs.Written.{written}
 use Rattle.reader.specs.Answers.{answerOf, Lent, lent, roomOf, stored, Promised, Counted}
 use Rattle.reader.specs.Room.{isShort, roomIs, refusedWith, acceptedWith, countedBy, answeredBy}
 
@@ -141,9 +141,9 @@ same-lent p q r e f = rw (p, q, r, e, f) refl
 
 pub promised-accepted : (text : List ℕ) (before after : Lent) (t : Tables) (r : Answer) → r ≡ answerOf (answer (roomOf before) text)
     → answer (roomOf before) text ≡ accepted t
-    → after .keys ≡ written (t .keys) (before .keys) → after .sections ≡ written (t .sections) (before .sections)
-    → after .measures ≡ written (t .measures) (before .measures) → after .beats ≡ written (t .beats) (before .beats)
-    → after .items ≡ written (t .items) (before .items) → Promised text before r after
+    → after .keys ≡ sets (before .keys) 0 (t .keys) → after .sections ≡ sets (before .sections) 0 (t .sections)
+    → after .measures ≡ sets (before .measures) 0 (t .measures) → after .beats ≡ sets (before .beats) 0 (t .beats)
+    → after .items ≡ sets (before .items) 0 (t .items) → Promised text before r after
 unfolding stored
 promised-accepted text before after t r f is a b c d e =
     record { answer = f; tables = same-lent a b c d e ∙ sym (ap (λ x. stored x before) is) }

@@ -3,9 +3,9 @@ use Prim.Native.Nat.{ℕ}
 use mathlib.Core.Path.{_≡_}
 use mathlib.Core.List.{List}
 use lib.ListN.{length}
+use lib.Seq.{sets}
 use Rattle.songcode.specs.answer.Answer as songcode
 use Rattle.songcode.specs.answer.Answer.{refused, accepted}
-use Rattle.packing.specs.Written.{written}
 use Rattle.reader.specs.declared.answers.Answer.{Answer}
 
 -- "The result gives refusal 0, line 0 and the counts of sections, measures, beats and items"; "A refusal returns its number and line, counts 0".
@@ -29,17 +29,17 @@ unfoldable pub roomOf : Lent → songcode.Room
 roomOf l =
     record { keys = length (l .keys); sections = length (l .sections); measures = length (l .measures); beats = length (l .beats); items = length (l .items) }
 
--- "and no table word changes"; where the song is accepted, its words stand in each table, and past them what was there.
+-- "and no table word changes"; where the song is accepted, its words stand in each table. "Lent memory past what a call writes keeps what it held":
+-- `sets old 0 new` holds the new words from its first place on, and behind them what it held.
 unfoldable pub stored : songcode.Answer → Lent → Lent
-unfolding written
 stored (refused number line) old = old
 stored (accepted t) old =
     record {
-      keys = written (t .keys) (old .keys);
-      sections = written (t .sections) (old .sections);
-      measures = written (t .measures) (old .measures);
-      beats = written (t .beats) (old .beats);
-      items = written (t .items) (old .items);
+      keys = sets (old .keys) 0 (t .keys);
+      sections = sets (old .sections) 0 (t .sections);
+      measures = sets (old .measures) 0 (t .measures);
+      beats = sets (old .beats) 0 (t .beats);
+      items = sets (old .items) 0 (t .items);
     }
 
 -- The promise of the call: its answer and the final content of all lent memory, for every text and all tables.

@@ -5,13 +5,13 @@ use mathlib.Core.Path.{_≡_}
 use mathlib.Core.Logic.{_↔_}
 use mathlib.Core.List.{List}
 use lib.ListN.{length}
+use lib.Seq.{sets}
 use Rattle.songcode.specs.Complaints.{complaint}
 use Rattle.songcode.specs.answer.Tables.{Tables}
 use Rattle.songcode.specs.answer.Answer.{Room, stages, songStages}
 use Rattle.songcode.specs.description.Given.{Given}
 use Rattle.songcode.specs.description.Refusals.{Refused}
 use Rattle.songcode.specs.description.Described.{HasRoom, Described}
-use Rattle.packing.specs.Written.{written}
 use Rattle.reader.specs.declared.answers.Answer.{Answer}
 use Rattle.reader.specs.Answers.{Lent, roomOf, Promised, Counted}
 
@@ -24,13 +24,14 @@ pub record Counts (t : Tables) (r : Answer) : Type 0 where
   pub beats : r .beats ≡ length (t .beats)
   pub items : r .items ≡ length (t .items)
 
--- The words of a song stand at the front of each table, and past them what was there.
+-- The words of a song stand in each table from its first place on, and behind them what it held: "Lent memory past what a call writes keeps what it
+-- held". So `sets` says it, with the place 0.
 pub record Holds (t : Tables) (before after : Lent) : Type 0 where
-  pub keys : after .keys ≡ written (t .keys) (before .keys)
-  pub sections : after .sections ≡ written (t .sections) (before .sections)
-  pub measures : after .measures ≡ written (t .measures) (before .measures)
-  pub beats : after .beats ≡ written (t .beats) (before .beats)
-  pub items : after .items ≡ written (t .items) (before .items)
+  pub keys : after .keys ≡ sets (before .keys) 0 (t .keys)
+  pub sections : after .sections ≡ sets (before .sections) 0 (t .sections)
+  pub measures : after .measures ≡ sets (before .measures) 0 (t .measures)
+  pub beats : after .beats ≡ sets (before .beats) 0 (t .beats)
+  pub items : after .items ≡ sets (before .items) 0 (t .items)
 
 -- "A refusal returns its number and line, counts 0"
 pub record CountsNothing (r : Answer) : Type 0 where

@@ -4,10 +4,10 @@ use mathlib.Core.Path.{_≡_, refl, sym, ap, _∙_}
 use mathlib.Core.List.{List, [], _∷_, _++_, append-assoc, append-nil, flatMap}
 use native.Mathlib.Omega.{arith}
 use lib.ListN.{length, take, drop, length-append}
-use lib.Seq.{take-append-seam, drop-append-add, drop-append-le, length-take-le}
+use lib.Seq.{sets, sets-eq, take-append-seam, drop-append-le, length-take-le}
 use Rattle.songcode.specs.Song.{Section, Song}
 use Rattle.songcode.proofs.ListLaws.{drop-take}
-use Rattle.tokens.specs.Lexing.{laid}
+use Rattle.songcode.proofs.MemoryLaws.{sets-behind}
 use Rattle.score.specs.Sections.{sectionRow, sectionsRow}
 use Rattle.score.specs.Fitting.{SectionFits, SectionsFit}
 use Rattle.score.specs.Seen.{RowFrom}
@@ -30,29 +30,23 @@ row-start s ws at h = record { words = refl; size = omega arith; few = h }
 
 -- One more section is laid behind them.
 pub row-grows : (s : Song) (old new : List ℕ) (first at end : ℕ) (xs : List Section) (x : Section) → RowFrom s old first at xs
-    → new ≡ laid at (sectionRow s x) old → end ≡ at + length (sectionRow s x) → at ≤ length old → end ≤ 100000 → RowFrom s new first end (xs ++ (x ∷ []))
+    → new ≡ sets old at (sectionRow s x) → end ≡ at + length (sectionRow s x) → end ≤ length old → end ≤ 100000 → RowFrom s new first end (xs ++ (x ∷ []))
 row-grows s old new first at end xs x r e f inside few =
     let rows = sectionsRow s xs in
     let row = sectionRow s x in
     let size = r .size in
     let k = length-append rows row in
-    let n = length-take-le at old inside in
+    let n = length-take-le at old (omega arith) in
     let a : at - first ≡ length rows = omega arith in
     let b : drop first (take at old) ≡ rows =
     drop-take first at old ∙ rw (r .words, a) (take-append-seam rows (drop at old)) in
     let c : drop first (take at old ++ (row ++ drop end old)) ≡ drop first (take at old) ++ (row ++ drop end old) =
     drop-append-le first (take at old) (row ++ drop end old) (omega arith) in
-    let g : new ≡ take at old ++ (row ++ drop end old) = e ∙ rw f refl in
-    let h : drop end new ≡ drop end old = ap (drop end) g ∙ behind row end (drop end old) n f in
+    let g : new ≡ take at old ++ (row ++ drop end old) =
+    e ∙ rw f (sets-eq row old at (omega arith) ∙ append-assoc (take at old) row (drop (at + length row) old)) in
+    let h : drop end new ≡ drop end old = rw e (sets-behind at row old end (omega arith)) in
     record {
       words = ap (drop first) g ∙ c ∙ rw (b, h, rows-append s xs x) (sym (append-assoc rows row (drop end old)));
       size = rw (rows-append s xs x) (omega arith);
       few = few;
     }
-  where
-    behind : (row : List ℕ) (to : ℕ) (rest : List ℕ) → length (take at old) ≡ at → to ≡ at + length row → drop to (take at old ++ (row ++ rest)) ≡ rest
-    behind row to rest n f =
-        let p = take at old ++ row in
-        let l = length-append (take at old) row in
-        let z : to ≡ length p + 0 = omega arith in
-        ap (drop to) (sym (append-assoc (take at old) row rest)) ∙ rw z (drop-append-add p rest 0)

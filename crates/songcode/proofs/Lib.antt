@@ -7,6 +7,7 @@ pub mod EachLaws
 pub mod EachBelow
 pub mod VerdictAgree
 pub mod MemberLaws
+pub mod MemoryLaws
 -- Characters, lines and blocks.
 pub mod ByteLaws
 pub mod FormLaws

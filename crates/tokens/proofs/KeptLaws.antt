@@ -7,20 +7,20 @@ use borrow.Author.Tests.{ltb-true, ltb-false, eqb-true, eqb-false}
 use lib.Dec.{eqb, ltb}
 use mathlib.Core.Logic.{inl, inr}
 use lib.ListN.{length, take, drop, getD, set, replicate, length-take}
-use lib.Seq.{getD-take, take-take, drop-drop, drop-set-lt}
+use lib.Seq.{sets, length-sets, getD-take, drop-drop, drop-set-lt}
 use Rattle.songcode.specs.Song.{chord, again, silence}
 use Rattle.songcode.specs.answer.Tokens.{Token, sound, remover, reference, semicolon, colon, lineEnd, opens, closes, wrong}
 use Rattle.songcode.proofs.ListLaws.{by-cases, drop-take}
+use Rattle.songcode.proofs.MemoryLaws.{sets-before, sets-word, sets-behind, sets-rest, word-same, rest-same}
 use Rattle.text.specs.declared.lines.Line.{Line}
 use Rattle.text.specs.Spans.{part, lineLength, frontBlanks, lineOf, Found}
 use Rattle.text.proofs.WalkLaws.{part-length}
 use Rattle.tokens.specs.TokenWords.{tokenWords}
 use Rattle.tokens.specs.Signs.{kindOf, numberOf}
 use Rattle.tokens.specs.Fitting.{Fit, AllFit, kind}
-use Rattle.tokens.specs.Lexing.{tokensFrom, laid}
+use Rattle.tokens.specs.Lexing.{tokensFrom}
 use Rattle.tokens.specs.Kept.{lineStop, lineWords, markWord, kept, KeptAt, Kept, Unmarked, KeptFrom, Keeps}
 use Rattle.tokens.proofs.KindLaws.{word-kind}
-use Rattle.tokens.proofs.LaidLaws.{word-same, rest-same, laid-before, laid-word, laid-behind, laid-rest, laid-length}
 use Rattle.tokens.proofs.LineFitLaws.{front-le, line-rest, found-before}
 use Rattle.tokens.proofs.TokensFit.{tokens-fit}
 use Rattle.tokens.proofs.FewLaws.{part-words-few}
@@ -81,9 +81,9 @@ module _ (s ws after : List ℕ) (end : ℕ) (same : drop end after ≡ drop end
 pub kept-set : (s ws : List ℕ) (from i v bound : ℕ) → i < from → Kept s ws from bound → Kept s (set ws i v) from bound
 kept-set s ws from i v bound h k = kept-behind s ws (set ws i v) from (drop-set-lt from ws i v h) from bound (omega arith) k
 
-pub kept-laid : (s ws new : List ℕ) (from n end bound : ℕ) → end ≡ n + length new → end ≤ length ws → from ≤ end → Kept s ws from bound
-    → Kept s (laid n new ws) end bound
-kept-laid s ws new from n end bound e h g k = kept-behind s ws (laid n new ws) end (laid-behind n new ws end e h) from bound g k
+pub kept-laid : (s ws new : List ℕ) (from n end bound : ℕ) → end ≡ n + length new → from ≤ end → Kept s ws from bound
+    → Kept s (sets ws n new) end bound
+kept-laid s ws new from n end bound e g k = kept-behind s ws (sets ws n new) end (sets-behind n new ws end (omega arith)) from bound g k
 
 -- A token's word is no mark.
 kind-unmarked : (t : Token) → Fit t → kind t ≡ 53 → ⊥
@@ -113,12 +113,10 @@ module _ (s ws : List ℕ) (at start bound : ℕ) (marks : Kept s ws 0 at) (star
   row = markWord (length (lineWords s start)) ∷ lineWords s start
 
   abbrev after : List ℕ
-  after = laid (start + 8) row ws
+  after = sets ws (start + 8) row
 
   before-same : (i : ℕ) → i ≤ start + 8 → take i after ≡ take i ws
-  before-same i h =
-      let e = laid-before (start + 8) row ws (omega arith) in
-      sym (take-take i (start + 8) after h) ∙ ap (take i) e ∙ take-take i (start + 8) ws h
+  before-same i h = sets-before i (start + 8) row ws h
 
   earlier : (a : ℕ) → a < start → kindOf (getD after (a + 8) 0) ≡ 53 → KeptAt s after bound a
   earlier a h m =
@@ -137,20 +135,20 @@ module _ (s ws : List ℕ) (at start bound : ℕ) (marks : Kept s ws 0 at) (star
   here =
       let z : start + 8 + 0 ≡ start + 8 = omega arith in
       let y : start + 8 + 1 ≡ start + 9 = omega arith in
-      let m = laid-word (start + 8) row ws 0 (omega arith) (omega arith) in
-      let w = laid-rest (start + 8) (markWord (length (lineWords s start))) (lineWords s start) ws (omega arith) in
+      let m = sets-word (start + 8) row ws 0 (omega arith) (omega arith) in
+      let w = sets-rest (start + 8) (markWord (length (lineWords s start))) (lineWords s start) ws (omega arith) in
       record { mark = rw z at m; words = rw y at w; within = within }
 
   among : (a : ℕ) → start < a → a < start + 1 + length (lineWords s start) → kindOf (getD after (a + 8) 0) ≡ 53 → ⊥
   among a h g m =
       let z : start + 8 + suc (a - suc start) ≡ a + 8 = omega arith in
-      let w = laid-word (start + 8) row ws (suc (a - suc start)) (omega arith) (omega arith) in
+      let w = sets-word (start + 8) row ws (suc (a - suc start)) (omega arith) (omega arith) in
       plain (a - suc start) (rw (rw z at w) at m)
 
   past : (a : ℕ) → start + 1 + length (lineWords s start) ≤ a → kindOf (getD after (a + 8) 0) ≡ 53 → ⊥
   past a h m =
       let end = start + 9 + length (lineWords s start) in
-      let w = word-same after ws end (laid-behind (start + 8) row ws end (omega arith) room) (a + 8) (omega arith) in
+      let w = word-same after ws end (sets-behind (start + 8) row ws end (omega arith)) (a + 8) (omega arith) in
       let q = marks .right a (omega arith) (rw w at m) in
       let i = q .within in
       omega arith
@@ -209,7 +207,7 @@ module _ (s ws after : List ℕ) (n at : ℕ) (l : Line) (f : Found s n at l) (t
       let r = words-room in
       let words = lineWords s (l .start) in
       let k : after ≡ kept (l .start) words ws = rw (← (found-stop s f)) e in
-      let size : length (kept (l .start) words ws) ≡ length ws = laid-length (l .start + 8) (markWord (length words) ∷ words) ws (omega arith) in
+      let size : length (kept (l .start) words ws) ≡ length ws = length-sets ws (l .start + 8) (markWord (length words) ∷ words) in
       (ap length k ∙ size, line-kept (length s + 1) k (omega arith), λ z. line-kept (l .next) k (found-before s f z))
 
 -- What the mark of a line tells: how many words the line has, and that they stand behind it.

@@ -9,7 +9,6 @@ pub mod WordLaws
 pub mod LexLaws
 pub mod PlainBases
 pub mod ReadLaws
-pub mod LaidLaws
 pub mod KindLaws
 pub mod TokensFit
 pub mod LineFitLaws

@@ -1,7 +1,7 @@
--- What the code finds at a place: as one number, behind blanks, and where a chord stands.
+-- What the code finds at a place: as one number, behind blanks, where a chord stands, and in words.
 use Prim.Native.Nat.{ℕ, _+_, _*_, _/_, _%_, _<_, _≤_}
 use mathlib.Core.Path.{_≡_, refl, _∙_}
-use mathlib.Core.List.{List}
+use mathlib.Core.List.{List, [], _∷_}
 use mathlib.Core.Bool.{true}
 use native.Mathlib.Omega.{arith}
 use lib.ListN.{length, getD}
@@ -13,7 +13,7 @@ use Rattle.text.proofs.WalkLaws.{part-length}
 use Rattle.tokens.specs.declared.lexing.Lexed.{Lexed}
 use Rattle.tokens.specs.declared.lexing.Lexed.the-variants.{Token, End}
 use Rattle.tokens.specs.Bases.{isLetter}
-use Rattle.tokens.specs.TokenWords.{tokenWord}
+use Rattle.tokens.specs.TokenWords.{tokenWord, tokenWords}
 use Rattle.tokens.specs.Lexing.{plainLength, tokensFrom, Reads, lexedOf}
 use Rattle.tokens.proofs.LexLaws.{at-word, letter-plain, plain-le, plain-sooner}
 use Rattle.tokens.proofs.PartLaws.{part-cons}
@@ -49,3 +49,13 @@ reads-chord s a stop w e h l g f q =
       (rw f at q) ∙ word-letter a (getD s a 0) (part (a + 1) (a + 1 + k) s) (part a (a + 1 + k) s) v g,
       λ to i j. at-word s a to (omega arith) (omega arith) k (plain-sooner s (a + 1) stop to j k i refl) (letter-plain (getD s a 0) g),
     )
+
+-- What the code found at a place, in words.
+pub read-next : (s : List ℕ) (at stop : ℕ) {r : Lexed} {v next : ℕ} → r ≡ Token v next → Reads s at stop r
+    → (at < next) × (next ≤ stop) × (tokenWords (tokensFrom at stop s) ≡ v ∷ tokenWords (tokensFrom next stop s))
+unfolding Reads tokenWords
+read-next s at stop e m = let g = rw e at m in (g .1, g .2, rw (g .4 stop (g .2) (omega arith), g .3))
+
+pub read-end : (s : List ℕ) (at stop : ℕ) {r : Lexed} → r ≡ End → Reads s at stop r → tokenWords (tokensFrom at stop s) ≡ []
+unfolding Reads tokenWords
+read-end s at stop e m = let g = rw e at m in rw g

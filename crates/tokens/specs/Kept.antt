@@ -4,10 +4,11 @@ use mathlib.Core.Path.{_≡_}
 use mathlib.Core.List.{List, _∷_}
 use mathlib.Core.Logic.{_⊎_}
 use lib.ListN.{length, take, drop, getD}
+use lib.Seq.{sets}
 use Rattle.text.specs.Spans.{lineLength, solidLength}
 use Rattle.tokens.specs.TokenWords.{tokenWords}
 use Rattle.tokens.specs.Signs.{kindOf}
-use Rattle.tokens.specs.Lexing.{tokensFrom, laid}
+use Rattle.tokens.specs.Lexing.{tokensFrom}
 
 -- Where the text of the line that goes on at a place stops: behind its last byte that is no blank.
 unfoldable pub lineStop : List ℕ → ℕ → ℕ
@@ -24,7 +25,7 @@ markWord n = 53 * 2 ^ 26 + n
 
 -- A row in which words are kept for the line that begins at a place.
 abbrev pub kept : ℕ → List ℕ → List ℕ → List ℕ
-kept a new held = laid (a + 8) (markWord (length new) ∷ new) held
+kept a new held = sets held (a + 8) (markWord (length new) ∷ new)
 
 -- What a mark says: so many words stand behind it, they are those of the line, and they end before a bound.
 pub record KeptAt (s ws : List ℕ) (bound a : ℕ) : Type 0 where

@@ -1,9 +1,8 @@
--- What the code finds of a line's tokens: plain bytes, the token at a place, and a table with new words laid into it.
-use Prim.Native.Nat.{ℕ, suc, _+_, _/_, _%_, _<_, _≤_}
+-- What the code finds of a line's tokens: plain bytes, and the token at a place.
+use Prim.Native.Nat.{ℕ, suc, _/_, _%_, _<_, _≤_}
 use mathlib.Core.Path.{_≡_}
-use mathlib.Core.List.{List, [], _∷_, _++_}
+use mathlib.Core.List.{List, [], _∷_}
 use mathlib.Core.Bool.{Bool, true, false}
-use lib.ListN.{length, take, drop}
 use Rattle.songcode.specs.Lists.{if_then_else_}
 use Rattle.songcode.specs.Bytes.{placed}
 use Rattle.songcode.specs.answer.Chords.{isSlip}
@@ -53,7 +52,3 @@ Reads s at stop End = tokensFrom at stop s ≡ []
 -- What is found, taken from one number: a word, and below it the place behind the token.
 abbrev pub lexedOf : ℕ → Lexed
 lexedOf p = Token (p / 131072) (p % 131072)
-
--- A table with new words from a place on; before and behind them it keeps what it held.
-abbrev pub laid : ℕ → List ℕ → List ℕ → List ℕ
-laid n new held = take n held ++ (new ++ drop (n + length new) held)

@@ -6,8 +6,9 @@ use super::signs::number;
 ghost use mathlib.Core.Path.{_≡_};
 ghost use Prim.Native.Nat.{_+_, _-_, _≤_};
 ghost use lib.ListN.{length, take, drop};
+ghost use lib.Seq.{sets};
 ghost use Rattle.tokens.specs.TokenWords.{tokenWords};
-ghost use Rattle.tokens.specs.Lexing.{tokensFrom, laid};
+ghost use Rattle.tokens.specs.Lexing.{tokensFrom};
 ghost use Rattle.tokens.specs.Kept.{lineStop, kept, KeptFrom};
 
 // The kind of a mark, which no token has, and how far behind a line's first byte its mark stands.
@@ -31,7 +32,7 @@ pub fn keep_line(s: &[u8], start: usize, stop: usize, words: &mut [u32]) -> usiz
 // Some words laid again further in front, the first of them first.
 fn move_words(words: &mut [u32], from: usize, count: usize, to: usize)
     requires { ⌜ (to ≤ from) × (from + count ≤ length (now words)) ⌝ }
-    ensures { λ r. ⌜ now (words .exit) ≡ laid to (take count (drop from (now (words .entry)))) (now (words .entry)) ⌝ }
+    ensures { λ r. ⌜ now (words .exit) ≡ sets (now (words .entry)) to (take count (drop from (now (words .entry)))) ⌝ }
 {
     let mut i = 0;
     while i < count {
@@ -44,7 +45,7 @@ fn move_words(words: &mut [u32], from: usize, count: usize, to: usize)
 pub fn lay_line(s: &[u8], start: usize, stop: usize, words: &mut [u32], n: usize) -> usize
     requires { ⌜ (start ≤ stop) × (stop ≤ length (now s)) × (stop ≤ 65536) × (n + (stop - start) ≤ length (now words)) ⌝ }
     requires kept { ⌜ (stop ≡ lineStop (now s) start) × KeptFrom (now s) (now words) n ⌝ }
-    ensures held { λ r. ⌜ now (words .exit) ≡ laid n (tokenWords (tokensFrom start stop (now (s .entry)))) (now (words .entry)) ⌝ }
+    ensures held { λ r. ⌜ now (words .exit) ≡ sets (now (words .entry)) n (tokenWords (tokensFrom start stop (now (s .entry)))) ⌝ }
     ensures fill { λ r. ⌜ (r ≡ n + length (tokenWords (tokensFrom start stop (now (s .entry))))) × (r ≤ n + (stop - start)) ⌝ }
 {
     let mark = words[start + MARKED];

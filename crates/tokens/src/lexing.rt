@@ -17,10 +17,11 @@ ghost use Prim.Native.Nat.{_+_, _*_, _-_, _^_, _≤_, _<_};
 ghost use mathlib.Core.Bool.{true, false};
 ghost use lib.Dec.{ltb};
 ghost use lib.ListN.{length, getD};
+ghost use lib.Seq.{sets};
 ghost use Rattle.tokens.specs.Bases.{isLetter};
 ghost use Rattle.tokens.specs.TokenWords.{tokenWords};
 ghost use Rattle.text.specs.Spans.{part, blank};
-ghost use Rattle.tokens.specs.Lexing.{isPlain, plainLength, tokensFrom, Reads, lexedOf, laid};
+ghost use Rattle.tokens.specs.Lexing.{isPlain, plainLength, tokensFrom, Reads, lexedOf};
 
 // A token's word and the place where the next may begin; or no token is left.
 pub enum Lexed {
@@ -150,7 +151,7 @@ pub fn next_token(s: &[u8], at: usize, stop: usize) -> Lexed
 // The words of a line's tokens, laid into the buffer from n on; the new fill is returned.
 pub fn lex_line(s: &[u8], start: usize, stop: usize, words: &mut [u32], n: usize) -> usize
     requires { ⌜ (start ≤ stop) × (stop ≤ length (now s)) × (stop ≤ 65536) × (n + (stop - start) ≤ length (now words)) ⌝ }
-    ensures held { λ r. ⌜ now (words .exit) ≡ laid n (tokenWords (tokensFrom start stop (now (s .entry)))) (now (words .entry)) ⌝ }
+    ensures held { λ r. ⌜ now (words .exit) ≡ sets (now (words .entry)) n (tokenWords (tokensFrom start stop (now (s .entry)))) ⌝ }
     ensures fill { λ r. ⌜ (r ≡ n + length (tokenWords (tokensFrom start stop (now (s .entry))))) × (r ≤ n + (stop - start)) ⌝ }
 {
     let mut at = start;
@@ -168,7 +169,7 @@ pub fn lex_line(s: &[u8], start: usize, stop: usize, words: &mut [u32], n: usize
 // The word of a line end, laid into the buffer at n; the new fill is returned.
 pub fn end_line(words: &mut [u32], n: usize) -> usize
     requires { ⌜ n < length (now words) ⌝ }
-    ensures held { λ r. ⌜ now (words .exit) ≡ laid n (58 * 2 ^ 26 ∷ []) (now (words .entry)) ⌝ }
+    ensures held { λ r. ⌜ now (words .exit) ≡ sets (now (words .entry)) n (58 * 2 ^ 26 ∷ []) ⌝ }
     ensures fill { λ r. ⌜ r ≡ n + 1 ⌝ }
 {
     words[n] = LINE_END_WORD;

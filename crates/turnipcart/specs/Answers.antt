@@ -25,7 +25,8 @@ answerIn xs =
 unfoldable pub foundIn : List ℕ → Found
 foundIn xs = record { refusal = getD xs 0 0; place = getD xs 1 0; probes = getD xs 2 0 }
 
--- A chart read: the refusal of the answer is returned, and answer and tables are as promised.
+-- A chart read: the refusal of the answer is returned, and answer and tables are as promised. "Lent memory past what a call writes keeps what it held":
+-- `Promised`, `Flattened` and `cuesBy` say so with `sets`: from the first place on the new words, behind them what memory held.
 pub record ReadsChart (text : List ℕ) (before : Lent) (refusal : ℕ) (answer : List ℕ) (after : Lent) : Type 0 where
   pub returned : refusal ≡ answerIn answer .refusal
   pub promised : Promised text before (answerIn answer) after

@@ -4,7 +4,7 @@ use mathlib.Core.Path.{_≡_, sym, ap, _∙_, subst}
 use mathlib.Core.List.{List, [], _∷_, _++_, map, flatMap}
 use native.Mathlib.Omega.{arith}
 use lib.ListN.{length, take, drop, set, length-append, length-take, length-drop}
-use lib.Seq.{sets, sets-eq}
+use lib.Seq.{sets}
 use borrow.Rule.Slice.PartMut.{putMid}
 use Rattle.songcode.specs.Song.{Section, Song, Beat}
 use Rattle.songcode.specs.answer.Playing.{timeOf, bpmOf, played}
@@ -12,6 +12,7 @@ use Rattle.songcode.specs.description.Performance.{total}
 use Rattle.songcode.specs.answer.Tables.{sectionWord, sectionWords, measureWord, measureWords, beatWord, allMeasures, tables}
 use Rattle.songcode.specs.answer.Answer.{songOf}
 use Rattle.songcode.proofs.ListLaws.{gather-append, Each}
+use Rattle.songcode.proofs.MemoryLaws.{Wrote, wrote-start, wrote-put, wrote-left, wrote-length, wrote-lent, wrote-end}
 use Rattle.score.specs.declared.stretches.Stretch.{Stretch}
 use Rattle.score.specs.declared.views.View.{View}
 use Rattle.score.specs.Seen.{Sees}
@@ -22,8 +23,6 @@ use Rattle.player.specs.Windows.{heads, flat}
 use Rattle.player.specs.Arrangements.{arrangementIn, arrangedRow, PlaysWithin, Plays}
 use Rattle.player.proofs.SectionMeaning.{heads-words, flat-words}
 use Rattle.laying.specs.Scores.{Ready}
-use Rattle.packing.specs.Written.{written}
-use Rattle.packing.proofs.WrittenLaws.{Wrote, wrote-start, wrote-put, wrote-left, wrote-length, wrote-lent, wrote-end}
 use Rattle.judging.specs.Charts.{Laid, Roomy}
 use Rattle.judging.proofs.WholeLaws.{laid-row}
 use Rattle.judging.proofs.AheadLaws.{Ahead, ahead-start, ahead-same, ahead-some, ahead-none, ahead-fits, ahead-sees, ahead-within, ahead-row}
@@ -41,21 +40,6 @@ measure-words-append f (m ∷ a) b =
     let z : f + length m + total a ≡ f + (length m + total a) = omega arith in
     ap (λ (ws : List ℕ). measureWord f (length m) ∷ ws)
     (measure-words-append (f + length m) a b ∙ ap (λ (k : ℕ). measureWords (f + length m) a ++ measureWords k b) z)
-
--- Words stored one by one from the front.
-sets-written : (xs l : List ℕ) → length xs ≤ length l → sets l 0 xs ≡ written xs l
-unfolding written
-sets-written xs l h = let z : 0 + length xs ≡ length xs = omega arith in sets-eq xs l 0 (omega arith) ∙ ap (λ (k : ℕ). xs ++ drop k l) z
-
--- A table from i on was lent, and words were stored at its front.
-stored-lent : (o t xs rest all ys : List ℕ) (i k : ℕ) → length xs ≡ k → i ≤ length t → length t ≡ length o → length all ≤ length o
-    → ys ≡ sets (take (length t - i) (drop i t)) 0 xs → Wrote o i t (xs ++ rest) all → Wrote o (i + k) (putMid i (length t - i) t ys) rest all
-stored-lent o t xs rest all ys i k e h l room y w =
-    let a = wrote-left o i t (xs ++ rest) all w in
-    let b = length-append xs rest in
-    let d = length-take (length t - i) (drop i t) in
-    let f = length-drop i t in
-    wrote-lent o i t xs rest all ys k e (omega arith) h w (y ∙ sets-written xs (take (length t - i) (drop i t)) (omega arith))
 
 -- The words that are still to come for these sections, behind m measures and b beats.
 abbrev pub sectionsLeft : Song → ℕ → List Section → List ℕ
@@ -86,19 +70,19 @@ module _ (s : Song) (old : List ℕ) where
 
 -- All is written where no section is left.
 module _ (s : Song) (xs : List Section) (none : xs ≡ []) (old new all : List ℕ) (k : ℕ) where
-  pub sections-end : (m : ℕ) → Wrote old k new (sectionsLeft s m xs) all → new ≡ written all old
+  pub sections-end : (m : ℕ) → Wrote old k new (sectionsLeft s m xs) all → new ≡ sets old 0 all
   unfolding sectionWords
   sections-end m w = wrote-end old k new all (subst (λ (ys : List Section). Wrote old k new (sectionsLeft s m ys) all) none w)
 
-  pub measures-end : (b : ℕ) → Wrote old k new (measuresLeft s b xs) all → new ≡ written all old
+  pub measures-end : (b : ℕ) → Wrote old k new (measuresLeft s b xs) all → new ≡ sets old 0 all
   unfolding flatMap measureWords
   measures-end b w = wrote-end old k new all (subst (λ (ys : List Section). Wrote old k new (measuresLeft s b ys) all) none w)
 
-  pub beats-end : Wrote old k new (beatsLeft s xs) all → new ≡ written all old
+  pub beats-end : Wrote old k new (beatsLeft s xs) all → new ≡ sets old 0 all
   unfolding flatMap
   beats-end w = wrote-end old k new all (subst (λ (ys : List Section). Wrote old k new (beatsLeft s ys) all) none w)
 
-  pub prompts-end : (count m : ℕ) → Wrote old k new (itemsLeft count m xs) all → new ≡ written all old
+  pub prompts-end : (count m : ℕ) → Wrote old k new (itemsLeft count m xs) all → new ≡ sets old 0 all
   prompts-end count m w =
       wrote-end old k new all (subst (λ (ws : List ℕ). Wrote old k new ws all)
       (ap (λ (ys : List Section). itemsLeft count m ys) none ∙ none-left count m) w)
@@ -114,48 +98,44 @@ sections-left s m k x xs old new all h w =
 -- The section that is seen at the place, behind m measures and b beats.
 module _ {s ws : List ℕ} {mark at end m b : ℕ} {x : Section} {xs : List Section} (ready : Ready s ws mark) (a : Ahead s ws at end m b (x ∷ xs))
     {v : View} (is : v ≡ viewOf ws at) (c d : ℕ) (measures : c ≡ length (played (songOf s) x)) (beats : d ≡ total (played (songOf s) x)) where
-  pub sections-next : (old new all : List ℕ) (k w : ℕ) → k < length old → w ≡ sectionWord (v .header) m c (v .meter) (v .tempo)
+  pub sections-next : (old new all : List ℕ) (k w : ℕ) → w ≡ sectionWord (v .header) m c (v .meter) (v .tempo)
       → Wrote old k new (sectionsLeft (songOf s) m (x ∷ xs)) all → Wrote old (k + 1) (set new k w) (sectionsLeft (songOf s) (m + c) xs) all
   unfolding sectionWords
-  sections-next old new all k w h f t =
+  sections-next old new all k w f t =
       let sees = ahead-sees ready a in
       let q : w ≡ sectionWord (x .header) m (length (played (songOf s) x)) (timeOf (songOf s) x) (bpmOf (songOf s) x) =
       f ∙ rw (is, sees .header, measures, sees .meter, sees .tempo) in
       let r : sectionsLeft (songOf s) m (x ∷ xs) ≡ w ∷ sectionsLeft (songOf s) (m + c) xs = rw (q, measures) in
-      wrote-put old k new (sectionsLeft (songOf s) (m + c) xs) all w h (subst (λ ys. Wrote old k new ys all) r t)
+      wrote-put old k new (sectionsLeft (songOf s) (m + c) xs) all w (subst (λ ys. Wrote old k new ys all) r t)
 
   module _ {y : Arrangement} (plays : y ≡ arrangementIn ws v) where
     row : arrangedRow ws y ≡ arrangedRow ws (arrangementIn ws (viewOf ws at))
     row = rw (plays, is)
 
-    pub measures-next : (old new all ys : List ℕ) → m ≤ length new → length new ≡ length old → length all ≤ length old
-        → ys ≡ sets (take (length new - m) (drop m new)) 0 (heads b (arrangedRow ws y))
+    pub measures-next : (old new all ys : List ℕ) → ys ≡ sets (take (length new - m) (drop m new)) 0 (heads b (arrangedRow ws y))
         → Wrote old m new (measuresLeft (songOf s) b (x ∷ xs)) all
         → Wrote old (m + c) (putMid m (length new - m) new ys) (measuresLeft (songOf s) (b + d) xs) all
     unfolding flatMap
-    measures-next old new all ys h l room z t =
+    measures-next old new all ys z t =
         let here = played (songOf s) x in
         let rest = flatMap (played (songOf s)) xs in
         let f : heads b (arrangedRow ws y) ≡ measureWords b here = ap (λ (r : List (List ℕ)). heads b r) (row ∙ ahead-row ready a) ∙ heads-words b here in
         let r : measuresLeft (songOf s) b (x ∷ xs) ≡ measureWords b here ++ measureWords (b + d) rest =
         measure-words-append b here rest ∙ ap (λ (k : ℕ). measureWords b here ++ measureWords (b + k) rest) (sym beats) in
-        stored-lent old new (measureWords b here) (measureWords (b + d) rest) all ys m c (measure-words-length b here ∙ sym measures) h l room
-        (z ∙ ap (λ (us : List ℕ). sets (take (length new - m) (drop m new)) 0 us) f)
-        (subst (λ us. Wrote old m new us all) r t)
+        wrote-lent old m new (measureWords b here) (measureWords (b + d) rest) all ys c (measure-words-length b here ∙ sym measures)
+        (subst (λ us. Wrote old m new us all) r t) (z ∙ ap (λ (us : List ℕ). sets (take (length new - m) (drop m new)) 0 us) f)
 
-    pub beats-next : (old new all ys : List ℕ) → b ≤ length new → length new ≡ length old → length all ≤ length old
-        → ys ≡ sets (take (length new - b) (drop b new)) 0 (flat (arrangedRow ws y))
+    pub beats-next : (old new all ys : List ℕ) → ys ≡ sets (take (length new - b) (drop b new)) 0 (flat (arrangedRow ws y))
         → Wrote old b new (beatsLeft (songOf s) (x ∷ xs)) all
         → Wrote old (b + d) (putMid b (length new - b) new ys) (beatsLeft (songOf s) xs) all
     unfolding flatMap
-    beats-next old new all ys h l room z t =
+    beats-next old new all ys z t =
         let here = played (songOf s) x in
         let rest = flatMap (played (songOf s)) xs in
         let f : flat (arrangedRow ws y) ≡ flatMap (map beatWord) here = ap flat (row ∙ ahead-row ready a) ∙ flat-words here in
         let r : beatsLeft (songOf s) (x ∷ xs) ≡ flatMap (map beatWord) here ++ flatMap (map beatWord) rest = gather-append (map beatWord) here rest in
-        stored-lent old new (flatMap (map beatWord) here) (flatMap (map beatWord) rest) all ys b d (beat-words-length here ∙ sym beats) h l room
-        (z ∙ ap (λ (us : List ℕ). sets (take (length new - b) (drop b new)) 0 us) f)
-        (subst (λ us. Wrote old b new us all) r t)
+        wrote-lent old b new (flatMap (map beatWord) here) (flatMap (map beatWord) rest) all ys d (beat-words-length here ∙ sym beats)
+        (subst (λ us. Wrote old b new us all) r t) (z ∙ ap (λ (us : List ℕ). sets (take (length new - b) (drop b new)) 0 us) f)
 
 -- What the four tables hold.
 pub record Content : Type 0 where
@@ -187,9 +167,9 @@ midway-start {s} {ws} {rows} {count} old l e =
     }
 
 pub midway-end : {s ws : List ℕ} {count : ℕ} {old : Content} {at end k m b i : ℕ} {new : Content} {xs : List Section}
-    → Midway s ws count old at end k m b i new xs → end ≤ at → (new .sections ≡ written (tables (songOf s) .sections) (old .sections))
-    × (new .measures ≡ written (tables (songOf s) .measures) (old .measures)) × (new .beats ≡ written (tables (songOf s) .beats) (old .beats))
-    × (new .items ≡ written (tables (songOf s) .items) (old .items))
+    → Midway s ws count old at end k m b i new xs → end ≤ at → (new .sections ≡ sets (old .sections) 0 (tables (songOf s) .sections))
+    × (new .measures ≡ sets (old .measures) 0 (tables (songOf s) .measures)) × (new .beats ≡ sets (old .beats) 0 (tables (songOf s) .beats))
+    × (new .items ≡ sets (old .items) 0 (tables (songOf s) .items))
 midway-end {s} {ws} {count} {old} {at} {end} {k} {m} {b} {i} {new} {xs} w h =
     let none = ahead-none xs (w .ahead) h in (
       sections-end (songOf s) xs none (old .sections) (new .sections) (tables (songOf s) .sections) k m (w .sections),
@@ -205,14 +185,13 @@ pub midway-lengths : {s ws : List ℕ} {count : ℕ} {old : Content} {at end k m
     × (length (new .beats) ≡ length (old .beats)) × (length (new .items) ≡ length (old .items))
     × (m ≤ length (new .measures)) × (b ≤ length (new .beats)) × (i ≤ length (new .items))
 midway-lengths w roomy =
-    let uk = wrote-left _ _ _ _ _ (w .sections) in
     let um = wrote-left _ _ _ _ _ (w .measures) in
     let ub = wrote-left _ _ _ _ _ (w .beats) in
     let ui = wrote-left _ _ _ _ _ (w .items) in
-    let lk = wrote-length _ _ _ _ _ (omega (arith, uk, roomy .sections)) (w .sections) in
-    let lm = wrote-length _ _ _ _ _ (omega (arith, um, roomy .measures)) (w .measures) in
-    let lb = wrote-length _ _ _ _ _ (omega (arith, ub, roomy .beats)) (w .beats) in
-    let li = wrote-length _ _ _ _ _ (omega (arith, ui, roomy .items)) (w .items) in
+    let lk = wrote-length _ _ _ _ _ (w .sections) in
+    let lm = wrote-length _ _ _ _ _ (w .measures) in
+    let lb = wrote-length _ _ _ _ _ (w .beats) in
+    let li = wrote-length _ _ _ _ _ (w .items) in
     (lk, lm, lb, li, omega (arith, um, lm, roomy .measures), omega (arith, ub, lb, roomy .beats), omega (arith, ui, li, roomy .items))
 
 -- A section is left before the end.
@@ -294,11 +273,9 @@ module _ {s ws : List ℕ} {mark count : ℕ} {old : Content} {at end k m b i : 
             )
 
         -- All is written that the section adds.
-        pub midway-next : {word n : ℕ} {us : List ℕ} → m ≤ length (new .measures) → length (new .measures) ≡ length (old .measures)
-            → b ≤ length (new .beats) → length (new .beats) ≡ length (old .beats) → i ≤ length (new .items)
-            → word ≡ sectionWord (v .header) m (c .measures) (v .meter) (v .tempo)
+        pub midway-next : {word n : ℕ} {us : List ℕ} → word ≡ sectionWord (v .header) m (c .measures) (v .meter) (v .tempo)
             → n ≡ length (promptWords m (wordsIn ws t))
-            → us ≡ written (promptWords m (wordsIn ws t)) (take (length (new .items) - i) (drop i (new .items)))
+            → us ≡ sets (take (length (new .items) - i) (drop i (new .items))) 0 (promptWords m (wordsIn ws t))
             → Midway s ws count old (v .next) end (k + 1) (m + c .measures) (b + c .beats) (i + n)
             (record {
               sections = set (new .sections) k word;
@@ -308,21 +285,19 @@ module _ {s ws : List ℕ} {mark count : ℕ} {old : Content} {at end k m b i : 
             })
             xs
         unfolding Each
-        midway-next {word} {n} {us} hm lm hb lb hi q e u =
+        midway-next {word} {n} {us} q e u =
             let all = tables (songOf s) in
             let next : Ahead s ws (viewOf ws at .next) end (m + c .measures) (b + c .beats) xs =
             ahead-same (omega (arith, measures-are)) (omega (arith, beats-are)) (ahead-next ready (w .ahead)) in
-            let left = wrote-left (old .items) i (new .items) (itemsLeft count m (x ∷ xs)) (all .items) (w .items) in
-            let long = ap (λ (vs : List ℕ). length vs) split ∙ length-append (promptWords m (wordsIn ws t)) (itemsLeft count (m + c .measures) xs) in
             record {
               ahead = subst (λ (p : ℕ). Ahead s ws p end (m + c .measures) (b + c .beats) xs) (sym (ap (λ (p : View). p .next) is)) next;
               summed = λ some. w .summed some .1;
               sections = sections-next ready (w .ahead) is (c .measures) (c .beats) measures-are beats-are (old .sections) (new .sections)
-                  (all .sections) k word midway-room q (w .sections);
+                  (all .sections) k word q (w .sections);
               measures = measures-next ready (w .ahead) is (c .measures) (c .beats) measures-are beats-are plays (old .measures) (new .measures)
-                  (all .measures) ms hm lm (roomy .measures) (done .measureTable) (w .measures);
+                  (all .measures) ms (done .measureTable) (w .measures);
               beats = beats-next ready (w .ahead) is (c .measures) (c .beats) measures-are beats-are plays (old .beats) (new .beats)
-                  (all .beats) bs hb lb (roomy .beats) (done .beatTable) (w .beats);
+                  (all .beats) bs (done .beatTable) (w .beats);
               items = wrote-lent (old .items) i (new .items) (promptWords m (wordsIn ws t)) (itemsLeft count (m + c .measures) xs) (all .items) us n
-                  (sym e) (omega (arith, roomy .items)) hi (subst (λ (vs : List ℕ). Wrote (old .items) i (new .items) vs (all .items)) split (w .items)) u;
+                  (sym e) (subst (λ (vs : List ℕ). Wrote (old .items) i (new .items) vs (all .items)) split (w .items)) u;
             }

@@ -6,7 +6,7 @@ use score::lyric_at;
 ghost use mathlib.Core.Path.{_≡_};
 ghost use Prim.Native.Nat.{_+_, _≤_};
 ghost use lib.ListN.{length};
-ghost use Rattle.packing.specs.Written.{written};
+ghost use lib.Seq.{sets};
 ghost use Rattle.writing.specs.Prompts.{wordsIn, countsIn, promptWords, lyricsTaken};
 
 // The lyric lines that become items: none where the song has no items.
@@ -24,7 +24,7 @@ pub fn write_lyrics(words: &[u32], lyrics: Stretch, first: usize, items: &mut [u
     requires { ⌜ (lyrics .to ≤ 1000000) × (lyrics .to ≡ lyrics .from + length (wordsIn (now words) lyrics))
         × (first + countsIn (wordsIn (now words) lyrics) ≤ 65535)
         × (length (promptWords first (wordsIn (now words) lyrics)) ≤ length (now items)) ⌝ }
-    ensures items { λ r. ⌜ now (items .exit) ≡ written (promptWords first (wordsIn (now (words .entry)) lyrics)) (now (items .entry)) ⌝ }
+    ensures items { λ r. ⌜ now (items .exit) ≡ sets (now (items .entry)) 0 (promptWords first (wordsIn (now (words .entry)) lyrics)) ⌝ }
     ensures count { λ r. ⌜ r ≡ length (promptWords first (wordsIn (now (words .entry)) lyrics)) ⌝ }
 {
     let end = lyrics.to;

@@ -9,10 +9,10 @@ use songs::write_song;
 ghost use mathlib.Core.Path.{_≡_};
 ghost use Prim.Native.Nat.{_≤_};
 ghost use lib.ListN.{length};
+ghost use lib.Seq.{sets};
 ghost use Rattle.songcode.specs.answer.Answer.{songOf};
 ghost use Rattle.songcode.specs.answer.Tables.{tables};
 ghost use Rattle.judging.specs.Charts.{Writable, Roomy};
-ghost use Rattle.packing.specs.Written.{written};
 
 pub fn write_tables(
     s: &[u8],
@@ -26,11 +26,11 @@ pub fn write_tables(
 )
     requires chart { ⌜ Writable (now s) (now words) chart ⌝ }
     requires room { ⌜ (8 ≤ length (now keys)) × Roomy (tables (songOf (now s))) (now sections) (now measures) (now beats) (now items) ⌝ }
-    ensures keys { λ _. ⌜ now (keys .exit) ≡ written (tables (songOf (now (s .entry))) .keys) (now (keys .entry)) ⌝ }
-    ensures sections { λ _. ⌜ now (sections .exit) ≡ written (tables (songOf (now (s .entry))) .sections) (now (sections .entry)) ⌝ }
-    ensures measures { λ _. ⌜ now (measures .exit) ≡ written (tables (songOf (now (s .entry))) .measures) (now (measures .entry)) ⌝ }
-    ensures beats { λ _. ⌜ now (beats .exit) ≡ written (tables (songOf (now (s .entry))) .beats) (now (beats .entry)) ⌝ }
-    ensures items { λ _. ⌜ now (items .exit) ≡ written (tables (songOf (now (s .entry))) .items) (now (items .entry)) ⌝ }
+    ensures keys { λ _. ⌜ now (keys .exit) ≡ sets (now (keys .entry)) 0 (tables (songOf (now (s .entry))) .keys) ⌝ }
+    ensures sections { λ _. ⌜ now (sections .exit) ≡ sets (now (sections .entry)) 0 (tables (songOf (now (s .entry))) .sections) ⌝ }
+    ensures measures { λ _. ⌜ now (measures .exit) ≡ sets (now (measures .entry)) 0 (tables (songOf (now (s .entry))) .measures) ⌝ }
+    ensures beats { λ _. ⌜ now (beats .exit) ≡ sets (now (beats .entry)) 0 (tables (songOf (now (s .entry))) .beats) ⌝ }
+    ensures items { λ _. ⌜ now (items .exit) ≡ sets (now (items .entry)) 0 (tables (songOf (now (s .entry))) .items) ⌝ }
 {
     let totals = chart.totals;
     let rows = chart.rows;

@@ -8,10 +8,10 @@ use score::Stretch;
 use score::section_at;
 ghost use mathlib.Core.Path.{_≡_};
 ghost use lib.ListN.{length};
+ghost use lib.Seq.{sets};
 ghost use Rattle.songcode.specs.answer.Tables.{tables};
 ghost use Rattle.songcode.specs.answer.Answer.{songOf};
 ghost use Rattle.judging.specs.Charts.{Laid, Roomy};
-ghost use Rattle.packing.specs.Written.{written};
 
 // The sections that stand in the row from one place up to another, of the song that the text describes; so many items it has.
 pub fn write_song(
@@ -26,10 +26,10 @@ pub fn write_song(
 )
     requires song { ⌜ Laid (now s) (now words) rows × (count ≡ length (tables (songOf (now s)) .items)) ⌝ }
     requires room { ⌜ Roomy (tables (songOf (now s))) (now sections) (now measures) (now beats) (now items) ⌝ }
-    ensures sections { λ _. ⌜ now (sections .exit) ≡ written (tables (songOf (now (s .entry))) .sections) (now (sections .entry)) ⌝ }
-    ensures measures { λ _. ⌜ now (measures .exit) ≡ written (tables (songOf (now (s .entry))) .measures) (now (measures .entry)) ⌝ }
-    ensures beats { λ _. ⌜ now (beats .exit) ≡ written (tables (songOf (now (s .entry))) .beats) (now (beats .entry)) ⌝ }
-    ensures items { λ _. ⌜ now (items .exit) ≡ written (tables (songOf (now (s .entry))) .items) (now (items .entry)) ⌝ }
+    ensures sections { λ _. ⌜ now (sections .exit) ≡ sets (now (sections .entry)) 0 (tables (songOf (now (s .entry))) .sections) ⌝ }
+    ensures measures { λ _. ⌜ now (measures .exit) ≡ sets (now (measures .entry)) 0 (tables (songOf (now (s .entry))) .measures) ⌝ }
+    ensures beats { λ _. ⌜ now (beats .exit) ≡ sets (now (beats .entry)) 0 (tables (songOf (now (s .entry))) .beats) ⌝ }
+    ensures items { λ _. ⌜ now (items .exit) ≡ sets (now (items .entry)) 0 (tables (songOf (now (s .entry))) .items) ⌝ }
 {
     let end = rows.to;
     let mut at = rows.from;

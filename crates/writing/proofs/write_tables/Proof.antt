@@ -1,8 +1,8 @@
 use mathlib.Core.Path.{ap, _∙_}
 use mathlib.Core.List.{List}
 use Prim.Native.Nat.{ℕ}
+use lib.Seq.{sets}
 use Rattle.songcode.specs.answer.Tables.{tables}
-use Rattle.packing.specs.Written.{written}
 use Rattle.judging.proofs.WholeLaws.{laid-keys, keys-inside}
 use borrow.Author.Needs.{needs}
 use Rattle.writing.proofs.write_tables.Statement.{statement}
@@ -25,7 +25,7 @@ returns c =
     let song = c .before .before .before .before .before .before .before .before in
     let keys = song .before .before .before .before .before .before .before in
     let q = keys .before .before .before .before .before .before .before .before .before .before .before in (
-      keys .write-keys .ensures ∙ ap (λ (ws : List ℕ). written ws (q .args .keys .now)) (laid-keys (q .pre .0 .laid)),
+      keys .write-keys .ensures ∙ ap (λ (ws : List ℕ). sets (q .args .keys .now) 0 ws) (laid-keys (q .pre .0 .laid)),
       song .write-song .ensures,
     )
 

@@ -7,8 +7,8 @@ use native.Mathlib.Omega.{arith}
 use lib.ListN.{length, drop, getD}
 use Rattle.songcode.specs.Lists.{sum, every}
 use Rattle.songcode.specs.description.Joined.{measureCount, covers}
+use Rattle.songcode.proofs.MemoryLaws.{Wrote, wrote-start, wrote-end}
 use Rattle.packing.proofs.RoundTrips.{section-fields}
-use Rattle.packing.proofs.WrittenLaws.{Wrote, wrote-start, wrote-end}
 use Rattle.cues.specs.Cues.{lengths, starts, isTimed}
 use Rattle.cues.specs.Table.{IsTable}
 use Rattle.cues.proofs.TableLaws.{allRight, table-right}
@@ -107,7 +107,7 @@ loop-again c =
       rw (e .0 .0)
           (starts-section (l .i) (l .first) (l .time) (s .tempo) (l .first + s .measures - l .first) (s .measures) (a .sections .now)
           (a .measures .now) t (f .2) n (f .1) _ (l .cues) _ _
-          (omega (arith, f .1, r .0)) (omega (arith, f .1, r .0, l .inv .8)) (omega (arith, l .inv .1, l .inv .2, l .inv .8)) (l .inv .10) (e .1)),
+          (omega (arith, f .1, r .0)) (l .inv .10) (e .1)),
     )
 
 returns : tie.Need-returns Inv-loop μ-loop

@@ -4,7 +4,7 @@ use mathlib.Core.Path.{_≡_, refl, sym, _∙_}
 use native.Mathlib.Omega.{arith}
 use lib.ListN.{length, drop}
 use Rattle.songcode.specs.Lists.{sum}
-use Rattle.packing.proofs.WrittenLaws.{Wrote, wrote-start, wrote-end}
+use Rattle.songcode.proofs.MemoryLaws.{Wrote, wrote-start, wrote-end}
 use Rattle.cues.specs.Cues.{lengthsAt, starts}
 use Rattle.cues.proofs.StartLaws.{sum-next, starts-next, sum-over, starts-over}
 use borrow.Author.Needs.{needs}
@@ -52,8 +52,7 @@ loop-again c =
       search needs,
       omega (arith, b, l .inv .2),
       rw e (sym (sum-next (a .bpm) (l .i) (l .at) (a .measures .now) t) ∙ l .inv .3),
-      rw e (starts-next (a .bpm) (l .i) (l .at) (a .measures .now) t _ (l .cues) _
-          (omega (arith, t, c .before .before .before .before .before .before .pre .0 .0)) (l .inv .4)),
+      rw e (starts-next (a .bpm) (l .i) (l .at) (a .measures .now) t _ (l .cues) _ (l .inv .4)),
     )
 
 returns : tie.Need-returns Inv-loop μ-loop

@@ -41,7 +41,7 @@ returns-2 : tie.Need-returns-2
 returns-2 c z =
     let q = c .before .before .before .before .before .before .before .before .before .before .before .before .before .before in
     let row = q .pre .1 z in
-    (keys-added (row .1) (row .0) (q .pre .0 .4) (c .before .before .lay-keys .ensures) refl, search needs)
+    (keys-added (row .1) (row .0) (c .before .before .lay-keys .ensures) refl, search needs)
 
 pub add-keys-spec : {M : Type 1} → statement M
 add-keys-spec =

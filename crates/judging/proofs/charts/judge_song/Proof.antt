@@ -42,7 +42,11 @@ returns : tie.Need-returns
 returns c =
     let place = c .before .before .before .before .before .before .before .before .before in
     let load = place .before .before .before .before in
-    let s = load .before .before .before .before .before .before .before .before .args .s .now in
+    let q = load .before .before .before .before .before .before .before .before in
+    let s = q .args .s .now in
+    let room = q .pre .0 .2 .room in
+    let long = place .later-stages .kept .1 .1 .1 .0 in
+    let also = load .load .ensures .1 in
     let loads = load .load .ensures .0 in
     let later = place .later-stages .ensures in
     let keys = c .before .before .before .before .before .add-keys .ensures in
@@ -53,9 +57,9 @@ returns c =
           record {
             begins = loads .begins (all .early);
             laid = record {
-              whole = whole-there (songOf s) _ _ (keys z .0);
+              whole = whole-there (all .sized) (omega arith) (keys z .0);
               sized = sized-kept (keys z .1) (all .sized);
-              clear = song-clear (songOf s) (ap (λ (q : Refusal). q .number) (sym (later .0)) ∙ z);
+              clear = song-clear (songOf s) (ap (λ (r : Refusal). r .number) (sym (later .0)) ∙ z);
             };
             holds = all .holds;
           };

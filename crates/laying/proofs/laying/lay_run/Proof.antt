@@ -1,14 +1,14 @@
 -- The words of the lines passed are laid, those of the lines from here on fit behind them.
 use Prim.Native.Nat.{_+_, _-_, _*_, _^_, _≤_}
-use mathlib.Core.Path.{_≡_, ap, _∙_}
+use mathlib.Core.Path.{_≡_, refl, ap, _∙_}
 use mathlib.Core.List.{[], _∷_}
 use native.Mathlib.Omega.{arith}
 use lib.ListN.{length}
+use lib.Seq.{length-sets}
 use Rattle.sections.specs.Runs.{linesOf}
 use Rattle.tokens.specs.TokenWords.{tokenWords}
 use Rattle.tokens.specs.Lexing.{tokensFrom}
 use Rattle.tokens.specs.Kept.{KeptFrom}
-use Rattle.tokens.proofs.LaidLaws.{laid-none, laid-length}
 use Rattle.tokens.proofs.KeptLaws.{found-stop}
 use Rattle.laying.specs.Laying.{runTokens}
 use Rattle.laying.proofs.KeptRowLaws.{kept-on}
@@ -29,7 +29,7 @@ returns : tie.Need-returns Inv-loop μ-loop
 unfolding linesOf runTokens tokenWords
 returns c = let e = c .if1 .taken in
     let a = c .before .before .before .before .args in
-    (rw e (laid-none (a .n) (a .words .now)), rw e (omega arith))
+    (rw e refl, rw e (omega arith))
 
 lay-line-requires : tie.Need-lay-line-requires Inv-loop μ-loop
 lay-line-requires c κs =
@@ -55,12 +55,11 @@ loop-holds c =
     let g = first-line (q .args .run) f (c .before .before .before .before .before .before .before .if1 .left) inside in
     let r = g .room in
     let new = tokenWords (tokensFrom (w .start) (w .stop) (q .args .s .now)) in
-    let l : length (x .last .1 .1 .1 .0) ≡ length (q .args .words .now) = ap length (x .ensures .0) ∙ laid-length (q .args .n) new (q .args .words .now)
-    (omega arith) in (
+    let l : length (x .last .1 .1 .1 .0) ≡ length (q .args .words .now) = ap length (x .ensures .0) ∙ length-sets (q .args .words .now) (q .args .n) new in (
       omega arith,
       omega arith,
       lays-none (q .args .s .now) (x .last .1 .1 .1 .0) (x .result) _ _ _ (omega arith),
-      rw (x .ensures .0) (kept-on (q .args .n) new (x .ensures .1 .0) (omega arith) (omega arith) (q .pre .3)),
+      rw (x .ensures .0) (kept-on (q .args .n) new (x .ensures .1 .0) (omega arith) (q .pre .3)),
     )
 
 same-length : tie.Need-same-length Inv-loop μ-loop
@@ -81,7 +80,7 @@ returns-2 c =
     let g = first-line (q .args .run) f (c .before .before .before .before .before .before .before .before .before .before .if1 .left) inside in
     let r = g .room in
     run-laid (q .args .s .now) (q .args .run) _ (q .args .n) (q .args .words .now) (x .last .1 .1 .1 .0) (v .words) (x .result) (v .fill)
-    (v .line) (v .at) (v .left) g (x .ensures .0) (x .ensures .1 .0) (omega arith) i (lays-end _ _ _ _ _ _ i (c .if2 .taken))
+    (v .line) (v .at) (v .left) g (x .ensures .0) (x .ensures .1 .0) i (lays-end _ _ _ _ _ _ i (c .if2 .taken))
 
 end-line-requires : tie.Need-end-line-requires Inv-loop μ-loop
 end-line-requires c κs =
@@ -102,11 +101,11 @@ lay-line-requires-2 c κs =
     let same = v .inv .2 .same in
     let r = lays-room _ _ _ _ _ _ (v .inv .2) f (c .before .before .before .before .before .before .before .loop-test .taken)
     (c .before .before .before .before .before .before .if2 .left) in
-    let l : length (e .last .0) ≡ length (v .words) = ap length (e .ensures .0) ∙ laid-length (v .fill) (58 * 2 ^ 26 ∷ []) (v .words) (omega arith) in (
+    let l : length (e .last .0) ≡ length (v .words) = ap length (e .ensures .0) ∙ length-sets (v .words) (v .fill) (58 * 2 ^ 26 ∷ []) in (
       (f .stop, omega arith, omega arith, omega arith),
       (
         found-stop (q .args .s .now) f,
-        rw (e .ensures .0) (kept-on (v .fill) (58 * 2 ^ 26 ∷ []) (e .ensures .1) (omega arith) (omega arith) (v .inv .3)),
+        rw (e .ensures .0) (kept-on (v .fill) (58 * 2 ^ 26 ∷ []) (e .ensures .1) (omega arith) (v .inv .3)),
       ),
     )
 
@@ -139,15 +138,15 @@ loop-again c =
     let r = lays-room _ _ _ _ _ _ (v .inv .2) f (c .before .before .before .before .before .before .before .before .before .before .loop-test .taken)
     (c .before .before .before .before .before .before .before .before .before .if2 .left) in
     let new = tokenWords (tokensFrom (w .start) (w .stop) (q .args .s .now)) in
-    let ended = kept-on (v .fill) (58 * 2 ^ 26 ∷ []) (e .ensures .1) (omega arith) (omega arith) (v .inv .3) in
-    let l = laid-length (v .fill) (58 * 2 ^ 26 ∷ []) (v .words) (omega arith) in (
+    let ended = kept-on (v .fill) (58 * 2 ^ 26 ∷ []) (e .ensures .1) (omega arith) (v .inv .3) in
+    let l = length-sets (v .words) (v .fill) (58 * 2 ^ 26 ∷ []) in (
       omega arith,
       omega arith,
       lays-next _ _ _ _ _ _ (v .inv .2) f
           (c .before .before .before .before .before .before .before .before .before .before .loop-test .taken)
           (c .before .before .before .before .before .before .before .before .before .if2 .left) (e .ensures .0) (e .ensures .1) (x .ensures .0)
           (x .ensures .1 .0) (x .ensures .1 .1),
-      rw (x .ensures .0, e .ensures .0) (kept-on (e .result) new (x .ensures .1 .0) (omega arith) (omega arith) ended),
+      rw (x .ensures .0, e .ensures .0) (kept-on (e .result) new (x .ensures .1 .0) (omega arith) ended),
     )
 
 same-length-2 : tie.Need-same-length-2 Inv-loop μ-loop
@@ -166,7 +165,7 @@ returns-3 c =
     let g = first-line (q .args .run) f (c .before .before .before .before .before .before .before .before .before .if1 .left) inside in
     let r = g .room in
     run-laid (q .args .s .now) (q .args .run) _ (q .args .n) (q .args .words .now) (x .last .1 .1 .1 .0) (v .words) (x .result) (v .fill)
-    (v .line) (v .at) (v .left) g (x .ensures .0) (x .ensures .1 .0) (omega arith) i (lays-over _ _ _ _ _ _ i (c .loop-test .left))
+    (v .line) (v .at) (v .left) g (x .ensures .0) (x .ensures .1 .0) i (lays-over _ _ _ _ _ _ i (c .loop-test .left))
 
 pub lay-run-spec : {M : Type 1} → statement M
 lay-run-spec =

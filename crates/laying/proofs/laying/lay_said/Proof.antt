@@ -1,5 +1,5 @@
 use native.Mathlib.Omega.{arith}
-use Rattle.tokens.proofs.LaidLaws.{laid-none}
+use mathlib.Core.Path.{refl}
 use Rattle.laying.proofs.LayingLaws.{said-weight, said-tokens, nothing-said}
 use borrow.Author.Needs.{needs}
 use Rattle.laying.proofs.laying.lay_said.Statement.{statement}
@@ -9,7 +9,7 @@ returns : tie.Need-returns
 returns c =
     let a = c .before .before .before .before .args in
     let e = nothing-said (a .s .now) (a .said) (c .if1 .taken) in
-    (rw e (laid-none (a .n) (a .words .now)), rw e (omega arith))
+    (rw e refl, rw e (omega arith))
 
 lex-line-requires : tie.Need-lex-line-requires
 lex-line-requires c κs =

@@ -1,13 +1,12 @@
 -- No word, or two.
-use mathlib.Core.Path.{_≡_, sym, _∙_}
+use mathlib.Core.Path.{_≡_, refl, sym, _∙_}
 use mathlib.Core.Bool.{true, false}
 use native.Mathlib.Omega.{arith}
 use lib.ListN.{length-set}
 use borrow.Author.Tests.{not-true, not-false}
-use Rattle.tokens.proofs.LaidLaws.{laid-none}
+use Rattle.songcode.proofs.MemoryLaws.{sets-two}
 use Rattle.score.specs.Sections.{cutsBy}
 use Rattle.laying.specs.Rows.{hasCut, cutsSaid}
-use Rattle.laying.proofs.LaidLaws.{laid-two}
 use borrow.Author.Needs.{needs}
 use Rattle.laying.proofs.rows.lay_cuts.Statement.{statement}
 use Rattle.laying.proofs.rows.lay_cuts.Tie as tie
@@ -17,7 +16,7 @@ unfolding cutsSaid cutsBy
 returns c =
     let a = c .before .before .before .args in
     let none : hasCut (a .m) ≡ false = sym (c .before .has-cut .ensures) ∙ not-true _ (c .if1 .taken) in
-    (rw none (laid-none (a .n) (a .words .now)), rw none (omega arith))
+    (rw none refl, rw none (omega arith))
 
 slice-write-words-2 : tie.Need-slice-write-words-2
 slice-write-words-2 c =
@@ -34,7 +33,7 @@ returns-2 c =
     let p = q .pre in
     let there : hasCut (a .m) ≡ true = sym (c .before .before .before .has-cut .ensures) ∙ not-false _ (c .before .before .if1 .left) in (
       rw (there, sym (c .before .cut-word .ensures), sym (c .cut-word2 .ensures))
-          (laid-two (a .n) (c .before .cut-word .result) (c .cut-word2 .result) (a .words .now) (omega arith)),
+          (sets-two (a .n) (c .before .cut-word .result) (c .cut-word2 .result) (a .words .now)),
       rw there (omega arith),
     )
 

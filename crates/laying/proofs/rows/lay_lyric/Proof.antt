@@ -1,7 +1,7 @@
 -- The two words of a lyric line.
 use mathlib.Core.Path.{sym}
 use native.Mathlib.Omega.{arith}
-use Rattle.laying.proofs.LaidLaws.{laid-two}
+use Rattle.songcode.proofs.MemoryLaws.{sets-two}
 use Rattle.laying.proofs.LyricRowLaws.{lyric-words, lyric-fits}
 use borrow.Author.Needs.{needs}
 use Rattle.laying.proofs.rows.lay_lyric.Statement.{statement}
@@ -16,7 +16,7 @@ returns c =
     let t = c .before .before .style-of in
     let row = lyric-words (a .s .now) (a .number) (a .start) (a .stop) (w .result) (t .result) (w .ensures .0) (t .ensures .0) (omega arith) (omega arith) in (
       rw (row, sym (c .before .place-word .ensures), sym (c .line-word .ensures))
-          (laid-two (a .n) (c .before .place-word .result) (c .line-word .result) (a .words .now) (omega arith)),
+          (sets-two (a .n) (c .before .place-word .result) (c .line-word .result) (a .words .now)),
       lyric-fits (a .s .now) (a .number) (a .start) (a .stop) (w .result) (t .result) (w .ensures .0) (t .ensures .0) (p .0) (p .1) (omega arith) (omega arith)
           (omega arith) (omega arith) (omega arith) (omega arith),
     )

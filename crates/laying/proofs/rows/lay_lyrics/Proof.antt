@@ -4,16 +4,15 @@ use mathlib.Core.Path.{_≡_, refl, sym, ap, _∙_, subst}
 use mathlib.Core.List.{List, [], _∷_, _++_, map, flatMap, append-nil, append-assoc}
 use native.Mathlib.Omega.{arith}
 use lib.ListN.{length, length-append, length-map}
+use lib.Seq.{sets, length-sets}
 use Rattle.songcode.specs.Song.{LyricLine}
 use Rattle.songcode.specs.answer.Sections.{lyricLine}
-use Rattle.tokens.specs.Lexing.{laid}
-use Rattle.tokens.proofs.LaidLaws.{laid-none, laid-length}
+use Rattle.songcode.proofs.MemoryLaws.{sets-sets}
 use Rattle.score.specs.Sections.{lyricBy, lyricRow}
 use Rattle.score.specs.Fitting.{LyricFits, LyricsFit}
 use Rattle.sections.specs.declared.runs.Run.{Run}
 use Rattle.sections.specs.Runs.{linesOf}
 use Rattle.score.proofs.ViewLaws.{lyrics-size}
-use Rattle.laying.proofs.LaidLaws.{laid-laid}
 use Rattle.laying.proofs.LyricRowLaws.{lyricsAt, lyricAt, lyrics-none, lyrics-over, lyrics-more}
 use borrow.Author.Needs.{needs}
 use Rattle.laying.proofs.rows.lay_lyrics.Statement.{statement}
@@ -21,14 +20,14 @@ use Rattle.laying.proofs.rows.lay_lyrics.Tie as tie
 
 record Passed (n : ℕ) (held words : List ℕ) (fill : ℕ) (left all : List LyricLine) : Type 0 where
   done : List LyricLine
-  laid-there : words ≡ laid n (flatMap lyricRow done) held
+  there : words ≡ sets held n (flatMap lyricRow done)
   filled : fill ≡ n + length (flatMap lyricRow done)
   same : done ++ left ≡ all
   fit : LyricsFit done
 
 start : (n : ℕ) (held : List ℕ) (all : List LyricLine) → Passed n held held n all all
 unfolding flatMap LyricsFit
-start n held all = record { done = []; laid-there = laid-none n held; filled = omega arith; same = refl; fit = tt }
+start n held all = record { done = []; there = refl; filled = omega arith; same = refl; fit = tt }
 
 fits-append : (a : List LyricLine) (l : LyricLine) → LyricsFit a → LyricFits l → LyricsFit (a ++ (l ∷ []))
 unfolding LyricsFit
@@ -41,9 +40,9 @@ flat-append [] b = refl
 flat-append (l ∷ a) b = ap (λ (ws : List ℕ). lyricRow l ++ ws) (flat-append a b) ∙ sym (append-assoc (lyricRow l) (flatMap lyricRow a) (flatMap lyricRow b))
 
 step : (n : ℕ) (held words new : List ℕ) (fill : ℕ) (l : LyricLine) (left all : List LyricLine) → Passed n held words fill (l ∷ left) all
-    → fill ≤ length held → new ≡ laid fill (lyricRow l) words → LyricFits l → Passed n held new (fill + 2) left all
+    → new ≡ sets words fill (lyricRow l) → LyricFits l → Passed n held new (fill + 2) left all
 unfolding flatMap lyricRow lyricBy
-step n held words new fill l left all p room e g1 =
+step n held words new fill l left all p e g1 =
     let f = flat-append (p .done) (l ∷ []) in
     let one : flatMap lyricRow (p .done ++ (l ∷ [])) ≡ flatMap lyricRow (p .done) ++ lyricRow l =
     f ∙ ap (λ (ws : List ℕ). flatMap lyricRow (p .done) ++ ws) (append-nil (lyricRow l)) in
@@ -51,21 +50,21 @@ step n held words new fill l left all p room e g1 =
     let g = p .filled in
     record {
       done = p .done ++ (l ∷ []);
-      laid-there = e ∙ rw (p .laid-there) (laid-laid n fill (flatMap lyricRow (p .done)) (lyricRow l) held (p .filled) room)
-          ∙ ap (λ (ws : List ℕ). laid n ws held) (sym one);
+      there = e ∙ rw (p .there) (sets-sets n fill (flatMap lyricRow (p .done)) (lyricRow l) held (p .filled))
+          ∙ ap (λ (ws : List ℕ). sets held n ws) (sym one);
       filled = rw one (omega arith);
       same = append-assoc (p .done) (l ∷ []) left ∙ p .same;
       fit = fits-append (p .done) l (p .fit) g1;
     }
 
 over : (n : ℕ) (held words : List ℕ) (fill : ℕ) (all : List LyricLine) → Passed n held words fill [] all
-    → (words ≡ laid n (flatMap lyricRow all) held) × (fill ≡ n + 2 * length all) × LyricsFit all
+    → (words ≡ sets held n (flatMap lyricRow all)) × (fill ≡ n + 2 * length all) × LyricsFit all
 over n held words fill all p =
     let e : p .done ≡ all = sym (append-nil (p .done)) ∙ p .same in
     let k = lyrics-size all in
     let f = p .filled in
     let g : length (flatMap lyricRow (p .done)) ≡ length (flatMap lyricRow all) = ap (λ (ls : List LyricLine). length (flatMap lyricRow ls)) e in
-    (p .laid-there ∙ ap (λ (ls : List LyricLine). laid n (flatMap lyricRow ls) held) e, omega arith, subst LyricsFit e (p .fit))
+    (p .there ∙ ap (λ (ls : List LyricLine). sets held n (flatMap lyricRow ls)) e, omega arith, subst LyricsFit e (p .fit))
 
 size : (n : ℕ) (held words : List ℕ) (fill : ℕ) (left all : List LyricLine) → Passed n held words fill left all → n + 2 * length all ≤ length held
     → (fill + 2 * length left ≤ length held) × (length words ≡ length held)
@@ -74,7 +73,7 @@ size n held words fill left all p room =
     let b = length-append (p .done) left in
     let c : length (p .done ++ left) ≡ length all = ap (λ (ls : List LyricLine). length ls) (p .same) in
     let f = p .filled in
-    (omega arith, ap length (p .laid-there) ∙ laid-length n (flatMap lyricRow (p .done)) held (omega arith))
+    (omega arith, ap length (p .there) ∙ length-sets held n (flatMap lyricRow (p .done)))
 
 -- The same in the words of the contract.
 roomy : (s : List ℕ) (run : Run) (n : ℕ) (held : List ℕ) → n + 2 * length (linesOf s run) ≤ length held
@@ -84,7 +83,7 @@ roomy s run n held h = let e = length-map (linesOf s run) lyricLine in omega ari
 
 ended : (s : List ℕ) (run : Run) (n : ℕ) (held words : List ℕ) (fill : ℕ) (left : List LyricLine) → left ≡ []
     → Passed n held words fill left (lyricsAt s (run .number) (run .at) (run .lines))
-    → (words ≡ laid n (flatMap lyricRow (map lyricLine (linesOf s run))) held) × ((fill ≡ n + 2 * length (linesOf s run))
+    → (words ≡ sets held n (flatMap lyricRow (map lyricLine (linesOf s run)))) × ((fill ≡ n + 2 * length (linesOf s run))
     × LyricsFit (map lyricLine (linesOf s run)))
 unfolding linesOf
 ended s run n held words fill left e p =
@@ -179,7 +178,7 @@ loop-again c =
       (λ h. omega arith),
       step _ _ _ _ _ (lyricAt s (l .number) line) _ _
           (subst (λ (ls : List LyricLine). Passed (a .n) (a .words .now) (l .words) (l .fill) ls (lyricsAt s (a .run .number) (a .run .at) (a .run .lines)))
-          more (l .inv .4)) (omega arith) (c .before .before .lay-lyric .ensures .0) (c .before .before .lay-lyric .ensures .1),
+          more (l .inv .4)) (c .before .before .lay-lyric .ensures .0) (c .before .before .lay-lyric .ensures .1),
     )
 
 same-length-2 : tie.Need-same-length-2 Inv-loop μ-loop

@@ -1,6 +1,6 @@
 -- Beat by beat, or all beats at once.
 use Rattle.player.proofs.BarLaws.{bar-length, inked-whole}
-use Rattle.player.proofs.CopyLaws.{sets-out}
+use Rattle.songcode.proofs.MemoryLaws.{sets-out}
 use Rattle.player.specs.Bars.{beatsOf}
 use mathlib.Core.Path.{sym}
 use native.Mathlib.Omega.{arith}

@@ -1,8 +1,9 @@
 -- A mark that stands at the line's place tells how many words stand behind it, and that they are the line's.
 use Rattle.tokens.proofs.KeptLaws.{mark-number, mark-words}
 use Rattle.tokens.specs.TokenWords.{tokenWords}
-use Rattle.tokens.specs.Lexing.{tokensFrom, laid}
+use Rattle.tokens.specs.Lexing.{tokensFrom}
 use lib.ListN.{length, take, drop}
+use lib.Seq.{sets}
 use borrow.Author.Tests.{ltb-false}
 use native.Mathlib.Omega.{arith}
 use mathlib.Core.Path.{_≡_, ap, _∙_}
@@ -32,7 +33,7 @@ returns-2 c =
     let count : c .before .before .before .before .number .result ≡ length new = omega arith in
     let moved : take (c .before .before .before .before .number .result) (drop (i .start + 8 + 1) (i .words .now)) ≡ new =
     ap (λ (k : ℕ). take k (drop (i .start + 8 + 1) (i .words .now))) count ∙ w in
-    (c .before .before .move-words .ensures ∙ ap (λ (ws : List ℕ). laid (i .n) ws (i .words .now)) moved, (omega arith, omega arith))
+    (c .before .before .move-words .ensures ∙ ap (λ (ws : List ℕ). sets (i .words .now) (i .n) ws) moved, (omega arith, omega arith))
 
 pub lay-line-spec : {M : Type 1} → statement M
 lay-line-spec =

@@ -1,7 +1,7 @@
 -- Word by word: as many are laid in front as were passed, and those that are left still stand where they stood.
-use Rattle.tokens.specs.Lexing.{laid}
-use Rattle.tokens.proofs.LaidLaws.{laid-none, laid-moved}
+use Rattle.songcode.proofs.MemoryLaws.{sets-moved}
 use lib.ListN.{length, take, drop, getD, length-set}
+use lib.Seq.{sets}
 use native.Mathlib.Omega.{arith}
 use mathlib.Core.Path.{_≡_, refl, _∙_}
 use Prim.Native.Nat.{_≤_, _+_, _-_}
@@ -11,13 +11,13 @@ use Rattle.tokens.proofs.keeping.move_words.Tie as tie
 
 abbrev Inv-loop : tie.InvT-loop
 Inv-loop words₀ from count to i₀ words i =
-    (i ≤ count) × (length words ≡ length words₀) × (words ≡ laid to (take i (drop from words₀)) words₀)
+    (i ≤ count) × (length words ≡ length words₀) × (words ≡ sets words₀ to (take i (drop from words₀)))
 
 abbrev μ-loop : tie.MeasureT-loop
 μ-loop words₀ from count to i₀ words i = count - i
 
 loop-holds : tie.Need-loop-holds Inv-loop μ-loop
-loop-holds c = (omega arith, refl, laid-none (c .args .to) (c .args .words .now))
+loop-holds c = (omega arith, refl, refl)
 
 loop-again : tie.Need-loop-again Inv-loop μ-loop
 loop-again c =
@@ -25,7 +25,7 @@ loop-again c =
     let l = c .before .before .loop in (
       omega arith,
       length-set (l .words) (i .to + l .i) (getD (l .words) (i .from + l .i) 0) ∙ l .inv .1,
-      laid-moved (i .from) (i .to) (l .i) (l .words) (i .words .now) (omega arith) (omega arith) (l .inv .2),
+      sets-moved (i .from) (i .to) (l .i) (l .words) (i .words .now) (omega arith) (omega arith) (l .inv .2),
     )
 
 returns : tie.Need-returns Inv-loop μ-loop

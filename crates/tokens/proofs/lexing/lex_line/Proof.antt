@@ -1,8 +1,10 @@
 -- Token by token: the words laid so far and those of the tokens that are left are the words of the line.
-use Rattle.tokens.proofs.LaidLaws.{laid-none, laid-next, read-next, read-end}
-use Rattle.tokens.specs.Lexing.{tokensFrom, laid}
+use Rattle.songcode.proofs.MemoryLaws.{sets-next}
+use Rattle.tokens.proofs.ReadLaws.{read-next, read-end}
+use Rattle.tokens.specs.Lexing.{tokensFrom}
 use Rattle.tokens.specs.TokenWords.{tokenWords}
 use lib.ListN.{length, set, length-set}
+use lib.Seq.{sets}
 use mathlib.Core.List.{List, [], _∷_, _++_, append-assoc, append-nil}
 use native.Mathlib.Omega.{arith}
 use mathlib.Core.Path.{_≡_, refl, sym, ap, _∙_}
@@ -18,7 +20,7 @@ Inv-loop s start stop words₀ n at₀ fill₀ words at fill =
     × (fill + (stop - at) ≤ n + (stop - start))
     × (length words ≡ length words₀)
     × ((done : List ℕ)
-    × (words ≡ laid n done words₀)
+    × (words ≡ sets words₀ n done)
     × (fill ≡ n + length done)
     × (done ++ tokenWords (tokensFrom at stop s) ≡ tokenWords (tokensFrom start stop s)))
 
@@ -42,7 +44,7 @@ found c =
 
 loop-holds : tie.Need-loop-holds Inv-loop μ-loop
 loop-holds c =
-    (omega arith, omega arith, omega arith, refl, ([], laid-none (c .before .before .args .n) (c .before .before .args .words .now), omega arith, refl))
+    (omega arith, omega arith, omega arith, refl, ([], refl, omega arith, refl))
 
 returns : tie.Need-returns Inv-loop μ-loop
 returns c =
@@ -76,7 +78,7 @@ loop-again c =
     let o = l .inv .4 in
     let w = c .before .word .given .0 .0 in
     let g = found c in
-    let m = laid-next (i .n) (l .fill) w (l .words) (i .words .now) (o .0) (o .1) (o .2) (omega arith) in
+    let m = sets-next (i .n) (l .fill) w (l .words) (i .words .now) (o .0) (o .1) (o .2) in
     let k : length (set (l .words) (l .fill) w) ≡ length (i .words .now) = length-set (l .words) (l .fill) w ∙ l .inv .3 in
     (omega arith, omega arith, omega arith, k, (o .0 ++ (w ∷ []), m .0, m .1, append-assoc (o .0) (w ∷ []) _ ∙ ap (λ ws. o .0 ++ ws) (sym (g .2)) ∙ o .3))
 

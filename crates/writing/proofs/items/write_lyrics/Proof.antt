@@ -4,7 +4,7 @@ use mathlib.Core.Path.{_≡_, refl, sym, ap, _∙_, subst}
 use mathlib.Core.List.{List, _∷_}
 use native.Mathlib.Omega.{arith}
 use lib.ListN.{length, take, drop, length-take, length-drop}
-use Rattle.packing.proofs.WrittenLaws.{Wrote, wrote-start, wrote-put, wrote-left, wrote-length, wrote-end}
+use Rattle.songcode.proofs.MemoryLaws.{Wrote, wrote-start, wrote-put, wrote-left, wrote-length, wrote-end}
 use Rattle.writing.specs.Prompts.{countsIn, promptWords}
 use Rattle.writing.proofs.PromptLaws.{prompts-more, counts-more, prompts-over}
 use borrow.Author.Needs.{needs}
@@ -84,13 +84,13 @@ loop-again c =
     let all = promptWords (q .args .first) (drop (t .from) (take (t .to) ws)) in
     let item = prompts-more ws (t .to) (l .at) more inside (line .result) (line .ensures .0) (l .measure)
     ∙ ap (λ (v : ℕ). v ∷ rest) (sym (c .before .item-word .ensures)) in
-    let put = wrote-put (q .args .items .now) (l .i) (l .items) rest all (c .before .item-word .result) (omega (arith, fits .0, l .inv .4))
+    let put = wrote-put (q .args .items .now) (l .i) (l .items) rest all (c .before .item-word .result)
     (subst (λ (vs : List ℕ). Wrote (q .args .items .now) (l .i) (l .items) vs all) item (l .inv .6)) in (
       omega (arith, l .inv .0),
       omega arith,
       l .inv .2,
       l .inv .3,
-      wrote-length (q .args .items .now) (l .i + 1) _ rest all (omega (arith, fits .0, l .inv .4)) put,
+      wrote-length (q .args .items .now) (l .i + 1) _ rest all put,
       omega (arith, fits .1, l .inv .5),
       put,
     )

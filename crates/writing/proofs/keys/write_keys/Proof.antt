@@ -6,7 +6,7 @@ use native.Mathlib.Omega.{arith}
 use native.Mathlib.Numerals.{add-one}
 use lib.ListN.{length, take, drop, getD, length-take, length-drop, drop-of-length-le}
 use lib.Seq.{drop-cons, getD-drop, getD-take}
-use Rattle.packing.proofs.WrittenLaws.{Wrote, wrote-start, wrote-put, wrote-length, wrote-end}
+use Rattle.songcode.proofs.MemoryLaws.{Wrote, wrote-start, wrote-put, wrote-length, wrote-end}
 use borrow.Author.Needs.{needs}
 use Rattle.writing.proofs.keys.write_keys.Statement.{statement}
 use Rattle.writing.proofs.keys.write_keys.Tie as tie
@@ -43,10 +43,9 @@ loop-again c =
     let ws = a .words .now in
     let next = next-word ws (a .at) (l .k) (q .pre .0) (c .before .loop-test .taken) in
     let rest = drop (l .k + 1) (eight ws (a .at)) in
-    let room = q .pre .1 in
-    let put = wrote-put (a .keys .now) (l .k) (l .keys) rest (eight ws (a .at)) (getD ws (a .at + l .k) 0) (omega arith)
+    let put = wrote-put (a .keys .now) (l .k) (l .keys) rest (eight ws (a .at)) (getD ws (a .at + l .k) 0)
     (subst (λ (vs : List ℕ). Wrote (a .keys .now) (l .k) (l .keys) vs (eight ws (a .at))) next (l .inv .2)) in
-    (omega arith, wrote-length (a .keys .now) (l .k + 1) _ rest (eight ws (a .at)) (omega arith) put, put)
+    (omega arith, wrote-length (a .keys .now) (l .k + 1) _ rest (eight ws (a .at)) put, put)
 
 returns : tie.Need-returns Inv-loop μ-loop
 returns c =

@@ -194,7 +194,7 @@ loop-again c =
     let done = c .before .before .before .before .before .before .before .before .before .before .before .before .play-section .ensures in
     let lines = c .before .before .before .before .before .before .lyrics-taken .ensures in
     let lyrics = c .before .before .before .before .write-lyrics in
-    let w = midway-next (laid-ready (q .pre .0 .0)) (f .midway) (q .pre .1) is plays done lines (l .inv .6) (l .inv .3) (l .inv .7) (l .inv .4) (l .inv .8)
+    let w = midway-next (laid-ready (q .pre .0 .0)) (f .midway) (q .pre .1) is plays done lines
     (c .before .before .before .before .before .before .before .section-word .ensures) (lyrics .ensures .1) (lyrics .ensures .0) in
     let g = midway-lengths w (q .pre .1) in
     (f .others, w, g .0, g .1, g .2, g .3, g .4, g .5, g .6)
