@@ -1,11 +1,12 @@
 -- The promise, case by case of what is refused.
 use Prim.Native.Nat.{ℕ, _<_, _≤_}
 use mathlib.Core.Path.{_≡_, refl}
-use mathlib.Core.List.{List, _++_}
+use mathlib.Core.List.{List}
 use mathlib.Core.Bool.{true, false}
 use borrow.Author.Tests.{lt-ltb, le-ltb}
 use lib.IntN.{ℤ}
-use lib.ListN.{length, drop}
+use lib.ListN.{length}
+use lib.Seq.{sets}
 use Rattle.songcode.specs.Lists.{if_then_else_, any}
 use Rattle.concert.specs.Pitches.{isAllowed}
 use Rattle.concert.specs.Moves.{isOdd, movedTable, refusalOf}
@@ -25,6 +26,6 @@ module _ (z : ℤ) (beats before : List ℕ) where
   short-refused a o l = record { refused = rw (a, o, lt-ltb _ _ l) refl; second = rw (a, o, lt-ltb _ _ l) refl }
 
   pub all-moved : (after : List ℕ) → isAllowed z ≡ true → any isOdd beats ≡ false → length beats ≤ length before
-      → after ≡ movedTable z beats ++ drop (length beats) before → Moves z beats before 0 after
+      → after ≡ sets before 0 (movedTable z beats) → Moves z beats before 0 after
   unfolding refusalOf secondTable if_then_else_
   all-moved after a o l e = record { refused = rw (a, o, le-ltb _ _ l) refl; second = rw (a, o, le-ltb _ _ l) e }

@@ -3,9 +3,9 @@ use super::pitches::is_allowed;
 use super::pitches::moved_base;
 ghost use mathlib.Core.Path.{_≡_};
 ghost use mathlib.Core.Bool.{true, false};
-ghost use mathlib.Core.List.{_++_};
 ghost use Prim.Native.Nat.{_≤_};
-ghost use lib.ListN.{length, drop};
+ghost use lib.ListN.{length};
+ghost use lib.Seq.{sets};
 ghost use Rattle.songcode.specs.Lists.{any};
 ghost use Rattle.concert.specs.Pitches.{isAllowed};
 ghost use Rattle.concert.specs.Moves.{isOdd, movedWord, movedTable};
@@ -71,7 +71,7 @@ fn write_moved(beats: &[u32], shift: i32, second: &mut [u32])
     requires { ⌜ any isOdd (now beats) ≡ false ⌝ }
     requires { ⌜ isAllowed shift ≡ true ⌝ }
     requires { ⌜ length (now beats) ≤ length (now second) ⌝ }
-    ensures { λ _. ⌜ now (second .exit) ≡ movedTable shift (now (beats .entry)) ++ drop (length (now (beats .entry))) (now (second .entry)) ⌝ }
+    ensures { λ _. ⌜ now (second .exit) ≡ sets (now (second .entry)) 0 (movedTable shift (now (beats .entry))) ⌝ }
 {
     let mut i = 0;
     while i < beats.len() {

@@ -3,10 +3,9 @@ use Rattle.concert.specs.Pitches.{isAllowed}
 use Rattle.concert.specs.Moves.{movedTable}
 use Rattle.concert.proofs.PromiseLaws.{far-refused, odd-refused, short-refused, all-moved}
 use lib.IntN.{ℤ}
-use lib.ListN.{length, drop}
+use lib.Seq.{sets}
 use borrow.Author.Tests.{not-true, not-false}
 use mathlib.Core.Bool.{Bool, true, false, not}
-use mathlib.Core.List.{_++_}
 use mathlib.Core.Path.{_≡_, sym, ap, _∙_}
 use mir.Facts.{toZ-ofZ}
 use borrow.Author.Needs.{needs}
@@ -57,8 +56,8 @@ returns-4 c =
     let asked = to-if2 .before .before .before .is-allowed in
     let allowed = near _ _ _ (toZ-ofZ (entry .fits .shift)) (asked .ensures) (to-if2 .before .before .if1 .left) in
     let even = sym (to-if2 .before .has-odd .ensures) ∙ to-if2 .if2 .left in
-    let behind = drop (length (a .beats .now)) (a .second .now) in
-    let wrote = c .before .before .write-moved .ensures ∙ ap (λ (z : ℤ). movedTable z (a .beats .now) ++ behind) (toZ-ofZ (entry .fits .shift)) in
+    let wrote = c .before .before .write-moved .ensures
+    ∙ ap (λ (z : ℤ). sets (a .second .now) 0 (movedTable z (a .beats .now))) (toZ-ofZ (entry .fits .shift)) in
     all-moved (a .shift) (a .beats .now) (a .second .now) _ allowed even (c .before .before .before .before .if3 .left) wrote
 
 pub concert-pitch-spec : {M : Type 1} → statement M

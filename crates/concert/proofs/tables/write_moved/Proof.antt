@@ -3,8 +3,8 @@ use Rattle.concert.specs.Moves.{isOdd, movedWord, movedTable}
 use Rattle.concert.proofs.TableLaws.{none-there, filled, filled-more, filled-all}
 use Prim.Native.Nat.{_≤_, _-_}
 use lib.IntN.{ℤ}
-use lib.ListN.{length, drop, length-set}
-use mathlib.Core.List.{_++_}
+use lib.ListN.{length, length-set}
+use lib.Seq.{sets}
 use mathlib.Core.Path.{_≡_, refl, ap, _∙_}
 use mir.Syntax.{w32}
 use mir.Val.{toZ, ofZ}
@@ -36,7 +36,7 @@ loop-again c =
     let l = c .before .before .before .loop in
     let f = movedWord (toZ w32 (ofZ w32 (a .shift))) in
     let test = c .before .before .loop-test .taken in
-    let more = filled-more f (a .beats .now) (a .second .now) (l .second) (l .i) (c .moved-word .result) test (entry .pre .1 .1) (l .inv .2) in
+    let more = filled-more f (a .beats .now) (a .second .now) (l .second) (l .i) (c .moved-word .result) test (l .inv .2) in
     (search needs, simp length-set (l .inv .1), more (c .moved-word .ensures))
 
 returns : tie.Need-returns Inv-loop μ-loop
@@ -47,8 +47,8 @@ returns c =
     let beats = entry .args .beats .now in
     let second = entry .args .second .now in
     let f = movedWord (toZ w32 (ofZ w32 (entry .args .shift))) in
-    l .inv .2 ∙ filled-all f beats second (l .i) (l .inv .0) (c .loop-test .left)
-    ∙ ap (λ (z : ℤ). movedTable z beats ++ drop (length beats) second) (toZ-ofZ (entry .fits .shift))
+    l .inv .2 ∙ filled-all f beats second (l .i) (c .loop-test .left)
+    ∙ ap (λ (z : ℤ). sets second 0 (movedTable z beats)) (toZ-ofZ (entry .fits .shift))
 
 pub write-moved-spec : {M : Type 1} → statement M
 write-moved-spec =
