@@ -34,7 +34,7 @@ def sanitized(tests, folder):
     wanted = ["-fsanitize=address,undefined", "-fno-sanitize-recover=all"] if NATIVE else ["-static", "-fsanitize=undefined", "-fsanitize-undefined-trap-on-error"]
     built = [*COMPILER, *words, *wanted, "-o", f"{folder}/turnipcart"]
     tests.expect("the sanitized program is built", subprocess.run(built, cwd=ROOT).returncode, 0)
-    emulator = [] if NATIVE else subprocess.run(["bash", "-c", '. "$0"; echo "${emulator[0]}"', ROOT / "tools/machine"], stdout=subprocess.PIPE,
+    emulator = [] if NATIVE else subprocess.run(["bash", "-c", '. "$0"; echo "${emulator[@]}"', ROOT / "tools/machine"], stdout=subprocess.PIPE,
                                                 text=True).stdout.split()
     charts = sorted(ROOT.glob("tests/slips/*/*.sc")) + sorted(ROOT.glob("tests/charts/*.sc"))
     for asked in (["check", "--brief"], ["check", "--json"], ["flat"]):

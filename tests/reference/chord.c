@@ -40,15 +40,26 @@ bool has_slip(const unsigned char *text, struct span word)
     return false;
 }
 
+/* The length of a base where it stands at the front of so many bytes, else 0. */
+static size_t length_in_front(const char *base, const unsigned char *bytes, size_t left)
+{
+    size_t length = 0;
+    while (base[length] != '\0') {
+        if (length == left || bytes[length] != (unsigned char)base[length])
+            return 0;
+        length++;
+    }
+    return length;
+}
+
 /* The longest base that fits at the word's front and may be taken there, and the rest as its extension. */
 bool read_chord(const unsigned char *text, struct span word, struct chord *chord)
 {
     size_t word_length = word.end - word.start;
     size_t longest = 0;
     for (unsigned base = 0; base < BASE_CHORDS; base++) {
-        size_t length = strlen(base_chords[base]);
-        bool fits = length <= word_length && memcmp(text + word.start, base_chords[base], length) == 0;
-        if (fits && length > longest && !is_before_aj(base_chords[base], text + word.start + length, word_length - length)) {
+        size_t length = length_in_front(base_chords[base], text + word.start, word_length);
+        if (length > longest && !is_before_aj(base_chords[base], text + word.start + length, word_length - length)) {
             longest = length;
             chord->base = base;
         }
