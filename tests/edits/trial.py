@@ -39,11 +39,11 @@ class Edit:
 
     def __init__(self, path, crate):
         self.path, self.label, self.crate = path, path.stem, crate
-        self.written, self.swaps, self.at, self.also, self.group, self.keep = [], [], None, [], None, None
+        self.written, self.swaps, self.at, self.also, self.group = [], [], None, [], None
         name = old = None
         for line in path.read_text().splitlines():
             word, _, rest = line.partition(": ")
-            if word in ("at", "group", "keep"):
+            if word in ("at", "group"):
                 setattr(self, word, rest)
                 continue
             if word == "also":
@@ -80,9 +80,9 @@ def crates():
     return [name for name in listed if name]
 
 
-def edits_of(crate, folder="edits"):
+def edits_of(crate):
     """The edits of a crate by their labels."""
-    return [Edit(path, crate) for path in sorted((ROOT / "crates" / crate / folder).glob("*.edit"))]
+    return [Edit(path, crate) for path in sorted((ROOT / "crates" / crate / "edits").glob("*.edit"))]
 
 
 def groups_of(edits):
@@ -172,9 +172,7 @@ class Bench:
         for part in ("src", "specs", "proofs"):
             if (own / part).is_dir():
                 shutil.copytree(own / part, self.copy / part)
-        checked = target / "rlib" / f"{crate}.rlib" / "toolchain" / "checked"
-        if checked.is_dir():
-            shutil.copytree(checked, self.folder / "target/inc" / crate / kept_name())
+        self.checked, self.kept = target / "rlib" / f"{crate}.rlib" / "toolchain" / "checked", self.folder / "target/inc" / crate
         self.changed = {}
 
     def __enter__(self):
@@ -185,9 +183,13 @@ class Bench:
 
     def refused(self, edits):
         """The places that are refused with all of these edits, each with what the prover says; none where it proves the crate.
-        What the proof of the crate has checked, or an earlier trial on this bench, and these edits do not change, is not checked again:
-        only a refusal counts here, and nothing is refused that was not looked at."""
+        What the proof of the crate has checked, and these edits do not change, is not checked again: only a refusal counts here, and
+        nothing is refused that was not looked at. It is laid ready anew for each trial: behind another one, all that rests on that one's
+        edits would be checked once more."""
         files = edited(edits)
+        if self.checked.is_dir():
+            shutil.rmtree(self.kept, ignore_errors=True)
+            shutil.copytree(self.checked, self.kept / kept_name())
         for name in self.changed.keys() - files.keys():
             shutil.copy(ROOT / "crates" / self.crate / name, self.copy / name)
         for name, text in files.items():
