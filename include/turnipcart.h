@@ -26,8 +26,8 @@
 /* This version, which the program and the installed files carry too. */
 #define TURNIPCART_VERSION_MAJOR 1
 #define TURNIPCART_VERSION_MINOR 1
-#define TURNIPCART_VERSION_PATCH 4
-#define TURNIPCART_VERSION "1.1.4"
+#define TURNIPCART_VERSION_PATCH 5
+#define TURNIPCART_VERSION "1.1.5"
 
 /* Bytes of stack that every call is content with: what a thread that calls must have, beside its own. */
 #define TURNIPCART_STACK 393216

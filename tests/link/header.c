@@ -93,7 +93,7 @@ int main(void)
     try_null();
     try_short();
     try_thread();
-    expect("the version", (size_t)strcmp(TURNIPCART_VERSION, "1.1.4"), 0);
+    expect("the version", (size_t)strcmp(TURNIPCART_VERSION, "1.1.5"), 0);
     expect("a text", (size_t)strcmp(turnipcart_refusal_text(TURNIPCART_COUNT_SUM), "counts that do not sum"), 0);
     expect("no text for no refusal", strlen(turnipcart_refusal_text(1000)), 0);
     return faults > 0;

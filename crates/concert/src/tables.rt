@@ -1,6 +1,13 @@
 // A table of beats moved word by word.
 use super::pitches::is_allowed;
 use super::pitches::moved_base;
+use packing::SILENCE;
+use packing::beat_base;
+use packing::beat_spare;
+use packing::with_base;
+use refusals::MOVE_OUT_OF_RANGE;
+use refusals::NO_BEAT_WORD;
+use refusals::TABLE_TOO_SHORT;
 ghost use mathlib.Core.Path.{_≡_};
 ghost use mathlib.Core.Bool.{true, false};
 ghost use Prim.Native.Nat.{_≤_};
@@ -11,30 +18,16 @@ ghost use Rattle.concert.specs.Pitches.{isAllowed};
 ghost use Rattle.concert.specs.Moves.{isOdd, movedWord, movedTable};
 ghost use Rattle.concert.specs.Promises.{Moves};
 
-// The refusals of the call.
-const MOVE_OUT_OF_RANGE: usize = 21;
-
-const NO_BEAT_WORD: usize = 22;
-
-const TABLE_TOO_SHORT: usize = 18;
-
-// The base stands above the lowest 26 bits, of which the lowest four are spare; silence has the last number.
-const BEHIND: u32 = 67108864;
-
-const SPARE: u32 = 16;
-
-const SILENCE: u32 = 63;
-
 const BASES: u32 = 34;
 
 // Neither a base chord nor silence, or a spare bit set.
 fn is_odd(word: u32) -> bool
     ensures { λ r. ⌜ r ≡ isOdd word ⌝ }
 {
-    let base = word / BEHIND;
-    if word % SPARE != 0 {
+    if beat_spare(word) != 0 {
         return true;
     }
+    let base = beat_base(word);
     if base < BASES {
         return false;
     }
@@ -60,11 +53,11 @@ fn moved_word(word: u32, shift: i32) -> u32
     requires { ⌜ isAllowed shift ≡ true ⌝ }
     ensures { λ r. ⌜ r ≡ movedWord shift word ⌝ }
 {
-    let base = word / BEHIND;
+    let base = beat_base(word);
     if base == SILENCE {
         return word;
     }
-    moved_base(base as usize, shift) * BEHIND + word % BEHIND
+    with_base(word, moved_base(base as usize, shift))
 }
 
 fn write_moved(beats: &[u32], shift: i32, second: &mut [u32])

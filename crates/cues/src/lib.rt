@@ -3,16 +3,13 @@ mod joins;
 mod lengths;
 mod starts;
 
+use refusals::NOT_JOINED;
+use refusals::NOT_TIMED;
+use refusals::TABLE_TOO_SHORT;
 ghost use mathlib.Core.Path.{_≡_};
 ghost use lib.ListN.{length};
 ghost use Rattle.cues.specs.Cues.{refusalOf};
 ghost use Rattle.cues.specs.Answers.{litBy, cuesBy};
-
-const NOT_JOINED: usize = 25;
-
-const NOT_TIMED: usize = 26;
-
-const TOO_SHORT: usize = 18;
 
 // Refusal 0 and the song's end in microseconds, or a refusal and 0.
 pub struct Lit {
@@ -41,7 +38,7 @@ pub fn light_cues(sections: &[u64], measures: &[u32], cues: &mut [u64]) -> Lit
     }
     if cues.len() < measures.len() {
         return Lit {
-            refusal: TOO_SHORT,
+            refusal: TABLE_TOO_SHORT,
             end: 0,
         };
     }

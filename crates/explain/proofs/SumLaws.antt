@@ -15,8 +15,8 @@ use Rattle.songcode.specs.answer.Meter.{sectionMeter, meterFaults, sectionCount
 use Rattle.songcode.specs.answer.Lyrics.{counted}
 use Rattle.songcode.specs.answer.Answer.{songOf}
 use Rattle.songcode.proofs.ListLaws.{by-cases, append-is-nil}
-use Rattle.text.specs.declared.Refusal.{Refusal}
-use Rattle.text.specs.Refusals.{refusalOf}
+use Rattle.refusals.specs.declared.Refusal.{Refusal}
+use Rattle.refusals.specs.Refusals.{refusalOf}
 use Rattle.score.specs.Seen.{RowFrom, Sees}
 use Rattle.score.specs.Views.{viewBy, viewOf}
 use Rattle.score.proofs.RowLaws.{row-start, row-grows}

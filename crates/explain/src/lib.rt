@@ -5,9 +5,13 @@ mod sums;
 mod times;
 
 use clauses::cause_of;
+use judging::LONG_ROW;
 use reader::Answer;
 use reader::count_in;
-use score::LONG_ROW;
+use refusals::COUNT_SUM;
+use refusals::DIVISION;
+use refusals::NO_CHORD_BEFORE;
+use refusals::NO_SECTION;
 use slips::Place;
 use slips::Slip;
 use slips::find_slip;
@@ -26,17 +30,6 @@ ghost use Rattle.explain.specs.Explained.{Explains};
 
 // Texts of more bytes are not looked into: they are refused on no line.
 const TEXT_MOST: usize = 65536;
-
-// The refusal of a chart without a section: no number belongs to it.
-const NO_SECTION: usize = 9;
-
-// The refusals that a section's N decides, or that are told with it.
-const UNDIVIDED: usize = 12;
-
-const STRAY: usize = 13;
-
-// The refusal that is told with a sum and a number of measures.
-const UNSUMMED: usize = 17;
 
 // Refusal and line, both 0 where the chart is accepted; the cause, 100 times the refusal and the number of its clause; the place, all 0 where the
 // refusal names no line; one more line worth showing, 0 where there is none; three numbers.
@@ -94,10 +87,10 @@ fn time_for(text: &[u8], a: Answer) -> usize
     requires { ⌜ a ≡ answerOf (songAnswer (now text)) ⌝ }
     ensures { λ r. ⌜ (a .refusal ≡ 12 → TimeAt (now (text .entry)) (a .line) r) ⌝ }
 {
-    if a.refusal == UNDIVIDED {
+    if a.refusal == DIVISION {
         return time_at(text, a.line);
     }
-    if a.refusal == STRAY {
+    if a.refusal == NO_CHORD_BEFORE {
         return time_at(text, a.line);
     }
     0
@@ -120,7 +113,7 @@ fn with_sums(text: &[u8], a: Answer, x: Slip, words: &mut [u32]) -> Slip
         × (r .from ≡ x .from) × (r .to ≡ x .to) × (r .clause ≡ x .clause)
         × (a .refusal ≡ 17 → SumsAt (now (text .entry)) (a .line) (record { sum = r .first; measures = r .second })) ⌝ }
 {
-    if a.refusal != UNSUMMED {
+    if a.refusal != COUNT_SUM {
         return x;
     }
     let t = sums_at(text, a.line, words);

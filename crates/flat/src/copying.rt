@@ -2,13 +2,14 @@
 use super::answers::Copied;
 use super::answers::refused;
 use super::songs::put_copy;
+use judging::LONG_ROW;
+use judging::SHORT_CHART;
+use judging::SHORT_ROW;
 use judging::first_stages;
 use judging::judge;
-use score::LONG_ROW;
-use score::SHORT_ROW;
+use refusals::COPY_TOO_LONG;
 use score::Stretch;
 use sections::Place;
-use text::COPY_TOO_LONG;
 ghost use mathlib.Core.Path.{_≡_};
 ghost use mathlib.Core.List.{[]};
 ghost use Prim.Native.Nat.{_+_, _≤_};
@@ -88,7 +89,7 @@ fn copy_long(text: &[u8], copy: &mut [u8]) -> Copied
 pub fn flat_copy(text: &[u8], copy: &mut [u8]) -> Copied
     ensures { λ r. ⌜ Flattened (now (text .entry)) (now (copy .entry)) r (now (copy .exit)) ⌝ }
 {
-    if text.len() <= 2048 {
+    if text.len() <= SHORT_CHART {
         return copy_short(text, copy);
     }
     copy_long(text, copy)

@@ -7,6 +7,7 @@ use Rattle.songcode.specs.Lists.{if_then_else_}
 use Rattle.songcode.specs.answer.Tokens.{Token, sound, remover, reference, semicolon, colon, lineEnd, opens, closes, wrong}
 use Rattle.grammar.specs.declared.kinds.Kind.{Kind}
 use Rattle.grammar.specs.declared.kinds.Kind.the-variants.{Sound, Remover, Reference, Semicolon, Colon, LineEnd, Opens, Closes, Wrong}
+use Rattle.tokens.specs.Signs.{isChord}
 
 unfoldable pub kindOf : Token → Kind
 kindOf (sound s) = Sound
@@ -30,7 +31,7 @@ signs = Reference ∷ Closes ∷ Opens ∷ LineEnd ∷ Colon ∷ Semicolon ∷ R
 
 unfoldable pub signKind : ℕ → Kind
 unfolding if_then_else_
-signKind n = if ltb n 34 then Sound else if ltb n 55 then Wrong else getD signs (n - 55) Sound
+signKind n = if isChord n then Sound else if ltb n 55 then Wrong else getD signs (n - 55) Sound
 
 unfoldable pub wordKind : ℕ → Kind
 unfolding signKind

@@ -20,8 +20,8 @@ use Rattle.songcode.specs.answer.Lyrics.{countFaults, sumFaults}
 use Rattle.songcode.specs.answer.SongText.{metadataLines, songIn}
 use Rattle.songcode.specs.answer.Answer.{blocksOf, songOf}
 use Rattle.songcode.proofs.ListLaws.{Each, each-append}
-use Rattle.text.specs.declared.Refusal.{Refusal}
-use Rattle.text.specs.Refusals.{refusalOf}
+use Rattle.refusals.specs.declared.Refusal.{Refusal}
+use Rattle.refusals.specs.Refusals.{refusalOf}
 use Rattle.sections.specs.declared.blocks.Place.{Place}
 use Rattle.sections.specs.declared.values.Keys.{Keys}
 use Rattle.sections.specs.Runs.{linesOf}

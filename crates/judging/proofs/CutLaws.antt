@@ -19,9 +19,9 @@ use Rattle.songcode.specs.answer.Meter.{allFit, count, anySaid, cutFaults}
 use Rattle.songcode.proofs.ListLaws.{by-cases, true-is-not-false, none-passes, isEmpty-true, times-length}
 use Rattle.songcode.specs.EitherOrder.{Filled}
 use Rattle.songcode.proofs.RowLaws.{filled-items, length-items}
-use Rattle.settings.specs.declared.cuts.Cut as code
-use Rattle.settings.specs.declared.cuts.CutRead.{CutRead}
-use Rattle.settings.specs.declared.cuts.CutRead.the-variants as read
+use Rattle.cuts.specs.declared.Cut as code
+use Rattle.settings.specs.declared.cutting.CutRead.{CutRead}
+use Rattle.settings.specs.declared.cutting.CutRead.the-variants as read
 use Rattle.settings.specs.Cuts.{cutIs, CutFits}
 use Rattle.outlines.specs.declared.readings.Outline.{Outline}
 use Rattle.outlines.specs.Words.{vacant}

@@ -18,8 +18,8 @@ use Rattle.songcode.specs.answer.Meter.{allFit, stray, rowFaults, playedFaults,
 use Rattle.songcode.proofs.ListLaws.{by-cases, Each, each-append, each-map}
 use Rattle.songcode.proofs.PatternLaws.{none-some}
 use Rattle.text.specs.Spans.{part}
-use Rattle.text.specs.Ranks.{least}
-use Rattle.text.proofs.RankLaws.{least-append, Ranked, ranked-if}
+use Rattle.refusals.specs.Ranks.{least}
+use Rattle.refusals.proofs.RankLaws.{least-append, Ranked, ranked-if}
 use Rattle.outlines.specs.declared.readings.Outline.{Outline}
 use Rattle.outlines.specs.Sizes.{divides}
 use Rattle.outlines.specs.Words.{vacant}

@@ -11,8 +11,8 @@ use Rattle.songcode.specs.answer.Playing.{timeAmong}
 use Rattle.songcode.specs.answer.Meter.{sectionMeter, meterFaults}
 use Rattle.songcode.specs.answer.Answer.{songOf}
 use Rattle.songcode.proofs.ListLaws.{Each, each-append, append-is-nil}
-use Rattle.text.specs.Ranks.{none, least, refusalAt}
-use Rattle.text.proofs.RankLaws.{least-append, Ranked, least-clear}
+use Rattle.refusals.specs.Ranks.{none, least, refusalAt}
+use Rattle.refusals.proofs.RankLaws.{least-append, Ranked, least-clear}
 use Rattle.sections.specs.declared.blocks.Place.{Place}
 use Rattle.sections.specs.Onward.{sectionsFrom, sectionAt}
 use Rattle.sections.proofs.MeetLaws.{sections-over}

@@ -14,7 +14,7 @@ use Rattle.songcode.specs.answer.References.{patternItems}
 use Rattle.songcode.specs.answer.Playing.{timeOf, keptMeasures}
 use Rattle.songcode.specs.answer.Meter.{sectionCount, mostMeasures, cutFaults, lengthFaults, anySaid}
 use Rattle.songcode.proofs.ListLaws.{Each, each-append, each-map, nil-is-not-cons}
-use Rattle.text.specs.Refusals.{refusalOf}
+use Rattle.refusals.specs.Refusals.{refusalOf}
 use Rattle.sections.specs.Onward.{Later}
 use Rattle.laying.proofs.ComplaintLaws.{UpTo, Behind, first-wins}
 use Rattle.laying.proofs.FaultLineLaws.{line-if}

@@ -19,7 +19,7 @@ use Rattle.songcode.specs.answer.Playing.{repeats}
 use Rattle.songcode.specs.answer.Meter.{anySaid}
 use Rattle.songcode.proofs.ListLaws.{by-cases, append-is-nil}
 use Rattle.songcode.proofs.PatternLaws.{none-some}
-use Rattle.settings.specs.declared.cuts.CutRead.{CutRead}
+use Rattle.settings.specs.declared.cutting.CutRead.{CutRead}
 use Rattle.settings.specs.Cuts.{cutIs}
 use Rattle.settings.proofs.NumberLaws.{numberIn-range}
 use Rattle.sections.specs.declared.blocks.Place.{Place}

@@ -14,7 +14,7 @@ use Rattle.songcode.specs.Song.{Section, Song}
 use Rattle.songcode.specs.answer.Lyrics.{hasCounts, sumFault, sumFaults}
 use Rattle.songcode.specs.answer.Answer.{songOf}
 use Rattle.songcode.proofs.ListLaws.{by-cases, nil-is-not-cons, Each}
-use Rattle.text.specs.Refusals.{refusalOf}
+use Rattle.refusals.specs.Refusals.{refusalOf}
 use Rattle.sections.specs.declared.blocks.Place.{Place}
 use Rattle.sections.specs.Onward.{Onward, Later, sectionAt, sectionsFrom}
 use Rattle.sections.proofs.MeetLaws.{sections-over}

@@ -16,7 +16,7 @@ use Rattle.songcode.specs.answer.Meter.{allFit, stray, rowFaults, playedFaults,
 use Rattle.songcode.specs.answer.Meter.{lengthFaults}
 use Rattle.songcode.specs.answer.Answer.{songOf}
 use Rattle.songcode.proofs.ListLaws.{append-is-nil, complainIf-nil}
-use Rattle.text.specs.Refusals.{refusalOf}
+use Rattle.refusals.specs.Refusals.{refusalOf}
 use Rattle.sections.specs.declared.blocks.Place.{Place}
 use Rattle.sections.specs.declared.values.Modifiers.{Modifiers}
 use Rattle.sections.specs.Onward.{sectionsFrom, Onward, sectionAt}

@@ -14,8 +14,8 @@ use Rattle.songcode.specs.Song.{Pattern, items, named, Definition, Section}
 use Rattle.songcode.specs.answer.References.{definitionOf, namedFault, sectionReference, definitionsReferences, referenceFaults}
 use Rattle.songcode.specs.answer.Answer.{songOf}
 use Rattle.songcode.proofs.ListLaws.{by-cases, true-is-not-false, Each, each-map}
-use Rattle.text.specs.declared.Refusal.{Refusal}
-use Rattle.text.specs.Refusals.{refusalOf, nothingRefused}
+use Rattle.refusals.specs.declared.Refusal.{Refusal}
+use Rattle.refusals.specs.Refusals.{refusalOf, nothingRefused}
 use Rattle.outlines.specs.Words.{isMissing}
 use Rattle.sections.specs.declared.blocks.Place.{Place}
 use Rattle.sections.specs.declared.values.Keys.{Keys}

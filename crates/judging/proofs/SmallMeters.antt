@@ -23,7 +23,7 @@ use Rattle.songcode.specs.answer.References.{patternItems}
 use Rattle.songcode.specs.answer.Playing.{timeOf}
 use Rattle.songcode.specs.answer.Meter.{allFit, stray, rowFaults, playedFaults, sideFaults, sectionMeter, meterFaults}
 use Rattle.songcode.proofs.ListLaws.{Each, each-append}
-use Rattle.text.specs.Ranks.{Small}
+use Rattle.refusals.specs.Ranks.{Small}
 use Rattle.stage2.proofs.SmallLineFaults.{Low, LowBlock, Fine, fine-gather, each-taken}
 use Rattle.stage2.proofs.SmallLines.{sections-low}
 

@@ -19,8 +19,8 @@ use Rattle.songcode.specs.answer.Characters.{goodBytes}
 use Rattle.songcode.specs.answer.Answer.{mostBytes, lineOfPlace, inputFaults}
 use Rattle.songcode.proofs.VerdictAgree.{verdict-append, last-stage}
 use Rattle.songcode.proofs.ListLaws.{by-cases, Each, each-append, nil-is-not-cons}
-use Rattle.text.specs.declared.Refusal.{Refusal}
-use Rattle.text.specs.Refusals.{refusalOf, firstGiven}
+use Rattle.refusals.specs.declared.Refusal.{Refusal}
+use Rattle.refusals.specs.Refusals.{refusalOf, firstGiven}
 use Rattle.judging.specs.declared.sums.Totals.{Totals}
 use Rattle.laying.proofs.ComplaintLaws.{Numbered, numbered-if, refused-none}
 use Rattle.judging.proofs.FaultLaws.{numbered-section}

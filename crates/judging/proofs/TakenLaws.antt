@@ -12,7 +12,7 @@ use Rattle.songcode.specs.Complaints.{Complaint, complaint, complainIf, goesFir
 use Rattle.songcode.specs.Song.{LyricLine, Section, Song}
 use Rattle.songcode.specs.answer.Lyrics.{isCounted, isPlayed, linesTaken, hasCounts, countFaults}
 use Rattle.songcode.proofs.ListLaws.{by-cases, any-append, Each, each-append}
-use Rattle.text.specs.Refusals.{refusalOf}
+use Rattle.refusals.specs.Refusals.{refusalOf}
 use Rattle.judging.specs.declared.lyrics.Tally.{Tally}
 use Rattle.judging.specs.declared.lyrics.Taken.{Taken}
 use Rattle.judging.specs.Lyrics.{firstLine, bareLine, tallied, takenWith, countFault}

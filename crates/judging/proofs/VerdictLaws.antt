@@ -8,8 +8,8 @@ use Rattle.songcode.specs.answer.SongText.{textFaults}
 use Rattle.songcode.specs.answer.Tables.{tables}
 use Rattle.songcode.specs.answer.Answer.{inputFaults, blocksOf, songOf, songStages, refused, accepted, answerBy, songAnswer}
 use Rattle.songcode.proofs.VerdictAgree.{verdict-append, last-stage}
-use Rattle.text.specs.declared.Refusal.{Refusal}
-use Rattle.text.specs.Refusals.{refusalOf}
+use Rattle.refusals.specs.declared.Refusal.{Refusal}
+use Rattle.refusals.specs.Refusals.{refusalOf}
 use Rattle.stage2.proofs.SmallLines.{stage-clear}
 use Rattle.judging.specs.Charts.{Clear}
 use Rattle.judging.specs.Stages.{lyricFaults, playingFaults, laterFaults}

@@ -19,8 +19,8 @@ use Rattle.songcode.specs.answer.Lyrics.{isCounted, linesTaken, hasCounts, coun
 use Rattle.songcode.specs.answer.Tables.{tables}
 use Rattle.songcode.specs.answer.Answer.{songOf}
 use Rattle.songcode.proofs.ListLaws.{by-cases, Each}
-use Rattle.text.specs.declared.Refusal.{Refusal}
-use Rattle.text.specs.Refusals.{refusalOf, firstGiven}
+use Rattle.refusals.specs.declared.Refusal.{Refusal}
+use Rattle.refusals.specs.Refusals.{refusalOf, firstGiven}
 use Rattle.player.specs.Texts.{rowWords}
 use Rattle.player.proofs.SectionMeaning.{rows-length, rows-total}
 use Rattle.sections.specs.declared.blocks.Place.{Place}
@@ -41,8 +41,8 @@ use Rattle.judging.specs.Sums.{rowOfTexts, countsOf, withSection, totals
 use Rattle.judging.specs.Singing.{sungWith, Singable, lyricRefusal}
 use Rattle.judging.specs.Walking.{nothingMetered, nothingSung, walkRefusal, outcomeOf}
 use Rattle.judging.specs.Stages.{lyricFaults, playingFaults, laterFaults}
-use Rattle.text.specs.Ranks.{least, refusalAt}
-use Rattle.text.proofs.RankLaws.{earliest-least}
+use Rattle.refusals.specs.Ranks.{least, refusalAt}
+use Rattle.refusals.proofs.RankLaws.{earliest-least}
 use Rattle.judging.proofs.SmallMeters.{meters-small}
 use Rattle.laying.proofs.MeterLaws.{meter-range}
 use Rattle.judging.proofs.JudgedLaws.{Judged, judged-start, judged-next, judged-clear, judged-end, opened-fault}

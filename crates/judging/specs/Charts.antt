@@ -10,7 +10,7 @@ use Rattle.songcode.specs.answer.Meter.{meterFaults, lengthFaults}
 use Rattle.songcode.specs.answer.Lyrics.{countFaults, sumFaults}
 use Rattle.songcode.specs.answer.Tables.{Tables, tables}
 use Rattle.songcode.specs.answer.Answer.{songOf}
-use Rattle.text.specs.Refusals.{refusalOf}
+use Rattle.refusals.specs.Refusals.{refusalOf}
 use Rattle.score.specs.declared.stretches.Stretch.{Stretch}
 use Rattle.score.specs.Fitting.{SectionsFit}
 use Rattle.outlines.specs.Rows.{definitionsRow, blocksRow, scoreOf}

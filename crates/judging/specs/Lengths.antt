@@ -6,12 +6,13 @@ use mathlib.Core.List.{List}
 use lib.Dec.{eqb, ltb}
 use lib.ListN.{length}
 use Rattle.songcode.specs.Lists.{if_then_else_, times}
-use Rattle.text.specs.declared.Refusal.{Refusal}
-use Rattle.text.specs.Refusals.{nothingRefused}
+use Rattle.refusals.specs.declared.Refusal.{Refusal}
+use Rattle.refusals.specs.Refusals.{nothingRefused}
 use Rattle.settings.specs.Cuts.{CutFits}
-use Rattle.settings.specs.declared.cuts.Cut.{Cut}
-use Rattle.settings.specs.declared.cuts.CutRead.{CutRead}
-use Rattle.settings.specs.declared.cuts.CutRead.the-variants as read
+use Rattle.cuts.specs.declared.Cut.{Cut}
+use Rattle.cuts.specs.Cuts.{cutOf}
+use Rattle.settings.specs.declared.cutting.CutRead.{CutRead}
+use Rattle.settings.specs.declared.cutting.CutRead.the-variants as read
 use Rattle.player.specs.declared.playing.Arrangement.{Arrangement}
 use Rattle.player.specs.Walks.{rowOf}
 use Rattle.player.specs.Windows.{firstBeat, lastBeat}
@@ -23,9 +24,13 @@ use Rattle.laying.specs.declared.texts.Texts.{Texts}
 use Rattle.laying.specs.Rows.{hasCut}
 use Rattle.judging.specs.declared.lengths.Lengths.{Lengths}
 
+-- The cut that is said, else the other one; and one that takes nothing where none is said.
+abbrev pub cutOr : CutRead → Cut → Cut
+cutOr (read.Cut c) other = c
+cutOr read.Not other = other
+
 unfoldable pub cutOrNone : CutRead → Cut
-cutOrNone (read.Cut c) = c
-cutOrNone read.Not = record { measures = record { 0 = 0 }; beats = record { 0 = 0 } }
+cutOrNone c = cutOr c (cutOf 0 0)
 
 -- What a section plays in n: its texts, and what its modifiers say.
 abbrev pub arrangementOf : ℕ → Texts → Modifiers → Arrangement

@@ -8,8 +8,8 @@ use lib.ListN.{length, take, drop}
 use Rattle.songcode.specs.Lists.{if_then_else_, any}
 use Rattle.songcode.specs.Song.{LyricLine}
 use Rattle.songcode.specs.answer.Lyrics.{isCounted, counted}
-use Rattle.text.specs.declared.Refusal.{Refusal}
-use Rattle.text.specs.Refusals.{nothingRefused}
+use Rattle.refusals.specs.declared.Refusal.{Refusal}
+use Rattle.refusals.specs.Refusals.{nothingRefused}
 use Rattle.score.specs.declared.stretches.Stretch.{Stretch}
 use Rattle.score.specs.LyricLines.{lyricIn}
 use Rattle.judging.specs.declared.lyrics.Tally.{Tally}

@@ -1,9 +1,9 @@
 -- What stages 4 and 5 find from section to section.
 use Prim.Native.Nat.{ℕ, min}
 use mathlib.Core.List.{List}
-use Rattle.text.specs.declared.Refusal.{Refusal}
-use Rattle.text.specs.Refusals.{firstGiven}
-use Rattle.text.specs.Ranks.{refusalAt}
+use Rattle.refusals.specs.declared.Refusal.{Refusal}
+use Rattle.refusals.specs.Refusals.{firstGiven}
+use Rattle.refusals.specs.Ranks.{refusalAt}
 use Rattle.laying.specs.declared.texts.Opened.{Opened}
 use Rattle.judging.specs.declared.measures.Metered.{Metered}
 use Rattle.judging.specs.Meters.{meterFault}

@@ -2,7 +2,7 @@
 use Prim.Native.Nat.{ℕ, min}
 use mathlib.Core.Bool.{not}
 use Rattle.songcode.specs.Complaints.{complainIf}
-use Rattle.text.specs.Ranks.{least}
+use Rattle.refusals.specs.Ranks.{least}
 use Rattle.outlines.specs.declared.readings.Outline.{Outline}
 use Rattle.outlines.specs.Sizes.{divides}
 use Rattle.sections.specs.declared.values.Modifiers.{Modifiers}

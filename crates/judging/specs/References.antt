@@ -3,8 +3,8 @@ use Prim.Native.Nat.{ℕ}
 use mathlib.Core.List.{List}
 use lib.Dec.{eqb}
 use Rattle.songcode.specs.Lists.{if_then_else_}
-use Rattle.text.specs.declared.Refusal.{Refusal}
-use Rattle.text.specs.Refusals.{nothingRefused}
+use Rattle.refusals.specs.declared.Refusal.{Refusal}
+use Rattle.refusals.specs.Refusals.{nothingRefused}
 use Rattle.outlines.specs.Words.{isMissing}
 
 unfoldable pub nameFault : List ℕ → ℕ → ℕ → Refusal

@@ -4,8 +4,8 @@ use mathlib.Core.Bool.{Bool, not, _&&_}
 use mathlib.Core.List.{List}
 use lib.Dec.{eqb}
 use Rattle.songcode.specs.Lists.{if_then_else_}
-use Rattle.text.specs.declared.Refusal.{Refusal}
-use Rattle.text.specs.Refusals.{firstGiven, nothingRefused}
+use Rattle.refusals.specs.declared.Refusal.{Refusal}
+use Rattle.refusals.specs.Refusals.{firstGiven, nothingRefused}
 use Rattle.player.specs.declared.playing.Counts.{Counts}
 use Rattle.laying.specs.declared.texts.Opened.{Opened}
 use Rattle.judging.specs.declared.lyrics.Tally.{Tally}

@@ -8,8 +8,8 @@ use lib.ListN.{length}
 use Rattle.songcode.specs.Lists.{if_then_else_}
 use Rattle.songcode.specs.answer.Tables.{Tables}
 use Rattle.songcode.specs.description.Performance.{total}
-use Rattle.text.specs.declared.Refusal.{Refusal}
-use Rattle.text.specs.Refusals.{nothingRefused}
+use Rattle.refusals.specs.declared.Refusal.{Refusal}
+use Rattle.refusals.specs.Refusals.{nothingRefused}
 use Rattle.player.specs.declared.playing.Counts.{Counts}
 use Rattle.player.specs.Arrangements.{arrangedRow, PlaysWithin}
 use Rattle.sections.specs.declared.values.Modifiers.{Modifiers}

@@ -2,9 +2,9 @@
 use mathlib.Core.Bool.{true, false}
 use lib.Dec.{eqb}
 use Rattle.songcode.specs.Lists.{if_then_else_}
-use Rattle.text.specs.declared.Refusal.{Refusal}
-use Rattle.text.specs.Refusals.{firstGiven, nothingRefused}
-use Rattle.text.specs.Ranks.{none}
+use Rattle.refusals.specs.declared.Refusal.{Refusal}
+use Rattle.refusals.specs.Refusals.{firstGiven, nothingRefused}
+use Rattle.refusals.specs.Ranks.{none}
 use Rattle.judging.specs.declared.measures.Metered.{Metered}
 use Rattle.judging.specs.declared.sums.Totals.{Totals}
 use Rattle.judging.specs.declared.singing.Sung.{Sung}

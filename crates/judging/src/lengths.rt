@@ -1,36 +1,32 @@
 // Stage 5 of a section: the song's measures up to its end, and cuts that leave a beat.
+use cuts::Cut;
+use cuts::NO_CUT;
 use laying::Texts;
 use laying::has_cut;
 use outlines::even_measures;
 use player::Arrangement;
 use player::planned;
+use refusals::NOTHING;
+use refusals::NOTHING_LEFT;
+use refusals::Refusal;
+use refusals::SONG_TOO_LONG;
 use sections::Modifiers;
-use settings::Beats;
-use settings::Cut;
 use settings::CutRead;
-use settings::Measures;
-use text::NOTHING;
-use text::NOTHING_LEFT;
-use text::Refusal;
-use text::SONG_TOO_LONG;
 ghost use mathlib.Core.Path.{_≡_};
 ghost use Prim.Native.Nat.{_≤_};
 ghost use lib.ListN.{length};
 ghost use Rattle.songcode.specs.Lists.{times};
 ghost use Rattle.settings.specs.Cuts.{CutFits};
 ghost use Rattle.player.specs.Walks.{rowOf};
-ghost use Rattle.judging.specs.Lengths.{cutOrNone, arrangementOf, countOfTexts, isModified, cutAway, lengthFault, EvenText, Measurable, withLengths};
+ghost use Rattle.judging.specs.Lengths.{cutOr, arrangementOf, countOfTexts, isModified, cutAway, lengthFault, EvenText, Measurable, withLengths};
 
-// A cut that takes nothing where there is none.
-fn cut_or_none(c: CutRead) -> Cut
-    ensures { λ r. ⌜ r ≡ cutOrNone c ⌝ }
+// The cut that is said, else the other one.
+fn cut_or(c: CutRead, other: Cut) -> Cut
+    ensures { λ r. ⌜ r ≡ cutOr c other ⌝ }
 {
     match c {
         CutRead::Cut(cut) => cut,
-        CutRead::Not => Cut {
-            measures: Measures(0),
-            beats: Beats(0),
-        },
+        CutRead::Not => other,
     }
 }
 
@@ -46,8 +42,8 @@ pub fn arrangement(n: usize, t: Texts, m: Modifiers) -> Arrangement
     let tail = after.at;
     let front = m.front;
     let back = m.back;
-    let start = cut_or_none(front);
-    let end = cut_or_none(back);
+    let start = cut_or(front, NO_CUT);
+    let end = cut_or(back, NO_CUT);
     Arrangement {
         n,
         lead,

@@ -1,10 +1,10 @@
 // Stage 6: if one of the lyric lines taken has a count, all have.
+use refusals::COUNT_MISSING;
+use refusals::NOTHING;
+use refusals::Refusal;
 use score::LYRIC;
 use score::Stretch;
 use score::lyric_at;
-use text::COUNT_MISSING;
-use text::NOTHING;
-use text::Refusal;
 ghost use mathlib.Core.Path.{_≡_};
 ghost use Prim.Native.Nat.{_+_, _≤_, _<_, _*_};
 ghost use Rattle.judging.specs.Lyrics.{firstLine, withLine, Inside, tallyIn, takenWith, countFault};

@@ -2,11 +2,11 @@
 use laying::Texts;
 use outlines::Outline;
 use outlines::sizes_fit;
+use refusals::DIVISION;
+use refusals::NO_CHORD_BEFORE;
+use refusals::complain_if;
+use refusals::least_of;
 use sections::Modifiers;
-use text::DIVISION;
-use text::NO_CHORD_BEFORE;
-use text::complain_if;
-use text::least_of;
 ghost use mathlib.Core.Path.{_≡_};
 ghost use Rattle.judging.specs.Meters.{textFault, meterFault};
 

@@ -1,8 +1,8 @@
 // Stage 3 of a section: a pattern that names a definition which is not there.
 use outlines::is_missing;
-use text::NOTHING;
-use text::REFERENCE_UNDEFINED;
-use text::Refusal;
+use refusals::NOTHING;
+use refusals::REFERENCE_UNDEFINED;
+use refusals::Refusal;
 ghost use mathlib.Core.Path.{_≡_};
 ghost use Rattle.judging.specs.References.{nameFault};
 

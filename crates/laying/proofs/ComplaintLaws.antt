@@ -13,7 +13,7 @@ use Rattle.songcode.specs.description.Given.{Before}
 use Rattle.songcode.specs.Song.{Section}
 use Rattle.songcode.proofs.ListLaws.{by-cases, true-is-not-false, Each, each-append, each-map}
 use Rattle.songcode.proofs.VerdictAgree.{goes-first, goes-behind}
-use Rattle.text.specs.Refusals.{refusalOf}
+use Rattle.refusals.specs.Refusals.{refusalOf}
 use Rattle.sections.specs.Onward.{Later}
 
 pub before-goes : (c d : Complaint) → Before c d → goesFirst c d ≡ true

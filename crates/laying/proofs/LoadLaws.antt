@@ -23,7 +23,7 @@ use Rattle.songcode.proofs.ListLaws.{by-cases, nil-is-not-cons, append-is-nil, 
 use Rattle.songcode.proofs.MemoryLaws.{sets-append, sets-front, sets-before, sets-there}
 use Rattle.songcode.proofs.PatternLaws.{none-some}
 use Rattle.songcode.proofs.BlockKinds.{by-kind}
-use Rattle.text.specs.Refusals.{refusalOf}
+use Rattle.refusals.specs.Refusals.{refusalOf}
 use Rattle.tokens.specs.TokenWords.{tokenWords}
 use Rattle.tokens.specs.Kept.{KeptFrom}
 use Rattle.score.specs.declared.stretches.Stretch.{Stretch}

@@ -3,13 +3,12 @@ use Prim.Native.Nat.{ℕ, _+_, _≤_}
 use mathlib.Core.Path.{_≡_}
 use mathlib.Core.List.{List, [], _∷_}
 use mathlib.Core.Option.{Option, none, some}
-use lib.Dec.{eqb}
 use lib.ListN.{length}
 use Rattle.songcode.specs.Lists.{if_then_else_}
 use Rattle.songcode.specs.answer.Lines.{Line}
 use Rattle.songcode.specs.Song.{Pattern, items, named}
 use Rattle.songcode.specs.answer.Tokens.{Token, tokens, tokensOf}
-use Rattle.tokens.specs.Signs.{kindOf, numberOf}
+use Rattle.tokens.specs.Signs.{kindOf, numberOf, isReference}
 use Rattle.score.specs.declared.stretches.Stretch.{Stretch}
 use Rattle.score.specs.Places.{wordOf}
 use Rattle.sections.specs.Slots.{Setting}
@@ -42,4 +41,4 @@ Names (named n) k = (k ≡ n) × (1 ≤ n) × (n ≤ 9999)
 -- The first word of a text that names a definition is a reference.
 unfoldable pub namedAt : List ℕ → Stretch → ℕ
 unfolding if_then_else_ wordOf
-namedAt ws t = if eqb (kindOf (wordOf ws (t .to) (t .from))) 55 then numberOf (wordOf ws (t .to) (t .from)) else 0
+namedAt ws t = if isReference (kindOf (wordOf ws (t .to) (t .from))) then numberOf (wordOf ws (t .to) (t .from)) else 0

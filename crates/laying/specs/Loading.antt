@@ -13,7 +13,7 @@ use Rattle.songcode.specs.answer.SongText.{blockOrder, definitionBlocks, sectio
 use Rattle.songcode.specs.answer.References.{definitionOf, itemsOf, putIn, definitionsReferences, referenceFaults}
 use Rattle.songcode.specs.description.WrittenSong.{idOf}
 use Rattle.songcode.specs.answer.Answer.{blocksOf, songOf}
-use Rattle.text.specs.Refusals.{refusalOf}
+use Rattle.refusals.specs.Refusals.{refusalOf}
 use Rattle.tokens.specs.Kept.{KeptFrom}
 use Rattle.score.specs.declared.stretches.Stretch.{Stretch}
 use Rattle.score.specs.Places.{headWord}

@@ -13,8 +13,8 @@ use Rattle.songcode.specs.answer.Lines.{Block, blocks}
 use Rattle.songcode.specs.answer.Sections.{lyricLine}
 use Rattle.songcode.specs.answer.Playing.{timeAmong, bpmAmong, timeOf}
 use Rattle.songcode.specs.answer.Answer.{songOf}
-use Rattle.settings.specs.declared.cuts.CutRead.{CutRead}
-use Rattle.settings.specs.declared.cuts.CutRead.the-variants as read
+use Rattle.settings.specs.declared.cutting.CutRead.{CutRead}
+use Rattle.settings.specs.declared.cutting.CutRead.the-variants as read
 use Rattle.tokens.specs.TokenWords.{tokenWords}
 use Rattle.score.specs.declared.stretches.Stretch.{Stretch}
 use Rattle.score.specs.Places.{playedText}

@@ -1,4 +1,5 @@
 // The words of the keys table, from the settings that are gathered of the metadata.
+use packing::KEYS;
 use packing::key_word;
 use sections::Said;
 use sections::said_by;
@@ -13,9 +14,6 @@ ghost use Rattle.songcode.specs.answer.Answer.{inputFaults, blocksOf, songOf};
 ghost use Rattle.sections.specs.Slots.{settingAt};
 ghost use Rattle.sections.specs.Values.{Inside};
 ghost use Rattle.laying.specs.Keys.{wordOfSetting, ShortSetting, SongSays};
-
-// So many keys there are.
-pub const KEYS: usize = 8;
 
 // The word of a key's setting; 0 where there is none.
 fn key_said(s: &[u8], said: Said) -> u32

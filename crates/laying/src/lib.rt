@@ -9,7 +9,6 @@ mod texts;
 
 pub use definitions::Loaded;
 pub use definitions::load;
-pub use keys::KEYS;
 pub use keys::lay_keys;
 pub use metadata::lines_before;
 pub use metadata::metadata_end;

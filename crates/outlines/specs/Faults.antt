@@ -2,10 +2,10 @@
 use Prim.Native.Nat.{ℕ, _+_, _-_}
 use mathlib.Core.List.{List, [], _∷_}
 use mathlib.Core.Bool.{Bool, false, _||_}
-use lib.Dec.{eqb, ltb}
+use lib.Dec.{ltb}
 use Rattle.songcode.specs.Lists.{if_then_else_}
 use Rattle.songcode.specs.answer.PatternText.{loopsDeep}
-use Rattle.tokens.specs.Signs.{kindOf, numberOf}
+use Rattle.tokens.specs.Signs.{kindOf, numberOf, isOpening, isClosing, isReference}
 use Rattle.outlines.specs.declared.readings.Outline.{Outline}
 use Rattle.outlines.specs.declared.faults.Faults.{Faults}
 use Rattle.outlines.specs.Readings.{innerLevel}
@@ -22,14 +22,14 @@ referenceRead missing o f = record { level = f .level; missing = f .missing || m
 unfoldable pub bracketRead : ℕ → Faults → Faults
 unfolding if_then_else_
 bracketRead k f =
-    if eqb k 57 then record { level = innerLevel (f .level); missing = f .missing; deep = f .deep }
-    else (if eqb k 56 then record { level = f .level - 1; missing = f .missing; deep = f .deep }
+    if isOpening k then record { level = innerLevel (f .level); missing = f .missing; deep = f .deep }
+    else (if isClosing k then record { level = f .level - 1; missing = f .missing; deep = f .deep }
     else f)
 
 -- Each word, with what references find.
 unfoldable pub faultsRead : (ℕ → Bool) → (ℕ → Outline) → Faults → ℕ → Faults
 unfolding if_then_else_ referenceRead bracketRead
-faultsRead missing find f w = if eqb (kindOf w) 55 then referenceRead (missing (numberOf w)) (find (numberOf w)) f else bracketRead (kindOf w) f
+faultsRead missing find f w = if isReference (kindOf w) then referenceRead (missing (numberOf w)) (find (numberOf w)) f else bracketRead (kindOf w) f
 
 unfoldable pub allFaults : (ℕ → Bool) → (ℕ → Outline) → Faults → List ℕ → Faults
 unfolding faultsRead

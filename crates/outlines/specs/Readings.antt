@@ -2,11 +2,11 @@
 use Prim.Native.Nat.{ℕ, _+_, _-_, _*_, min, max}
 use mathlib.Core.List.{List, [], _∷_}
 use mathlib.Core.Bool.{Bool, true, false, _||_, _&&_, not}
-use lib.Dec.{eqb, ltb}
+use lib.Dec.{eqb}
 use lib.ListN.{getD, replicate, set}
 use Rattle.songcode.specs.Lists.{if_then_else_, isEmpty}
 use Rattle.songcode.specs.answer.PatternText.{loopsDeep}
-use Rattle.tokens.specs.Signs.{kindOf, numberOf, isPosition}
+use Rattle.tokens.specs.Signs.{kindOf, numberOf, isPosition, isChord, isAgain, isRemover, isOpening, isClosing, isReference}
 use Rattle.outlines.specs.declared.readings.Outline.{Outline}
 use Rattle.outlines.specs.declared.readings.Reading.{Reading}
 use Rattle.outlines.specs.Sizes.{joined}
@@ -20,9 +20,9 @@ sounded k s =
     record {
       refers = s .refers;
       sizes = s .sizes;
-      wants = s .wants || (eqb k 62 && not (s .chord));
-      chord = s .chord || ltb k 34;
-      whole = s .whole && not (eqb k 61);
+      wants = s .wants || (isAgain k && not (s .chord));
+      chord = s .chord || isChord k;
+      whole = s .whole && not (isRemover k);
       positions = min 33 (s .positions + 1);
       count = s .count;
       level = s .level;
@@ -121,14 +121,14 @@ unfoldable pub stepOf : Nested → ℕ → Nested
 unfolding if_then_else_ isPosition sounded entered left closed
 stepOf h w =
     if isPosition (kindOf w) then nested (sounded (kindOf w) (h .reading)) (h .around)
-    else (if eqb (kindOf w) 57 then entered h
-    else (if eqb (kindOf w) 56 then left (numberOf w) h
+    else (if isOpening (kindOf w) then entered h
+    else (if isClosing (kindOf w) then left (numberOf w) h
     else nested (closed (h .reading)) (h .around)))
 
 -- Each word, with the outlines that references find.
 unfoldable pub wordRead : (ℕ → Outline) → Nested → ℕ → Nested
 unfolding if_then_else_ referred stepOf
-wordRead find h w = if eqb (kindOf w) 55 then nested (referred (find (numberOf w)) (h .reading)) (h .around) else stepOf h w
+wordRead find h w = if isReference (kindOf w) then nested (referred (find (numberOf w)) (h .reading)) (h .around) else stepOf h w
 
 unfoldable pub wordsRead : (ℕ → Outline) → Nested → List ℕ → Nested
 unfolding wordRead

@@ -1,7 +1,13 @@
-// The words of the keys, sections and items tables: "bit-packed fields, most significant first, bits not named are 0".
-// Every field is asked to fit its bits, so that no field spills into its neighbour. `fields` takes words apart.
+// The words of the tables: "bit-packed fields, most significant first, bits not named are 0".
+// Every field is asked to fit its bits, so that no field spills into its neighbour. `fields` takes words apart, `beats` has what is done with one of a beat.
+mod beats;
 mod fields;
 
+pub use beats::SILENCE;
+pub use beats::beat_base;
+pub use beats::beat_spare;
+pub use beats::head_word;
+pub use beats::with_base;
 pub use fields::BeatFields;
 pub use fields::ItemFields;
 pub use fields::MeasureFields;
@@ -12,8 +18,11 @@ pub use fields::measure_of;
 pub use fields::section_of;
 ghost use mathlib.Core.Path.{_≡_};
 ghost use Prim.Native.Nat.{_+_, _*_, _^_, _<_};
-ghost use Rattle.songcode.specs.answer.Tables.{sectionWord};
+ghost use Rattle.songcode.specs.answer.Tables.{sectionWord, measureWord};
 ghost use Rattle.packing.specs.Fields.{packedItem};
+
+// The keys table has a word for each of so many keys.
+pub const KEYS: usize = 8;
 
 // keys: present 1, offset 16, length 9.
 pub fn key_word(offset: usize, length: usize) -> u32
@@ -34,6 +43,17 @@ pub fn section_word(header: usize, first: usize, measures: usize, meter: usize, 
         + (meter as u64) * 512
         + (tempo as u64)
 }
+
+// measures: first beat 21, beats 6.
+pub fn measure_word(first: usize, beats: usize) -> u32
+    requires { ⌜ (first < 2097152) × (beats < 64) ⌝ }
+    ensures { λ r. ⌜ r ≡ measureWord first beats ⌝ }
+{
+    (first as u32) * 2048 + (beats as u32) * 32
+}
+
+// So much more is the word of a measure that begins a beat later.
+pub const BEAT_LATER: usize = 2048;
 
 // items: text offset 16, length 16, first measure 16, measures 14, style 2.
 pub fn item_word(offset: usize, length: usize, first: usize, measures: usize, style: usize) -> u64

@@ -12,7 +12,7 @@ use Rattle.songcode.specs.description.Performance.{total}
 use Rattle.songcode.proofs.ListLaws.{by-cases}
 use Rattle.songcode.proofs.TurnedRows.{total-append}
 use Rattle.songcode.proofs.CutLaws.{total-take-le}
-use Rattle.settings.specs.declared.cuts.Cut.{Cut}
+use Rattle.cuts.specs.declared.Cut.{Cut}
 use Rattle.player.specs.declared.pens.Pen.{Pen}
 use Rattle.player.specs.Page.{Fine, play, page}
 use Rattle.player.specs.Windows.{window, firstBeat, lastBeat, keptOf, wholeOf, sectionRow}

@@ -14,7 +14,7 @@ use Rattle.songcode.specs.description.Performance.{total}
 use Rattle.songcode.proofs.ListLaws.{by-cases, times-length}
 use Rattle.songcode.proofs.CutFront.{keep-some}
 use Rattle.songcode.proofs.CutLaws.{total-take-le}
-use Rattle.settings.specs.declared.cuts.Cut.{Cut}
+use Rattle.cuts.specs.declared.Cut.{Cut}
 use Rattle.player.specs.Windows.{window, firstBeat, lastBeat, keptOf}
 use Rattle.player.specs.Even.{Level, Even, spanned}
 use Rattle.player.proofs.WindowLaws.{window-none}

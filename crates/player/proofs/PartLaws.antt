@@ -16,7 +16,7 @@ use Rattle.songcode.proofs.ListLaws.{by-cases, drop-take}
 use Rattle.songcode.proofs.RowLaws.{filled-append}
 use Rattle.songcode.proofs.CutFront.{keep-some, filled-keep}
 use Rattle.songcode.proofs.TurnedRows.{total-append}
-use Rattle.settings.specs.declared.cuts.Cut.{Cut}
+use Rattle.cuts.specs.declared.Cut.{Cut}
 use Rattle.player.specs.Windows.{window, firstBeat, lastBeat, keptOf, wholeOf, sectionRow, flat, heads}
 use Rattle.player.proofs.ShortLaws.{Short, short-append, short-times, total-short}
 use Rattle.player.proofs.WindowLaws.{total-window, window-none, window-enough, window-filled}

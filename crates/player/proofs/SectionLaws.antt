@@ -16,7 +16,7 @@ use Rattle.songcode.proofs.MemoryLaws.{sets-append}
 use Rattle.player.specs.declared.pens.Pen.{Pen}
 use Rattle.player.specs.declared.playing.Plan.{Plan}
 use Rattle.player.specs.declared.playing.Counts.{Counts}
-use Rattle.settings.specs.declared.cuts.Cut.{Cut}
+use Rattle.cuts.specs.declared.Cut.{Cut}
 use Rattle.player.specs.Page.{Page, Fine, play, page}
 use Rattle.player.specs.Arrangements.{Opening, Plays}
 use Rattle.player.specs.Windows.{window, firstBeat, lastBeat, keptOf, wholeOf, sectionRow, flat, heads}

@@ -14,7 +14,7 @@ use Rattle.songcode.specs.EitherOrder.{Filled}
 use Rattle.songcode.proofs.RowLaws.{filled-times}
 use Rattle.songcode.proofs.CutFront.{filled-cutFront}
 use Rattle.songcode.proofs.CutLaws.{total-take-le}
-use Rattle.settings.specs.declared.cuts.Cut as code
+use Rattle.cuts.specs.declared.Cut as code
 use Rattle.player.specs.Texts.{rowWords}
 use Rattle.player.specs.Windows.{cutOf, cutSaid, window, firstBeat, lastBeat, keptOf, wholeOf, sectionRow, flat, heads}
 use Rattle.player.proofs.WindowLaws.{whole-filled, total-window, window-none}

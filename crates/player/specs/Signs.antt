@@ -1,20 +1,19 @@
 -- What a position sounds, the last chord behind it, and the positions of a measure.
 use Prim.Native.Nat.{ℕ, zero, suc, _+_}
 use mathlib.Core.List.{List, [], _∷_, _++_}
-use lib.Dec.{eqb, ltb}
 use lib.ListN.{take, drop, replicate}
 use Rattle.songcode.specs.Lists.{if_then_else_}
-use Rattle.tokens.specs.Signs.{kindOf, isPosition}
+use Rattle.tokens.specs.Signs.{kindOf, isPosition, isChord, isAgain, isRemover, silenceWord}
 
 -- What a position sounds, as the word of a beat without head: itself, the last chord for `%`, silence.
 -- Where no chord was yet the last one is silence.
 unfoldable pub voiceOf : ℕ → ℕ → ℕ
 unfolding if_then_else_
-voiceOf last w = if ltb (kindOf w) 34 then w else (if eqb (kindOf w) 62 then last else 4227858432)
+voiceOf last w = if isChord (kindOf w) then w else (if isAgain (kindOf w) then last else silenceWord)
 
 unfoldable pub chordOf : ℕ → ℕ → ℕ
 unfolding if_then_else_
-chordOf last w = if ltb (kindOf w) 34 then w else last
+chordOf last w = if isChord (kindOf w) then w else last
 
 unfoldable pub chordsOf : ℕ → List ℕ → ℕ
 unfolding chordOf
@@ -29,7 +28,7 @@ lastingOf (suc k) v = (v + 16) ∷ replicate k v
 -- The beats of a position; a remover has none.
 unfoldable pub partOf : ℕ → ℕ → ℕ → List ℕ
 unfolding if_then_else_ lastingOf voiceOf
-partOf share last w = if eqb (kindOf w) 61 then [] else lastingOf share (voiceOf last w)
+partOf share last w = if isRemover (kindOf w) then [] else lastingOf share (voiceOf last w)
 
 unfoldable pub partsOf : ℕ → ℕ → List ℕ → List ℕ
 unfolding partOf chordOf
@@ -39,7 +38,7 @@ partsOf share last (w ∷ ws) = partOf share last w ++ partsOf share (chordOf la
 -- How many positions sound.
 unfoldable pub soundsAs : ℕ → ℕ
 unfolding if_then_else_
-soundsAs k = if eqb k 61 then 0 else 1
+soundsAs k = if isRemover k then 0 else 1
 
 unfoldable pub soundingOf : List ℕ → ℕ
 unfolding soundsAs

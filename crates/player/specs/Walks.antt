@@ -2,11 +2,10 @@
 use Prim.Native.Nat.{ℕ, zero, suc, _+_, _-_, _/_, _<_, _≤_}
 use mathlib.Core.List.{List, [], _∷_, _++_}
 use lib.ListN.{length}
-use lib.Dec.{eqb}
 use Rattle.songcode.specs.Lists.{if_then_else_, times}
 use Rattle.score.specs.declared.stretches.Stretch.{Stretch}
 use Rattle.score.specs.Places.{wordOf, stretchOf}
-use Rattle.tokens.specs.Signs.{kindOf, numberOf, isSeparator, isStop}
+use Rattle.tokens.specs.Signs.{kindOf, numberOf, isSeparator, isStop, isOpening, isClosing, isReference}
 use Rattle.player.specs.Signs.{chordsOf, partsOf, positionsAt}
 use Rattle.player.specs.declared.measures.Walk.{Walk}
 use Rattle.player.specs.declared.walks.Scope.{Scope}
@@ -49,7 +48,7 @@ passesOf ws to at = numberOf (wordOf ws to at) - 1
 
 unfoldable pub behindOf : List ℕ → ℕ → ℕ → ℕ
 unfolding if_then_else_ wordOf
-behindOf ws to at = if eqb (kindOf (wordOf ws to at)) 56 then at + 1 else at
+behindOf ws to at = if isClosing (kindOf (wordOf ws to at)) then at + 1 else at
 
 unfoldable pub looped : List ℕ → ℕ → Read → Read
 unfolding times passesOf behindOf
@@ -73,8 +72,8 @@ refOf inner ws x at last =
 unfoldable pub itemBy : (ℕ → ℕ → ℕ → Read) → ℕ → List ℕ → ℕ → ℕ → ℕ → ℕ → Read
 unfolding if_then_else_ loopOf refOf oneOf isSeparator
 itemBy inner n ws w to at last =
-    if eqb (kindOf w) 57 then loopOf inner ws to (at + 1) last
-    else (if eqb (kindOf w) 55 then refOf inner ws (numberOf w) at last
+    if isOpening (kindOf w) then loopOf inner ws to (at + 1) last
+    else (if isReference (kindOf w) then refOf inner ws (numberOf w) at last
     else (if isSeparator (kindOf w) then stop (at + 1) last
     else oneOf n ws to at last))
 

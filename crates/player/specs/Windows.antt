@@ -8,7 +8,7 @@ use Rattle.songcode.specs.Song as Song
 use Rattle.songcode.specs.answer.Tables.{measureWord}
 use Rattle.songcode.specs.answer.Playing.{keep}
 use Rattle.songcode.specs.description.Performance.{total}
-use Rattle.settings.specs.declared.cuts.Cut.{Cut}
+use Rattle.cuts.specs.declared.Cut.{Cut}
 
 -- A cut of the description as the code's value.
 unfoldable pub cutOf : Song.Cut → Cut

@@ -1,5 +1,6 @@
 // A pass of a loop done again without reading its words: it was passed over, or written whole, and will be.
 use super::pens::Pen;
+use packing::BEAT_LATER;
 use score::least;
 use score::minus;
 ghost use mathlib.Core.Path.{_≡_};
@@ -81,7 +82,7 @@ pub fn copy_later(t: &mut [u32], from: usize, to: usize, step: u32)
     }
 }
 
-// One more pass, written whole. A measure's word has its first beat from bit 11 on.
+// One more pass, written whole; its measures begin so many beats later.
 pub fn copied(p: Pen, q: Pen, ms: &mut [u32], bs: &mut [u32]) -> Pen
     requires { ⌜ Fine q × Copies p q × (p .m ≤ q .m) × (p .b ≤ q .b) ⌝ }
     ensures pen { λ r. ⌜ r ≡ copiedOf p q ⌝ }
@@ -89,7 +90,7 @@ pub fn copied(p: Pen, q: Pen, ms: &mut [u32], bs: &mut [u32]) -> Pen
     ensures beats { λ r. ⌜ now (bs .exit) ≡ copyOf same (now (bs .entry)) (p .b) (q .b) ⌝ }
 {
     let beats = q.b - p.b;
-    copy_later(ms, p.m, q.m, (beats * 2048) as u32);
+    copy_later(ms, p.m, q.m, (beats * BEAT_LATER) as u32);
     copy(bs, p.b, q.b);
     Pen {
         base: q.base,

@@ -1,6 +1,7 @@
 // A measure that is written whole: where the table has room for it, nothing is asked of a beat.
 use super::leaves::chord_after;
 use super::leaves::voice;
+use packing::head_word;
 use tokens::CHORDS;
 use tokens::REMOVER;
 use tokens::kind;
@@ -41,7 +42,7 @@ pub fn write_sound(share: usize, v: u32, b: usize, bs: &mut [u32])
     if share == 0 {
         return;
     }
-    bs[b] = v + 16;
+    bs[b] = head_word(v);
     write_words(share - 1, v, b + 1, bs);
 }
 

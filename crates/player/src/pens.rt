@@ -1,7 +1,9 @@
 // One small value, the pen, carries everything while beats and measures are written.
+use packing::head_word;
+use packing::measure_word;
 ghost use mathlib.Core.Path.{_≡_};
 ghost use mathlib.Core.List.{List};
-ghost use Prim.Native.Nat.{ℕ, _+_, _-_, _*_, _≤_, _<_};
+ghost use Prim.Native.Nat.{ℕ, _+_, _-_, _≤_, _<_};
 ghost use lib.ListN.{set, replicate};
 ghost use Rattle.player.specs.Signs.{lastingOf};
 ghost use Rattle.player.specs.Page.{Page, Ink, Fine, beatOf, inked, closed, restOf};
@@ -76,7 +78,7 @@ pub fn lasting(share: usize, v: u32, p: Pen, bs: &mut [u32]) -> Pen
     if share == 0 {
         return p;
     }
-    let q = beat(p, v + 16, bs);
+    let q = beat(p, head_word(v), bs);
     fill(share - 1, v, q, bs)
 }
 
@@ -89,7 +91,7 @@ pub fn close(from: usize, p: Pen, ms: &mut [u32]) -> Pen
     if from == p.b {
         return p;
     }
-    store(ms, p.m, ((p.base + from) * 2048 + (p.b - from) * 32) as u32);
+    store(ms, p.m, measure_word(p.base + from, p.b - from));
     Pen {
         base: p.base,
         todo: p.todo,

@@ -2,10 +2,11 @@
 use super::answers::Answer;
 use super::answers::counted;
 use super::answers::refused;
+use judging::LONG_ROW;
+use judging::SHORT_CHART;
+use judging::SHORT_ROW;
 use judging::first_stages;
 use judging::judge;
-use score::LONG_ROW;
-use score::SHORT_ROW;
 ghost use mathlib.Core.Path.{_≡_};
 ghost use mathlib.Core.List.{[]};
 ghost use Prim.Native.Nat.{_+_, _≤_};
@@ -57,7 +58,7 @@ fn count_long(text: &[u8]) -> Answer
 pub fn count(text: &[u8]) -> Answer
     ensures { λ r. ⌜ Counted (now (text .entry)) r ⌝ }
 {
-    if text.len() <= 2048 {
+    if text.len() <= SHORT_CHART {
         return count_short(text);
     }
     count_long(text)

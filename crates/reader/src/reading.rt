@@ -3,12 +3,15 @@ use super::answers::Answer;
 use super::answers::Room;
 use super::answers::counted;
 use super::answers::refused;
+use judging::LONG_ROW;
+use judging::SHORT_CHART;
+use judging::SHORT_ROW;
+use judging::SMALL_CHART;
+use judging::SMALL_ROW;
 use judging::Totals;
 use judging::first_stages;
 use judging::judge;
-use score::LONG_ROW;
-use score::SHORT_ROW;
-use text::TABLE_TOO_SHORT;
+use refusals::TABLE_TOO_SHORT;
 use writing::write_tables;
 ghost use mathlib.Core.Path.{_≡_};
 ghost use mathlib.Core.List.{[]};
@@ -19,9 +22,6 @@ ghost use Rattle.songcode.specs.answer.Answer.{inputFaults, blocksOf};
 ghost use Rattle.tokens.specs.Kept.{Unmarked, KeptFrom};
 ghost use Rattle.reader.specs.Answers.{lent, Promised};
 ghost use Rattle.reader.specs.Room.{isShort, answeredBy};
-
-// The row of a chart of at most 512 bytes.
-const SMALL_ROW: usize = 528;
 
 // "keys table under 8, or another table too short" for a song of these counts.
 fn is_short(a: Answer, room: Room) -> bool
@@ -175,10 +175,10 @@ pub fn read(
         (lent (now (keys .entry)) (now (sections .entry)) (now (measures .entry)) (now (beats .entry)) (now (items .entry))) r
         (lent (now (keys .exit)) (now (sections .exit)) (now (measures .exit)) (now (beats .exit)) (now (items .exit))) ⌝ }
 {
-    if text.len() <= 512 {
+    if text.len() <= SMALL_CHART {
         return read_small(text, keys, sections, measures, beats, items);
     }
-    if text.len() <= 2048 {
+    if text.len() <= SHORT_CHART {
         return read_short(text, keys, sections, measures, beats, items);
     }
     read_long(text, keys, sections, measures, beats, items)

@@ -16,7 +16,7 @@ use Rattle.songcode.specs.Song.{Items, LyricLine, Modifiers, Section, Song}
 use Rattle.songcode.specs.answer.References.{patternItems}
 use Rattle.songcode.specs.answer.Playing.{timeOf, bpmOf, repeats}
 use Rattle.songcode.specs.answer.Meter.{allFit, count, mostMeasures}
-use Rattle.settings.specs.declared.cuts.Cut.{Cut}
+use Rattle.cuts.specs.declared.Cut.{Cut}
 use Rattle.score.specs.declared.views.View.{View}
 use Rattle.score.specs.Even.{isWhole, evenMeasures, evenPattern}
 use Rattle.score.specs.Sections.{sideRow, patternRow, cutWord, isCut, cutsBy, cutsRow, lyricBy, lyricRow, partsRow, bit, sectionRow, sectionsRow}

@@ -4,12 +4,12 @@ use mathlib.Core.List.{List}
 use lib.Dec.{eqb}
 use lib.ListN.{take, getD}
 use Rattle.songcode.specs.Lists.{if_then_else_}
-use Rattle.tokens.specs.Signs.{kindOf, numberOf}
+use Rattle.tokens.specs.Signs.{kindOf, numberOf, isReference, wrongWord}
 use Rattle.score.specs.declared.stretches.Stretch.{Stretch}
 
--- The word at a place of the text that ends before `to`; past the end a word of kind 54, that of no token of a pattern.
+-- The word at a place of the text that ends before `to`; past the end the wrong word.
 unfoldable pub wordOf : List ℕ → ℕ → ℕ → ℕ
-wordOf ws to at = getD (take to ws) at 3623878656
+wordOf ws to at = getD (take to ws) at wrongWord
 
 -- A definition begins with its head, length * 2^15 + number * 2, and its outline; its token words stand behind these two.
 abbrev pub headWord : ℕ → ℕ → ℕ
@@ -40,4 +40,4 @@ stretchOf ws x = record { from = placeOf ws x + 2; to = placeOf ws x + lengthAt 
 -- What is played of a text: where it begins with `$n`, the definition's words.
 unfoldable pub playedText : List ℕ → Stretch → Stretch
 unfolding if_then_else_ wordOf stretchOf
-playedText ws t = if eqb (kindOf (wordOf ws (t .to) (t .from))) 55 then stretchOf ws (numberOf (wordOf ws (t .to) (t .from))) else t
+playedText ws t = if isReference (kindOf (wordOf ws (t .to) (t .from))) then stretchOf ws (numberOf (wordOf ws (t .to) (t .from))) else t

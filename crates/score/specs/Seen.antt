@@ -7,8 +7,8 @@ use lib.ListN.{length, take, drop}
 use Rattle.songcode.specs.Song as song
 use Rattle.songcode.specs.Song.{Section, Song}
 use Rattle.songcode.specs.answer.Playing.{timeOf, bpmOf, repeats}
-use Rattle.settings.specs.declared.cuts.Cut.{Cut}
-use Rattle.settings.specs.Cuts.{cutOf}
+use Rattle.cuts.specs.declared.Cut.{Cut}
+use Rattle.cuts.specs.Cuts.{cutOf}
 use Rattle.score.specs.declared.stretches.Stretch.{Stretch}
 use Rattle.score.specs.declared.views.View.{View}
 use Rattle.score.specs.Even.{evenPattern}

@@ -4,8 +4,8 @@ use mathlib.Core.List.{List}
 use mathlib.Core.Bool.{Bool, true, false}
 use lib.Dec.{eqb}
 use lib.ListN.{getD}
-use Rattle.settings.specs.declared.cuts.Cut.{Cut}
-use Rattle.settings.specs.Cuts.{cutOf}
+use Rattle.cuts.specs.declared.Cut.{Cut}
+use Rattle.cuts.specs.Cuts.{cutOf}
 use Rattle.score.specs.declared.stretches.Stretch.{Stretch}
 use Rattle.score.specs.declared.views.View.{View}
 

@@ -13,8 +13,6 @@ pub use definitions::played_text;
 pub use definitions::stretch_of;
 pub use lyrics::Lyric;
 pub use lyrics::lyric_at;
-pub use stretches::LONG_ROW;
-pub use stretches::SHORT_ROW;
 pub use stretches::Stretch;
 pub use stretches::least;
 pub use stretches::minus;

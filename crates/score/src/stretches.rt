@@ -4,11 +4,6 @@ ghost use mathlib.Core.Path.{_≡_};
 ghost use Prim.Native.Nat.{min, _-_};
 ghost use Rattle.score.specs.Places.{wordOf};
 
-// The row of a chart of at most 2,048 bytes, as nearly all are, and of any chart: a word for each byte, and some more.
-pub const SHORT_ROW: usize = 2064;
-
-pub const LONG_ROW: usize = 65552;
-
 // The words from one place on and before another.
 pub struct Stretch {
     pub from: usize,

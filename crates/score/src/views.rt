@@ -2,9 +2,9 @@
 use super::definitions::entry_at;
 use super::stretches::Stretch;
 use super::stretches::minus;
-use settings::Beats;
-use settings::Cut;
-use settings::Measures;
+use cuts::Beats;
+use cuts::Cut;
+use cuts::Measures;
 ghost use mathlib.Core.Path.{_≡_};
 ghost use Prim.Native.Nat.{_≤_, _/_, _%_};
 ghost use lib.Dec.{eqb};

@@ -4,7 +4,7 @@ use mathlib.Core.Path.{_≡_, refl}
 use mathlib.Core.List.{List, []}
 use mathlib.Core.Option.{bind}
 use native.Mathlib.Omega.{arith}
-use Rattle.settings.specs.declared.cuts.CutRead.the-variants.{Not}
+use Rattle.settings.specs.declared.cutting.CutRead.the-variants.{Not}
 use Rattle.settings.specs.Cuts.{cutIs, CutFits}
 use Rattle.sections.specs.declared.runs.Run.{Run}
 use Rattle.sections.specs.declared.slots.Said.{Said}

@@ -15,8 +15,8 @@ use Rattle.songcode.proofs.ListLaws.{by-cases}
 use Rattle.text.specs.Spans.{part}
 use Rattle.tokens.specs.declared.numbers.Number.{Number}
 use Rattle.tokens.specs.Decimals.{numberOf}
-use Rattle.settings.specs.declared.cuts.CutRead.{CutRead}
-use Rattle.settings.specs.declared.cuts.CutRead.the-variants as read
+use Rattle.settings.specs.declared.cutting.CutRead.{CutRead}
+use Rattle.settings.specs.declared.cutting.CutRead.the-variants as read
 use Rattle.settings.specs.Cuts.{cutIs, CutFits}
 use Rattle.settings.proofs.PlaceLaws.{Placeless}
 use Rattle.settings.proofs.NumberLaws.{numberIn-range}

@@ -10,7 +10,7 @@ use Rattle.songcode.specs.answer.Modifiers.{cutIn}
 use Rattle.songcode.specs.answer.Lines.{Line}
 use Rattle.tokens.specs.declared.numbers.Number.{Number}
 use Rattle.tokens.specs.declared.numbers.Number.the-variants.{Is, Not}
-use Rattle.settings.specs.declared.cuts.CutRead.{CutRead}
+use Rattle.settings.specs.declared.cutting.CutRead.{CutRead}
 use Rattle.settings.specs.Cuts.{cutIs, CutFits}
 use Rattle.sections.specs.declared.values.Keys.{Keys}
 use Rattle.sections.specs.declared.values.Modifiers.{Modifiers}

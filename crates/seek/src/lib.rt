@@ -1,12 +1,11 @@
 // The second call: the record of a measure table that holds a beat, searched for by halving.
+use refusals::BEAT_NOT_FOUND;
 ghost use mathlib.Core.Path.{_≡_};
 ghost use Rattle.songcode.specs.answer.Finding.{jumpTo};
 ghost use Rattle.seek.specs.Answers.{foundOf};
 
 // "for a table over 65,535 records": more are not searched, so that 16 probes are enough.
 const MOST_RECORDS: usize = 65535;
-
-const NOT_FOUND: usize = 19;
 
 // Refusal 0 and the record's place, or refusal 19 and place 0; and how many records were read.
 pub struct Found {
@@ -21,7 +20,7 @@ pub fn find_measure(measures: &[u32], beat: u32) -> Found
 {
     if MOST_RECORDS < measures.len() {
         return Found {
-            refusal: NOT_FOUND,
+            refusal: BEAT_NOT_FOUND,
             place: 0,
             probes: 0,
         };
@@ -48,7 +47,7 @@ pub fn find_measure(measures: &[u32], beat: u32) -> Found
         start = place + 1;
     }
     Found {
-        refusal: NOT_FOUND,
+        refusal: BEAT_NOT_FOUND,
         place: 0,
         probes,
     }

@@ -17,7 +17,7 @@ use Rattle.songcode.proofs.ListLaws.{by-cases}
 use Rattle.tokens.specs.Decimals.{numberOf}
 use Rattle.tokens.specs.declared.numbers.Number.{Number}
 use Rattle.tokens.specs.declared.numbers.Number.the-variants.{Is, Not}
-use Rattle.settings.specs.declared.cuts.CutRead.{CutRead}
+use Rattle.settings.specs.declared.cutting.CutRead.{CutRead}
 use Rattle.settings.specs.Parts.{lengthBefore}
 use Rattle.settings.specs.KeySettings.{isNumber}
 use Rattle.settings.specs.Cuts.{cutIs, cutRead, CutFits, cutPair}

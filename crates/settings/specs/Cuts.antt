@@ -5,13 +5,9 @@ use Rattle.songcode.specs.Song as song
 use Rattle.songcode.specs.answer.Modifiers.{cut}
 use Rattle.tokens.specs.declared.numbers.Number.{Number}
 use Rattle.tokens.specs.declared.numbers.Number.the-variants.{Is, Not}
-use Rattle.settings.specs.declared.cuts.Cut.{Cut}
-use Rattle.settings.specs.declared.cuts.CutRead.{CutRead}
-use Rattle.settings.specs.declared.cuts.CutRead.the-variants as read
-
--- A cut of so many whole measures and so many beats.
-abbrev pub cutOf : ℕ → ℕ → Cut
-cutOf m b = record { measures = record { 0 = m }; beats = record { 0 = b } }
+use Rattle.cuts.specs.Cuts.{cutOf}
+use Rattle.settings.specs.declared.cutting.CutRead.{CutRead}
+use Rattle.settings.specs.declared.cutting.CutRead.the-variants as read
 
 unfoldable pub cutIs : Option song.Cut → CutRead
 cutIs none = read.Not

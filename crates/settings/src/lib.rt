@@ -1,5 +1,5 @@
 // What a line of a chart is and says: its kind, its name and its setting, its header, its cut, its count and style.
-mod cuts;
+mod cutting;
 mod keys;
 mod kinds;
 mod lyrics;
@@ -7,11 +7,8 @@ mod modifiers;
 mod parts;
 mod phrases;
 
-pub use cuts::Beats;
-pub use cuts::Cut;
-pub use cuts::CutRead;
-pub use cuts::Measures;
-pub use cuts::cut_in;
+pub use cutting::CutRead;
+pub use cutting::cut_in;
 pub use keys::KeyName;
 pub use keys::bpm_in;
 pub use keys::is_number;

@@ -10,6 +10,7 @@ use Rattle.songcode.specs.answer.Tokens.{Token, sound, remover, reference, semi
 use Rattle.slips.specs.declared.readings.Misfit.{Misfit}
 use Rattle.slips.specs.Marks.{Mark}
 use Rattle.slips.specs.Places.{OneLine}
+use Rattle.tokens.specs.Signs.{isChord}
 
 -- "positions ...: a chord, `%`, `_` (silence), `=` (remover)"
 unfoldable pub isPosition : Token → Bool
@@ -103,7 +104,7 @@ abbrev pub fitting : ℕ → Misfit → Token → ℕ → ℕ → Misfit
 fitting n x t from to = fittingIf (isPosition t) n x from to
 
 abbrev pub isPositionSign : ℕ → Bool
-isPositionSign k = ltb k 34 || leb 61 k
+isPositionSign k = isChord k || leb 61 k
 
 abbrev pub fittingSign : ℕ → Misfit → ℕ → ℕ → ℕ → Misfit
 fittingSign n x k from to = fittingIf (isPositionSign k) n x from to

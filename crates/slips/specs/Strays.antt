@@ -3,13 +3,13 @@ use Prim.Native.Nat.{ℕ, _+_, _<_, _≤_}
 use mathlib.Core.Path.{_≡_}
 use mathlib.Core.List.{List, [], _∷_, _++_}
 use mathlib.Core.Bool.{true, false, _||_}
-use lib.Dec.{eqb, ltb}
 use lib.ListN.{length, getD}
 use Rattle.songcode.specs.Lists.{if_then_else_}
 use Rattle.songcode.specs.Song.{chord, again, silence}
 use Rattle.songcode.specs.answer.Tokens.{Token, sound, remover, reference, semicolon, colon, lineEnd, opens, closes, wrong}
 use Rattle.slips.specs.declared.readings.Stray.{Stray}
 use Rattle.slips.specs.Marks.{Mark}
+use Rattle.tokens.specs.Signs.{isChord, isAgain}
 
 -- Neither a chord nor `%`.
 unfoldable pub Silent : Token → Type 0
@@ -84,6 +84,6 @@ unfoldable pub hearingSign : Stray → ℕ → ℕ → Stray
 unfolding if_then_else_
 hearingSign x k from =
     if x .chord || x .found then x
-    else if ltb k 34 then record { chord = true; found = false; from = 0 }
-    else if eqb k 62 then record { chord = false; found = true; from = from }
+    else if isChord k then record { chord = true; found = false; from = 0 }
+    else if isAgain k then record { chord = false; found = true; from = from }
     else x

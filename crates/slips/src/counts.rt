@@ -1,7 +1,6 @@
 // Slips in counts and lengths: refusals 14 to 17.
 use super::blocks::name_stop;
 use super::keys::whole_line;
-use super::references::DEEP_OR_EMPTY;
 use super::references::EMPTY;
 use super::references::known_before;
 use super::signs::capped;
@@ -12,6 +11,7 @@ use super::slip::at_place;
 use super::slip::beside;
 use super::spots::Spot;
 use super::survey::block_behind;
+use refusals::REFERENCE_KIND;
 use sections::Place;
 use sections::Run;
 use sections::section_parts;
@@ -65,7 +65,7 @@ pub fn cut_slip(s: &[u8], p: Spot) -> Slip
         return at_place(0, 0, 0);
     }
     let parts = section_parts(s, p.block.number, p.block.at);
-    let known = known_before(s, p.block.at, DEEP_OR_EMPTY);
+    let known = known_before(s, p.block.at, REFERENCE_KIND);
     if is_empty(s, &known, parts.pattern) {
         let late = parts.late;
         return whole_line(
@@ -167,7 +167,7 @@ fn counted_in_block(s: &[u8], known: &[u8], p: Place) -> usize
 fn counted_in_song(s: &[u8]) -> usize
     requires { ⌜ length (now s) ≤ 65536 ⌝ }
 {
-    let known = known_before(s, s.len(), DEEP_OR_EMPTY);
+    let known = known_before(s, s.len(), REFERENCE_KIND);
     let mut p = Place { number: 1, at: 0 };
     while p.at < s.len() {
         let n = counted_in_block(s, &known, p);

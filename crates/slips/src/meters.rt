@@ -7,6 +7,7 @@ use super::signs::capped;
 use super::slip::Slip;
 use super::slip::at_place;
 use super::survey::block_of;
+use refusals::NO_CHORD_BEFORE;
 use sections::section_parts;
 use settings::setting_start;
 use text::Line;
@@ -16,8 +17,6 @@ ghost use lib.ListN.{length};
 ghost use Rattle.slips.specs.MeterTold.{MeterTold, MisfitsTold};
 ghost use Rattle.slips.specs.Readings.{ReadsSide, ToldStray, ToldMisfit};
 
-const STRAY: usize = 13;
-
 // What was read: for refusal 13 the stray `%`, for 12 the measure that does not fit.
 fn reading_slip(x: Reading, header: usize, refusal: usize, time: usize) -> Slip
     ensures { λ r. ⌜ (refusal ≡ 13 → ToldStray x r) × (refusal ≡ 12 → ToldMisfit x time r) ⌝ }
@@ -26,7 +25,7 @@ fn reading_slip(x: Reading, header: usize, refusal: usize, time: usize) -> Slip
     let misfit = x.misfit;
     let to = capped(stray.from, 1);
     let measure = capped(x.before, 1);
-    if refusal == STRAY {
+    if refusal == NO_CHORD_BEFORE {
         return Slip {
             clause: if stray.found { 1 } else { 0 },
             from: stray.from,

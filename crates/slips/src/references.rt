@@ -13,6 +13,7 @@ use super::slip::at_place;
 use super::slip::noted;
 use super::survey::NO_RUN;
 use super::survey::block_behind;
+use refusals::REFERENCE_UNDEFINED;
 use sections::Place;
 use sections::Run;
 use sections::kind_at;
@@ -38,11 +39,6 @@ const FINE: u8 = 4;
 
 // Definitions are numbered below this.
 const NUMBERS: usize = 10000;
-
-// The two refusals.
-const NOT_DEFINED: usize = 10;
-
-pub const DEEP_OR_EMPTY: usize = 11;
 
 // The search for a reference at fault: 0 before the first loop, 1 behind one, 2 in one; of the last token the clause, 0 where nothing is wrong with it,
 // its place and its number.
@@ -138,7 +134,7 @@ fn search_lines(s: &[u8], known: &[u8], run: Run) -> Search
 fn trait_of(s: &[u8], run: Run, refusal: usize) -> u8
     requires { ⌜ length (now s) ≤ 65536 ⌝ }
 {
-    if refusal == NOT_DEFINED {
+    if refusal == REFERENCE_UNDEFINED {
         return FINE;
     }
     if run.lines == 0 {

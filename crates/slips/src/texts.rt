@@ -17,6 +17,21 @@ use super::slip::at_place;
 use super::slip::noted;
 use super::spots::Spot;
 use super::spots::spot_of;
+use refusals::BAD_HEAD;
+use refusals::BAD_KEY;
+use refusals::BAD_LINE;
+use refusals::BAD_PATTERN;
+use refusals::BAD_SETTING;
+use refusals::BAD_TEXT;
+use refusals::BLOCK_ORDER;
+use refusals::COUNT_MISSING;
+use refusals::COUNT_SUM;
+use refusals::DIVISION;
+use refusals::NO_CHORD_BEFORE;
+use refusals::NOTHING_LEFT;
+use refusals::REFERENCE_KIND;
+use refusals::REFERENCE_UNDEFINED;
+use refusals::SONG_TOO_LONG;
 use text::byte_at;
 use text::good_bytes;
 ghost use Prim.Native.Nat.{_+_, _≤_};
@@ -43,15 +58,15 @@ fn slip_on(s: &[u8], p: Spot, refusal: usize) -> Slip
     requires { ⌜ (1 ≤ p .block .number) × (p .block .number ≤ p .block .at + 1) × (p .block .at ≤ length (now s)) ⌝ }
 {
     match refusal {
-        2 => byte_slip(s),
-        3 => order_slip(s, p.line),
-        4 => key_slip(s, p),
-        5 => setting_slip(s, p.line),
-        6 => head_slip(s, p.line),
-        8 => line_slip(s, p),
-        10 | 11 => reference_slip(s, p.block, refusal),
-        14 => header_name(1, s, p.line),
-        15 => cut_slip(s, p),
+        BAD_TEXT => byte_slip(s),
+        BLOCK_ORDER => order_slip(s, p.line),
+        BAD_KEY => key_slip(s, p),
+        BAD_SETTING => setting_slip(s, p.line),
+        BAD_HEAD => head_slip(s, p.line),
+        BAD_LINE => line_slip(s, p),
+        REFERENCE_UNDEFINED | REFERENCE_KIND => reference_slip(s, p.block, refusal),
+        SONG_TOO_LONG => header_name(1, s, p.line),
+        NOTHING_LEFT => cut_slip(s, p),
         _ => at_place(1, 0, 0),
     }
 }
@@ -62,19 +77,19 @@ pub fn find_slip(s: &[u8], refusal: usize, line: usize, time: usize) -> Slip
     ensures { λ r. ⌜ Finds (now (s .entry)) refusal line time r ⌝ }
 {
     let p = spot_of(s, line);
-    if refusal == 7 {
+    if refusal == BAD_PATTERN {
         return pattern_slip(s, p);
     }
-    if refusal == 16 {
+    if refusal == COUNT_MISSING {
         return count_slip(s, p.line);
     }
-    if refusal == 17 {
+    if refusal == COUNT_SUM {
         return sum_slip(s, p);
     }
-    if refusal == 12 {
+    if refusal == DIVISION {
         return meter_slip(s, p.line, line, refusal, time);
     }
-    if refusal == 13 {
+    if refusal == NO_CHORD_BEFORE {
         return meter_slip(s, p.line, line, refusal, time);
     }
     slip_on(s, p, refusal)

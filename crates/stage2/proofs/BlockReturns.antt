@@ -29,7 +29,7 @@ use Rattle.stage2.specs.declared.states.Carried.{Carried}
 use Rattle.stage2.specs.declared.states.Pending.{Pending}
 use Rattle.stage2.specs.declared.states.State.{State}
 use Rattle.stage2.specs.declared.states.Judged.{Judged}
-use Rattle.text.specs.Ranks.{ranked, none, noSection, least, onlyIf}
+use Rattle.refusals.specs.Ranks.{ranked, none, noSection, least, onlyIf}
 use Rattle.stage2.specs.Walk.{pending, nothingPending, late, unless}
 use Rattle.stage2.specs.States.{marked, keyOf, blockState, carried, judged, fineFor, closing, keyJudged, metadataState, headState}
 use Rattle.stage2.specs.States.{opening, ends}

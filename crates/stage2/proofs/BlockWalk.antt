@@ -9,7 +9,7 @@ use Rattle.songcode.specs.Lists.{if_then_else_, isEmpty}
 use Rattle.songcode.specs.answer.Lines.{Line, Block, Runs, shut, join, runs, blocks}
 use Rattle.grammar.specs.Checks.{first}
 use Rattle.grammar.specs.Verdicts.{sectionFine}
-use Rattle.text.specs.Ranks.{noSection, none, onlyIf}
+use Rattle.refusals.specs.Ranks.{noSection, none, onlyIf}
 use Rattle.stage2.specs.Walk.{Known, Walk, step, known, between, nothingPending, gap, fineAt, closed, full, stepped, finished, walked, unless}
 
 -- A block's lines, up to its end, and what is known behind it.

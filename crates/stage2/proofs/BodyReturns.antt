@@ -12,13 +12,13 @@ use Rattle.settings.specs.Names.{keyIs, modifierIs}
 use Rattle.stage2.specs.declared.states.Part.{Part}
 use Rattle.stage2.specs.declared.states.State.{State}
 use Rattle.stage2.specs.declared.states.Judged.{Judged}
-use Rattle.text.specs.Ranks.{none, least}
+use Rattle.refusals.specs.Ranks.{none, least}
 use Rattle.stage2.specs.Places.{pastKeys, beforePattern, pastPattern, partAfter, misplacedAt}
 use Rattle.stage2.specs.Walk.{orderNote, pendingAfter}
 use Rattle.stage2.specs.States.{again, marked, judged, bodyJudged, bodyState}
 use Rattle.stage2.specs.LineNotes.{keyNumber, modifierNumber}
 use Rattle.stage2.specs.BodyLines.{onKey, onModifier, onPattern}
-use Rattle.text.proofs.RankLaws.{least-le}
+use Rattle.refusals.proofs.RankLaws.{least-le}
 use Rattle.stage2.proofs.LineReturns.{key-of, modifier-of, modifier-no-key, pattern-no-key, key-no-modifier, pattern-no-modifier}
 use Rattle.stage2.proofs.LineReturns.{key-in-section, modifier-in-section, pattern-in-section}
 

@@ -13,10 +13,10 @@ use Rattle.grammar.specs.Verdicts.{definitionFine}
 use Rattle.grammar.specs.declared.checks.Check.{Check}
 use Rattle.grammar.specs.declared.kinds.Kind.the-variants.{LineEnd}
 use Rattle.grammar.proofs.VerdictLaws.{definition-fine}
-use Rattle.text.specs.Ranks.{ranked, none, least, onlyIf}
+use Rattle.refusals.specs.Ranks.{ranked, none, least, onlyIf}
 use Rattle.stage2.specs.Walk.{Known, known, Walk, behindHead, inDefinition, blockAt, pending, nothingPending, closed, fineAt, late, headNote, unless}
 use Rattle.stage2.specs.Walk.{opens, stepAt}
-use Rattle.text.proofs.RankLaws.{least-if, min-assoc}
+use Rattle.refusals.proofs.RankLaws.{least-if, min-assoc}
 use Rattle.stage2.proofs.BlockWalk.{inBlock, afterBlock, blockNote, blockAfter, unless-none}
 use Rattle.stage2.proofs.SeenLaws.{checkOn, check-lines-on}
 

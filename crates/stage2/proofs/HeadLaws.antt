@@ -18,7 +18,7 @@ use Rattle.songcode.specs.answer.Sections.{twiceBy, behindFirst}
 use Rattle.songcode.specs.answer.SongText.{headIn}
 use Rattle.songcode.proofs.ListLaws.{any-append, both-pass, by-cases}
 use Rattle.tokens.specs.Decimals.{numberOf}
-use Rattle.text.specs.Ranks.{least}
+use Rattle.refusals.specs.Ranks.{least}
 use Rattle.stage2.specs.Heads.{hasHead, headAgain, headJudged, orZero, withHead}
 use Rattle.stage2.proofs.MarkLaws.{said}
 

@@ -20,10 +20,10 @@ use Rattle.tokens.specs.declared.numbers.Number.{Number}
 use Rattle.tokens.specs.declared.numbers.Number.the-variants.{Is, Not}
 use Rattle.text.specs.Spans.{part}
 use Rattle.settings.proofs.OfLineLaws.{lineFrom, head-of-line}
-use Rattle.text.specs.Ranks.{least}
+use Rattle.refusals.specs.Ranks.{least}
 use Rattle.stage2.specs.Heads.{hasHead, headAgain, headJudged, orZero, withHead}
 use Rattle.stage2.proofs.MarkLaws.{said}
-use Rattle.text.proofs.RankLaws.{least-le}
+use Rattle.refusals.proofs.RankLaws.{least-le}
 
 -- The search among the heads.
 module _ (x n : ℕ) (ids : List ℕ) (i : ℕ) where

@@ -19,8 +19,8 @@ use Rattle.settings.specs.declared.kinds.Kind.{Kind}
 use Rattle.settings.specs.declared.kinds.Kind.the-variants.{Key, Modifier, Pattern}
 use Rattle.settings.proofs.ValueLaws.{kindOf-placeless}
 use Rattle.settings.proofs.OfLineLaws.{lineFrom}
-use Rattle.text.specs.Ranks.{least}
-use Rattle.text.specs.Ranks as ranks
+use Rattle.refusals.specs.Ranks.{least}
+use Rattle.refusals.specs.Ranks as ranks
 use Rattle.stage2.specs.States.{keyOf, modifierOf}
 use Rattle.stage2.specs.LineNotes.{keyNumber, modifierNumber, keyNote, modifierNote}
 use Rattle.stage2.proofs.NoteLaws.{allowedBy, key-note, key-number, modifier-note, modifier-number}

@@ -18,7 +18,7 @@ use Rattle.songcode.specs.answer.Modifiers.{ModifierName, ofRepeat, ofCutStart,
 use Rattle.songcode.specs.answer.Sections.{kindOfLine, keyNameOf, modifierNameOf, keySaid, modifierSaid, twiceBy}
 use Rattle.songcode.proofs.LineAgree.{by-kind}
 use Rattle.songcode.proofs.ListLaws.{by-cases}
-use Rattle.text.specs.Ranks.{least, none}
+use Rattle.refusals.specs.Ranks.{least, none}
 use Rattle.stage2.specs.States.{noMarks, again, marked}
 
 -- What a line says is one of eight things.

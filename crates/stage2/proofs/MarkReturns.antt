@@ -7,7 +7,7 @@ use borrow.Author.Tests.{lt-ltb, le-ltb}
 use lib.ListN.{getD, set}
 use Rattle.songcode.specs.Lists.{if_then_else_}
 use Rattle.songcode.specs.Complaints.{complainIf}
-use Rattle.text.specs.Ranks.{none, least}
+use Rattle.refusals.specs.Ranks.{none, least}
 use Rattle.stage2.specs.States.{again, marked}
 
 module _ (number k : ℕ) (marks : List Bool) (line : ℕ) where

@@ -16,13 +16,13 @@ use Rattle.stage2.specs.declared.states.Part.{Part}
 use Rattle.stage2.specs.declared.states.Place.the-variants.{Body}
 use Rattle.stage2.specs.declared.states.Pending.{Pending}
 use Rattle.stage2.specs.declared.states.State.{State}
-use Rattle.text.specs.Ranks.{least}
+use Rattle.refusals.specs.Ranks.{least}
 use Rattle.stage2.specs.Walk.{patternPending}
 use Rattle.stage2.specs.States.{again, marked, keyOf, judged, stateAt, keyJudged}
 use Rattle.stage2.specs.LineNotes.{keyNumber, modifierNumber, keyNote, modifierNote}
 use Rattle.stage2.specs.Places.{pastKeys, beforePattern, pastPattern, afterKey, afterModifier, afterPattern}
 use Rattle.stage2.specs.BodyLines.{keyAlone, onKey, onModifier, onPattern}
-use Rattle.text.proofs.RankLaws.{least-le}
+use Rattle.refusals.proofs.RankLaws.{least-le}
 use Rattle.stage2.proofs.LineReturns.{key-of, modifier-no-key, pattern-no-key, key-in-metadata, modifier-in-metadata, pattern-in-metadata}
 
 module _ (l : Line) (marks : List Bool) where

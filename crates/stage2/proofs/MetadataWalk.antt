@@ -9,9 +9,9 @@ use Rattle.songcode.specs.answer.Sections.{twice, twiceBy, keySaid}
 use Rattle.songcode.specs.answer.SongText.{metadata, blockKind, metadataFault}
 use Rattle.grammar.specs.Checks.{first}
 use Rattle.grammar.specs.Verdicts.{sectionFine}
-use Rattle.text.specs.Ranks.{least}
+use Rattle.refusals.specs.Ranks.{least}
 use Rattle.stage2.specs.Walk.{Known, known, Walk, inMetadata, blockAt, nothingPending, closed, fineAt, late, metadataNote, opens, stepAt}
-use Rattle.text.proofs.RankLaws.{least-both, min-assoc}
+use Rattle.refusals.proofs.RankLaws.{least-both, min-assoc}
 use Rattle.stage2.proofs.BlockWalk.{inBlock, afterBlock, blockNote, blockAfter, unless-none}
 use Rattle.stage2.proofs.SeenLaws.{seenAfter}
 

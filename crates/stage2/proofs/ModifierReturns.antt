@@ -19,13 +19,13 @@ use Rattle.tokens.specs.declared.numbers.Number.{Number}
 use Rattle.text.specs.Spans.{part}
 use Rattle.settings.specs.KeySettings.{isNumber}
 use Rattle.settings.specs.Cuts.{cutIs}
-use Rattle.settings.specs.declared.cuts.CutRead.{CutRead}
+use Rattle.settings.specs.declared.cutting.CutRead.{CutRead}
 use Rattle.settings.specs.declared.modifiers.ModifierName.{ModifierName}
 use Rattle.settings.specs.declared.modifiers.ModifierName.the-variants.{Repeat, CutStart, CutEnd, Before, After, Unknown}
 use Rattle.settings.proofs.NumberLaws.{repeatIn-placeless}
 use Rattle.settings.proofs.CutLaws.{cutIn-placeless}
 use Rattle.settings.proofs.OfLineLaws.{lineFrom, setting-of-line}
-use Rattle.text.specs.Ranks.{least}
+use Rattle.refusals.specs.Ranks.{least}
 use Rattle.stage2.specs.LineNotes.{isCut, settingFine, settingNumber, modifierNote}
 
 number-there : (o : Option ℕ) → isNumber (numberOf o) ≡ isSome o

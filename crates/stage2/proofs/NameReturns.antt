@@ -18,7 +18,7 @@ use Rattle.settings.specs.declared.modifiers.ModifierName.{ModifierName}
 use Rattle.settings.proofs.PlaceLaws.{Placeless}
 use Rattle.settings.proofs.ValueLaws.{isSetting-placeless}
 use Rattle.settings.proofs.OfLineLaws.{lineFrom, key-name-of-line, modifier-name-of-line, setting-of-line}
-use Rattle.text.specs.Ranks.{least}
+use Rattle.refusals.specs.Ranks.{least}
 use Rattle.stage2.specs.LineNotes.{allowedIn, keyNote}
 
 module _ (n : ℕ) (s : List ℕ) (a e q : ℕ) where

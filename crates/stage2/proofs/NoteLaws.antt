@@ -17,9 +17,9 @@ use Rattle.songcode.specs.Complaints.{complaint, complainIf}
 use Rattle.songcode.specs.answer.Sections.{settingOf, keyFaultsBy, modifierFaultsBy}
 use Rattle.settings.specs.Names.{keyIs, modifierIs}
 use Rattle.settings.specs.KeySettings.{isSettingOf}
-use Rattle.text.specs.Ranks.{least, ranked}
+use Rattle.refusals.specs.Ranks.{least, ranked}
 use Rattle.stage2.specs.LineNotes.{keyNumber, modifierNumber, allowedIn, keyNote, settingFine, settingNumber, modifierNote}
-use Rattle.text.proofs.RankLaws.{least-append}
+use Rattle.refusals.proofs.RankLaws.{least-append}
 
 -- Where keys stand.
 unfoldable pub allowedBy : Bool → KeyName → Bool

@@ -16,9 +16,9 @@ use Rattle.stage2.specs.declared.states.Pending.{Pending}
 use Rattle.stage2.specs.declared.states.Part.{Part}
 use Rattle.stage2.specs.declared.states.Part.the-variants.{Keys, Early, Pattern, Behind}
 use Rattle.stage2.specs.Places.{partAfter}
-use Rattle.text.specs.Ranks.{ranked, none, least}
+use Rattle.refusals.specs.Ranks.{ranked, none, least}
 use Rattle.stage2.specs.Walk.{pendingAfter, patternPending, unless}
-use Rattle.text.proofs.RankLaws.{least-if}
+use Rattle.refusals.proofs.RankLaws.{least-if}
 use Rattle.stage2.proofs.BlockWalk.{unless-none}
 use Rattle.stage2.proofs.SeenLaws.{checkOn, check-lines-on}
 use Rattle.stage2.proofs.DefinitionWalk.{only-unless}

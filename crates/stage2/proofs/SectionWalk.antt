@@ -18,10 +18,10 @@ use Rattle.stage2.specs.declared.states.Pending.{Pending}
 use Rattle.stage2.specs.declared.states.Part.{Part}
 use Rattle.stage2.specs.declared.states.Part.the-variants.{Keys, Early, Pattern, Behind}
 use Rattle.stage2.specs.Places.{partAfter, misplacedAt, orderAt}
-use Rattle.text.specs.Ranks.{ranked, none, least, onlyIf}
+use Rattle.refusals.specs.Ranks.{ranked, none, least, onlyIf}
 use Rattle.stage2.specs.Walk.{Known, known, inBody, inLyrics, walkAt, pending, closed, fineAt, late, opens, pendingAfter, orderNote, bodyNote, unless}
 use Rattle.stage2.specs.Walk.{bodyStep, lyricsWith, patternPending, stepAt}
-use Rattle.text.proofs.RankLaws.{least-append, least-both, least-if, least-le, min-assoc, min-both}
+use Rattle.refusals.proofs.RankLaws.{least-append, least-both, least-if, least-le, min-assoc, min-both}
 use Rattle.stage2.proofs.BlockWalk.{inBlock, afterBlock, blockNote, blockAfter}
 use Rattle.stage2.proofs.PlaceLaws.{order-at}
 use Rattle.stage2.proofs.PatternWalk.{wanted, patternLeft, Fits, at-end, pattern-next, fits-next, run-faults}

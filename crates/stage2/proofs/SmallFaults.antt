@@ -14,7 +14,7 @@ use Rattle.songcode.specs.answer.SongText.{metadataFaults, headIn, definitionIf
 use Rattle.songcode.specs.answer.SongText.{definitionFaults, definitionsFaults}
 use Rattle.songcode.proofs.ListLaws.{Each, each-append}
 use Rattle.settings.specs.Phrases.{isHeader}
-use Rattle.text.specs.Ranks.{Small}
+use Rattle.refusals.specs.Ranks.{Small}
 use Rattle.stage2.proofs.TextWalk.{blockFaults}
 use Rattle.stage2.proofs.SmallLineFaults.{Low, LowBlock, Fine, fine-if, fine-gather, each-gather, each-taken, each-left, fine-twice}
 use Rattle.stage2.proofs.SmallLineFaults.{fine-faults, fine-metadata, fine-order, fine-pattern, fine-definition, fine-lyrics}

@@ -18,7 +18,7 @@ use Rattle.songcode.specs.answer.Sections.{misplaced, order, patternFaults, lyr
 use Rattle.songcode.specs.answer.SongText.{metadataFault, definitionFaults}
 use Rattle.songcode.proofs.ListLaws.{Each, each-append, by-cases}
 use Rattle.songcode.proofs.LineAgree.{by-kind as by-line-kind}
-use Rattle.text.specs.Ranks.{Small}
+use Rattle.refusals.specs.Ranks.{Small}
 
 -- A line of a text that is not too long; a block of such lines.
 abbrev pub Low : Line → Type 0

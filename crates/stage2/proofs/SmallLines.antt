@@ -12,13 +12,13 @@ use Rattle.songcode.specs.Complaints.{earliest}
 use Rattle.songcode.specs.answer.SongText.{blockKind, sectionIf, sectionBlocks, textFaults}
 use Rattle.songcode.specs.answer.Answer.{blocksOf}
 use Rattle.songcode.proofs.ListLaws.{Each}
-use Rattle.text.specs.Refusals.{refusalOf}
+use Rattle.refusals.specs.Refusals.{refusalOf}
 use Rattle.text.specs.Spans.{lineOf, spansFrom, spans, lineText}
 use Rattle.text.specs.declared.lines.Line.{Line}
 use Rattle.text.proofs.LineLaws.{blocks-spans}
-use Rattle.text.specs.Ranks.{refusalAt}
+use Rattle.refusals.specs.Ranks.{refusalAt}
 use Rattle.stage2.specs.Walk.{walked, atFirst}
-use Rattle.text.proofs.RankLaws.{or-no-section, clear-faults}
+use Rattle.refusals.proofs.RankLaws.{or-no-section, clear-faults}
 use Rattle.stage2.proofs.TextWalk.{blockFaults, walked-least}
 use Rattle.stage2.proofs.SmallFaults.{faults-small, low-section}
 use Rattle.stage2.proofs.SmallLineFaults.{Low, LowBlock, each-gather}

@@ -26,7 +26,7 @@ use Rattle.stage2.specs.Walk.{finished, atFirst}
 use Rattle.stage2.specs.States.{noMarks, marked, keyOf, blockState, carried, judged, fineFor, closing, keyJudged}
 use Rattle.stage2.specs.States.{opening, bodyJudged, bodyState, judgedAt, judge, ends, firstState}
 use Rattle.stage2.specs.Heads.{headJudged, isHead, headNoted, headsAfter}
-use Rattle.text.specs.Ranks.{none}
+use Rattle.refusals.specs.Ranks.{none}
 use Rattle.stage2.proofs.MarkLaws.{Agrees, none-agrees, again-agrees, marked-agrees, key-said-below, modifier-said-below}
 use Rattle.stage2.proofs.HeadLaws.{HeadsAgree, no-heads-agree, head-counts, head-agrees, with-head-agrees}
 

@@ -15,9 +15,9 @@ use Rattle.songcode.specs.answer.SongText.{metadataFaults, headIn, definitionIf
 use Rattle.songcode.specs.answer.SongText.{definitionFaults, definitionsFaults}
 use Rattle.songcode.proofs.ListLaws.{gather-append, by-cases}
 use Rattle.songcode.proofs.BlockKinds.{by-kind}
-use Rattle.text.specs.Ranks.{noSection, none, least, onlyIf}
+use Rattle.refusals.specs.Ranks.{noSection, none, least, onlyIf}
 use Rattle.stage2.specs.Walk.{Known, known, late, headNote, walked, atFirst}
-use Rattle.text.proofs.RankLaws.{least-append, least-both, min-assoc, min-swap, min-both}
+use Rattle.refusals.proofs.RankLaws.{least-append, least-both, min-assoc, min-swap, min-both}
 use Rattle.stage2.proofs.BlockWalk.{blockNote, blockAfter, byBlocks, walked-by-blocks}
 use Rattle.stage2.proofs.SeenLaws.{seenAfter, twice-append}
 use Rattle.stage2.proofs.MetadataWalk.{metadataLeast, metadata-block, metadata-block-after}

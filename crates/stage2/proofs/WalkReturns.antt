@@ -14,10 +14,10 @@ use Rattle.songcode.specs.answer.Sections.{notDashes}
 use Rattle.songcode.specs.Complaints.{earliest}
 use Rattle.songcode.specs.answer.SongText.{textFaults}
 use Rattle.songcode.specs.answer.Answer.{blocksOf}
-use Rattle.text.specs.Refusals.{refusalOf}
+use Rattle.refusals.specs.Refusals.{refusalOf}
 use Rattle.text.specs.Spans.{part, Found, spansFrom, spans, lineText}
 use Rattle.text.specs.declared.lines.Line.{Line}
-use Rattle.text.specs.declared.Refusal.{Refusal}
+use Rattle.refusals.specs.declared.Refusal.{Refusal}
 use Rattle.text.proofs.WalkLaws.{empty-line, spans-found, spans-over}
 use Rattle.tokens.specs.Kept.{Kept, KeptFrom, Unmarked, Keeps}
 use Rattle.tokens.proofs.KeptLaws.{unmarked-kept, kept-next}
@@ -29,11 +29,11 @@ use Rattle.stage2.specs.declared.states.Place.the-variants.{Between, Def
 use Rattle.stage2.specs.declared.states.Pending.{Pending}
 use Rattle.stage2.specs.declared.states.State.{State}
 use Rattle.stage2.specs.declared.states.Judged.{Judged}
-use Rattle.text.specs.Ranks.{ranked, none, refusalAt}
+use Rattle.refusals.specs.Ranks.{ranked, none, refusalAt}
 use Rattle.stage2.specs.Walk.{Walk, known, nothingPending, patternPending, stepped, walked, atFirst}
 use Rattle.stage2.specs.States.{blockState, judged, definitionState, closing, bodyJudged, bodyState, lyricsState, judgedAt, judge, ends}
 use Rattle.stage2.specs.Heads.{headNoted, headsAfter}
-use Rattle.text.proofs.RankLaws.{min-assoc}
+use Rattle.refusals.proofs.RankLaws.{min-assoc}
 use Rattle.stage2.proofs.BlockWalk.{by-blocks-le, walked-by-blocks}
 use Rattle.stage2.proofs.SmallLines.{stage-walked}
 use Rattle.stage2.proofs.StateLaws.{Stands, keeps-step, ends-same}

@@ -10,7 +10,7 @@ use Rattle.stage2.specs.declared.states.Part.{Part}
 use Rattle.stage2.specs.declared.states.Place.the-variants.{Body}
 use Rattle.stage2.specs.declared.states.State.{State}
 use Rattle.stage2.specs.declared.states.Judged.{Judged}
-use Rattle.text.specs.Ranks.{least}
+use Rattle.refusals.specs.Ranks.{least}
 use Rattle.stage2.specs.Places.{pastKeys, beforePattern, pastPattern, afterKey, afterModifier, afterPattern}
 use Rattle.stage2.specs.Walk.{patternPending}
 use Rattle.stage2.specs.States.{again, marked, stateAt, judged}

@@ -14,7 +14,7 @@ use Rattle.tokens.specs.declared.numbers.Number.the-variants.{Is, Not}
 use Rattle.settings.specs.KeySettings.{isNumber}
 use Rattle.stage2.specs.declared.states.Place.{Place}
 use Rattle.stage2.specs.declared.states.Place.the-variants.{Between, Metadata, Head, Definition, Body, Lyrics}
-use Rattle.text.specs.Ranks.{none, least}
+use Rattle.refusals.specs.Ranks.{none, least}
 
 unfoldable pub hasHead : ℕ → List ℕ → ℕ → Bool
 hasHead n ids x = any (λ y. eqb y x) (take n ids)

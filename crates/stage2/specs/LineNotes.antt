@@ -15,9 +15,9 @@ use Rattle.settings.specs.declared.keys.KeyName.the-variants as key
 use Rattle.settings.specs.declared.modifiers.ModifierName.{ModifierName}
 use Rattle.settings.specs.declared.modifiers.ModifierName.the-variants.{Repeat, CutStart, CutEnd, Before, After}
 use Rattle.settings.specs.declared.modifiers.ModifierName.the-variants as modifier
-use Rattle.settings.specs.declared.cuts.CutRead.{CutRead}
-use Rattle.settings.specs.declared.cuts.CutRead.the-variants as read
-use Rattle.text.specs.Ranks.{least}
+use Rattle.settings.specs.declared.cutting.CutRead.{CutRead}
+use Rattle.settings.specs.declared.cutting.CutRead.the-variants as read
+use Rattle.refusals.specs.Ranks.{least}
 
 -- The places of the names, 8 for an unknown one.
 abbrev pub keyNumber : KeyName → ℕ

@@ -21,7 +21,7 @@ use Rattle.stage2.specs.declared.states.Carried.{Carried}
 use Rattle.stage2.specs.declared.states.Pending.{Pending}
 use Rattle.stage2.specs.declared.states.State.{State}
 use Rattle.stage2.specs.declared.states.Judged.{Judged}
-use Rattle.text.specs.Ranks.{ranked, noSection, none, least, onlyIf}
+use Rattle.refusals.specs.Ranks.{ranked, noSection, none, least, onlyIf}
 use Rattle.stage2.specs.Places.{partAfter}
 use Rattle.stage2.specs.Walk.{pending, nothingPending, late, orderNote, patternPending, pendingAfter, unless}
 
@@ -57,14 +57,19 @@ carried t ks n = record { turn = t; metadata = ks; count = n }
 abbrev pub judged : ℕ → State → Judged
 judged note state = record { note = note; state = state }
 
+-- In a definition, its head behind.
+abbrev pub inDefinition : Place → Bool
+inDefinition Between = false
+inDefinition Metadata = false
+inDefinition Head = true
+inDefinition Definition = true
+inDefinition (Body p) = false
+inDefinition Lyrics = false
+
 -- At the end of a block.
 unfoldable pub fineFor : Place → Check → Bool
-fineFor Between c = sectionFine c
-fineFor Metadata c = sectionFine c
-fineFor Head c = definitionFine c
-fineFor Definition c = definitionFine c
-fineFor (Body p) c = sectionFine c
-fineFor Lyrics c = sectionFine c
+unfolding if_then_else_
+fineFor p c = if inDefinition p then definitionFine c else sectionFine c
 
 unfoldable pub closing : State → ℕ
 closing c = min (c .pending .want) (min (c .pending .bare) (unless (fineFor (c .place) (c .pending .check)) (c .pending .bad)))

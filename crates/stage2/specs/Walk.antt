@@ -17,7 +17,7 @@ use Rattle.stage2.specs.declared.states.Pending.{Pending}
 use Rattle.stage2.specs.declared.states.Part.{Part}
 use Rattle.stage2.specs.declared.states.Part.the-variants.{Keys, Early, Pattern, Behind}
 use Rattle.stage2.specs.Places.{partAfter, misplacedAt}
-use Rattle.text.specs.Ranks.{ranked, noSection, none, least, onlyIf}
+use Rattle.refusals.specs.Ranks.{ranked, noSection, none, least, onlyIf}
 
 -- Between blocks; in metadata; behind a definition's head, and among its pattern lines; between a section's header and its `--`; behind that.
 pub data Where : Type 0 where

@@ -14,16 +14,16 @@ use grammar::Check;
 use grammar::definition_fine;
 use grammar::section_fine;
 use grammar::start;
+use refusals::BAD_LINE;
+use refusals::BLOCK_ORDER;
+use refusals::NO_COMPLAINT;
+use refusals::complain_if;
+use refusals::least_of;
+use refusals::rank;
 use settings::BlockKind;
 use settings::block_kind;
 use settings::header_ok;
-use text::BAD_LINE;
-use text::BLOCK_ORDER;
 use text::Line;
-use text::NO_COMPLAINT;
-use text::complain_if;
-use text::least_of;
-use text::rank;
 ghost use mathlib.Core.Path.{_≡_};
 ghost use Prim.Native.Nat.{_<_, _≤_, max};
 ghost use lib.Dec.{ltb};
@@ -31,8 +31,8 @@ ghost use lib.ListN.{length};
 ghost use Rattle.songcode.specs.Complaints.{complainIf};
 ghost use Rattle.songcode.specs.answer.SongText.{metadata, section, kindOfText};
 ghost use Rattle.text.specs.Spans.{lineText};
-ghost use Rattle.stage2.specs.States.{blockState, carried, metadataState, headState, keyJudged, judged, opening, fineFor, closing};
-ghost use Rattle.text.specs.Ranks.{least};
+ghost use Rattle.stage2.specs.States.{blockState, carried, metadataState, headState, keyJudged, judged, opening, fineFor, closing, inDefinition};
+ghost use Rattle.refusals.specs.Ranks.{least};
 ghost use Rattle.stage2.specs.Walk.{nothingPending};
 ghost use Rattle.stage2.specs.declared.states.Place.the-variants.{Metadata};
 
@@ -153,17 +153,28 @@ pub fn open_block(s: &[u8], k: Carried, l: Line) -> Judged
     }
 }
 
+// In a definition, its head behind.
+fn in_definition(place: Place) -> bool
+    ensures { λ r. ⌜ r ≡ inDefinition place ⌝ }
+{
+    match place {
+        Place::Between => false,
+        Place::Metadata => false,
+        Place::Head => true,
+        Place::Definition => true,
+        Place::Body(_) => false,
+        Place::Lyrics => false,
+    }
+}
+
+// Whether the text that ends with a block is right there.
 fn fine_for(place: Place, check: Check) -> bool
     ensures { λ r. ⌜ r ≡ fineFor place check ⌝ }
 {
-    match place {
-        Place::Between => section_fine(check),
-        Place::Metadata => section_fine(check),
-        Place::Head => definition_fine(check),
-        Place::Definition => definition_fine(check),
-        Place::Body(_) => section_fine(check),
-        Place::Lyrics => section_fine(check),
+    if in_definition(place) {
+        return definition_fine(check);
     }
+    section_fine(check)
 }
 
 // What is pending against the block that ends here.

@@ -1,11 +1,11 @@
 // The heads of definitions: their numbers stand in a row beside the state, which only a head's line reads and writes.
 use super::states::Place;
+use refusals::BAD_HEAD;
+use refusals::NO_COMPLAINT;
+use refusals::complain_if;
+use refusals::least_of;
 use settings::head_in;
-use text::BAD_HEAD;
 use text::Line;
-use text::NO_COMPLAINT;
-use text::complain_if;
-use text::least_of;
 use tokens::Number;
 ghost use mathlib.Core.Path.{_≡_};
 ghost use Prim.Native.Nat.{_≤_};

@@ -1,6 +1,6 @@
 // What was said once: eight marks for keys or modifiers.
-use text::NO_COMPLAINT;
-use text::complain_if;
+use refusals::NO_COMPLAINT;
+use refusals::complain_if;
 ghost use mathlib.Core.Path.{_≡_};
 ghost use Prim.Native.Nat.{_<_};
 ghost use Rattle.stage2.specs.States.{again, marked};

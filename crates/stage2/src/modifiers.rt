@@ -1,5 +1,9 @@
 // The names and settings of modifier lines.
 use grammar::side_fine;
+use refusals::BAD_LINE;
+use refusals::BAD_PATTERN;
+use refusals::BAD_SETTING;
+use refusals::complain_if;
 use settings::CutRead;
 use settings::ModifierName;
 use settings::cut_in;
@@ -8,11 +12,7 @@ use settings::modifier_named;
 use settings::name_end;
 use settings::repeat_in;
 use settings::setting_start;
-use text::BAD_LINE;
-use text::BAD_PATTERN;
-use text::BAD_SETTING;
 use text::Line;
-use text::complain_if;
 ghost use mathlib.Core.Path.{_≡_};
 ghost use Prim.Native.Nat.{_<_, _≤_};
 ghost use lib.ListN.{length};

@@ -1,14 +1,14 @@
 // The names and settings of key lines.
+use refusals::BAD_KEY;
+use refusals::BAD_SETTING;
+use refusals::complain_if;
+use refusals::least_of;
 use settings::KeyName;
 use settings::is_setting;
 use settings::key_named;
 use settings::name_end;
 use settings::setting_start;
-use text::BAD_KEY;
-use text::BAD_SETTING;
 use text::Line;
-use text::complain_if;
-use text::least_of;
 ghost use mathlib.Core.Path.{_≡_};
 ghost use Prim.Native.Nat.{_<_, _≤_};
 ghost use lib.ListN.{length};

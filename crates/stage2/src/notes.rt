@@ -1,5 +1,5 @@
 // Numbers that a test or a comparison picks.
-use text::NO_COMPLAINT;
+use refusals::NO_COMPLAINT;
 ghost use mathlib.Core.Path.{_≡_};
 ghost use Prim.Native.Nat.{max};
 ghost use Rattle.stage2.specs.Walk.{unless};

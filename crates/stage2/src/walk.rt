@@ -15,28 +15,28 @@ use super::states::Part;
 use super::states::Pending;
 use super::states::Place;
 use super::states::State;
+use refusals::BAD_LINE;
+use refusals::NO_COMPLAINT;
+use refusals::NO_SECTION_RANK;
+use refusals::Refusal;
+use refusals::least_of;
+use refusals::rank;
+use refusals::refusal_at;
 use settings::is_dashes;
-use text::BAD_LINE;
 use text::Line;
-use text::NO_COMPLAINT;
-use text::NO_SECTION_RANK;
-use text::Refusal;
-use text::least_of;
 use text::line_at;
-use text::rank;
-use text::refusal_at;
 ghost use mathlib.Core.Path.{_≡_};
 ghost use Prim.Native.Nat.{_+_, _<_, _≤_};
 ghost use lib.ListN.{length};
 ghost use Rattle.songcode.specs.Complaints.{earliest};
 ghost use Rattle.songcode.specs.answer.SongText.{textFaults};
 ghost use Rattle.songcode.specs.answer.Answer.{blocksOf};
-ghost use Rattle.text.specs.Refusals.{refusalOf};
+ghost use Rattle.refusals.specs.Refusals.{refusalOf};
 ghost use Rattle.text.specs.Spans.{lineText};
 ghost use Rattle.tokens.specs.Kept.{Keeps, KeptFrom, Unmarked};
 ghost use Rattle.stage2.specs.declared.states.Place.the-variants.{Body};
 ghost use Rattle.stage2.specs.States.{firstState, judged, definitionState, lyricsState, judgedAt, judge, ends};
-ghost use Rattle.text.specs.Ranks.{none};
+ghost use Rattle.refusals.specs.Ranks.{none};
 
 // A pattern line of a definition.
 fn in_definition(s: &[u8], words: &mut [u32], c: State, p: Part, l: Line) -> Judged

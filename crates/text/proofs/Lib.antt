@@ -4,8 +4,7 @@ pub mod TestLaws
 pub mod LeadLaws
 pub mod GoodLaws
 pub mod EndLaws
-pub mod RefusalLaws
-pub mod RankLaws
+pub mod InputLaws
 pub mod SpanLaws
 pub mod WalkLaws
 pub mod StartLaws

@@ -1,6 +1,4 @@
 -- What the contracts on a chart's text say, over the definitions of songcode.
 pub mod Leads
 pub mod Ends
-pub mod Refusals
-pub mod Ranks
 pub mod Spans

@@ -22,9 +22,8 @@ use Rattle.player.specs.declared.playing.Counts.{Counts}
 use Rattle.player.specs.Windows.{heads, flat}
 use Rattle.player.specs.Arrangements.{arrangementIn, arrangedRow, PlaysWithin, Plays}
 use Rattle.player.proofs.SectionMeaning.{heads-words, flat-words}
-use Rattle.laying.specs.Scores.{Ready}
 use Rattle.judging.specs.Charts.{Laid, Roomy}
-use Rattle.judging.proofs.WholeLaws.{laid-row}
+use Rattle.judging.proofs.WholeLaws.{laid-ready, laid-row}
 use Rattle.judging.proofs.AheadLaws.{Ahead, ahead-start, ahead-same, ahead-some, ahead-none, ahead-fits, ahead-sees, ahead-within, ahead-row}
 use Rattle.judging.proofs.AheadLaws.{ahead-further, ahead-lyrics, ahead-fields, ahead-measures, ahead-beats, ahead-next}
 use Rattle.judging.proofs.SumLaws.{section-words-length, measure-words-length, beat-words-length}
@@ -96,13 +95,13 @@ sections-left s m k x xs old new all h w =
     omega arith
 
 -- The section that is seen at the place, behind m measures and b beats.
-module _ {s ws : List ℕ} {mark at end m b : ℕ} {x : Section} {xs : List Section} (ready : Ready s ws mark) (a : Ahead s ws at end m b (x ∷ xs))
+module _ {s ws : List ℕ} {rows : Stretch} {at end m b : ℕ} {x : Section} {xs : List Section} (whole : Laid s ws rows) (a : Ahead s ws at end m b (x ∷ xs))
     {v : View} (is : v ≡ viewOf ws at) (c d : ℕ) (measures : c ≡ length (played (songOf s) x)) (beats : d ≡ total (played (songOf s) x)) where
   pub sections-next : (old new all : List ℕ) (k w : ℕ) → w ≡ sectionWord (v .header) m c (v .meter) (v .tempo)
       → Wrote old k new (sectionsLeft (songOf s) m (x ∷ xs)) all → Wrote old (k + 1) (set new k w) (sectionsLeft (songOf s) (m + c) xs) all
   unfolding sectionWords
   sections-next old new all k w f t =
-      let sees = ahead-sees ready a in
+      let sees = ahead-sees (laid-ready whole) a in
       let q : w ≡ sectionWord (x .header) m (length (played (songOf s) x)) (timeOf (songOf s) x) (bpmOf (songOf s) x) =
       f ∙ rw (is, sees .header, measures, sees .meter, sees .tempo) in
       let r : sectionsLeft (songOf s) m (x ∷ xs) ≡ w ∷ sectionsLeft (songOf s) (m + c) xs = rw (q, measures) in
@@ -119,7 +118,8 @@ module _ {s ws : List ℕ} {mark at end m b : ℕ} {x : Section} {xs : List Sect
     measures-next old new all ys z t =
         let here = played (songOf s) x in
         let rest = flatMap (played (songOf s)) xs in
-        let f : heads b (arrangedRow ws y) ≡ measureWords b here = ap (λ (r : List (List ℕ)). heads b r) (row ∙ ahead-row ready a) ∙ heads-words b here in
+        let f : heads b (arrangedRow ws y) ≡ measureWords b here =
+        ap (λ (r : List (List ℕ)). heads b r) (row ∙ ahead-row (laid-ready whole) a) ∙ heads-words b here in
         let r : measuresLeft (songOf s) b (x ∷ xs) ≡ measureWords b here ++ measureWords (b + d) rest =
         measure-words-append b here rest ∙ ap (λ (k : ℕ). measureWords b here ++ measureWords (b + k) rest) (sym beats) in
         wrote-lent old m new (measureWords b here) (measureWords (b + d) rest) all ys c (measure-words-length b here ∙ sym measures)
@@ -132,7 +132,7 @@ module _ {s ws : List ℕ} {mark at end m b : ℕ} {x : Section} {xs : List Sect
     beats-next old new all ys z t =
         let here = played (songOf s) x in
         let rest = flatMap (played (songOf s)) xs in
-        let f : flat (arrangedRow ws y) ≡ flatMap (map beatWord) here = ap flat (row ∙ ahead-row ready a) ∙ flat-words here in
+        let f : flat (arrangedRow ws y) ≡ flatMap (map beatWord) here = ap flat (row ∙ ahead-row (laid-ready whole) a) ∙ flat-words here in
         let r : beatsLeft (songOf s) (x ∷ xs) ≡ flatMap (map beatWord) here ++ flatMap (map beatWord) rest = gather-append (map beatWord) here rest in
         wrote-lent old b new (flatMap (map beatWord) here) (flatMap (map beatWord) rest) all ys d (beat-words-length here ∙ sym beats)
         (subst (λ us. Wrote old b new us all) r t) (z ∙ ap (λ (us : List ℕ). sets (take (length new - b) (drop b new)) 0 us) f)
@@ -205,50 +205,50 @@ pub midway-first : {s ws : List ℕ} {count : ℕ} {old : Content} {at end k m b
 midway-first [] w h = absurd (ahead-some (w .ahead) h)
 midway-first (x ∷ xs) w h = record { first = x; others = xs; midway = w }
 
-module _ {s ws : List ℕ} {mark count : ℕ} {old : Content} {at end k m b i : ℕ} {new : Content} {x : Section} {xs : List Section}
-    (ready : Ready s ws mark) (w : Midway s ws count old at end k m b i new (x ∷ xs))
+module _ {s ws : List ℕ} {rows : Stretch} {count : ℕ} {old : Content} {at end k m b i : ℕ} {new : Content} {x : Section} {xs : List Section}
+    (whole : Laid s ws rows) (w : Midway s ws count old at end k m b i new (x ∷ xs))
     (roomy : Roomy (tables (songOf s)) (old .sections) (old .measures) (old .beats) (old .items)) {v : View} (is : v ≡ viewOf ws at) where
   pub midway-room : k < length (old .sections)
   midway-room = sections-left (songOf s) m k x xs (old .sections) (new .sections) (tables (songOf s) .sections) (roomy .sections) (w .sections)
 
   pub midway-further : at < v .next
   midway-further =
-      let h = ahead-further ready (w .ahead) in
+      let h = ahead-further (laid-ready whole) (w .ahead) in
       let e = ap (λ (u : View). u .next) is in
       omega arith
 
   sees : Sees (songOf s) ws x v
-  sees = subst (λ (u : View). Sees (songOf s) ws x u) (sym is) (ahead-sees ready (w .ahead))
+  sees = subst (λ (u : View). Sees (songOf s) ws x u) (sym is) (ahead-sees (laid-ready whole) (w .ahead))
 
   module _ {y : Arrangement} (plays : y ≡ arrangementIn ws v) where
     arranged : y ≡ arrangementIn ws (viewOf ws at)
     arranged = plays ∙ ap (arrangementIn ws) is
 
     pub midway-within : PlaysWithin ws y b
-    midway-within = subst (λ (u : Arrangement). PlaysWithin ws u b) (sym arranged) (ahead-within ready (w .ahead) b (omega arith))
+    midway-within = subst (λ (u : Arrangement). PlaysWithin ws u b) (sym arranged) (ahead-within (laid-ready whole) (w .ahead) b (omega arith))
 
     -- It is played.
     module _ {c : Counts} {ms bs : List ℕ} (done : Plays (arrangedRow ws y) b c (take (length (new .measures) - m) (drop m (new .measures)))
         (take (length (new .beats) - b) (drop b (new .beats))) ms bs) where
       measures-are : c .measures ≡ length (played (songOf s) x)
-      measures-are = ahead-measures ready (w .ahead) (c .measures) (done .measures ∙ ap (λ (u : Arrangement). length (arrangedRow ws u)) arranged)
+      measures-are = ahead-measures (laid-ready whole) (w .ahead) (c .measures) (done .measures ∙ ap (λ (u : Arrangement). length (arrangedRow ws u)) arranged)
 
       beats-are : c .beats ≡ total (played (songOf s) x)
-      beats-are = ahead-beats ready (w .ahead) (c .beats) (done .beats ∙ ap (λ (u : Arrangement). total (arrangedRow ws u)) arranged)
+      beats-are = ahead-beats (laid-ready whole) (w .ahead) (c .beats) (done .beats ∙ ap (λ (u : Arrangement). total (arrangedRow ws u)) arranged)
 
       pub midway-fields : (v .header < 131072) × (m < 65536) × (c .measures < 65536) × (v .meter < 64) × (v .tempo < 512)
-      midway-fields = ahead-fields ready (w .ahead) v is (c .measures) measures-are
+      midway-fields = ahead-fields (laid-ready whole) (w .ahead) v is (c .measures) measures-are
 
       pub midway-few : (m + c .measures ≤ 65535) × (b + c .beats ≤ 2097120)
       midway-few =
-          let a = ahead-next ready (w .ahead) in
+          let a = ahead-next (laid-ready whole) (w .ahead) in
           let e = measures-are in
           let f = beats-are in
           (omega (arith, a .measures, a .few), omega (arith, a .beats, a .few))
 
       module _ {t : Stretch} (lines : t ≡ lyricsTaken count (v .lyrics)) where
         split : itemsLeft count m (x ∷ xs) ≡ promptWords m (wordsIn ws t) ++ itemsLeft count (m + c .measures) xs
-        split = rw lines (items-split sees (ahead-fits ready (w .ahead)) m count (c .measures) xs (w .summed) measures-are)
+        split = rw lines (items-split sees (ahead-fits (laid-ready whole) (w .ahead)) m count (c .measures) xs (w .summed) measures-are)
 
         pub midway-count : length (new .items) ≡ length (old .items) → i + length (promptWords m (wordsIn ws t)) ≤ length (new .items)
         midway-count l =
@@ -261,8 +261,8 @@ module _ {s ws : List ℕ} {mark count : ℕ} {old : Content} {at end k m b i : 
             × (m + countsIn (wordsIn ws t) ≤ 65535)
             × (length (promptWords m (wordsIn ws t)) ≤ length (take (length (new .items) - i) (drop i (new .items))))
         midway-lines h l =
-            let f = ahead-fits ready (w .ahead) in
-            let low : v .lyrics .to ≤ 100000 = rw is (ahead-lyrics ready (w .ahead)) in
+            let f = ahead-fits (laid-ready whole) (w .ahead) in
+            let low : v .lyrics .to ≤ 100000 = rw is (ahead-lyrics (laid-ready whole) (w .ahead)) in
             let room = midway-count l in
             let a = length-take (length (new .items) - i) (drop i (new .items)) in
             let d = length-drop i (new .items) in (
@@ -288,15 +288,15 @@ module _ {s ws : List ℕ} {mark count : ℕ} {old : Content} {at end k m b i : 
         midway-next {word} {n} {us} q e u =
             let all = tables (songOf s) in
             let next : Ahead s ws (viewOf ws at .next) end (m + c .measures) (b + c .beats) xs =
-            ahead-same (omega (arith, measures-are)) (omega (arith, beats-are)) (ahead-next ready (w .ahead)) in
+            ahead-same (omega (arith, measures-are)) (omega (arith, beats-are)) (ahead-next (laid-ready whole) (w .ahead)) in
             record {
               ahead = subst (λ (p : ℕ). Ahead s ws p end (m + c .measures) (b + c .beats) xs) (sym (ap (λ (p : View). p .next) is)) next;
               summed = λ some. w .summed some .1;
-              sections = sections-next ready (w .ahead) is (c .measures) (c .beats) measures-are beats-are (old .sections) (new .sections)
+              sections = sections-next whole (w .ahead) is (c .measures) (c .beats) measures-are beats-are (old .sections) (new .sections)
                   (all .sections) k word q (w .sections);
-              measures = measures-next ready (w .ahead) is (c .measures) (c .beats) measures-are beats-are plays (old .measures) (new .measures)
+              measures = measures-next whole (w .ahead) is (c .measures) (c .beats) measures-are beats-are plays (old .measures) (new .measures)
                   (all .measures) ms (done .measureTable) (w .measures);
-              beats = beats-next ready (w .ahead) is (c .measures) (c .beats) measures-are beats-are plays (old .beats) (new .beats)
+              beats = beats-next whole (w .ahead) is (c .measures) (c .beats) measures-are beats-are plays (old .beats) (new .beats)
                   (all .beats) bs (done .beatTable) (w .beats);
               items = wrote-lent (old .items) i (new .items) (promptWords m (wordsIn ws t)) (itemsLeft count (m + c .measures) xs) (all .items) us n
                   (sym e) (subst (λ (vs : List ℕ). Wrote (old .items) i (new .items) vs (all .items)) split (w .items)) u;

@@ -1,5 +1,5 @@
 // The keys table: its words stand in the row behind the sections.
-use laying::KEYS;
+use packing::KEYS;
 ghost use mathlib.Core.Path.{_≡_};
 ghost use Prim.Native.Nat.{_+_, _≤_};
 ghost use lib.ListN.{length, take, drop};

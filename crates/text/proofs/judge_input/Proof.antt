@@ -1,6 +1,6 @@
 -- Stage 1 by its three cases.
 use borrow.Author.Needs.{needs}
-use Rattle.text.proofs.RefusalLaws.{too-long, bad-character, nothing-wrong}
+use Rattle.text.proofs.InputLaws.{too-long, bad-character, nothing-wrong}
 use Rattle.text.proofs.judge_input.Statement.{statement}
 use Rattle.text.proofs.judge_input.Tie as tie
 

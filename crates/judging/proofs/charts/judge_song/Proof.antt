@@ -4,7 +4,7 @@ use Rattle.judging.proofs.StageLaws.{input-small}
 use Rattle.judging.proofs.WholeLaws.{whole-there, sized-kept}
 use Rattle.laying.proofs.SongSaysLaws.{says-song}
 use Rattle.songcode.specs.answer.Answer.{songOf}
-use Rattle.text.specs.declared.Refusal.{Refusal}
+use Rattle.refusals.specs.declared.Refusal.{Refusal}
 use mathlib.Core.Path.{refl, sym, ap, _∙_}
 use native.Mathlib.Omega.{arith}
 use borrow.Author.Needs.{needs}

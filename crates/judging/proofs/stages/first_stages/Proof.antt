@@ -2,7 +2,7 @@ use Rattle.judging.proofs.StageLaws.{stage-refused, stage-passed, stage
 use Rattle.songcode.proofs.VerdictAgree.{last-stage}
 use Rattle.songcode.specs.answer.Answer.{inputFaults, blocksOf}
 use Rattle.songcode.specs.answer.SongText.{textFaults}
-use Rattle.text.specs.Refusals.{refusalOf}
+use Rattle.refusals.specs.Refusals.{refusalOf}
 use mathlib.Core.List.{[], _∷_}
 use mathlib.Core.Path.{sym, ap, _∙_}
 use borrow.Author.Needs.{needs}

@@ -2,9 +2,9 @@
 use Prim.Native.Nat.{_≤_}
 use mathlib.Core.Path.{_≡_}
 use borrow.Author.Needs.{needs}
-use Rattle.settings.specs.declared.cuts.Cut.{Cut}
-use Rattle.settings.specs.declared.cuts.CutRead.{CutRead}
-use Rattle.settings.specs.declared.cuts.CutRead.the-variants as read
+use Rattle.cuts.specs.declared.Cut.{Cut}
+use Rattle.settings.specs.declared.cutting.CutRead.{CutRead}
+use Rattle.settings.specs.declared.cutting.CutRead.the-variants as read
 use Rattle.settings.specs.Cuts.{CutFits}
 use Rattle.laying.specs.Rows.{readWord}
 use Rattle.laying.proofs.rows.cut_word.Statement.{statement}

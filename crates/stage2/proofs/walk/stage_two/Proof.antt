@@ -2,7 +2,7 @@
 use Rattle.stage2.proofs.WalkReturns.{toCome, heads-fit, one-line, no-line, all-le, told, Marks, marks-first, marks-next, marks-last}
 use Rattle.stage2.proofs.StateLaws.{Stands, starts}
 use Rattle.stage2.specs.Walk.{Walk, atFirst}
-use Rattle.text.specs.Ranks.{none}
+use Rattle.refusals.specs.Ranks.{none}
 use lib.ListN.{length}
 use native.Mathlib.Omega.{arith}
 use mathlib.Core.Path.{_≡_, _∙_}

@@ -7,7 +7,6 @@ use lib.ListN.{length}
 use borrow.Author.Needs.{needs}
 use Rattle.songcode.specs.Song.{Section}
 use Rattle.judging.proofs.AheadLaws.{ahead-low}
-use Rattle.judging.proofs.WholeLaws.{laid-ready}
 use Rattle.writing.proofs.SongLaws.{Midway, First, midway-start, midway-end, midway-lengths, midway-first, midway-room}
 use Rattle.writing.proofs.SongLaws.{midway-further, midway-within, midway-fields, midway-few, midway-count, midway-lines, midway-next}
 use Rattle.writing.proofs.songs.write_song.Statement.{statement}
@@ -75,7 +74,7 @@ play-section-requires c κs =
     let f = here y in
     let is = y .section-at .ensures in
     let plays = c .before .before .arrangement-in .ensures in
-    midway-within (laid-ready (q .pre .0 .0)) (f .midway) (q .pre .1) is plays
+    midway-within (q .pre .0 .0) (f .midway) (q .pre .1) is plays
 
 section-word-requires : tie.Need-section-word-requires Inv-loop μ-loop
 section-word-requires c κs =
@@ -86,7 +85,7 @@ section-word-requires c κs =
     let is = y .section-at .ensures in
     let plays = c .before .before .before .before .before .before .before .arrangement-in .ensures in
     let done = c .before .before .before .before .play-section .ensures in
-    midway-fields (laid-ready (q .pre .0 .0)) (f .midway) (q .pre .1) is plays done
+    midway-fields (q .pre .0 .0) (f .midway) (q .pre .1) is plays done
 
 -- No table is longer than memory.
 small : (c : tie.In-loop Inv-loop μ-loop) → (length (c .before .loop .sections) < 2305843009213693952)
@@ -97,7 +96,7 @@ room : (c : tie.After-section-at Inv-loop μ-loop) → c .before .before .loop .
 room c =
     let q = c .before .before .before .before .before .before .before .before .before in
     let l = c .before .before .loop in
-    let k = midway-room (laid-ready (q .pre .0 .0)) (here c .midway) (q .pre .1) (c .section-at .ensures) in
+    let k = midway-room (q .pre .0 .0) (here c .midway) (q .pre .1) (c .section-at .ensures) in
     omega (arith, l .inv .2)
 
 mul-sections : tie.Need-mul-sections Inv-loop μ-loop
@@ -129,7 +128,7 @@ write-lyrics-requires c κs =
     let plays = c .before .before .before .before .before .before .before .before .before .before .arrangement-in .ensures in
     let done = c .before .before .before .before .before .before .before .play-section .ensures in
     let lines = c .before .lyrics-taken .ensures in
-    midway-lines (laid-ready (q .pre .0 .0)) (f .midway) (q .pre .1) is plays done lines (l .inv .8) (l .inv .5)
+    midway-lines (q .pre .0 .0) (f .midway) (q .pre .1) is plays done lines (l .inv .8) (l .inv .5)
 
 add-i : tie.Need-add-i Inv-loop μ-loop
 add-i c =
@@ -141,7 +140,7 @@ add-i c =
     let plays = c .before .before .before .before .before .before .before .before .before .before .before .before .before .arrangement-in .ensures in
     let done = c .before .before .before .before .before .before .before .before .before .before .play-section .ensures in
     let lines = c .before .before .before .before .lyrics-taken .ensures in
-    let n = midway-count (laid-ready (q .pre .0 .0)) (f .midway) (q .pre .1) is plays done lines (l .inv .5) in
+    let n = midway-count (q .pre .0 .0) (f .midway) (q .pre .1) is plays done lines (l .inv .5) in
     omega (arith, c .before .before .write-lyrics .ensures .1, small (y .before) .1)
 
 add-k : tie.Need-add-k Inv-loop μ-loop
@@ -161,7 +160,7 @@ add-m c =
     let is = y .section-at .ensures in
     let plays = c .before .before .before .before .before .before .before .before .before .before .before .before .before .before .arrangement-in .ensures in
     let done = c .before .before .before .before .before .before .before .before .before .before .before .play-section .ensures in
-    omega (arith, midway-few (laid-ready (q .pre .0 .0)) (f .midway) (q .pre .1) is plays done .0)
+    omega (arith, midway-few (q .pre .0 .0) (f .midway) (q .pre .1) is plays done .0)
 
 add-b : tie.Need-add-b Inv-loop μ-loop
 add-b c =
@@ -173,13 +172,13 @@ add-b c =
     let plays = c .before .before .before .before .before .before .before .before .before .before .before .before .before .before .before .arrangement-in
     .ensures in
     let done = c .before .before .before .before .before .before .before .before .before .before .before .before .play-section .ensures in
-    omega (arith, midway-few (laid-ready (q .pre .0 .0)) (f .midway) (q .pre .1) is plays done .1)
+    omega (arith, midway-few (q .pre .0 .0) (f .midway) (q .pre .1) is plays done .1)
 
 loop-less : tie.Need-loop-less Inv-loop μ-loop
 loop-less c =
     let y = c .before .before .before .before .before .before .before .before .before .before .before .before .before .before .before .before in
     let q = y .before .before .before .before .before .before .before .before .before in
-    let on = midway-further (laid-ready (q .pre .0 .0)) (here y .midway) (q .pre .1) (y .section-at .ensures) in
+    let on = midway-further (q .pre .0 .0) (here y .midway) (q .pre .1) (y .section-at .ensures) in
     omega (arith, y .before .loop-test .taken)
 
 loop-again : tie.Need-loop-again Inv-loop μ-loop
@@ -194,7 +193,7 @@ loop-again c =
     let done = c .before .before .before .before .before .before .before .before .before .before .before .before .play-section .ensures in
     let lines = c .before .before .before .before .before .before .lyrics-taken .ensures in
     let lyrics = c .before .before .before .before .write-lyrics in
-    let w = midway-next (laid-ready (q .pre .0 .0)) (f .midway) (q .pre .1) is plays done lines
+    let w = midway-next (q .pre .0 .0) (f .midway) (q .pre .1) is plays done lines
     (c .before .before .before .before .before .before .before .section-word .ensures) (lyrics .ensures .1) (lyrics .ensures .0) in
     let g = midway-lengths w (q .pre .1) in
     (f .others, w, g .0, g .1, g .2, g .3, g .4, g .5, g .6)

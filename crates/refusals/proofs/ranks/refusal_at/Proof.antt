@@ -1,9 +1,9 @@
 use mathlib.Core.Path.{refl}
 use borrow.Author.Tests.{lt-ltb, le-ltb, eq-eqb, ne-eqb}
 use Rattle.songcode.specs.Lists.{if_then_else_}
-use Rattle.text.specs.Ranks.{refusalAt}
-use Rattle.text.proofs.ranks.refusal_at.Statement.{statement}
-use Rattle.text.proofs.ranks.refusal_at.Tie as tie
+use Rattle.refusals.specs.Ranks.{refusalAt}
+use Rattle.refusals.proofs.ranks.refusal_at.Statement.{statement}
+use Rattle.refusals.proofs.ranks.refusal_at.Tie as tie
 
 returns : tie.Need-returns
 unfolding refusalAt if_then_else_

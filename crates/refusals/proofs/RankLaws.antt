@@ -13,8 +13,8 @@ use Rattle.songcode.specs.answer.Lines.{Block}
 use Rattle.songcode.specs.Complaints.{Complaint, complainIf, goesFirst, earlier, earliest}
 use Rattle.songcode.specs.answer.SongText.{orNoSection}
 use Rattle.songcode.proofs.ListLaws.{Each, by-cases}
-use Rattle.text.specs.Refusals.{refusalOf}
-use Rattle.text.specs.Ranks.{ranked, rank, noSection, none, Small, least, onlyIf, refusalAt}
+use Rattle.refusals.specs.Refusals.{refusalOf}
+use Rattle.refusals.specs.Ranks.{ranked, rank, noSection, none, Small, least, onlyIf, refusalAt}
 
 pub least-le : (cs : List Complaint) → least cs ≤ none
 unfolding least

@@ -1,7 +1,7 @@
 use Rattle.settings.specs.Cuts.{cutRead}
 use borrow.Author.Needs.{needs}
-use Rattle.settings.proofs.cuts.cut_of.Statement.{statement}
-use Rattle.settings.proofs.cuts.cut_of.Tie as tie
+use Rattle.settings.proofs.cutting.cut_of.Statement.{statement}
+use Rattle.settings.proofs.cutting.cut_of.Tie as tie
 
 returns : tie.Need-returns
 unfolding cutRead

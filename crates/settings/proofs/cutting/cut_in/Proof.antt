@@ -11,8 +11,8 @@ use Rattle.text.proofs.ListLaws.{rest-part}
 use Rattle.settings.proofs.CutLaws.{cut-whole, cut-beats, cut-both}
 use Rattle.settings.proofs.ReadLaws.{cut-read}
 use borrow.Author.Needs.{needs}
-use Rattle.settings.proofs.cuts.cut_in.Statement.{statement}
-use Rattle.settings.proofs.cuts.cut_in.Tie as tie
+use Rattle.settings.proofs.cutting.cut_in.Statement.{statement}
+use Rattle.settings.proofs.cutting.cut_in.Tie as tie
 
 returns : tie.Need-returns
 unfolding countIn numberOf

@@ -1,8 +1,8 @@
 use borrow.Author.Tests.{eq-eqb, ne-eqb}
 use Rattle.songcode.specs.Lists.{if_then_else_}
-use Rattle.text.specs.Refusals.{firstGiven}
-use Rattle.text.proofs.refusals.first_given.Statement.{statement}
-use Rattle.text.proofs.refusals.first_given.Tie as tie
+use Rattle.refusals.specs.Refusals.{firstGiven}
+use Rattle.refusals.proofs.first_given.Statement.{statement}
+use Rattle.refusals.proofs.first_given.Tie as tie
 
 pub first-given-spec : {M : Type 1} → statement M
 unfolding firstGiven if_then_else_

@@ -1,11 +1,11 @@
 // Complaints as numbers, so that of one stage's the one that goes first is the least: the line times 32, and the refusal's number.
+use super::NOTHING;
 use super::Refusal;
-use super::refusals::NO_SECTION;
-use super::refusals::NOTHING;
+use super::names::NO_SECTION;
 ghost use mathlib.Core.Path.{_≡_};
 ghost use Prim.Native.Nat.{_<_, min};
 ghost use Rattle.songcode.specs.Complaints.{complainIf};
-ghost use Rattle.text.specs.Ranks.{ranked, least, refusalAt};
+ghost use Rattle.refusals.specs.Ranks.{ranked, least, refusalAt};
 
 // No complaint.
 pub const NO_COMPLAINT: usize = 8388608;

@@ -5,7 +5,7 @@ use mathlib.Core.Bool.{Bool}
 use lib.Dec.{eqb, ltb}
 use Rattle.songcode.specs.Lists.{if_then_else_}
 use Rattle.songcode.specs.Complaints.{Complaint}
-use Rattle.text.specs.declared.Refusal.{Refusal}
+use Rattle.refusals.specs.declared.Refusal.{Refusal}
 
 -- A line past 131,071 counts as that one, behind every line of a text that is judged.
 unfoldable pub ranked : ℕ → ℕ → ℕ

@@ -1,7 +1,7 @@
-use Rattle.text.proofs.RankLaws.{complained, not-complained}
+use Rattle.refusals.proofs.RankLaws.{complained, not-complained}
 use borrow.Author.Needs.{needs}
-use Rattle.text.proofs.ranks.complain_if.Statement.{statement}
-use Rattle.text.proofs.ranks.complain_if.Tie as tie
+use Rattle.refusals.proofs.ranks.complain_if.Statement.{statement}
+use Rattle.refusals.proofs.ranks.complain_if.Tie as tie
 
 returns : tie.Need-returns
 returns c = let q = c .before .before in complained (q .args .number) (q .args .line) (q .args .test) (c .rank .result) (q .pre)

@@ -3,7 +3,7 @@ use lib.Dec.{eqb}
 use mathlib.Core.Option.{Option, none, some}
 use Rattle.songcode.specs.Lists.{if_then_else_}
 use Rattle.songcode.specs.Complaints.{Complaint}
-use Rattle.text.specs.declared.Refusal.{Refusal}
+use Rattle.refusals.specs.declared.Refusal.{Refusal}
 
 unfoldable pub refusalOf : Option Complaint → Refusal
 refusalOf none = record { number = 0; line = 0 }

@@ -1,7 +1,4 @@
-// What a chart is refused for, by names, and which of two stages' refusals is given.
-use super::Refusal;
-ghost use mathlib.Core.Path.{_≡_};
-ghost use Rattle.text.specs.Refusals.{firstGiven};
+// What a chart, or a call, is refused for, by names.
 
 // Stage 1: "over 65,536 bytes", "bad UTF-8 or zero byte".
 pub const TEXT_TOO_LONG: usize = 1;
@@ -43,17 +40,21 @@ pub const COUNT_MISSING: usize = 16;
 
 pub const COUNT_SUM: usize = 17;
 
-// Stage 8: a table without room. The flat copy: a buffer without room.
+// Stage 8: a table without room.
 pub const TABLE_TOO_SHORT: usize = 18;
 
+// The second call: no record that holds the beat.
+pub const BEAT_NOT_FOUND: usize = 19;
+
+// The flat copy: a buffer without room.
 pub const COPY_TOO_LONG: usize = 20;
 
-// Nothing is refused.
-pub const NOTHING: Refusal = Refusal { number: 0, line: 0 };
+// Concert pitch: a move below -11 or above 20; a word that no beat table has.
+pub const MOVE_OUT_OF_RANGE: usize = 21;
 
-// The refusal of the first of two stages, else that of the second.
-pub fn first_given(a: Refusal, b: Refusal) -> Refusal
-    ensures { λ r. ⌜ r ≡ firstGiven a b ⌝ }
-{
-    if a.number == 0 { b } else { a }
-}
+pub const NO_BEAT_WORD: usize = 22;
+
+// Light cues: "tables don't join up"; "a section with measures whose bpm is 0 or above 400".
+pub const NOT_JOINED: usize = 25;
+
+pub const NOT_TIMED: usize = 26;

@@ -1,21 +1,14 @@
-// Cuts: how many whole measures and how many beats they take.
+// Cuts as a modifier says them.
 use super::parts::length_before;
+use cuts::Beats;
+use cuts::Cut;
+use cuts::Measures;
 use tokens::Number;
 use tokens::number_in;
 ghost use mathlib.Core.Path.{_≡_};
 ghost use Rattle.songcode.specs.Bytes.{placed};
 ghost use Rattle.songcode.specs.answer.Modifiers.{cutIn};
 ghost use Rattle.settings.specs.Cuts.{cutIs, cutRead, CutFits};
-
-// A count of measures; a count of beats. Neither stands for the other.
-pub struct Measures(pub usize);
-
-pub struct Beats(pub usize);
-
-pub struct Cut {
-    pub measures: Measures,
-    pub beats: Beats,
-}
 
 // A cut, or a text that is none.
 pub enum CutRead {

@@ -8,7 +8,7 @@ use Rattle.songcode.specs.Lists.{if_then_else_, when}
 use Rattle.songcode.specs.answer.Characters.{goodBytes}
 use Rattle.songcode.specs.Complaints.{complainIf, earlier, earliest}
 use Rattle.songcode.specs.answer.Answer.{mostBytes, lineOfPlace, inputFaults}
-use Rattle.text.specs.Refusals.{refusalOf}
+use Rattle.refusals.specs.Refusals.{refusalOf}
 
 module _ (s : List ℕ) where
   pub too-long : 65536 < length s → record { number = 1; line = 0 } ≡ refusalOf (earliest (inputFaults s))

@@ -1,7 +1,7 @@
-use Rattle.text.specs.Ranks.{ranked}
+use Rattle.refusals.specs.Ranks.{ranked}
 use borrow.Author.Needs.{needs}
-use Rattle.text.proofs.ranks.rank.Statement.{statement}
-use Rattle.text.proofs.ranks.rank.Tie as tie
+use Rattle.refusals.proofs.ranks.rank.Statement.{statement}
+use Rattle.refusals.proofs.ranks.rank.Tie as tie
 
 pub rank-spec : {M : Type 1} → statement M
 unfolding ranked

@@ -1,0 +1,2 @@
+-- A cut by its two numbers.
+pub mod Cuts
