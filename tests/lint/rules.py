@@ -6,7 +6,6 @@ import collections
 import re
 
 LONG = 160
-LONG_PROOF = 60  # a function's proof that is longer begins with a sentence too
 IMPORT = re.compile(r"^(pub )?(?:ghost )?use ([^\s;{]+?)(?:\.\{([^}]*)\}|::\{([^}]*)\})?(?: as (\S+?))?;?$")
 PLACE = re.compile(r"^\s*-- src/\S+\.rt:\d+:\d+\s*$")
 EXPORT = re.compile(r"^pub (?:use (?:\w+::)*|fn |const )([a-z]\w*|[A-Z_]+)\b(?!::)", re.M)
@@ -89,10 +88,9 @@ def crowded_lets(tree):
 
 
 def first_sentences(tree):
-    """A file that does not begin with a sentence. A short proof of a function needs none: the function has it."""
+    """A file that does not begin with a sentence."""
     for path, text in tree.items():
-        short = path.endswith("/Proof.antt") and text.count("\n") <= LONG_PROOF
-        if not short and not text.startswith(("//", "--")):
+        if not text.startswith(("//", "--")):
             yield f"{path}:1: the file does not begin with a sentence"
 
 
@@ -146,6 +144,33 @@ def equal_statements(tree):
                 seen[said] = f"{path}:{number + 1}"
 
 
+def laws(lines):
+    """The laws of a file of proofs: each with its line and those that follow it up to an empty one. What stands deeper than a module's
+    laws belongs to the law above it."""
+    for number, line in enumerate(lines):
+        match = LAW.match(line.removeprefix("  "))
+        if match and match[1] not in ("pub", "record"):
+            stop = next((k for k in range(number, len(lines)) if not lines[k].strip()), len(lines))
+            yield match[1], number, stop
+
+
+def idle_laws(tree):
+    """A law that nothing cites. What is pinned to the demands is cited by none."""
+    files = {path: bare(path, text) for path, text in tree.items()}
+    cited = collections.Counter()
+    for path, lines in files.items():
+        for line in lines:
+            if not IMPORT.match(line):
+                cited.update(re.findall(r"[^\s(){}\[\],;.`\"⌜⌝λ]+", line))
+    for path, lines in files.items():
+        if "/proofs/" not in path or not is_antt(path) or path.endswith(("/Proof.antt", "/Demanded.antt", "/Outcomes.antt")):
+            continue
+        for name, number, stop in laws(lines):
+            own = sum(re.findall(r"[^\s(){}\[\],;.`\"⌜⌝λ]+", line).count(name) for line in lines[number:stop])
+            if cited[name] <= own:
+                yield f"{path}:{number + 1}: {name} is cited nowhere"
+
+
 RULES = {
     "idle-imports": idle_imports,
     "long-lines": long_lines,
@@ -154,4 +179,5 @@ RULES = {
     "first-sentences": first_sentences,
     "idle-exports": idle_exports,
     "equal-statements": equal_statements,
+    "idle-laws": idle_laws,
 }

@@ -18,12 +18,11 @@ use Rattle.explain.specs.Causes.{Belongs, clauses, clauseOfCause}
 use Rattle.explain.specs.Times.{TimeAt}
 use Rattle.explain.specs.Sums.{SumsAt}
 use Rattle.explain.specs.Explained.{Explains}
-use Rattle.explain.proofs.FirstLaws.{not-line-0, Said, as-refused, stray-named, uncounted-first, summed-first}
+use Rattle.explain.proofs.FirstLaws.{not-line-0, Said, as-refused, stray-named, uncounted-first, summed-first, sum-named}
 use Rattle.explain.proofs.StrayThere.{stray-listed}
 use Rattle.explain.proofs.StoppedLaws.{text-named, first-line, stopped-first}
 use Rattle.explain.proofs.MisfitThere.{misfit-listed}
 use Rattle.explain.proofs.MisfitFirst.{misfit-named}
-use Rattle.explain.proofs.FirstLaws.{sum-named}
 use Rattle.explain.proofs.VerdictLines.{lyric-listed, header-listed}
 use native.Mathlib.Omega.{arith}
 

@@ -30,7 +30,7 @@ use Rattle.sections.specs.BlockParts.{blockAt}
 use Rattle.sections.proofs.RunLaws.{lines-found, lines-over}
 use Rattle.sections.proofs.PartLaws.{ending-is}
 use Rattle.flat.specs.Sheets.{Sheet, puts}
-use Rattle.flat.specs.Taken.{lineBytes, Reaches}
+use Rattle.flat.specs.Taken.{lineBytes, isKey, Reaches}
 use Rattle.flat.proofs.SheetLaws.{puts-append}
 
 -- A line and those behind it.
@@ -168,8 +168,13 @@ not-key l c n e = go (kindOfLine l) e
     go modifierLine h = refl
     go patternLine h = refl
 
-pub no-key : (Modifier ≡ Key → ⊥) × (Pattern ≡ Key → ⊥)
-no-key = ((λ (z : Modifier ≡ Key). zero-is-not-one cc), (λ (z : Pattern ≡ Key). zero-is-not-one cc))
+pub no-key : (k : settings.Kind) → isKey k ≡ false → k ≡ Key → ⊥
+no-key k f z = true-is-not-false (ap isKey z) f
+
+pub some-key : (k : settings.Kind) → isKey k ≡ true → Key ≡ k
+some-key Key e = refl
+some-key Modifier e = true-is-not-false e refl
+some-key Pattern e = true-is-not-false e refl
 
 kind-here : (s : List ℕ) (l : Line) {k : settings.Kind} → k ≡ kindIs (kindOf (placed 0 (part (l .start) (l .stop) s)))
     → k ≡ kindIs (kindOfLine (lineText s l))

@@ -6,7 +6,7 @@ use native.Mathlib.Numerals.{add-one}
 use native.Mathlib.Omega.{arith}
 use borrow.Author.Tests.{lt-ltb, le-ltb, ltb-true, ltb-false}
 use lib.Dec.{ltb}
-use lib.ListN.{length, drop, getD, set, length-set}
+use lib.ListN.{length, drop, getD, set}
 use lib.Seq.{sets, drop-cons}
 use Rattle.songcode.specs.Lists.{if_then_else_}
 use Rattle.songcode.specs.answer.Answer.{mostBytes}
@@ -43,24 +43,10 @@ unfolding puts
 puts-full [] x h = refl
 puts-full (b ∷ bs) x h = rw (put-full b x h) (puts-full bs x h)
 
--- The buffer keeps its length.
-put-length : (b : ℕ) (x : Sheet) → length (putOne b x .copy) ≡ length (x .copy)
-put-length b x =
-    by-room x (λ h. ap (λ (y : Sheet). length (y .copy)) (put-full b x h))
-    (λ h. ap (λ (y : Sheet). length (y .copy)) (put-room b x h) ∙ length-set (x .copy) (x .at) b)
-
-pub puts-length : (bs : List ℕ) (x : Sheet) → length (puts bs x .copy) ≡ length (x .copy)
-unfolding puts
-puts-length [] x = refl
-puts-length (b ∷ bs) x = puts-length bs (putOne b x) ∙ put-length b x
-
--- A buffer of no bytes only counts.
+-- What has no bytes is empty.
 pub no-bytes : (bs : List ℕ) → length bs ≤ 0 → bs ≡ []
 no-bytes [] h = refl
 no-bytes (b ∷ bs) h = let z : ⊥ = omega arith in absurd z
-
-pub puts-none : (bs : List ℕ) (at : ℕ) → puts bs (record { copy = []; at = at }) .copy ≡ []
-puts-none bs at = let e = puts-length bs (record { copy = []; at = at }) in no-bytes _ (omega arith)
 
 -- The count is that of the bytes, up to one past the most.
 puts-count : (bs : List ℕ) (x : Sheet) → x .at ≤ 65537 → puts bs x .at ≡ min 65537 (x .at + length bs)

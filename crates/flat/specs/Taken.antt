@@ -2,11 +2,14 @@
 use Prim.Native.Nat.{ℕ, _+_, _≤_}
 use mathlib.Core.Path.{_≡_}
 use mathlib.Core.List.{List, map, flatMap}
+use mathlib.Core.Bool.{Bool, true, false}
 use lib.ListN.{length}
 use Rattle.songcode.specs.Lists.{taken, left}
 use Rattle.songcode.specs.answer.Lines.{Line}
 use Rattle.songcode.specs.answer.Sections.{isKeyLine}
 use Rattle.songcode.specs.answer.Flat.{textOf, endLine}
+use Rattle.settings.specs.declared.kinds.Kind.{Kind}
+use Rattle.settings.specs.declared.kinds.Kind.the-variants.{Key, Modifier, Pattern}
 use Rattle.sections.specs.declared.blocks.Place.{Place}
 use Rattle.sections.specs.declared.runs.Test.the-variants.{Full, Body}
 use Rattle.sections.specs.Runs.{textLines, passing}
@@ -15,6 +18,12 @@ use Rattle.sections.specs.Runs.{textLines, passing}
 unfoldable pub lineBytes : List Line → List ℕ
 unfolding flatMap endLine textOf
 lineBytes ls = flatMap endLine (map textOf ls)
+
+-- A key line, by its kind.
+abbrev pub isKey : Kind → Bool
+isKey Key = true
+isKey Modifier = false
+isKey Pattern = false
 
 -- The key lines from a line on, and those behind them; the lines of a section from its `--` on, where a line between its header and these stands at a
 -- place, and those behind its block.

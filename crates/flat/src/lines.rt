@@ -7,12 +7,13 @@ use sections::run_of;
 use settings::Kind;
 use settings::kind_of;
 use text::line_at;
+ghost use mathlib.Core.Path.{_≡_};
 ghost use Prim.Native.Nat.{_+_, _≤_};
 ghost use lib.ListN.{length};
 ghost use Rattle.sections.specs.Runs.{linesOf};
 ghost use Rattle.sections.specs.BlockParts.{Placed};
 ghost use Rattle.flat.specs.Sheets.{Adds};
-ghost use Rattle.flat.specs.Taken.{lineBytes, keysFrom, keysLeft, endingFrom, endingLeft, Reaches};
+ghost use Rattle.flat.specs.Taken.{lineBytes, isKey, keysFrom, keysLeft, endingFrom, endingLeft, Reaches};
 
 // The lines of a run.
 pub fn put_lines(s: &[u8], run: Run, copy: &mut [u8], at: usize) -> usize
@@ -42,6 +43,16 @@ pub struct Progress {
     pub next: Place,
 }
 
+fn is_key(kind: Kind) -> bool
+    ensures { λ r. ⌜ r ≡ isKey kind ⌝ }
+{
+    match kind {
+        Kind::Key => true,
+        Kind::Modifier => false,
+        Kind::Pattern => false,
+    }
+}
+
 // The key lines from a line on.
 pub fn put_keys(s: &[u8], number: usize, from: usize, copy: &mut [u8], at: usize) -> Progress
     requires { ⌜ (1 ≤ number) × (number ≤ from + 1) × (from ≤ length (now s)) ⌝ }
@@ -55,29 +66,10 @@ pub fn put_keys(s: &[u8], number: usize, from: usize, copy: &mut [u8], at: usize
         let line = line_at(s, k, next);
         let a = line.start;
         let e = line.stop;
-        match kind_of(&s[a..e]) {
-            Kind::Key => {
-                out = put_line(s, a, e, copy, out);
-            }
-            Kind::Modifier => {
-                return Progress {
-                    out,
-                    next: Place {
-                        number: k,
-                        at: next,
-                    },
-                };
-            }
-            Kind::Pattern => {
-                return Progress {
-                    out,
-                    next: Place {
-                        number: k,
-                        at: next,
-                    },
-                };
-            }
+        if !is_key(kind_of(&s[a..e])) {
+            break;
         }
+        out = put_line(s, a, e, copy, out);
         k += 1;
         next = line.next;
     }

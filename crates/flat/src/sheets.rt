@@ -1,5 +1,5 @@
 // The sheet that a copy is written on: a lent buffer and how many bytes were written. Past 65,536 bytes nothing more is looked at, and
-// nothing is stored past the buffer's end, so that a buffer without bytes only counts.
+// nothing is stored past the buffer's end, so that a small buffer only counts.
 ghost use mathlib.Core.List.{[], _∷_};
 ghost use Prim.Native.Nat.{_≤_};
 ghost use lib.ListN.{length};

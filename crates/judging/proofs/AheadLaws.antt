@@ -204,12 +204,6 @@ module _ {s ws : List ℕ} {mark at end m b : ℕ} {x : Section} {xs : List Sect
       let long = here-lengths .0 in
       (omega (arith, f .last), omega (arith, a .measures, a .few), omega arith, omega (arith, f .meter), omega (arith, f .tempo))
 
-  pub ahead-few : m + length (played (songOf s) x) ≤ 65535
-  ahead-few =
-      let few = played-short (songOf s) x in
-      let long = here-lengths .0 in
-      omega (arith, a .measures)
-
   -- The counts of the row that the code plays.
   pub ahead-measures : (k : ℕ) → k ≡ length (arrangedRow ws (arrangementIn ws (viewOf ws at))) → k ≡ length (played (songOf s) x)
   ahead-measures k h = h ∙ ap length ahead-row ∙ rows-length (played (songOf s) x)

@@ -5,14 +5,14 @@ use mathlib.Core.List.{List, [], _∷_, _++_}
 use mathlib.Core.Bool.{Bool}
 use mathlib.Core.Option.{Option, none, some}
 use native.Mathlib.Omega.{arith}
-use borrow.Author.Tests.{ltb-true, ltb-false, eqb-true}
-use lib.Dec.{eqb, ltb}
+use borrow.Author.Tests.{ltb-true, ltb-false}
+use lib.Dec.{ltb}
 use lib.ListN.{length, take, drop, length-append, length-take, length-drop}
 use Rattle.songcode.specs.Lists.{if_then_else_, taken, left}
 use Rattle.songcode.specs.Bytes.{Byte, placed, isBlank, notBlank}
 use Rattle.songcode.specs.answer.Lines.{Line}
 use Rattle.songcode.specs.answer.Keys.{settingIn}
-use Rattle.songcode.specs.answer.Sections.{behindFirst, settingOf, isPatternLine, notPatternLine, patternRun, notDashes, body}
+use Rattle.songcode.specs.answer.Sections.{behindFirst, settingOf}
 use Rattle.songcode.specs.answer.Tokens.{tokens, tokensOf}
 use Rattle.songcode.proofs.ByteLaws.{length-placed}
 use Rattle.songcode.proofs.ListLaws.{by-cases, taken-left}
@@ -24,8 +24,8 @@ use Rattle.tokens.proofs.LineFitLaws.{line-fits, front-le}
 use Rattle.tokens.proofs.FewLaws.{tokens-few, words-length}
 use Rattle.sections.specs.declared.runs.Test.the-variants.{Full}
 use Rattle.sections.specs.Runs.{textLines, passing}
-use Rattle.sections.specs.BlockParts.{blockAt, lateLines}
-use Rattle.sections.specs.Slots.{slotOf, Setting, settingAmong}
+use Rattle.sections.specs.BlockParts.{blockAt}
+use Rattle.sections.specs.Slots.{Setting}
 use Rattle.sections.proofs.RunLaws.{lines-next, lines-over}
 use Rattle.laying.specs.Laying.{runTokens, saidTokens, weight, saidWeight}
 
@@ -40,9 +40,6 @@ weight-parts p ls = sym (weight-append (taken p ls) (left p ls)) ∙ ap weight (
 
 pub weight-taken : (p : Line → Bool) (ls : List Line) → weight (taken p ls) ≤ weight ls
 weight-taken p ls = let h = weight-parts p ls in omega arith
-
-pub weight-left : (p : Line → Bool) (ls : List Line) → weight (left p ls) ≤ weight ls
-weight-left p ls = let h = weight-parts p ls in omega arith
 
 -- The line at a place: its bytes, and the next line.
 pub record LineThere (s : List ℕ) (n at : ℕ) : Type 0 where
@@ -104,18 +101,6 @@ weight-from (suc fuel) s n at f h =
 pub weight-lines : (s : List ℕ) (n at : ℕ) → at ≤ length s → weight (textLines s n at) ≤ (length s - at) + 1
 weight-lines s n at h = weight-from (length s) s n at (omega arith) h
 
--- The lines of a block behind its first.
-pub weight-block : (s : List ℕ) (n at : ℕ) → at < length s → at + weight (blockAt s n at .others) ≤ length s
-unfolding blockAt
-weight-block s n at h =
-    let l = line-there s n at h in
-    let m = lineAt s n at .next in
-    let a = l .further in
-    let b = l .inside in
-    let t = weight-taken (passing Full) (textLines s (n + 1) m) in
-    let w = weight-lines s (n + 1) m b in
-    omega arith
-
 -- The same behind a first line of two bytes.
 pub weight-behind : (s : List ℕ) (n at : ℕ) → at < length s → 2 ≤ length (blockAt s n at .first .text)
     → at + 2 + weight (blockAt s n at .others) ≤ length s + 1
@@ -147,43 +132,6 @@ setting-length l =
     behind : (bs : List Byte) → length (behindFirst bs) ≤ length bs
     behind [] = omega arith
     behind (b ∷ bs) = omega arith
-
-pub setting-weight : (k : ℕ) (ls : List Line) → saidWeight (settingAmong k ls) ≤ weight ls
-unfolding settingAmong saidWeight weight if_then_else_
-setting-weight k [] = omega arith
-setting-weight k (l ∷ ls) =
-    let h = setting-weight k ls in
-    let m = setting-length l in
-    by-cases (eqb (slotOf l) k) (λ e. rw e (omega arith)) (λ e. rw e (omega arith))
-
-pub settings-weight : (k j : ℕ) → (k ≡ j → ⊥) → (ls : List Line) → saidWeight (settingAmong k ls) + saidWeight (settingAmong j ls) ≤ weight ls
-unfolding settingAmong saidWeight weight if_then_else_
-settings-weight k j ne [] = omega arith
-settings-weight k j ne (l ∷ ls) =
-    let h = settings-weight k j ne ls in
-    let hk = setting-weight k ls in
-    let hj = setting-weight j ls in
-    let m = setting-length l in
-    by-cases (eqb (slotOf l) k)
-    (λ e. by-cases (eqb (slotOf l) j)
-    (λ g. let x : ⊥ = ne (sym (eqb-true _ _ e) ∙ eqb-true _ _ g) in absurd x)
-    (λ g. rw (e, g) (omega arith)))
-    (λ e. by-cases (eqb (slotOf l) j) (λ g. rw (e, g) (omega arith)) (λ g. rw (e, g) (omega arith)))
-
--- The pattern of a section, its lead-in and its tail stand on lines of their own.
-pub weight-section : (s : List ℕ) (n at : ℕ) → at < length s
-    → let ls = body (blockAt s n at) in
-    at + (saidWeight (settingAmong 11 (lateLines ls)) + weight (patternRun ls) + saidWeight (settingAmong 12 (lateLines ls))) ≤ length s
-unfolding body patternRun lateLines
-weight-section s n at h =
-    let b = blockAt s n at in
-    let ls = taken notDashes (b .others) in
-    let w = weight-block s n at h in
-    let t = weight-taken notDashes (b .others) in
-    let a = weight-left notPatternLine ls in
-    let p = weight-parts isPatternLine (left notPatternLine ls) in
-    let two = settings-weight 11 12 (λ (e : 11 ≡ 12). let z : ⊥ = omega arith in z) (left isPatternLine (left notPatternLine ls)) in
-    omega arith
 
 -- The tokens of lines are no more than their bytes.
 lines-few : (l : Line) (ls : List Line) → length (tokensOf l ls) < weight (l ∷ ls)

@@ -9,7 +9,7 @@ use lib.ListN.{take, drop}
 use Rattle.songcode.specs.Song.{Items, Definition}
 use Rattle.songcode.specs.answer.PatternText.{depth, loopsDeep, references}
 use Rattle.songcode.specs.answer.References.{definitionOf, itemsOf, putInItem}
-use Rattle.songcode.specs.description.Fits.{Refers, ReferAll}
+use Rattle.songcode.specs.description.Fits.{Refers}
 use Rattle.songcode.proofs.ListLaws.{Each}
 use Rattle.score.specs.declared.stretches.Stretch.{Stretch}
 use Rattle.score.specs.Standing.{ItemsFit, Stands}
@@ -37,12 +37,6 @@ refer-told : (ds : List Definition) (missing : ℕ → Bool) (find : ℕ → Out
 unfolding Told Known putInItem itemsOf bind
 refer-told ds missing find known n w =
     rw (w .found, w .filled) (found-told (definitionOf n ds) (w .definition) (w .items) (missing n) (find n) (known n) (w .found) (w .filled) (w .plain))
-
-refers-told : (ds : List Definition) (missing : ℕ → Bool) (find : ℕ → Outline) → Known ds missing find → (ns : List ℕ) → ReferAll ds ns
-    → Each (Told find (itemsOf ds)) ns
-unfolding ReferAll Each
-refers-told ds missing find known [] w = tt
-refers-told ds missing find known (n ∷ ns) w = (refer-told ds missing find known n (w .0), refers-told ds missing find known ns (w .1))
 
 -- The outline of a definition's text is one that later references may find.
 none-told : (find : ℕ → Outline) (f : ℕ → Option Items) (ns : List ℕ) → ns ≡ [] → Each (Told find f) ns

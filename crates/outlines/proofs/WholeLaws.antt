@@ -19,8 +19,6 @@ use Rattle.score.specs.Standing.{ChordFits, ChordsFit, ItemFits, ItemsFit}
 use Rattle.score.specs.Even.{isWholeItem, isWhole, evenMeasures}
 use Rattle.outlines.specs.declared.readings.Outline.{Outline}
 use Rattle.outlines.specs.declared.readings.Reading.{Reading}
-use Rattle.outlines.specs.Sizes.{divides}
-use Rattle.outlines.specs.Words.{vacant}
 use Rattle.outlines.specs.Readings.{sounded, measured, closed, opened, loopShut, referred}
 use Rattle.outlines.specs.Told.{Tells, Told}
 use Rattle.outlines.specs.Even.{evenIn}
@@ -89,7 +87,3 @@ few-capped a b c = by-cases (leb c 65535)
 pub tells-even : (o : Outline) (r : Items) (n : ℕ) → Tells o r → 1 ≤ n → n ≤ 32 → evenIn o n ≡ evenMeasures n (some r)
 unfolding evenIn evenMeasures mostMeasures
 tells-even o r n t low high = rw (t .whole, t .sizes n low high, t .measures) (few-capped (isWhole r) (allFit n r) (count r))
-
-pub vacant-even : (n : ℕ) → evenIn vacant n ≡ 0
-unfolding evenIn vacant if_then_else_
-vacant-even n = by-cases (divides 1 n) (λ e. rw e) (λ e. rw e)

@@ -24,7 +24,7 @@ ghost use Rattle.songcode.specs.answer.PatternText.{loopsDeep};
 ghost use Rattle.outlines.specs.Faults.{tooDeep, referenceRead, bracketRead, faultsRead, faultNumber, faultIn};
 ghost use Rattle.outlines.specs.Words.{lookUp, isMissing};
 
-// In how many loops the place at hand is; whether a reference was to no earlier definition; whether one was too deep.
+// In how many loops the place at hand is; whether a reference was to no earlier definition; whether one may not stand there.
 pub struct Faults {
     pub level: usize,
     pub missing: bool,

@@ -10,7 +10,7 @@ ghost use Rattle.player.specs.Page.{Fine};
 ghost use Rattle.player.specs.Again.{Skips, Copies, skippedOf, copiedOf, copyOf, same, later};
 
 // Whether the pass that took the pen from `p` to `q` was passed over as a whole, and k more will be.
-// A pen has 65,536 measures and 2^32 - 1 beats to pass over at most, and a loop 2^26 passes, so that the products fit.
+// Past 65,536 measures, 2^32 - 1 beats or 2^26 passes it is not asked, so that the products fit.
 pub fn skips(p: Pen, q: Pen, k: usize) -> bool
     ensures { λ r. ⌜ (r ≡ true → Skips p q k) ⌝ }
 {

@@ -30,11 +30,6 @@ module _ (p : ℕ → Bool) where
   unfolding passing
   passing-over w i h = rw (drop-of-length-le w h)
 
-  pub passing-le : (w : List ℕ) → passing p w ≤ length w
-  unfolding passing if_then_else_
-  passing-le [] = omega arith
-  passing-le (b ∷ w) = let h = passing-le w in by-cases (p b) (λ e. rw e (omega arith)) (λ e. rw e (omega arith))
-
 -- A test of bytes that looks at their values alone.
 abbrev pub OfValues : (Byte → Bool) → (ℕ → Bool) → Type 0
 OfValues q p = (a b : ℕ) → q (record { place = a; value = b }) ≡ p b

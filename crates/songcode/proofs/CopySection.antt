@@ -56,9 +56,6 @@ section-keys (m ∷ ms) ls ks e (and-each {x} {y} {xs} {ys} w ws) =
 pub record AlikeLyric (m l : LyricLine) : Type 0 where
   pub text : values (m .text) ≡ values (l .text)
 
-lyric : Line → LyricLine
-lyric l = record { number = l .number; text = l .text }
-
 lyrics-each : (ms ls : List Line) → map textOf ms ≡ map textOf ls
     → Each AlikeLyric (map (λ m. record { number = m .number; text = m .text }) ms) (map (λ m. record { number = m .number; text = m .text }) ls)
 unfolding textOf

@@ -24,9 +24,6 @@ module _ {A : Type 0} where
       let f = found m in
       record { before = y ∷ f .before; behind = f .behind; written = ap (λ z. y ∷ z) (f .written) }
 
-  pub found-member : (x : A) (before behind : List A) → List·Memᴰ x (before ++ (x ∷ behind))
-  found-member x before behind = Memᴰ·append-right before (List·Memᴰ·head refl)
-
   pub either : {X : Type 0} {c : A} (xs : List A) {ys : List A} → (List·Memᴰ c xs → X) → (List·Memᴰ c ys → X) → List·Memᴰ c (xs ++ ys) → X
   either xs f g m = ⊎-elim f g (List·Memᴰ·append-cases xs m)
 

@@ -1,4 +1,4 @@
--- The returns of the functions on metadata lines and key lines.
+-- The returns of the functions on metadata lines and on the lines of a section by their kinds.
 use Prim.Native.Nat.{ℕ, min}
 use mathlib.Core.Path.{_≡_, refl, _∙_}
 use mathlib.Core.List.{List}

@@ -1,4 +1,4 @@
--- The returns of the functions on modifiers and on a pattern's text.
+-- The returns of the functions on modifiers: their settings, and what is noted of them.
 use Prim.Native.Nat.{ℕ, _+_}
 use mathlib.Core.Path.{_≡_, refl, ap, _∙_}
 use mathlib.Core.List.{List}

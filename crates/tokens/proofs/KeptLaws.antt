@@ -6,8 +6,8 @@ use native.Mathlib.Omega.{arith}
 use borrow.Author.Tests.{ltb-true, ltb-false, eqb-true, eqb-false}
 use lib.Dec.{eqb, ltb}
 use mathlib.Core.Logic.{inl, inr}
-use lib.ListN.{length, take, drop, getD, set, replicate, length-take}
-use lib.Seq.{sets, length-sets, getD-take, drop-drop, drop-set-lt}
+use lib.ListN.{length, take, drop, getD, replicate, length-take}
+use lib.Seq.{sets, length-sets, getD-take, drop-drop}
 use Rattle.songcode.specs.Song.{chord, again, silence}
 use Rattle.songcode.specs.answer.Tokens.{Token, sound, remover, reference, semicolon, colon, lineEnd, opens, closes, wrong}
 use Rattle.songcode.proofs.ListLaws.{by-cases, drop-take}
@@ -77,10 +77,7 @@ module _ (s ws after : List ℕ) (end : ℕ) (same : drop end after ≡ drop end
             };
       }
 
--- A word set before the marks, and words laid before them.
-pub kept-set : (s ws : List ℕ) (from i v bound : ℕ) → i < from → Kept s ws from bound → Kept s (set ws i v) from bound
-kept-set s ws from i v bound h k = kept-behind s ws (set ws i v) from (drop-set-lt from ws i v h) from bound (omega arith) k
-
+-- Words laid before the marks.
 pub kept-laid : (s ws new : List ℕ) (from n end bound : ℕ) → end ≡ n + length new → from ≤ end → Kept s ws from bound
     → Kept s (sets ws n new) end bound
 kept-laid s ws new from n end bound e g k = kept-behind s ws (sets ws n new) end (sets-behind n new ws end (omega arith)) from bound g k

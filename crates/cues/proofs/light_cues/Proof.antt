@@ -1,3 +1,4 @@
+-- The three tests in the order of the refusals settle which is given; where all pass, the starts and the end are those that are written.
 use mathlib.Core.Path.{refl, ap, sym, _∙_}
 use lib.ListN.{length}
 use borrow.Author.Tests.{not-true, not-false}

@@ -1,3 +1,4 @@
+-- The verdict is the reader's; where it names no line there is no place, else the slip that is found keeps what its refusal promises.
 use native.Mathlib.Omega.{arith}
 use Rattle.tokens.proofs.KeptLaws.{unmarked-zeros}
 use Rattle.explain.proofs.ExplainLaws.{found-nowhere, found-at}

@@ -1,3 +1,4 @@
+-- A text that is too long is promised nothing; any other is looked into.
 use native.Mathlib.Omega.{arith}
 use borrow.Author.Needs.{needs}
 use Rattle.explain.proofs.slip_in.Statement.{statement}

@@ -1,3 +1,4 @@
+-- Only 12 is promised a time; a verdict of 12 or 13 means that stage 2 found nothing, which the search for the time needs.
 use native.Mathlib.Omega.{arith}
 use Rattle.explain.proofs.FirstLaws.{as-refused}
 use Rattle.explain.proofs.MisfitThere.{misfit-clean, stray-clean}

@@ -1,3 +1,4 @@
+-- The slip is kept unless the refusal is 17; then the stages before found nothing, and only the numbers change, not clause or place.
 use mathlib.Core.Path.{refl}
 use native.Mathlib.Omega.{arith}
 use borrow.Author.Needs.{needs}

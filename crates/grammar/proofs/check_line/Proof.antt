@@ -1,3 +1,4 @@
+-- Token by token: the check so far with the text that is left ends as the check of the whole line does.
 use Prim.Native.Nat.{_≤_, _-_}
 use mathlib.Core.Path.{_≡_, sym, ap, _∙_}
 use native.Mathlib.Omega.{arith}

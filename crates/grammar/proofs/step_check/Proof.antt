@@ -1,3 +1,4 @@
+-- The word tells its kind, and one step by that kind is the model's step.
 use mathlib.Core.Path.{ap, _∙_}
 use Rattle.grammar.specs.Checks.{checkStep}
 use Rattle.grammar.specs.declared.kinds.Kind.{Kind}

@@ -1,3 +1,4 @@
+-- Both cases of the first stage's number: 0, or another.
 use borrow.Author.Tests.{eq-eqb, ne-eqb}
 use Rattle.songcode.specs.Lists.{if_then_else_}
 use Rattle.refusals.specs.Refusals.{firstGiven}

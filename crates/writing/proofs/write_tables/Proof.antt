@@ -1,3 +1,4 @@
+-- The eight words in the row behind the sections are the keys, and the walk over the sections writes the other four tables.
 use mathlib.Core.Path.{ap, _∙_}
 use mathlib.Core.List.{List}
 use Prim.Native.Nat.{ℕ}

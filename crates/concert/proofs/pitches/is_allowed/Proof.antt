@@ -1,3 +1,4 @@
+-- Below -11 the range is missed; from there on only its upper end is left to compare.
 use Rattle.concert.proofs.RootLaws.{below-range, in-range}
 use mathlib.Core.Path.{sym}
 use mir.Facts.{toZ-ofZ}

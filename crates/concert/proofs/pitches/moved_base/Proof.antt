@@ -1,3 +1,4 @@
+-- The table's root is that of the chord, twelve more where it is minor, and at the moved root stands the sharp name of that quality.
 use Rattle.concert.proofs.BaseLaws.{rootAt, base-rooted, major-moved, minor-moved}
 use Rattle.concert.specs.Pitches.{movedRoot}
 use mathlib.Core.Path.{ap, _∙_}

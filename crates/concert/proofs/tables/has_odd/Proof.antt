@@ -1,3 +1,4 @@
+-- Word by word: none that was passed is odd, so one of all is odd exactly if one of those that are left is.
 use Rattle.concert.specs.Moves.{isOdd}
 use Rattle.concert.proofs.TableLaws.{any-here, any-on, any-over}
 use Rattle.songcode.specs.Lists.{any}

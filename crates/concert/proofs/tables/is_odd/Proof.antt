@@ -1,3 +1,4 @@
+-- A spare bit makes it odd; without one a base below 34 does not, and from there to 63, the most that six bits hold, all but 63 do.
 use mathlib.Core.Path.{ap, _∙_}
 use mathlib.Core.Bool.{not}
 use lib.Dec.{eqb}

@@ -1,3 +1,4 @@
+-- Silence stays; any other word that is not odd has a base below 34, which is moved to such a base, and the bits behind it stay.
 use Rattle.concert.specs.Moves.{baseIn, behindBase}
 use Rattle.concert.proofs.WordLaws.{base-listed, moved-listed, silence-stays, chord-moves}
 use Rattle.concert.specs.Pitches.{movedBase}

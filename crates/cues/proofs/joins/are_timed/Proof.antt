@@ -1,3 +1,4 @@
+-- Section by section: all that were passed are timed, so every one is if those that are left are.
 use Prim.Native.Nat.{_-_, _≤_}
 use mathlib.Core.Path.{_≡_, refl, sym, _∙_}
 use lib.ListN.{length, drop}

@@ -1,3 +1,4 @@
+-- Section by section: all cover if those left do from the measure reached, and that is at most the sum of two fields of 16 bits.
 use Prim.Native.Nat.{_-_, _^_, _≤_}
 use mathlib.Core.Path.{_≡_, refl, sym, _∙_}
 use native.Mathlib.Omega.{arith}

@@ -1,3 +1,4 @@
+-- The fields of the word are the model's, whose cases are: no measures, a bpm of 0, or one that is compared with 400.
 use mathlib.Core.Path.{sym, _∙_}
 use Rattle.packing.proofs.RoundTrips.{section-fields}
 use Rattle.cues.proofs.JoinLaws.{timed-empty, timed-still, timed-by}

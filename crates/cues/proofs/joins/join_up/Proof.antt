@@ -1,3 +1,4 @@
+-- Where the sections cover, the measures decide; where they do not, the tables do not join up.
 use Rattle.songcode.specs.description.Joined.{joinUp}
 use borrow.Author.Needs.{needs}
 use Rattle.cues.proofs.joins.join_up.Statement.{statement}

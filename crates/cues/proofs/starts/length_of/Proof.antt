@@ -1,3 +1,4 @@
+-- The entry of the table is the length of a beat; at most 63 beats of at most 60,000,000 make a product that fits.
 use Prim.Native.Nat.{ℕ, _*_, _<_, _≤_}
 use mathlib.Core.Path.{_≡_, refl}
 use native.Mathlib.Omega.{arith}

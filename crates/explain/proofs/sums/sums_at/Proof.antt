@@ -1,3 +1,4 @@
+-- A cleared row has no marks, so the definitions can be loaded; stage 3 found nothing, so they are, and the sections can be summed.
 use mathlib.Core.Path.{subst}
 use native.Mathlib.Omega.{arith}
 use lib.ListN.{length}

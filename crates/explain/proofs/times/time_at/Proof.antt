@@ -1,3 +1,4 @@
+-- With no block found no section holds the line; else the keys of its section and of the song give N, as the text has no fault.
 use mathlib.Core.Path.{subst}
 use native.Mathlib.Omega.{arith}
 use Rattle.sections.specs.declared.runs.Run.{Run}

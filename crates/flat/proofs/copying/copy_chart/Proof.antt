@@ -1,3 +1,4 @@
+-- The count is the copy's length up to 65,537, so the two tests refuse only copies that are too long; any other fits and is put whole.
 use mathlib.Core.Path.{refl}
 use mathlib.Core.Logic.{inl, inr}
 use Rattle.judging.proofs.VerdictLaws.{song-accepted}

@@ -1,3 +1,4 @@
+-- A refusal of stages 1 and 2 is the answer, with the buffer as it was; without one, they found no fault and kept the tokens in the row.
 use mathlib.Core.Path.{refl}
 use Rattle.judging.proofs.VerdictLaws.{early-refused, first-clear}
 use Rattle.flat.proofs.AnswerLaws.{flattened-refused}

@@ -1,3 +1,4 @@
+-- The row's zeros hold no mark, and its 65,552 words have room for every text of at most 65,536 bytes.
 use native.Mathlib.Omega.{arith}
 use Rattle.tokens.proofs.KeptLaws.{unmarked-zeros}
 use borrow.Author.Needs.{needs}

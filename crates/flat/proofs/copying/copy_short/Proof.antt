@@ -1,3 +1,4 @@
+-- The row is all zeros, so no mark stands in it, and what is required of the text's length is the room that the row must have.
 use Rattle.tokens.proofs.KeptLaws.{unmarked-zeros}
 use borrow.Author.Needs.{needs}
 use Rattle.flat.proofs.copying.copy_short.Statement.{statement}

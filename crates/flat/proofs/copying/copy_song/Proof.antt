@@ -1,3 +1,4 @@
+-- A refusal of the later stages is the call's own refusal, with the buffer as it was; without one, the row is laid as the copy requires.
 use mathlib.Core.Path.{refl}
 use Rattle.judging.proofs.VerdictLaws.{late-refused}
 use Rattle.flat.proofs.AnswerLaws.{flattened-refused}

@@ -1,3 +1,4 @@
+-- The second run begins where the body's run left off, so its lines are the ending, and the lines behind it are those that are left.
 use mathlib.Core.Path.{ap, _∙_}
 use mathlib.Core.List.{List}
 use native.Mathlib.Omega.{arith}

@@ -9,7 +9,8 @@ use Rattle.songcode.specs.answer.Sections.{isKeyLine}
 use Rattle.sections.specs.Runs.{textLines}
 use Rattle.flat.specs.Sheets.{puts}
 use Rattle.flat.specs.Taken.{lineBytes, Reaches}
-use Rattle.flat.proofs.LineLaws.{keys-over, keys-step, keys-end, no-key, left-over, left-step, left-end}
+use Rattle.flat.proofs.LineLaws.{keys-over, keys-step, keys-end, no-key, some-key, left-over, left-step, left-end}
+use borrow.Author.Tests.{not-true, not-false}
 use borrow.Author.Needs.{needs}
 use Rattle.flat.proofs.lines.put_keys.Statement.{statement}
 use Rattle.flat.proofs.lines.put_keys.Tie as tie
@@ -32,49 +33,23 @@ abbrev μ-loop : tie.MeasureT-loop
 loop-holds : tie.Need-loop-holds Inv-loop μ-loop
 loop-holds c = (omega arith, omega arith, omega arith, refl, refl, omega arith, refl)
 
-returns : tie.Need-returns Inv-loop μ-loop
-returns c =
-    let q = c .before .before .before .before .before .before in
-    let l = q .loop in
-    let e = q .before .before .before .args in
-    let s = e .s .now in
-    let found = c .before .before .before .before .line-at .ensures in
-    let inside = c .before .before .before .before .before .loop-test .taken in
-    let kind = sym (c .enum-told2 .given .1) ∙ c .before .before .kind-of .ensures in (
-      sym (keys-end s (l .k) (l .next) _ found inside _ (no-key .0) kind) ∙ l .inv .4,
-      reached s (e .number) (e .from) (l .k) (l .next) (left-end s (l .k) (l .next) found inside _ (no-key .0) kind)
-          (l .inv .0) (l .inv .1) (l .inv .2) (l .inv .5) (l .inv .6),
-    )
-
-returns-2 : tie.Need-returns-2 Inv-loop μ-loop
-returns-2 c =
-    let q = c .before .before .before .before .before .before in
-    let l = q .loop in
-    let e = q .before .before .before .args in
-    let s = e .s .now in
-    let found = c .before .before .before .before .line-at .ensures in
-    let inside = c .before .before .before .before .before .loop-test .taken in
-    let kind = sym (c .enum-told3 .given .1) ∙ c .before .before .kind-of .ensures in (
-      sym (keys-end s (l .k) (l .next) _ found inside _ (no-key .1) kind) ∙ l .inv .4,
-      reached s (e .number) (e .from) (l .k) (l .next) (left-end s (l .k) (l .next) found inside _ (no-key .1) kind)
-          (l .inv .0) (l .inv .1) (l .inv .2) (l .inv .5) (l .inv .6),
-    )
-
+-- The line at hand is a key line.
 loop-again : tie.Need-loop-again Inv-loop μ-loop
 loop-again c =
-    let k = c .before .before .before .before .before .before in
-    let q = k .before .before .before .before in
+    let asked = c .before .before .before .before .before in
+    let q = asked .before .before .before .before .before in
     let l = q .loop in
     let s = q .before .before .before .args .s .now in
-    let found = k .before .before .line-at .ensures in
-    let inside = k .before .before .before .loop-test .taken in
-    let kind = sym (c .before .before .before .before .enum-told .given .1) ∙ k .kind-of .ensures in
+    let found = asked .before .before .before .line-at .ensures in
+    let inside = asked .before .before .before .before .loop-test .taken in
+    let kind = some-key _ (sym (asked .is-key .ensures) ∙ not-false _ (c .before .before .before .before .if1 .left)) ∙ asked .before .kind-of .ensures in
     let more = keys-step s (l .k) (l .next) _ found inside _ _ kind (c .before .before .put-line .ensures) (l .inv .4) in
     let far = l .inv .5 in
     (omega arith, omega arith, omega arith, search needs, more, omega arith, left-step s (l .k) (l .next) found inside kind ∙ l .inv .6)
 
-returns-3 : tie.Need-returns-3 Inv-loop μ-loop
-returns-3 c =
+-- No line is left.
+returns : tie.Need-returns Inv-loop μ-loop
+returns c =
     let l = c .before .loop in
     let e = c .before .before .before .before .args in
     let s = e .s .now in
@@ -83,9 +58,26 @@ returns-3 c =
       reached s (e .number) (e .from) (l .k) (l .next) (left-over s (l .k) (l .next) over) (l .inv .0) (l .inv .1) (l .inv .2) (l .inv .5) (l .inv .6),
     )
 
+-- The line at hand is none.
+returns-2 : tie.Need-returns-2 Inv-loop μ-loop
+returns-2 c =
+    let asked = c .before in
+    let q = asked .before .before .before .before .before in
+    let l = q .loop in
+    let e = q .before .before .before .args in
+    let s = e .s .now in
+    let found = asked .before .before .before .line-at .ensures in
+    let inside = asked .before .before .before .before .loop-test .taken in
+    let none = no-key _ (sym (asked .is-key .ensures) ∙ not-true _ (c .if1 .taken)) in
+    let kind = asked .before .kind-of .ensures in (
+      sym (keys-end s (l .k) (l .next) _ found inside _ none kind) ∙ l .inv .4,
+      reached s (e .number) (e .from) (l .k) (l .next) (left-end s (l .k) (l .next) found inside _ none kind)
+          (l .inv .0) (l .inv .1) (l .inv .2) (l .inv .5) (l .inv .6),
+    )
+
 pub put-keys-spec : {M : Type 1} → statement M
 put-keys-spec =
     tie.close
     (tie.spec Inv-loop μ-loop loop-holds (λ c κs. search needs) (λ c. search needs) (λ c. search needs) (λ c. search needs) (λ c κs. search needs)
-    (λ c. search needs) (λ c κs. search needs) (λ c. search needs) (λ c. search needs) returns (λ c. search needs) (λ c. search needs) returns-2
-    (λ c. search needs) (λ c. search needs) loop-again (λ c. search needs) returns-3)
+    (λ c κs. search needs) (λ c κs. search needs) (λ c. search needs) (λ c. search needs) loop-again (λ c. search needs) returns
+    (λ c. search needs) returns-2)

@@ -1,3 +1,4 @@
+-- Line by line: the lines that are left, put on the sheet so far, give what the whole run gives on the first sheet.
 use Prim.Native.Nat.{_+_, _-_, _≤_}
 use mathlib.Core.Path.{_≡_, refl, sym, _∙_}
 use native.Mathlib.Omega.{arith}

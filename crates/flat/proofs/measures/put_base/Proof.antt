@@ -1,3 +1,4 @@
+-- Letter by letter: what is left of the name up to its first 0 is still to be put; behind three letters nothing is left, for no base has more.
 use Prim.Native.Nat.{_+_, _-_, _≤_}
 use mathlib.Core.Path.{_≡_, refl}
 use native.Mathlib.Omega.{arith}

@@ -1,3 +1,4 @@
+-- Beat by beat: the positions from i on, put on the sheet so far, give what the whole line gives; a gap and the letters make one position.
 use Prim.Native.Nat.{_-_}
 use mathlib.Core.Path.{_≡_, refl}
 use mathlib.Core.List.{map}

@@ -1,3 +1,4 @@
+-- The word's fields tell: a base past 33 is silence, else the base's letters are put, then the stretch of the text, cut at its end.
 use Rattle.flat.proofs.MeasureLaws.{letters-none, letters-are}
 use borrow.Author.Needs.{needs}
 use Rattle.flat.proofs.measures.put_letters.Statement.{statement}

@@ -1,3 +1,4 @@
+-- The beats, the removers from the position behind them on, and the line feed, put one behind the other, are the line.
 use Rattle.flat.proofs.MeasureLaws.{line-put}
 use borrow.Author.Needs.{needs}
 use Rattle.flat.proofs.measures.put_measure.Statement.{statement}

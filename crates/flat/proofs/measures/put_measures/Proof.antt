@@ -1,3 +1,4 @@
+-- Measure by measure: the lines of the k - i measures from i on, put on the sheet so far, give what those of all k give.
 use Prim.Native.Nat.{_-_, _≤_}
 use mathlib.Core.Path.{_≡_, refl}
 use mathlib.Core.List.{map}

@@ -1,3 +1,4 @@
+-- Remover by remover: those from position i up to N, put on the sheet so far, give what all of them give on the first sheet.
 use Prim.Native.Nat.{_-_}
 use mathlib.Core.Path.{_≡_, refl}
 use lib.ListN.{length, replicate}

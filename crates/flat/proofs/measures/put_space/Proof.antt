@@ -1,3 +1,4 @@
+-- Before position 0 the gap is empty and nothing is put; before every other it is the space that is put.
 use Rattle.flat.proofs.MeasureLaws.{gap-none, gap-some}
 use borrow.Author.Needs.{needs}
 use Rattle.flat.proofs.measures.put_space.Statement.{statement}

@@ -1,3 +1,4 @@
+-- Past 65,536 bytes the sheet stays as it is; else the guarded store is a set, for a set past the buffer's end changes nothing.
 use mathlib.Core.Path.{_≡_, sym, ap, _∙_}
 use mathlib.Core.Logic.{⊎-elim}
 use lib.ListN.{set, length-set, length}

@@ -1,3 +1,4 @@
+-- To put the part and then the line feed is to put both as one list, which is the line.
 use mathlib.Core.List.{[], _∷_}
 use Rattle.songcode.specs.answer.Flat.{endLine}
 use Rattle.text.specs.Spans.{part}

@@ -1,3 +1,4 @@
+-- Byte by byte: the bytes from i on, put on the sheet so far, give what the whole part gives on the first sheet.
 use Prim.Native.Nat.{_-_, _≤_}
 use mathlib.Core.Path.{_≡_, refl}
 use native.Mathlib.Omega.{arith}

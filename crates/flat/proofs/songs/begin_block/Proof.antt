@@ -1,3 +1,4 @@
+-- On an empty sheet no blank line is due; on any other the line feed that is put is the parting.
 use mathlib.Core.Path.{sym, _∙_}
 use Rattle.flat.proofs.BlockLaws.{parted-none, parted-some}
 use borrow.Author.Needs.{needs}

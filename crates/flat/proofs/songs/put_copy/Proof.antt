@@ -1,3 +1,4 @@
+-- Key lines, empty definition and sections, put one behind the other, are the copy's blocks; the test tells whether the second is needed.
 use Rattle.flat.proofs.SongLaws.{copy-put}
 use borrow.Author.Needs.{needs}
 use Rattle.flat.proofs.songs.put_copy.Statement.{statement}

@@ -1,3 +1,4 @@
+-- Where it is not needed there is no block; where it is, the parting and then `$1` with its line feed are the bytes of the block.
 use mathlib.Core.Path.{sym}
 use Rattle.flat.proofs.BlockLaws.{no-empty, some-empty}
 use borrow.Author.Needs.{needs}

@@ -1,3 +1,4 @@
+-- Three kinds have an arm of their own; each of the other six does no more than move the check in the model too.
 use Prim.Native.Nat.{ℕ}
 use mathlib.Core.Path.{_≡_, refl, _∙_}
 use mathlib.Core.List.{List, [], _∷_}

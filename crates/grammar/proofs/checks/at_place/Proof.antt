@@ -1,3 +1,4 @@
+-- In each arm the place is known, and its row picks the very entry that is read.
 use mathlib.Core.Path.{refl}
 use borrow.Author.Needs.{needs}
 use Rattle.grammar.proofs.checks.at_place.Statement.{statement}

@@ -1,3 +1,4 @@
+-- With no loop open the check is spoiled, else one loop fewer is open: the test is the model's, and both arms compute.
 use borrow.Author.Tests.{eq-eqb, ne-eqb}
 use Rattle.songcode.specs.Lists.{if_then_else_}
 use Rattle.grammar.specs.Checks.{closed}

@@ -1,3 +1,4 @@
+-- What is compared with 8 is the row that the model has for the place.
 use mathlib.Core.Path.{refl}
 use borrow.Author.Needs.{needs}
 use Rattle.grammar.proofs.checks.is_bad.Statement.{statement}

@@ -1,3 +1,4 @@
+-- The list of a kind is its column of the table, shown place by place; a wrong token leads to the bad place from everywhere.
 use mathlib.Core.Path.{_≡_, refl, _∙_}
 use mathlib.Core.List.{List, [], _∷_, map}
 use lib.ListN.{getD}

@@ -1,3 +1,4 @@
+-- The limit of open loops is the model's: from it on the check is spoiled, below it one more loop is open.
 use borrow.Author.Tests.{le-leb, lt-leb}
 use Rattle.songcode.specs.Lists.{if_then_else_}
 use Rattle.songcode.specs.answer.PatternText.{loopsDeep}

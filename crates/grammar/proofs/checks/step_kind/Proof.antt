@@ -1,3 +1,4 @@
+-- A next place that is bad spoils the check, by the model's own test; at any other place the check arrives.
 use Rattle.grammar.proofs.ArmLaws.{step-bad, step-on}
 use borrow.Author.Needs.{needs}
 use Rattle.grammar.proofs.checks.step_kind.Statement.{statement}

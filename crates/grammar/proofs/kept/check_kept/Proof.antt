@@ -1,3 +1,4 @@
+-- The words that are kept stand behind their mark, and to check them word by word is to check the line's text.
 use mathlib.Core.Path.{_∙_}
 use Rattle.grammar.proofs.KeptLaws.{kept-text}
 use borrow.Author.Needs.{needs}

@@ -1,3 +1,4 @@
+-- Word by word: the check so far, with the words that are left, ends as the check with all words does.
 use Prim.Native.Nat.{_+_, _-_, _≤_}
 use mathlib.Core.Path.{_≡_, sym, ap, _∙_}
 use native.Mathlib.Omega.{arith}

@@ -1,3 +1,4 @@
+-- The bits in front of the word decide: a chord, one of the nine signs by its number, or a number between the two, which is wrong.
 use borrow.Author.Tests.{lt-ltb, le-ltb}
 use borrow.Author.Needs.{needs}
 use native.Mathlib.Omega.{arith}

@@ -1,3 +1,4 @@
+-- Byte by byte: what is asked of the bytes from here on is what was asked of all, until one is barred or none is left.
 use Prim.Native.Nat.{_≤_, _-_}
 use mathlib.Core.Path.{_≡_, sym, _∙_}
 use native.Mathlib.Omega.{arith}

@@ -1,3 +1,4 @@
+-- The first comparison passes and settles both sides, or it fails and the second one is left on both.
 use Rattle.songcode.specs.Bytes.{isByte}
 use Rattle.songcode.specs.answer.PatternText.{barred}
 use borrow.Author.Tests.{ne-eqb}

@@ -1,3 +1,4 @@
+-- A barred byte rules the text out; without one the verdict on the check of its tokens is the verdict on the text.
 use mathlib.Core.Path.{sym, ap, _∙_}
 use Rattle.songcode.specs.Bytes.{placed}
 use Rattle.text.specs.Spans.{part}

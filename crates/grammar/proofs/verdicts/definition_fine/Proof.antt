@@ -1,3 +1,4 @@
+-- Where no item stands last the first test settles it; else the count of open loops does.
 use mathlib.Core.Path.{refl}
 use Rattle.grammar.proofs.TestLaws.{and-fails, and-passes}
 use Rattle.grammar.specs.Verdicts.{definitionFine}

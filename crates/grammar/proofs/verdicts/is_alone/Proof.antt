@@ -1,3 +1,4 @@
+-- The number of the place is the model's, and both are compared with 5.
 use mathlib.Core.Path.{refl}
 use borrow.Author.Needs.{needs}
 use Rattle.grammar.proofs.verdicts.is_alone.Statement.{statement}

@@ -1,3 +1,4 @@
+-- Where the place's number is 3 or more the second test decides; below 3 both sides are false.
 use mathlib.Core.Path.{refl}
 use borrow.Author.Tests.{le-leb, lt-leb}
 use borrow.Author.Needs.{needs}

@@ -1,3 +1,4 @@
+-- Three returns: not fine as a definition, a `$n` alone, and else whether no `$n` was read.
 use Rattle.grammar.proofs.TestLaws.{and-fails, and-passes, or-passes, or-fails}
 use Rattle.grammar.specs.Verdicts.{sectionFine}
 use borrow.Author.Needs.{needs}

@@ -1,3 +1,4 @@
+-- A text that is not fine as a definition's fails; of the others it is only asked whether a `$n` was read.
 use mathlib.Core.Path.{refl}
 use Rattle.grammar.proofs.TestLaws.{and-fails, and-passes}
 use Rattle.grammar.specs.Verdicts.{unnamedFine}

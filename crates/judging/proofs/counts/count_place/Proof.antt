@@ -1,3 +1,4 @@
+-- A count of 0 has no place; any other begins as many bytes before its line's end as it has digits, which have room there.
 use Prim.Native.Nat.{ℕ, zero, suc, _-_}
 use mathlib.Core.Path.{_≡_, refl, ap}
 use native.Mathlib.Omega.{arith}

@@ -1,3 +1,4 @@
+-- Up to 9,999 a number is written with one digit more from 10, from 100 and from 1,000 on: the three tests of the code.
 use borrow.Author.Tests.{lt-ltb, le-ltb}
 use Rattle.songcode.specs.Lists.{if_then_else_}
 use Rattle.judging.proofs.DigitLaws.{written-length}

@@ -1,3 +1,4 @@
+-- The test of the later line's count is that of the definition; both cases compute.
 use borrow.Author.Tests.{eq-eqb, ne-eqb}
 use Rattle.songcode.specs.Lists.{if_then_else_}
 use Rattle.judging.specs.Counts.{laterOf}

@@ -1,3 +1,4 @@
+-- An empty pattern by its modifiers, one without cuts by its measures; any other by its plan, which tells the beats between its cuts.
 use Rattle.judging.specs.Lengths.{cutAway}
 use Rattle.judging.proofs.CutLaws.{cut-fits}
 use Rattle.songcode.specs.Lists.{if_then_else_}

@@ -1,3 +1,4 @@
+-- Three tests, each failing before the next: the first that holds makes the `or` true, and behind them only the cuts are left of it.
 use Rattle.judging.specs.Lengths.{isModified}
 use borrow.Author.Tests.{eq-eqb, ne-eqb}
 use borrow.Author.Needs.{needs}

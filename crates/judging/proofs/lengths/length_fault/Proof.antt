@@ -1,3 +1,4 @@
+-- Too many measures are refused first; behind that test the pattern plays few enough for its cuts to be judged.
 use Rattle.judging.specs.Lengths.{lengthFault}
 use Rattle.songcode.specs.Lists.{if_then_else_}
 use native.Mathlib.Omega.{arith}

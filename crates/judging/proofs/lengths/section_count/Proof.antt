@@ -1,3 +1,4 @@
+-- A repeat and a text's measures are small, so their product and both sums have room; what is added up is the definition itself.
 use Rattle.judging.specs.Lengths.{countOfTexts}
 use mathlib.Core.Path.{refl}
 use native.Mathlib.Omega.{arith}

@@ -1,3 +1,4 @@
+-- Something refused before stays; else at most 65,535 measures stand before, so the section's have room to be added and judged.
 use Rattle.judging.specs.Lengths.{withLengths}
 use Rattle.judging.proofs.CountLaws.{count-small}
 use Rattle.songcode.specs.Lists.{if_then_else_}

@@ -1,3 +1,4 @@
+-- Two tests, one inside the other, are the `and` of the definition: only where both hold is a line refused.
 use borrow.Author.Tests.{eq-eqb, ne-eqb}
 use Rattle.songcode.specs.Lists.{if_then_else_}
 use Rattle.judging.specs.Lyrics.{countFault}

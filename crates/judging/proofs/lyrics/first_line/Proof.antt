@@ -1,3 +1,4 @@
+-- Four ways out: no first number, no second, the second below the first, or not; each test is the next one of the definition.
 use borrow.Author.Tests.{eq-eqb, ne-eqb, lt-ltb, le-ltb}
 use Rattle.songcode.specs.Lists.{if_then_else_}
 use Rattle.judging.specs.Lyrics.{firstLine}

@@ -1,3 +1,4 @@
+-- An empty pattern changes nothing; otherwise both ways through the code's `or` give that of the definition.
 use mathlib.Core.Path.{_≡_, _∙_}
 use mathlib.Core.Bool.{_||_}
 use mathlib.Core.Logic.{⊎-elim}

@@ -1,3 +1,4 @@
+-- The count is 0 or not: the two tallies of the definition; the bounds demanded leave room for one more line and its count.
 use borrow.Author.Tests.{eq-eqb, ne-eqb}
 use Rattle.songcode.specs.Lists.{if_then_else_}
 use Rattle.judging.specs.Lyrics.{withLine}

@@ -1,3 +1,4 @@
+-- Stage 4's least complaint is put as a refusal, and the first given of the two is told by the function that chooses.
 use Rattle.judging.specs.Measures.{meteredRefusal}
 use mathlib.Core.Path.{refl}
 use borrow.Author.Needs.{needs}

@@ -1,3 +1,4 @@
+-- The complaint of the section, the least with those before, and the lengths: each is what its function tells.
 use Rattle.judging.specs.Measures.{withMeasures}
 use borrow.Author.Needs.{needs}
 use Rattle.judging.proofs.measures.with_measures.Statement.{statement}

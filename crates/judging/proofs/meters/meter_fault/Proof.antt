@@ -1,3 +1,4 @@
+-- The complaint of each of the three texts is told, and the least is taken two at a time, in the order of the definition.
 use Rattle.judging.specs.Meters.{meterFault}
 use mathlib.Core.Path.{refl, _∙_}
 use borrow.Author.Needs.{needs}

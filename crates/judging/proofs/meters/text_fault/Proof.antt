@@ -1,3 +1,4 @@
+-- Whether the sizes fit is told, so both complaints are those of the definition, and the least of them is too.
 use Rattle.judging.specs.Meters.{textFault}
 use mathlib.Core.Path.{refl, _∙_}
 use borrow.Author.Needs.{needs}

@@ -1,3 +1,4 @@
+-- Nothing named, a definition that is missing, one that is there: each way out is one branch of what is promised.
 use mathlib.Core.Path.{sym, _∙_}
 use borrow.Author.Tests.{eq-eqb, ne-eqb}
 use borrow.Author.Needs.{needs}

@@ -1,3 +1,4 @@
+-- What each of the two stages refuses is told by its function, and so is which of the two goes first.
 use Rattle.judging.specs.Singing.{lyricRefusal}
 use borrow.Author.Needs.{needs}
 use Rattle.judging.proofs.singing.lyric_refusal.Statement.{statement}

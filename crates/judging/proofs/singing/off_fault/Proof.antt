@@ -1,3 +1,4 @@
+-- Without counts nothing is refused, with them the header alone decides: three ways out, each a case of the `and`.
 use borrow.Author.Tests.{eq-eqb, ne-eqb}
 use Rattle.songcode.specs.Lists.{if_then_else_}
 use Rattle.judging.specs.Singing.{offFault}

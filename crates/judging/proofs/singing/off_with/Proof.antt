@@ -1,3 +1,4 @@
+-- A header found before stays; where there is none, the test tells the section's own or 0.
 use borrow.Author.Tests.{eq-eqb, ne-eqb}
 use Rattle.songcode.specs.Lists.{if_then_else_}
 use Rattle.judging.specs.Singing.{offWith}

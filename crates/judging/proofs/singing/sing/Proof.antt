@@ -1,3 +1,4 @@
+-- What was tallied and counted is known as the definitions say it, so the room demanded for these is room for what is added.
 use borrow.Author.Needs.{needs}
 use Rattle.judging.proofs.singing.sing.Statement.{statement}
 use Rattle.judging.proofs.singing.sing.Tie as tie

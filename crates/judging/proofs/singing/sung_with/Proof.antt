@@ -1,3 +1,4 @@
+-- Each part by what its function tells; the room that the sums need is what is demanded of them.
 use Rattle.judging.specs.Singing.{sungWith}
 use borrow.Author.Needs.{needs}
 use Rattle.judging.proofs.singing.sung_with.Statement.{statement}

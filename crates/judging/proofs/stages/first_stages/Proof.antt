@@ -1,3 +1,4 @@
+-- A refused input gives the verdict; one that is not refused has no complaint, so it is small enough for stage 2, which gives it then.
 use Rattle.judging.proofs.StageLaws.{stage-refused, stage-passed, stage-none, numbered-input, input-small}
 use Rattle.songcode.proofs.VerdictAgree.{last-stage}
 use Rattle.songcode.specs.answer.Answer.{inputFaults, blocksOf}

@@ -1,3 +1,4 @@
+-- An empty pattern makes the `and` of the definition false; any other leaves only the number of lines.
 use Rattle.judging.specs.Sums.{hasLines}
 use Rattle.judging.proofs.sums.has_lines.Statement.{statement}
 use Rattle.judging.proofs.sums.has_lines.Tie as tie

@@ -1,3 +1,4 @@
+-- What `has_lines` tells makes the `and` of the definition false, or leaves its other half: that no line is without a count.
 use borrow.Author.Tests.{not-true, not-false}
 use Rattle.judging.specs.Sums.{hasPrompts}
 use borrow.Author.Needs.{needs}

@@ -1,3 +1,4 @@
+-- A section without lines differs in nothing; with lines only the comparison with its measures is left of the definition.
 use borrow.Author.Tests.{not-true, not-false}
 use Rattle.judging.specs.Sums.{sumDiffers}
 use borrow.Author.Needs.{needs}

@@ -1,3 +1,4 @@
+-- The numbers are handed on as they are; only the items hang on a test, and both its cases compute.
 use Rattle.songcode.specs.Lists.{if_then_else_}
 use Rattle.judging.specs.Sums.{totalsOf}
 use Rattle.judging.proofs.sums.totals_of.Statement.{statement}

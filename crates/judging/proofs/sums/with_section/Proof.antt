@@ -1,3 +1,4 @@
+-- The bounds demanded leave room for each of the four sums; whether all have items is an `and`, by what the sections before say.
 use Rattle.judging.specs.Sums.{withSection}
 use borrow.Author.Needs.{needs}
 use Rattle.judging.proofs.sums.with_section.Statement.{statement}

@@ -1,3 +1,4 @@
+-- The refusal found is the first of stages 4 to 7, and its number tells which branch of the definition is given.
 use mathlib.Core.Path.{_≡_}
 use borrow.Author.Tests.{eq-eqb, ne-eqb}
 use Rattle.songcode.specs.Lists.{if_then_else_}

@@ -1,3 +1,4 @@
+-- A write leaves the row as long as it was, so all three places stay inside; the two words are those that their functions tell.
 use Prim.Native.Nat.{_+_}
 use mathlib.Core.Path.{refl}
 use native.Mathlib.Omega.{arith}

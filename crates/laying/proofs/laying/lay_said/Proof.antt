@@ -1,3 +1,4 @@
+-- Nothing said has no words; what is said is a part of the text, whose bytes are the room demanded and whose tokens are laid as a line's.
 use native.Mathlib.Omega.{arith}
 use mathlib.Core.Path.{refl}
 use Rattle.laying.proofs.LayingLaws.{said-weight, said-tokens, nothing-said}

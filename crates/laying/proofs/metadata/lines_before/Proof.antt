@@ -1,3 +1,4 @@
+-- Lines are numbered from 1, so one can be taken off; the run is then the one that is promised, field by field.
 use mathlib.Core.Path.{refl}
 use Rattle.laying.specs.Metadata.{linesBefore}
 use borrow.Author.Needs.{needs}

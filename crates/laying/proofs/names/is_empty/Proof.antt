@@ -1,3 +1,4 @@
+-- The number named is known; 0 is no name, and for any other the outline looked up tells whether it is empty.
 use mathlib.Core.Path.{sym, ap, _∙_}
 use borrow.Author.Tests.{eq-eqb, ne-eqb}
 use borrow.Author.Needs.{needs}

@@ -1,3 +1,4 @@
+-- The word read is the first of the text; where its kind is a reference's, its number is named, and else 0 is.
 use mathlib.Core.Path.{sym, _∙_}
 use borrow.Author.Tests.{eq-eqb, ne-eqb}
 use borrow.Author.Needs.{needs}

@@ -1,3 +1,4 @@
+-- For 0 the text itself is read, for any other number the outline is looked up: each is told as it is promised.
 use borrow.Author.Tests.{eq-eqb, ne-eqb}
 use borrow.Author.Needs.{needs}
 use Rattle.songcode.specs.Lists.{if_then_else_}

@@ -1,3 +1,4 @@
+-- The place is kept as it is, and its outline is what is told of the words that stand there.
 use mathlib.Core.Path.{ap}
 use Rattle.outlines.specs.declared.readings.Outline.{Outline}
 use borrow.Author.Needs.{needs}

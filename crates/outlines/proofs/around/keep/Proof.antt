@@ -1,3 +1,4 @@
+-- Within the array the number is stored; beyond its end a set changes no list, so nothing needs to be done.
 use lib.Seq.{set-out}
 use mathlib.Core.Path.{sym}
 use borrow.Author.Needs.{needs}

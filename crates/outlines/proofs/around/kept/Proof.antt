@@ -1,3 +1,4 @@
+-- Within the array the number is read; beyond its end the list has none either, and both say 0.
 use mathlib.Core.Path.{sym}
 use lib.ListN.{List·getD-eq-default}
 use borrow.Author.Needs.{needs}

@@ -1,3 +1,4 @@
+-- The cases in the order of the definition: a missing definition first, then one that cannot be put in there, else 0.
 use Rattle.outlines.specs.Faults.{faultNumber}
 use Rattle.songcode.specs.Lists.{if_then_else_}
 use Rattle.outlines.proofs.faults.fault_number.Statement.{statement}

@@ -1,3 +1,4 @@
+-- The level stays, and each of the two faults is there if it was before or the reference has it.
 use Rattle.outlines.specs.Faults.{referenceRead}
 use borrow.Author.Needs.{needs}
 use Rattle.outlines.proofs.faults.judge_reference.Statement.{statement}

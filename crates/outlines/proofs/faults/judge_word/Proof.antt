@@ -1,3 +1,4 @@
+-- The word's kind chooses the case of the definition: a reference with what its number finds, else the step of a bracket.
 use Rattle.outlines.proofs.StepLaws.{fault-reference, fault-other}
 use Rattle.outlines.specs.Words.{lookUp, isMissing}
 use borrow.Author.Needs.{needs}

@@ -1,3 +1,4 @@
+-- An opening bracket moves the level in, a closing one out, and any other kind fails both tests of the definition.
 use Rattle.outlines.specs.Faults.{bracketRead}
 use Rattle.songcode.specs.Lists.{if_then_else_}
 use borrow.Author.Tests.{eq-eqb, ne-eqb}

@@ -1,3 +1,4 @@
+-- A level above the limit passes it with any depth; else to pass the rest of the limit is to pass the limit with the level.
 use mathlib.Core.Path.{sym}
 use native.Mathlib.Omega.{arith}
 use Prim.Native.Nat.{_+_}

@@ -1,3 +1,4 @@
+-- Word by word: the faults so far, read on over the words that are left, are those of the whole stretch.
 use Rattle.outlines.proofs.PartLaws.{faults-next, faults-over}
 use Rattle.outlines.specs.Words.{lookUp, isMissing}
 use Rattle.outlines.specs.Faults.{faultless, allFaults, faultNumber, faultIn}

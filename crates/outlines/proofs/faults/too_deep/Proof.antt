@@ -1,3 +1,4 @@
+-- Empty, holding a reference, or past the limit: the three answers are joined as the definition joins them.
 use Rattle.outlines.specs.Faults.{tooDeep}
 use borrow.Author.Needs.{needs}
 use Rattle.outlines.proofs.faults.too_deep.Statement.{statement}

@@ -1,3 +1,4 @@
+-- A chord is read alike whichever kind it has, a reference by what its number finds, any other word by the step of its kind.
 use Rattle.outlines.proofs.StepLaws.{read-chord, read-reference, read-other}
 use Rattle.outlines.specs.Readings.{nested}
 use Rattle.outlines.specs.Words.{lookUp}

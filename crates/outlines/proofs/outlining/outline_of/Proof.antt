@@ -1,3 +1,4 @@
+-- The words are read from the first state and summed up, as defined; no step takes the sizes, the count or the depth past its cap.
 use Rattle.outlines.proofs.SmallLaws.{outlined-small}
 use Rattle.outlines.proofs.PartLaws.{part-empty}
 use Rattle.outlines.specs.Words.{lookUp}

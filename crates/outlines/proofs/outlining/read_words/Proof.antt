@@ -1,3 +1,4 @@
+-- Word by word: from the state at hand the words that are left lead to where the whole stretch leads from the first state.
 use Rattle.outlines.proofs.PartLaws.{read-next, read-over}
 use Rattle.outlines.specs.Words.{lookUp}
 use Rattle.outlines.specs.Readings.{Nested, nested, wordsRead}

@@ -1,3 +1,4 @@
+-- One law for each kind of word: a position, an opening bracket, a closing one, and any other, which ends the measure.
 use Rattle.outlines.proofs.StepLaws.{step-position, step-open, step-shut, step-close}
 use borrow.Author.Needs.{needs}
 use Rattle.outlines.proofs.readings.advance.Statement.{statement}

@@ -1,3 +1,4 @@
+-- Without a position at hand the state stays; else the measure's size is joined to the sizes and the measure counted.
 use Rattle.outlines.specs.Readings.{closed, measured}
 use Rattle.songcode.specs.Lists.{if_then_else_}
 use borrow.Author.Tests.{eq-eqb, ne-eqb}

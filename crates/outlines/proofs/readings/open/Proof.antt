@@ -1,3 +1,4 @@
+-- The level further in is found once, and the deepest is the greater of itself and that level.
 use Rattle.outlines.specs.Readings.{opened}
 use borrow.Author.Needs.{needs}
 use Rattle.outlines.proofs.readings.open.Statement.{statement}

@@ -1,3 +1,4 @@
+-- Sizes, answers and count are joined with those of the outline, each as its function tells; the other fields stay.
 use Rattle.outlines.specs.Readings.{referred}
 use borrow.Author.Needs.{needs}
 use Rattle.outlines.proofs.readings.refer.Statement.{statement}

@@ -1,3 +1,4 @@
+-- The row's product is capped, then its sum with the measures before the loop, and the level moves out: each as its function tells.
 use Rattle.outlines.specs.Readings.{loopShut}
 use borrow.Author.Needs.{needs}
 use Rattle.outlines.proofs.readings.shut_loop.Statement.{statement}

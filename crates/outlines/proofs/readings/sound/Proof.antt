@@ -1,3 +1,4 @@
+-- Three answers are joined with the tests of the kind, and one position is added, each as its function tells.
 use Rattle.outlines.specs.Readings.{sounded}
 use borrow.Author.Needs.{needs}
 use Rattle.outlines.proofs.readings.sound.Statement.{statement}

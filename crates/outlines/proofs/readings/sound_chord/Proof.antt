@@ -1,3 +1,4 @@
+-- A chord is no `%` and no remover, so by the rule for any position these two answers stay, and that of a chord becomes true.
 use mathlib.Core.Bool.{or-true, and-true}
 use Rattle.outlines.specs.Readings.{sounded}
 use Rattle.outlines.proofs.ChordLaws.{or-false}

@@ -1,3 +1,4 @@
+-- The nine fields are the constants of the definition.
 use mathlib.Core.Path.{refl}
 use Rattle.outlines.specs.Readings.{started}
 use Rattle.outlines.proofs.readings.start.Statement.{statement}

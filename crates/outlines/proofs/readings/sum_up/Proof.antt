@@ -1,3 +1,4 @@
+-- The measure at hand is closed, and every field is taken from the closed state.
 use Rattle.outlines.specs.Readings.{summed}
 use borrow.Author.Needs.{needs}
 use Rattle.outlines.proofs.readings.sum_up.Statement.{statement}

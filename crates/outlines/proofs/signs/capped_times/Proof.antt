@@ -1,3 +1,4 @@
+-- The factor is capped before it is multiplied: so the product fits, and the cap of the product is the same.
 use Rattle.outlines.proofs.SizeLaws.{min-times}
 use mathlib.Core.Path.{ap, _∙_}
 use native.Mathlib.Nat.{mul-le-mul}

@@ -1,3 +1,4 @@
+-- Number by number: the search from the number at hand on ends as the search from 1; at 33 none is left to try.
 use Rattle.outlines.proofs.SizeLaws.{both-of, common-found, common-more, common-over}
 use Rattle.outlines.specs.Sizes.{commonBy}
 use mathlib.Core.Path.{_≡_, refl, sym, _∙_}

@@ -1,6 +1,6 @@
-use mathlib.Core.Path.{_≡_}
+-- The remainder by 0 is the number itself, so comparing the number with 0 is the test; else the test is made as it is defined.
+use mathlib.Core.Path.{_≡_, refl}
 use native.Mathlib.Nat.{mod-zero}
-use mathlib.Core.Path.{refl}
 use Rattle.outlines.specs.Sizes.{divides}
 use borrow.Author.Needs.{needs}
 use Rattle.outlines.proofs.sizes.goes_into.Statement.{statement}

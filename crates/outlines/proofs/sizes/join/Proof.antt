@@ -1,3 +1,4 @@
+-- The two early ends are the two sides of the definition's test; where both fail the search is made.
 use Rattle.outlines.specs.Sizes.{divides, joined}
 use mathlib.Core.Bool.{true, false}
 use mathlib.Core.Path.{_≡_, sym, _∙_}

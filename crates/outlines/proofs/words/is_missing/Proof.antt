@@ -1,3 +1,4 @@
+-- The place of the number and the length there are those of the definition, which compares the length with 0 too.
 use Rattle.outlines.specs.Words.{isMissing}
 use borrow.Author.Needs.{needs}
 use Rattle.outlines.proofs.words.is_missing.Statement.{statement}

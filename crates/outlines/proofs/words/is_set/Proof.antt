@@ -1,3 +1,4 @@
+-- The test is that of the definition; a weight of 1 or more makes the division safe.
 use mathlib.Core.Path.{refl}
 use Rattle.outlines.specs.Words.{isSet}
 use borrow.Author.Needs.{needs}

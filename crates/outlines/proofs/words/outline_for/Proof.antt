@@ -1,3 +1,4 @@
+-- Where the number is missing both say the empty outline; else the word behind the head at its place is read.
 use mathlib.Core.Path.{refl, sym, _∙_}
 use Rattle.songcode.specs.Lists.{if_then_else_}
 use Rattle.outlines.specs.Words.{vacant, lookUp}

@@ -1,3 +1,4 @@
+-- The five bits are tested as their function tells; the three numbers are the quotients and remainders of the definition.
 use Rattle.outlines.specs.Words.{outlineIn}
 use borrow.Author.Needs.{needs}
 use Rattle.outlines.proofs.words.outline_in.Statement.{statement}

@@ -1,3 +1,4 @@
+-- The numbers are small and no answer passes its weight, so every product and sum fits, and the sum is that of the definition.
 use Rattle.outlines.specs.Words.{outlineWord}
 use borrow.Author.Needs.{needs}
 use Rattle.outlines.proofs.words.outline_word.Statement.{statement}

@@ -1,3 +1,4 @@
+-- A bit times the weight is the weight or 0, and neither passes the weight.
 use native.Mathlib.Omega.{arith}
 use Rattle.score.specs.Sections.{bit}
 use Rattle.outlines.proofs.words.weighed.Statement.{statement}

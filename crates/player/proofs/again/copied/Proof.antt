@@ -1,3 +1,4 @@
+-- The tables are what the two copies make of them; the pen's sums fit, for it has no more measures than beats, and these are bounded.
 use Rattle.player.specs.Again.{copiedOf}
 use native.Mathlib.Omega.{arith}
 use borrow.Author.Needs.{needs}

@@ -1,3 +1,4 @@
+-- False promises nothing; where the answer is true all five tests have failed, and each gives one part of the promise.
 use Rattle.player.proofs.AgainLaws.{not-true, copies-found}
 use borrow.Author.Tests.{eqb-false, leb-false}
 use borrow.Author.Needs.{needs}

@@ -1,3 +1,4 @@
+-- Word by word: copying those that are left gives the whole copy, for each is stored behind all words that are still to be read.
 use Rattle.player.proofs.CopyLaws.{copying, copy-start, copy-next, copy-over}
 use Rattle.player.specs.Again.{copyOf, same}
 use lib.ListN.{length, length-set}

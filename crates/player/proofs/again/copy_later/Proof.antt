@@ -1,3 +1,4 @@
+-- Each turn stores one word with the step added, behind all words still to be read, so copying those that are left ends as the whole copy.
 use Rattle.player.proofs.CopyLaws.{copying, copy-start, copy-next, copy-over}
 use Rattle.player.specs.Again.{copyOf, later}
 use lib.ListN.{length, length-set}

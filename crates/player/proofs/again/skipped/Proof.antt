@@ -1,3 +1,4 @@
+-- As required, each product is no more than the number that it is taken from, so it fits and the difference does not fall below 0.
 use Rattle.player.specs.Again.{skippedOf}
 use native.Mathlib.Omega.{arith}
 use Prim.Native.Nat.{_<_, _≤_, _*_}

@@ -1,3 +1,4 @@
+-- False promises nothing; for true, four of the failed tests are the promise, and the other three bound the factors so that the products fit.
 use Rattle.player.proofs.AgainLaws.{not-true, skips-found}
 use native.Mathlib.Omega.{arith}
 use Prim.Native.Nat.{_*_}

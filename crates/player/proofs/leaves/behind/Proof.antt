@@ -1,3 +1,4 @@
+-- Both cases of the test; where a closing bracket is read it stands inside the row, so `at + 1` does not overflow.
 use Rattle.player.proofs.SignLaws.{word-inside}
 use Rattle.player.specs.Walks.{behindOf}
 use native.Mathlib.Omega.{arith}

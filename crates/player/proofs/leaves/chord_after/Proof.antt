@@ -1,3 +1,4 @@
+-- A chord is taken, and its kind bounds its word; for any other word the last chord stays, which is bounded as required.
 use Rattle.player.specs.Signs.{chordOf}
 use native.Mathlib.Omega.{arith}
 use Rattle.songcode.specs.Lists.{if_then_else_}

@@ -1,3 +1,4 @@
+-- The definition takes 1 from the word's number and stops at 0, which the test does here; the number is below 2^26.
 use Rattle.player.specs.Walks.{passesOf}
 use native.Mathlib.Omega.{arith}
 use borrow.Author.Needs.{needs}

@@ -1,3 +1,4 @@
+-- A division by 0 is 0 by its law, as the test answers; any other is the division that is computed.
 use native.Mathlib.Nat.{div-zero}
 use Prim.Native.Nat.{_/_}
 use mathlib.Core.Path.{sym, ap, _∙_}

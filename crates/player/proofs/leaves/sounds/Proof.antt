@@ -1,3 +1,4 @@
+-- The test is that of the definition: 0 for a remover and 1 for any other kind, neither past 1.
 use Rattle.player.specs.Signs.{soundsAs}
 use native.Mathlib.Omega.{arith}
 use Rattle.songcode.specs.Lists.{if_then_else_}

@@ -1,3 +1,4 @@
+-- A chord, `%`, or another: the kind tells which, and none is past the bound, a chord by its kind, the last chord as required.
 use Rattle.player.specs.Signs.{voiceOf}
 use native.Mathlib.Omega.{arith}
 use Rattle.songcode.specs.Lists.{if_then_else_}

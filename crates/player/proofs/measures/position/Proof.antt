@@ -1,3 +1,4 @@
+-- A remover has no beats, so the pen stays; any other position lasts for its share with its voice.
 use Rattle.player.proofs.LookLaws.{part-removed, part-sounds}
 use borrow.Author.Needs.{needs}
 use Rattle.player.proofs.measures.position.Statement.{statement}

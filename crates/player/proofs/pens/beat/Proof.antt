@@ -1,3 +1,4 @@
+-- Three cases by the pen's two numbers, as in the definition: a beat to pass over, none left to write, or one written.
 use Rattle.player.proofs.PageLaws.{beat-skip, beat-over, beat-write}
 use borrow.Author.Needs.{needs}
 use Rattle.player.proofs.pens.beat.Statement.{statement}

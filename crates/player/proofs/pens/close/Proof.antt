@@ -1,3 +1,4 @@
+-- Either no beat was written since the measure began and the page stays, or its word is stored and one more measure counted.
 use Rattle.player.proofs.PageLaws.{close-none, close-some}
 use borrow.Author.Needs.{needs}
 use Rattle.player.proofs.pens.close.Statement.{statement}

@@ -1,3 +1,4 @@
+-- Beat by beat: the n - i beats that are left end as all n do from the first pen on, and a fine pen stays fine.
 use Rattle.player.proofs.PageLaws.{fill-next, fill-end, fine-of, moved-beat}
 use Rattle.player.specs.Page.{Ink, Fine, inked}
 use lib.ListN.{length, replicate}

@@ -1,3 +1,4 @@
+-- A share of 0 has no beats; else the head is the first beat and the fill writes the others, for one beat leaves the pen fine.
 use Rattle.player.proofs.PageLaws.{fine-of, moved-beat, lasting-none, lasting-some}
 use Prim.Native.Nat.{_+_}
 use borrow.Author.Needs.{needs}

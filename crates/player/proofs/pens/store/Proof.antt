@@ -1,3 +1,4 @@
+-- Inside the table the store is the set; past its end nothing is stored, and a set there changes nothing.
 use lib.Seq.{set-out}
 use mathlib.Core.Path.{sym}
 use borrow.Author.Needs.{needs}

@@ -1,3 +1,4 @@
+-- All fields but the pattern are copied from the view, and the pattern is the text that is played in its place.
 use borrow.Author.Needs.{needs}
 use Rattle.player.specs.Arrangements.{arrangementIn}
 use Rattle.player.proofs.seen.arrangement_in.Statement.{statement}

@@ -1,3 +1,4 @@
+-- A refusal number other than 0 gives the refusal, 0 gives the counts: the same two cases as the definition.
 use Rattle.songcode.specs.Lists.{if_then_else_}
 use Rattle.reader.specs.Room.{countedBy}
 use borrow.Author.Tests.{eq-eqb, ne-eqb}

@@ -1,3 +1,4 @@
+-- Stages 1 and 2 refuse, and that is the song's answer; or they find no fault, and leave the row as the later stages require it.
 use Rattle.judging.proofs.VerdictLaws.{early-refused, first-clear}
 use Rattle.reader.proofs.AnswerLaws.{counted-refused}
 use borrow.Author.Needs.{needs}

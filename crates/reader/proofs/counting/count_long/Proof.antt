@@ -1,3 +1,4 @@
+-- A longer text asks for no room, one of at most 65,536 bytes finds it in 65,552 words, and words that are 0 are no marks.
 use native.Mathlib.Omega.{arith}
 use Rattle.tokens.proofs.KeptLaws.{unmarked-zeros}
 use borrow.Author.Needs.{needs}

@@ -1,3 +1,4 @@
+-- All words of the row are 0 and so no marks, and the bound on the text is the room that is asked for.
 use Rattle.tokens.proofs.KeptLaws.{unmarked-zeros}
 use borrow.Author.Needs.{needs}
 use Rattle.reader.proofs.counting.count_short.Statement.{statement}

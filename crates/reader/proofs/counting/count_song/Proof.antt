@@ -1,3 +1,4 @@
+-- As judging promises, the totals are the song's own answer: the refusal of the later stages, or the lengths of its tables.
 use Rattle.reader.proofs.AnswerLaws.{counted-is}
 use borrow.Author.Needs.{needs}
 use Rattle.reader.proofs.counting.count_song.Statement.{statement}

@@ -1,3 +1,4 @@
+-- What is refused stays refused, a table that is too short makes it 18, else the counts stand: the same two tests as in the definition.
 use Rattle.songcode.specs.Lists.{if_then_else_}
 use Rattle.reader.specs.Room.{answeredBy}
 use borrow.Author.Tests.{eq-eqb, ne-eqb}

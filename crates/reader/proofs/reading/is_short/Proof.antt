@@ -1,3 +1,4 @@
+-- Test by test: one that holds makes the whole disjunction true, one that fails leaves the tests behind it, and the last is the result.
 use Rattle.reader.specs.Room.{isShort}
 use borrow.Author.Tests.{lt-ltb, le-ltb}
 use Rattle.reader.proofs.reading.is_short.Statement.{statement}

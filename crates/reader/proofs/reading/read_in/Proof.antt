@@ -1,3 +1,4 @@
+-- A refusal of stages 1 and 2 is the answer with whatever room, and no table is written; a text that they pass is fit for the later stages.
 use Rattle.songcode.proofs.SongAlone.{refused-with-tables}
 use Rattle.judging.proofs.VerdictLaws.{early-refused, first-clear}
 use Rattle.reader.proofs.AnswerLaws.{promised-refused}

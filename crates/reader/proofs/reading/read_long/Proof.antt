@@ -1,3 +1,4 @@
+-- Room is asked for only where the text has at most 65,536 bytes; 65,552 words are enough for it, and zeros are no marks.
 use native.Mathlib.Omega.{arith}
 use Rattle.tokens.proofs.KeptLaws.{unmarked-zeros}
 use borrow.Author.Needs.{needs}

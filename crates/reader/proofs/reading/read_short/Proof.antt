@@ -1,3 +1,4 @@
+-- No word of a row of 2,064 zeros is a mark, and its room for the text is what the function itself requires.
 use Rattle.tokens.proofs.KeptLaws.{unmarked-zeros}
 use borrow.Author.Needs.{needs}
 use Rattle.reader.proofs.reading.read_short.Statement.{statement}

@@ -1,3 +1,4 @@
+-- The 528 zeros of the row hold no mark, and what is required of the text says that it and 16 more words fit there.
 use Rattle.tokens.proofs.KeptLaws.{unmarked-zeros}
 use borrow.Author.Needs.{needs}
 use Rattle.reader.proofs.reading.read_small.Statement.{statement}

@@ -1,3 +1,4 @@
+-- Where the test passes there is one complaint, and its rank is below that of none; where it fails there is none.
 use Rattle.refusals.proofs.RankLaws.{complained, not-complained}
 use borrow.Author.Needs.{needs}
 use Rattle.refusals.proofs.ranks.complain_if.Statement.{statement}

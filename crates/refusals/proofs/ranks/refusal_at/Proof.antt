@@ -1,3 +1,4 @@
+-- By where the number lies: before that of "no section", at it, or behind it.
 use mathlib.Core.Path.{refl}
 use borrow.Author.Tests.{lt-ltb, le-ltb, eq-eqb, ne-eqb}
 use Rattle.songcode.specs.Lists.{if_then_else_}

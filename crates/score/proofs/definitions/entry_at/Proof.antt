@@ -1,3 +1,4 @@
+-- Inside the row the word is read; past its end the model falls back on 0 too.
 use mathlib.Core.Path.{sym}
 use lib.ListN.{List·getD-eq-default}
 use borrow.Author.Needs.{needs}

@@ -1,3 +1,4 @@
+-- The kind of the first word decides: a reference leads to the stretch of its number, any other text is played as it stands.
 use Prim.Native.Nat.{ℕ}
 use mathlib.Core.Path.{sym, _∙_, ap}
 use borrow.Author.Needs.{needs}

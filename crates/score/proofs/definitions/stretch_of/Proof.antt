@@ -1,3 +1,4 @@
+-- Place and length are found as in the model, so both ends of the stretch are.
 use Rattle.score.specs.Places.{stretchOf}
 use borrow.Author.Needs.{needs}
 use Rattle.score.proofs.definitions.stretch_of.Statement.{statement}

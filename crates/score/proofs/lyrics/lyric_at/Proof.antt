@@ -1,3 +1,4 @@
+-- Both words are the row's, 0 past its end, and have 32 bits; so the fields are the model's and within their bounds.
 use native.Mathlib.Omega.{arith}
 use borrow.Author.Needs.{needs}
 use Rattle.score.specs.LyricLines.{lyricIn, lyricAt}

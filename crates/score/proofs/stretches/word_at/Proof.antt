@@ -1,3 +1,4 @@
+-- Past the text or past the row the model has no entry and gives the wrong word; before both ends it has the word of the row.
 use Rattle.score.proofs.WordLaws.{word-past, word-over, word-is}
 use borrow.Author.Needs.{needs}
 use Rattle.score.proofs.stretches.word_at.Statement.{statement}

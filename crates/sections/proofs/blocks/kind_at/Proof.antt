@@ -1,3 +1,4 @@
+-- The kind is seen at the line's first byte that is no blank, so bytes behind the line's end do not matter.
 use Rattle.sections.proofs.NextLaws.{kind-is}
 use borrow.Author.Needs.{needs}
 use Rattle.sections.proofs.blocks.kind_at.Statement.{statement}

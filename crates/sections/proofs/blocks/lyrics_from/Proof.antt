@@ -1,3 +1,4 @@
+-- Without a line there are no lyrics; else they are the run of full lines without its first, where the `--` stands.
 use Rattle.sections.proofs.BlockLaws.{lyrics-none, lyrics-some}
 use native.Mathlib.Omega.{arith}
 use borrow.Author.Needs.{needs}

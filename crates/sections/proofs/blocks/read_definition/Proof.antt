@@ -1,3 +1,4 @@
+-- The head is the block's first line, and the longest run of full lines behind it is the rest of the block.
 use Rattle.sections.proofs.BlockLaws.{longest-placed, others-are, past-are, definition-id}
 use native.Mathlib.Omega.{arith}
 use mathlib.Core.Path.{refl, sym, _∙_}

@@ -1,3 +1,4 @@
+-- Each run begins where the one before it ends, so they part the lines behind the header as the definition does.
 use Rattle.sections.proofs.BlockLaws.{parts-are}
 use native.Mathlib.Omega.{arith}
 use borrow.Author.Needs.{needs}

@@ -1,3 +1,4 @@
+-- Past a blank line stands another place; past one that is not blank nothing is passed.
 use Rattle.sections.proofs.FrontLaws.{full-told}
 use borrow.Author.Needs.{needs}
 use Rattle.sections.proofs.runs.is_full.Statement.{statement}

@@ -1,3 +1,4 @@
+-- Test by test: two of them ask for the `--`, the other two never do.
 use Rattle.sections.specs.Runs.{parted}
 use Rattle.sections.specs.declared.runs.Test.the-variants.{Full, Body, Early, Pattern}
 use mathlib.Core.Path.{refl}

@@ -1,3 +1,4 @@
+-- Each kind that the code answers is that of one kind of the definition, and of the three only the last is a pattern's.
 use Rattle.sections.specs.Runs.{isPatternText, isPatternKind}
 use Rattle.sections.proofs.TestLaws.{pattern-read, key-read, modifier-read}
 use borrow.Author.Needs.{needs}

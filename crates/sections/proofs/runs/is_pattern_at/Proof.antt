@@ -1,3 +1,4 @@
+-- The kind is seen at the first two bytes behind the line's blanks, so bytes behind the line's end do not matter.
 use Rattle.sections.proofs.FrontLaws.{pattern-front}
 use borrow.Author.Needs.{needs}
 use Rattle.sections.proofs.runs.is_pattern_at.Statement.{statement}

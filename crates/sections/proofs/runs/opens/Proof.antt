@@ -1,3 +1,4 @@
+-- Test by test, each by what is asked of the line; a line that is not full fails the pattern's test without a second question.
 use Rattle.sections.specs.Runs.{opens}
 use Rattle.sections.specs.declared.runs.Test.the-variants.{Full, Body, Early, Pattern}
 use mathlib.Core.Path.{ap}

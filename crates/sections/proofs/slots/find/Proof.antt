@@ -1,4 +1,4 @@
--- At every line: the first setting of that name in the lines that are left is the first of the run.
+-- At every line: the first setting of that slot in the lines that are left is the first of the run.
 use Rattle.sections.proofs.SlotLaws.{setting-none, among-here, among-later, among-none, left-none, left-over, left-found}
 use Rattle.sections.specs.Slots.{settingAmong}
 use Rattle.sections.specs.Runs.{textLines, linesOf}

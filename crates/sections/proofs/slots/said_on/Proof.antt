@@ -1,3 +1,4 @@
+-- From 13 on no setting is owed; below, the line is not empty, and its setting begins behind the name and ends with the line.
 use Rattle.sections.proofs.SlotLaws.{says-line}
 use native.Mathlib.Omega.{arith}
 use borrow.Author.Needs.{needs}

@@ -1,3 +1,4 @@
+-- An empty line and one of a pattern have 13; of a key or modifier the name behind the first byte is read, and has its number.
 use Rattle.sections.proofs.SlotLaws.{slot-blank, slot-pattern, slot-key, slot-modifier}
 use Rattle.sections.proofs.TestLaws.{key-read, modifier-read, pattern-kind}
 use mathlib.Core.Path.{sym}

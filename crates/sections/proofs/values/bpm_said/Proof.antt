@@ -1,3 +1,4 @@
+-- Without a setting it is 511, as where its text is no bpm; a bpm that is read is the same wherever it stands, and at most 400.
 use Rattle.sections.proofs.ValueLaws.{said-otherwise, said-number, bpm-range}
 use Rattle.sections.specs.Values.{bpmSaid}
 use Rattle.settings.proofs.ValueLaws.{bpmIn-placeless}

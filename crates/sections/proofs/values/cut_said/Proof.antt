@@ -1,3 +1,4 @@
+-- A setting on line 0 is none and cuts nothing; any other has a text, whose cut fits and is the same wherever it stands.
 use Rattle.sections.proofs.ValueLaws.{no-cut, a-cut}
 use borrow.Author.Needs.{needs}
 use Rattle.sections.proofs.values.cut_said.Statement.{statement}

@@ -1,3 +1,4 @@
+-- On line 0 nothing is said, so 1; else the number that is read, the same wherever it stands, or 1, and both are in the range.
 use Rattle.sections.proofs.ValueLaws.{said-otherwise, said-number, repeat-range}
 use Rattle.sections.specs.Values.{repeatSaid}
 use Rattle.settings.proofs.NumberLaws.{repeatIn-placeless}

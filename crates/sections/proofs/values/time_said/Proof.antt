@@ -1,3 +1,4 @@
+-- No setting is no time, which is 0; the text of one is read wherever it stands, and no time is above 32.
 use Rattle.sections.proofs.ValueLaws.{said-otherwise, said-number, time-range}
 use Rattle.sections.specs.Values.{timeSaid}
 use Rattle.settings.proofs.ValueLaws.{timeIn-placeless}

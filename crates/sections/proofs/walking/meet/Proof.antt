@@ -1,3 +1,4 @@
+-- What is read of the parts is what the section says, as it has no fault; all else holds since it was passed.
 use Rattle.sections.proofs.MeetLaws.{section-meets}
 use borrow.Author.Needs.{needs}
 use Rattle.sections.proofs.walking.meet.Statement.{statement}

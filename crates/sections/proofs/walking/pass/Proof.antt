@@ -1,3 +1,4 @@
+-- The next block is looked for where the section's lines end, so the sections from here are this one and those from there on.
 use Rattle.sections.proofs.MeetLaws.{section-passes}
 use borrow.Author.Needs.{needs}
 use Rattle.sections.proofs.walking.pass.Statement.{statement}

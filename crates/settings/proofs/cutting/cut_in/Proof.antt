@@ -1,3 +1,4 @@
+-- No dash, a dash in front, or one further on: in each form the same two numbers are read, and what is read is at most 9,999.
 use mathlib.Core.Path.{refl, sym, ap, _∙_}
 use native.Mathlib.Omega.{arith}
 use Prim.Native.Nat.{_+_}

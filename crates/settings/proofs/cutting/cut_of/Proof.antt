@@ -1,3 +1,4 @@
+-- The three cases of the definition: no measures, measures without beats, and both.
 use Rattle.settings.specs.Cuts.{cutRead}
 use borrow.Author.Needs.{needs}
 use Rattle.settings.proofs.cutting.cut_of.Statement.{statement}

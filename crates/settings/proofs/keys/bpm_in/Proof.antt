@@ -1,3 +1,4 @@
+-- A bpm is defined as a number from 0 to 400, so the answer of the number's reader is the promise.
 use Rattle.songcode.specs.answer.Keys.{bpmIn}
 use borrow.Author.Needs.{needs}
 use Rattle.settings.proofs.keys.bpm_in.Statement.{statement}

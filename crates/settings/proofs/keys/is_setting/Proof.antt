@@ -1,3 +1,4 @@
+-- Key by key the setting is a phrase, a base or a number that is there, as the definition wants it; an unknown key has none.
 use mathlib.Core.Path.{_∙_}
 use Rattle.songcode.specs.Bytes.{placed}
 use Rattle.songcode.specs.answer.Numbers.{numberIn}

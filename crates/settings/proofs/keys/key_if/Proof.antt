@@ -1,3 +1,4 @@
+-- What the comparison tells is the test of the definition: the key where it holds, else unknown.
 use borrow.Author.Needs.{needs}
 use mathlib.Core.Path.{refl}
 use Rattle.settings.proofs.keys.key_if.Statement.{statement}

@@ -1,3 +1,4 @@
+-- Each of the four letters leads to the one name that is compared; with any other letter all four tests fail.
 use Rattle.songcode.specs.Lists.{if_then_else_}
 use Rattle.songcode.specs.Bytes.{ascii}
 use Rattle.settings.specs.Names.{laterKey}

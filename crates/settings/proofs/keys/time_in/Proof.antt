@@ -1,3 +1,4 @@
+-- The text is parted at its first slash: behind it stands `/4` or there is no time, and before it the number is read.
 use mathlib.Core.Path.{sym, ap, _∙_}
 use lib.Seq.{length-take-le}
 use borrow.Author.Tests.{not-true, not-false}

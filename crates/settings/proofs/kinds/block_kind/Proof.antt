@@ -1,3 +1,4 @@
+-- The kind depends on the first byte alone, of which none is as good as a zero: `@`, `$`, or any other.
 use borrow.Author.Tests.{eq-eqb, ne-eqb}
 use Rattle.songcode.specs.Lists.{if_then_else_}
 use Rattle.settings.specs.Kinds.{blockKindIs}

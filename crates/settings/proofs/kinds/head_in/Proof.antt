@@ -1,3 +1,4 @@
+-- An empty text has no number; else the bytes behind the first are read, and a number is the same wherever it stands.
 use mathlib.Core.Path.{sym, ap, _∙_}
 use Rattle.songcode.specs.answer.Numbers.{countIn}
 use Rattle.songcode.specs.Bytes.{placed}

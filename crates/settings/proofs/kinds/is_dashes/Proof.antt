@@ -1,3 +1,4 @@
+-- To be that word is to have its bytes, wherever the text stands.
 use mathlib.Core.Path.{refl, sym}
 use Rattle.songcode.specs.Bytes.{ascii}
 use Rattle.settings.proofs.NameLaws.{is-by}

@@ -1,3 +1,4 @@
+-- Below `A`, up to `Z`, below `a` and from there on: in each stretch the bounds that are known reduce the definition to the answer.
 use borrow.Author.Tests.{le-leb, lt-leb}
 use native.Mathlib.Omega.{arith}
 use Rattle.songcode.specs.Bytes.{isLetter}

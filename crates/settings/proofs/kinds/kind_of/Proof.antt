@@ -1,3 +1,4 @@
+-- The first byte decides, and behind `_` the second; a byte past the end is a zero, which is neither a sign nor a letter.
 use borrow.Author.Tests.{eq-eqb, ne-eqb}
 use Rattle.songcode.specs.Lists.{if_then_else_}
 use Rattle.settings.specs.Kinds.{kindIs}

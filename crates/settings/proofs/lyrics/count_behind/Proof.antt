@@ -1,3 +1,4 @@
+-- Where the first byte is no `_` there is no count; where it is, the text is not empty and the number behind it is read.
 use mathlib.Core.Path.{sym, ap, _∙_}
 use native.Mathlib.Omega.{arith}
 use Rattle.songcode.specs.answer.Numbers.{countIn}

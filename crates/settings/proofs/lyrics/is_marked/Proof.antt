@@ -1,3 +1,4 @@
+-- Below 7 bytes the test of the length fails; else the text read from its end begins with its last three bytes.
 use mathlib.Core.Path.{sym, _∙_}
 use native.Mathlib.Omega.{arith}
 use mathlib.Core.List.{[], _∷_}

@@ -1,3 +1,4 @@
+-- The first byte that differs makes both false; behind two that are the same the third comparison is all that is left.
 use mathlib.Core.Bool.{and-true}
 use borrow.Author.Tests.{eq-eqb, ne-eqb}
 use lib.Dec.{eqb}

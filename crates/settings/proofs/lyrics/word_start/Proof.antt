@@ -1,3 +1,4 @@
+-- Byte by byte from the end: those passed are no blanks, so what stands before the last word is the same without them.
 use Prim.Native.Nat.{_≤_}
 use mathlib.Core.Path.{_≡_, refl, sym, _∙_}
 use native.Mathlib.Omega.{arith}

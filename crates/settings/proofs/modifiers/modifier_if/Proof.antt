@@ -1,3 +1,4 @@
+-- The texts are compared as the definition wants it: where they are the same the modifier is answered, else unknown.
 use borrow.Author.Needs.{needs}
 use mathlib.Core.Path.{refl}
 use Rattle.settings.proofs.modifiers.modifier_if.Statement.{statement}

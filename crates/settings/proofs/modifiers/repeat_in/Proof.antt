@@ -1,3 +1,4 @@
+-- By its definition a repeat is a number from 2 to 9,999, and just that is read.
 use Rattle.songcode.specs.answer.Numbers.{repeatIn}
 use borrow.Author.Needs.{needs}
 use Rattle.settings.proofs.modifiers.repeat_in.Statement.{statement}

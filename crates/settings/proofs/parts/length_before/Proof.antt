@@ -1,3 +1,4 @@
+-- No byte passed has the value, so the bytes passed and those before it in the rest are those before it in the text.
 use Prim.Native.Nat.{_≤_, _+_, _-_}
 use mathlib.Core.Path.{_≡_, ap}
 use native.Mathlib.Omega.{arith}

@@ -1,3 +1,4 @@
+-- A name is taken up to the first blank, and so many bytes in front of a part are a part again.
 use native.Mathlib.Omega.{arith}
 use Rattle.settings.proofs.PartLaws.{name-part}
 use borrow.Author.Needs.{needs}

@@ -1,3 +1,4 @@
+-- Texts of two lengths differ; in texts of one length the bytes passed agree, so they are the same where their rests are.
 use Prim.Native.Nat.{_≤_, _-_}
 use mathlib.Core.Path.{_≡_, refl, sym, _∙_}
 use native.Mathlib.Omega.{arith}

@@ -1,3 +1,4 @@
+-- What is left behind the name is a part, and what is left of that behind its blanks is one too, with the same end.
 use native.Mathlib.Omega.{arith}
 use Rattle.settings.proofs.PartLaws.{setting-part}
 use borrow.Author.Needs.{needs}

@@ -1,3 +1,4 @@
+-- No byte passed is blank, so the bytes passed and the word's length in the rest are the word's length in the text.
 use Prim.Native.Nat.{_≤_, _+_, _-_}
 use mathlib.Core.Path.{_≡_, sym, ap, _∙_}
 use native.Mathlib.Omega.{arith}

@@ -1,3 +1,4 @@
+-- Byte by byte: the characters so far with those of the bytes that are left are those of the text; a tail adds none.
 use Prim.Native.Nat.{_≤_, _+_, _-_}
 use mathlib.Core.Path.{_≡_, sym, _∙_}
 use native.Mathlib.Omega.{arith}

@@ -1,3 +1,4 @@
+-- The bytes before the first `!` are the name; without a character the lower bound fails, else the upper one decides.
 use mathlib.Core.Path.{sym}
 use lib.Seq.{length-take-le}
 use Rattle.settings.specs.Phrases.{isHeader}

@@ -1,3 +1,4 @@
+-- Where there is no character the lower bound fails; where there is one it holds, and the upper bound decides.
 use Rattle.songcode.specs.answer.Keys.{isPhrase}
 use Rattle.settings.proofs.PhraseLaws.{range-none, range-some}
 use borrow.Author.Needs.{needs}

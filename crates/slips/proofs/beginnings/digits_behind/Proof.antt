@@ -1,3 +1,4 @@
+-- The count goes up by one only while it is below 4.
 use Prim.Native.Nat.{_-_, _≤_}
 use borrow.Author.Needs.{needs}
 use Rattle.slips.proofs.beginnings.digits_behind.Statement.{statement}

@@ -1,3 +1,4 @@
+-- The place goes up byte by byte, and no further than the end of the word.
 use Prim.Native.Nat.{_-_, _≤_}
 use lib.ListN.{length}
 use borrow.Author.Needs.{needs}

@@ -1,3 +1,4 @@
+-- Safe, and the loop ends: the place goes up to the end, and a character is counted off only where some are left.
 use Prim.Native.Nat.{_-_, _≤_}
 use borrow.Author.Needs.{needs}
 use Rattle.slips.proofs.blocks.behind_characters.Statement.{statement}

@@ -1,3 +1,4 @@
+-- Byte by byte: none that was passed is a `!`, and before the end the loop stops only at one.
 use Prim.Native.Nat.{_-_, _≤_}
 use native.Mathlib.Omega.{arith}
 use borrow.Author.Needs.{needs}

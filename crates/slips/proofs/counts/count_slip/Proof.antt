@@ -1,3 +1,4 @@
+-- What is found of the bare line is told; one more line beside it changes neither clause nor place.
 use Rattle.slips.proofs.FindLaws.{bare-told}
 use borrow.Author.Needs.{needs}
 use Rattle.slips.proofs.counts.count_slip.Statement.{statement}

@@ -1,3 +1,4 @@
+-- Safe, and the loop ends: the next block begins further on in the text, and its number is at most its place and one.
 use Prim.Native.Nat.{_+_, _-_, _≤_}
 use lib.ListN.{length}
 use borrow.Author.Needs.{needs}

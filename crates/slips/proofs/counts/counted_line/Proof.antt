@@ -1,3 +1,4 @@
+-- Safe, and the loop ends: each line begins further on than the one before, so its number is at most its place and one.
 use Prim.Native.Nat.{_+_, _-_, _≤_}
 use lib.ListN.{length}
 use borrow.Author.Needs.{needs}

@@ -1,3 +1,4 @@
+-- It begins with the line, and what is known of the name's stop says the rest.
 use mathlib.Core.Path.{refl}
 use borrow.Author.Needs.{needs}
 use Rattle.slips.proofs.FindLaws.{name-told}

@@ -1,3 +1,4 @@
+-- Going down from the end, a place is returned only where a `_` was seen; else it is the end.
 use Prim.Native.Nat.{_≤_}
 use borrow.Author.Needs.{needs}
 use Rattle.slips.proofs.counts.last_underscore.Statement.{statement}

@@ -1,3 +1,4 @@
+-- The place goes down from the end, and no further than the start.
 use Prim.Native.Nat.{_≤_}
 use borrow.Author.Needs.{needs}
 use Rattle.slips.proofs.counts.last_word.Statement.{statement}

@@ -1,3 +1,4 @@
+-- Clause and name are those of the header; one more line beside them changes neither.
 use mathlib.Core.Path.{_∙_}
 use borrow.Author.Needs.{needs}
 use Rattle.slips.proofs.FindLaws.{name-told}

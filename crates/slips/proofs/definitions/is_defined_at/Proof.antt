@@ -1,3 +1,4 @@
+-- By the kind of the block: only a definition defines, and it does so by the number of its head.
 use Rattle.slips.proofs.DefinitionLaws.{of-metadata, of-definition, of-section}
 use borrow.Author.Needs.{needs}
 use Rattle.slips.proofs.definitions.is_defined_at.Statement.{statement}

@@ -1,3 +1,4 @@
+-- The setting begins at the place that was found, and is read from there up to the end of the line.
 use borrow.Author.Needs.{needs}
 use Rattle.slips.proofs.meters.read_side.Statement.{statement}
 use Rattle.slips.proofs.meters.read_side.Tie as tie

@@ -1,3 +1,4 @@
+-- For 13 the `%` is told if one was found, with a place small enough to add 1; for 12 the measure, its fields as they are.
 use mathlib.Core.Path.{refl}
 use native.Mathlib.Omega.{arith}
 use Rattle.songcode.proofs.ListLaws.{true-is-not-false}

@@ -1,3 +1,4 @@
+-- A barred clause is 19 or 20 and names the token itself; else `blame_reference` or `blame_token` tells a place that its clause allows.
 use mathlib.Core.Path.{_≡_, refl}
 use native.Mathlib.Omega.{arith}
 use borrow.Author.Tests.{ne-eqb}

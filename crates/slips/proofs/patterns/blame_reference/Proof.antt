@@ -1,3 +1,4 @@
+-- Clause 19 may name the token or the one before it, and one of the two is named.
 use mathlib.Core.Path.{refl}
 use mathlib.Core.Logic.{inl, inr}
 use native.Mathlib.Omega.{arith}

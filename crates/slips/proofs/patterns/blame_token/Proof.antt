@@ -1,3 +1,4 @@
+-- Clauses 6 and 10 may name the token before, 13 has to name the byte behind the `]`, and every other may name the token itself.
 use mathlib.Core.Path.{refl, ap}
 use mathlib.Core.Logic.{inr}
 use native.Mathlib.Omega.{arith}

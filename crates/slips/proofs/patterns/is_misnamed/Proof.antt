@@ -1,3 +1,4 @@
+-- Where no `$n` was read the first half of the test fails; where one was, it is left to whose text this is.
 use mathlib.Core.Path.{_≡_, refl, ap}
 use mathlib.Core.Bool.{true, false, not}
 use Rattle.grammar.proofs.TestLaws.{and-fails, and-passes}

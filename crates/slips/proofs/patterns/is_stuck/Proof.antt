@@ -1,3 +1,4 @@
+-- At a bad place the first half of the test passes; at any other the `$n` alone decides.
 use mathlib.Core.Path.{_∙_}
 use Rattle.grammar.proofs.TestLaws.{or-passes, or-fails}
 use Rattle.slips.specs.RulesRead.{isStuck}

@@ -1,3 +1,4 @@
+-- One that has stopped is kept; else the place may lie before the end: the last `[` where its loop is open, or the last token.
 use mathlib.Core.Path.{refl, ap}
 use mathlib.Core.Logic.{inl, inr}
 use native.Mathlib.Omega.{arith}

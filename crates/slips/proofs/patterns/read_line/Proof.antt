@@ -1,3 +1,4 @@
+-- Token by token: up to the place reached no token is cut, and the reading has come so far or has stopped before.
 use Prim.Native.Nat.{_-_}
 use native.Mathlib.Omega.{arith}
 use Rattle.slips.proofs.LineReadLaws.{InLine, line-begun, line-more, line-done, line-over}

@@ -1,3 +1,4 @@
+-- One that has stopped is kept; a stuck one names the last token, as all clauses of a line end may; else last token and last `[` stay.
 use mathlib.Core.Path.{refl, sym, _∙_}
 use mathlib.Core.Logic.{inl, inr}
 use Rattle.songcode.specs.answer.Tokens.{lineEnd}

@@ -1,3 +1,4 @@
+-- Where bytes stand on the line its setting is a text of one line, read from the start to its end; of an empty line nothing is claimed.
 use mathlib.Core.Path.{ap}
 use mathlib.Core.List.{List, [], _∷_}
 use native.Mathlib.Omega.{arith}

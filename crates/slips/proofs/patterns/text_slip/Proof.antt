@@ -1,3 +1,4 @@
+-- All lines are read, then the end: what is then ruled of a text that is not right has the clause and the place of the slip.
 use Rattle.sections.specs.Runs.{linesOf}
 use Rattle.slips.proofs.TextReadLaws.{text-ends}
 use borrow.Author.Needs.{needs}

@@ -1,3 +1,4 @@
+-- The first place is kept in the text and the end on its line, and where both were so already neither is moved.
 use Prim.Native.Nat.{_+_, _-_}
 use mathlib.Core.Path.{_≡_, sym, _∙_}
 use native.Mathlib.Omega.{arith}

@@ -1,3 +1,4 @@
+-- The first position says where the measure begins, a later one keeps that; both count one more and end here.
 use borrow.Author.Needs.{needs}
 use Rattle.slips.proofs.MisfitLaws.{begun-first, begun-more}
 use Rattle.slips.proofs.readings.begun.Statement.{statement}

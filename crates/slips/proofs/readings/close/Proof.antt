@@ -1,3 +1,4 @@
+-- The three cases of the model: no position yet, as many as divide N, or a misfit that is found.
 use borrow.Author.Needs.{needs}
 use Rattle.slips.proofs.MisfitLaws.{closing-none, closing-fits, closing-misfit}
 use Rattle.slips.proofs.readings.close.Statement.{statement}

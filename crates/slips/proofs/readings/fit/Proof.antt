@@ -1,3 +1,4 @@
+-- What is found stays; else a position goes on with the measure and any other sign closes it, as in the model.
 use mathlib.Core.Path.{sym, _∙_}
 use borrow.Author.Needs.{needs}
 use Rattle.slips.specs.Misfits.{isPositionSign}

@@ -1,3 +1,4 @@
+-- The five cases of the model in its order: a chord before, a `%` before, a chord now, a `%` now, any other sign.
 use Rattle.slips.proofs.StrayLaws.{sign-chord, sign-found, sign-heard, sign-again, sign-other}
 use native.Mathlib.Omega.{arith}
 use Rattle.slips.proofs.readings.hear.Statement.{statement}

@@ -1,3 +1,4 @@
+-- Below 34 the sign is a chord; from there on the model is left with the other comparison.
 use mathlib.Core.Path.{refl}
 use borrow.Author.Tests.{lt-ltb, le-ltb}
 use Rattle.slips.proofs.readings.is_position.Statement.{statement}

@@ -1,3 +1,4 @@
+-- Below 65,536 one is added, in the code and in the model; from there on in neither.
 use mathlib.Core.Path.{refl}
 use borrow.Author.Tests.{lt-ltb, le-ltb}
 use borrow.Author.Needs.{needs}

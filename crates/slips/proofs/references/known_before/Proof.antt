@@ -1,3 +1,4 @@
+-- Safe, and the loop ends: each block begins behind the one before, and only a number below 10,000 is an index.
 use Prim.Native.Nat.{_+_, _-_, _≤_}
 use borrow.Author.Needs.{needs}
 use Rattle.slips.proofs.references.known_before.Statement.{statement}

@@ -1,3 +1,4 @@
+-- Safe, and the loop ends: a token ends within the line and further on, or the search is over.
 use Prim.Native.Nat.{_-_, _≤_}
 use borrow.Author.Needs.{needs}
 use Rattle.slips.proofs.references.search_line.Statement.{statement}

@@ -1,3 +1,4 @@
+-- Safe, and the loop ends: as long as text is left, the next line begins further on.
 use Prim.Native.Nat.{_-_}
 use lib.ListN.{length}
 use borrow.Author.Needs.{needs}

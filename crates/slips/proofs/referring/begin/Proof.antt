@@ -1,3 +1,4 @@
+-- All 26 entries are 0, so no other number is remembered.
 use mathlib.Core.Path.{refl}
 use Rattle.slips.proofs.ReferLaws.{none-remembered}
 use Rattle.slips.proofs.referring.begin.Statement.{statement}

@@ -1,3 +1,4 @@
+-- A place below 26 is returned only where the number was seen there; the loop counts no further than 26.
 use Prim.Native.Nat.{_-_, _≤_}
 use native.Mathlib.Omega.{arith}
 use borrow.Author.Needs.{needs}

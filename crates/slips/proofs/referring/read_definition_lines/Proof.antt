@@ -1,3 +1,4 @@
+-- These are the lines of the definition; now that they are read nothing more would be found in them, so their number is remembered.
 use Rattle.slips.proofs.PutReadLaws.{means-new}
 use borrow.Author.Needs.{needs}
 use Rattle.slips.proofs.referring.read_definition_lines.Statement.{statement}

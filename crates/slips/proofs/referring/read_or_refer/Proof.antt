@@ -1,3 +1,4 @@
+-- Any other token means only itself; a reference closes the measure, and what it means is read behind it.
 use Rattle.slips.proofs.PutReadLaws.{token-alone, before-reference, token-means}
 use borrow.Author.Needs.{needs}
 use Rattle.slips.proofs.referring.read_or_refer.Statement.{statement}

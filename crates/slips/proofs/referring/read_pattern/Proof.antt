@@ -1,3 +1,4 @@
+-- A pattern that names nothing is read as it is written; else the lines of the definition are, with nothing remembered yet.
 use mathlib.Core.Path.{sym, ap, _∙_}
 use Rattle.slips.specs.declared.readings.Reading.{Reading}
 use Rattle.slips.proofs.ReferLaws.{known-none}

@@ -1,3 +1,4 @@
+-- In the text of a number that is remembered, and not 0, nothing more is found: only measures are added; else its lines are read.
 use native.Mathlib.Omega.{arith}
 use Rattle.slips.proofs.PutReadLaws.{means-again}
 use borrow.Author.Needs.{needs}

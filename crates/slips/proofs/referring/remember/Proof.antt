@@ -1,3 +1,4 @@
+-- Only the entry that is set can hold a new number; where no entry is free all stays as it was.
 use mathlib.Core.Path.{refl}
 use Rattle.slips.proofs.ReferLaws.{one-remembered}
 use borrow.Author.Needs.{needs}

@@ -1,3 +1,4 @@
+-- A token begins behind the blanks in front and ends within the part; where none is left, the place stays.
 use lib.ListN.{length-take, length-drop}
 use native.Mathlib.Omega.{arith}
 use mathlib.Core.Path.{refl}

@@ -1,3 +1,4 @@
+-- The first line, the full lines behind it and the blank ones are passed; what is left are the blocks behind this one.
 use native.Mathlib.Omega.{arith}
 use Rattle.slips.proofs.BlockLaws.{behind-block}
 use borrow.Author.Needs.{needs}

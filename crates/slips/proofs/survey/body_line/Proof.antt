@@ -1,3 +1,4 @@
+-- Safe, and the loop ends: the next block begins further on, so less of the text is left.
 use Prim.Native.Nat.{_+_, _-_, _≤_}
 use lib.ListN.{length}
 use borrow.Author.Needs.{needs}

@@ -1,3 +1,4 @@
+-- The text is complained of unless its check is fine, and the least of the three that are pending is taken.
 use Rattle.stage2.proofs.BlockReturns.{block-closed}
 use borrow.Author.Needs.{needs}
 use Rattle.stage2.proofs.blocks.close_block.Statement.{statement}

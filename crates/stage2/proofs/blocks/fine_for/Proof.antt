@@ -1,3 +1,4 @@
+-- Whether the place is in a definition decides which of the two verdicts on the check is asked.
 use Rattle.songcode.specs.Lists.{if_then_else_}
 use Rattle.stage2.specs.States.{fineFor}
 use borrow.Author.Needs.{needs}

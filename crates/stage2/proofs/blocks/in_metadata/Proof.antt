@@ -1,3 +1,4 @@
+-- Complaint and marks are those of the line, and the state behind it carries these marks.
 use Rattle.stage2.proofs.BlockReturns.{in-metadata}
 use Rattle.text.specs.Spans.{lineText}
 use borrow.Author.Needs.{needs}

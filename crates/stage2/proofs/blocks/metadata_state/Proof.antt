@@ -1,3 +1,4 @@
+-- Of what is carried only the marks are new, and around it stands the state of a block with nothing pending.
 use borrow.Author.Needs.{needs}
 use Rattle.stage2.proofs.blocks.metadata_state.Statement.{statement}
 use Rattle.stage2.proofs.blocks.metadata_state.Tie as tie

@@ -1,3 +1,4 @@
+-- The kind of a block depends on the bytes of its first line alone, and each kind is opened as its function tells.
 use Rattle.stage2.proofs.BlockReturns.{by-metadata, by-definition, by-section}
 use borrow.Author.Needs.{needs}
 use Rattle.stage2.proofs.blocks.open_block.Statement.{statement}

@@ -1,3 +1,4 @@
+-- Only being late is complained of; the turn is at least 1 from here on, and at most 25 definitions and this one are counted.
 use Rattle.stage2.proofs.BlockReturns.{opened-definition}
 use borrow.Author.Needs.{needs}
 use Rattle.stage2.proofs.blocks.open_definition.Statement.{statement}

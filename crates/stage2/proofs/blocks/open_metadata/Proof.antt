@@ -1,3 +1,4 @@
+-- The lesser of two complaints, that the block is late and that of its line; the state is that behind any line of metadata.
 use Rattle.stage2.proofs.BlockReturns.{opened-metadata}
 use Rattle.text.specs.Spans.{lineText}
 use borrow.Author.Needs.{needs}

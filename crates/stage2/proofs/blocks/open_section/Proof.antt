@@ -1,3 +1,4 @@
+-- A header is judged by its bytes alone; the lesser of late and malformed is given, and that a pattern line is wanted is pending.
 use Rattle.stage2.proofs.BlockReturns.{opened-section}
 use borrow.Author.Needs.{needs}
 use Rattle.stage2.proofs.blocks.open_section.Statement.{statement}

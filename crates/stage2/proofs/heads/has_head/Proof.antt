@@ -1,3 +1,4 @@
+-- Number by number: whether x is among those left is whether it is among all n, until it is met or none is left.
 use Prim.Native.Nat.{_-_, _≤_}
 use mathlib.Core.Path.{_≡_, refl, sym, _∙_}
 use native.Mathlib.Omega.{arith}

@@ -1,3 +1,4 @@
+-- A malformed head gives 6 and cannot be one said before; a number is asked whether it is one too many, and whether it was said.
 use Rattle.stage2.proofs.HeadReturns.{head-malformed, head-formed}
 use mathlib.Core.Path.{refl}
 use borrow.Author.Needs.{needs}

@@ -1,3 +1,4 @@
+-- The number that is read is the model's for the line; so are the complaint of it and the row behind it.
 use Rattle.stage2.proofs.HeadReturns.{head-read}
 use borrow.Author.Needs.{needs}
 use Rattle.stage2.proofs.heads.judge_head.Statement.{statement}

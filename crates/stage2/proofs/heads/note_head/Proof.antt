@@ -1,3 +1,4 @@
+-- Behind a head the line is judged as one; at every other place there is no complaint, and the numbers stay.
 use mathlib.Core.Path.{refl}
 use Rattle.songcode.specs.Lists.{if_then_else_}
 use Rattle.stage2.specs.Heads.{headNoted, headsAfter}

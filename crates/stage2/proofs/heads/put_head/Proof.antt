@@ -1,3 +1,4 @@
+-- With fewer than 26 before it the number is set at its place; from 26 on the row stays as it is.
 use Rattle.stage2.proofs.HeadReturns.{heads-full, head-added}
 use borrow.Author.Needs.{needs}
 use Rattle.stage2.proofs.heads.put_head.Statement.{statement}

@@ -1,3 +1,4 @@
+-- What a line of its kind does not say counts for nothing, so the model's four complaints shrink to those of its function.
 use Rattle.stage2.proofs.BodyReturns.{body-key, body-modifier, body-pattern}
 use Rattle.stage2.proofs.LineReturns.{is-key, is-modifier, is-pattern}
 use Rattle.songcode.specs.answer.Sections.{kindOfLine}

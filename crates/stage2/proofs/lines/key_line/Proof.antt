@@ -1,3 +1,4 @@
+-- The complaints of its place, of being said again and of the key itself, their least, the mark and the next part: each is the model's.
 use Rattle.stage2.proofs.MetadataReturns.{key-judged}
 use Rattle.text.specs.Spans.{lineText}
 use borrow.Author.Needs.{needs}

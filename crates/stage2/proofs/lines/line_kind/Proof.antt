@@ -1,3 +1,4 @@
+-- The kind depends on the bytes alone, so it is that of the line wherever the line stands.
 use Rattle.stage2.proofs.LineReturns.{kind-found}
 use borrow.Author.Needs.{needs}
 use Rattle.stage2.proofs.lines.line_kind.Statement.{statement}

@@ -1,3 +1,4 @@
+-- Name, number, both complaints and the marks are each what their functions tell, and the lesser complaint is taken.
 use Rattle.stage2.proofs.MetadataReturns.{key-alone}
 use Rattle.text.specs.Spans.{lineText}
 use borrow.Author.Needs.{needs}

@@ -1,3 +1,4 @@
+-- A key line is judged as a key; a line of another kind says no key, so 8 is its only complaint and no mark is put.
 use Rattle.stage2.proofs.MetadataReturns.{metadata-key, metadata-modifier, metadata-pattern}
 use Rattle.stage2.proofs.LineReturns.{is-key, is-modifier, is-pattern}
 use Rattle.text.specs.Spans.{lineText}

@@ -1,3 +1,4 @@
+-- Early, said before, or wrong in itself: the least of the three complaints, the new mark and the next part are the model's.
 use Rattle.stage2.proofs.MetadataReturns.{modifier-judged}
 use Rattle.text.specs.Spans.{lineText}
 use borrow.Author.Needs.{needs}

@@ -1,3 +1,4 @@
+-- Past the run it is complained of; what is pending behind it, what the row keeps and the next part are as told.
 use Rattle.stage2.proofs.MetadataReturns.{pattern-judged}
 use Rattle.text.specs.Spans.{lineText}
 use borrow.Author.Needs.{needs}

@@ -1,3 +1,4 @@
+-- Below 8 the mark at that place decides; from 8 on there is nothing to complain of.
 use Rattle.stage2.proofs.MarkReturns.{again-said, again-nothing}
 use borrow.Author.Needs.{needs}
 use Rattle.stage2.proofs.marks.again_note.Statement.{statement}

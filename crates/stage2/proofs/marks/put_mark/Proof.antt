@@ -1,3 +1,4 @@
+-- A number below 8 has its mark set; from 8 on the marks stay as they are.
 use Rattle.stage2.proofs.MarkReturns.{mark-put, mark-not}
 use borrow.Author.Needs.{needs}
 use Rattle.stage2.proofs.marks.put_mark.Statement.{statement}

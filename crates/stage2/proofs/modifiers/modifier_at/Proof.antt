@@ -1,3 +1,4 @@
+-- The bytes up to the end of the name are looked up, and the modifier that they name does not depend on where they stand.
 use Rattle.stage2.proofs.NameReturns.{modifier-found}
 use borrow.Author.Needs.{needs}
 use Rattle.stage2.proofs.modifiers.modifier_at.Statement.{statement}

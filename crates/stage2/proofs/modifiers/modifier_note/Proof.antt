@@ -1,3 +1,4 @@
+-- Whether the setting is fine and what its fault is numbered are the model's, so the complaint is too.
 use Rattle.stage2.proofs.ModifierReturns.{modifier-noted}
 use Rattle.text.specs.Spans.{lineText}
 use borrow.Author.Needs.{needs}

@@ -1,3 +1,4 @@
+-- Modifier by modifier: repeats and cuts are the same wherever they stand, a lead-in or tail is read in place, an unknown one fails.
 use Rattle.stage2.proofs.ModifierReturns.{repeat-fine, cut-start-fine, cut-end-fine, before-fine, after-fine, unknown-fine}
 use borrow.Author.Needs.{needs}
 use Rattle.stage2.proofs.modifiers.setting_fine.Statement.{statement}

@@ -1,3 +1,4 @@
+-- The name ends where the model's does, and which key it names depends on its bytes alone.
 use Rattle.stage2.proofs.NameReturns.{key-found}
 use borrow.Author.Needs.{needs}
 use Rattle.stage2.proofs.names.key_at.Statement.{statement}

@@ -1,3 +1,4 @@
+-- The setting begins where the model's does and is judged by its bytes alone; so both tests, and the lesser complaint, are the model's.
 use Rattle.stage2.proofs.NameReturns.{key-noted}
 use borrow.Author.Needs.{needs}
 use Rattle.stage2.proofs.names.key_note.Statement.{statement}

@@ -1,3 +1,4 @@
+-- A test that passes leaves no complaint, one that fails leaves the given one: both arms compute.
 use mathlib.Core.Path.{refl}
 use Rattle.songcode.specs.Lists.{if_then_else_}
 use Rattle.stage2.specs.Walk.{unless}

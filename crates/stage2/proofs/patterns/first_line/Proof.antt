@@ -1,3 +1,4 @@
+-- The check begins anew with the tokens of this line, whose words are kept, and a fault of the text will name its number.
 use mathlib.Core.Logic.{inr}
 use mathlib.Core.Path.{refl}
 use Rattle.tokens.specs.Kept.{Keeps}

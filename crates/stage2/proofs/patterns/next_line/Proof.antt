@@ -1,3 +1,4 @@
+-- The check goes on over the line end and the line's tokens, whose words are kept; all else that is pending stays.
 use mathlib.Core.Logic.{inr}
 use mathlib.Core.Path.{refl}
 use Rattle.tokens.specs.Kept.{Keeps}

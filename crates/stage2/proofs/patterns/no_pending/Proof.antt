@@ -1,3 +1,4 @@
+-- Three times no complaint, and the check before the first token.
 use mathlib.Core.Path.{refl}
 use borrow.Author.Needs.{needs}
 use Rattle.stage2.proofs.patterns.no_pending.Statement.{statement}

@@ -1,3 +1,4 @@
+-- Part by part: the text begins, or goes on, each as its function tells; behind the run nothing changes, the row neither.
 use Rattle.tokens.specs.Kept.{Keeps}
 use Rattle.stage2.specs.Walk.{patternPending}
 use mathlib.Core.Logic.{inl}

@@ -1,3 +1,4 @@
+-- A turn that is not 2 or more is one below 2, so 9 is given where the model gives it; the lesser of it and the closing counts.
 use Rattle.stage2.proofs.BlockReturns.{text-ended}
 use borrow.Author.Needs.{needs}
 use Rattle.stage2.proofs.walk.end_text.Statement.{statement}

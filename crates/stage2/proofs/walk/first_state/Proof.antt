@@ -1,3 +1,4 @@
+-- A gap with no mark, no definition and nothing pending is the model's first state.
 use mathlib.Core.Path.{refl}
 use borrow.Author.Needs.{needs}
 use Rattle.stage2.proofs.walk.first_state.Statement.{statement}

@@ -1,3 +1,4 @@
+-- Dashes are known wherever they stand: with them the lyrics begin and the row stays, any other line is judged by its kind.
 use Rattle.stage2.proofs.WalkReturns.{at-dashes, at-body}
 use Rattle.tokens.specs.Kept.{Keeps}
 use mathlib.Core.Logic.{inl}

@@ -1,3 +1,4 @@
+-- The line is complained of nothing: what it leaves pending and what the row keeps are told of every pattern line.
 use Rattle.stage2.proofs.WalkReturns.{in-text}
 use Rattle.text.specs.Spans.{lineText}
 use borrow.Author.Needs.{needs}

@@ -1,3 +1,4 @@
+-- Each place has its function, which judges as the model does there; where no pattern line can stand the row is as it was.
 use Rattle.stage2.proofs.WalkReturns.{by-place}
 use Rattle.stage2.specs.States.{judgedAt}
 use Rattle.tokens.specs.Kept.{Keeps}

@@ -1,3 +1,4 @@
+-- A line is blank exactly where it ends at its start: then the block is closed, else the line is judged where it stands.
 use Rattle.stage2.proofs.WalkReturns.{line-full, line-blank}
 use Rattle.tokens.specs.Kept.{Keeps}
 use mathlib.Core.Logic.{inl}

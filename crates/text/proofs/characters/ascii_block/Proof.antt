@@ -1,3 +1,4 @@
+-- Where fewer than 16 bytes are left nothing is claimed; else the block lies in the text, and 16 counted means that all of it is such.
 use native.Mathlib.Omega.{arith}
 use borrow.Author.Tests.{eqb-true}
 use Rattle.text.proofs.TestLaws.{false-not-true}

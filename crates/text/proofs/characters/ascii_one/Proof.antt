@@ -1,3 +1,4 @@
+-- 1 is given only where the byte was seen to be in the range; of 0 nothing is claimed.
 use mathlib.Core.Path.{sym, _∙_}
 use native.Mathlib.Omega.{arith}
 use borrow.Author.Needs.{needs}

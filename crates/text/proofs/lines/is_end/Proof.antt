@@ -1,3 +1,4 @@
+-- A byte above 13 ends no line, 13 does, and of those that are left only 10 does.
 use Rattle.text.proofs.SpanLaws.{ends-above, ends-cr, ends-lf}
 use Rattle.text.proofs.lines.is_end.Statement.{statement}
 use Rattle.text.proofs.lines.is_end.Tie as tie

@@ -1,3 +1,4 @@
+-- A letter has one of seven rows, and the first number of none of them is above 28.
 use Rattle.tokens.proofs.RowLaws.{letter-row, first-most}
 use Rattle.tokens.specs.Bases.{firstOf}
 use native.Mathlib.Omega.{arith}

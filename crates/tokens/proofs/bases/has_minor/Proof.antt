@@ -1,3 +1,4 @@
+-- The bytes read are those of the word from the place on: no `m`, an `m` without `aj` behind it, or all of `maj`.
 use Rattle.tokens.proofs.RowLaws.{minor-other, minor-here, minor-maj}
 use Rattle.songcode.proofs.ListLaws.{by-cases}
 use borrow.Author.Tests.{eqb-true, eqb-false}

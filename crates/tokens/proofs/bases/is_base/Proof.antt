@@ -1,3 +1,4 @@
+-- A base is the longest at its own front, so a word is one exactly where its longest base is as long as the word.
 use lib.Dec.{eqb}
 use lib.ListN.{length}
 use Rattle.tokens.proofs.BaseLaws.{base-exactly, base-none}

@@ -1,3 +1,4 @@
+-- A byte below `A` makes the `and` of the definition false; for any other only the upper bound is left.
 use Rattle.tokens.specs.Bases.{isLetter}
 use borrow.Author.Tests.{le-leb, lt-leb}
 use Rattle.tokens.proofs.bases.is_letter.Statement.{statement}

@@ -1,3 +1,4 @@
+-- Every spelling begins with one of seven letters, so a word that does not has no base; one that does is left to `base_of`.
 use Rattle.tokens.proofs.RowLaws.{not-letter, no-row}
 use Rattle.tokens.specs.Bases.{baseOf}
 use borrow.Author.Tests.{not-true, not-false}

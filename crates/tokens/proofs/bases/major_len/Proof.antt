@@ -1,3 +1,4 @@
+-- One byte where there is no sign, else two: the test of the definition, and both are at most 2.
 use Rattle.tokens.specs.Bases.{majorLength}
 use Rattle.songcode.specs.Lists.{if_then_else_}
 use borrow.Author.Tests.{eq-eqb, ne-eqb}

@@ -1,3 +1,4 @@
+-- Six bounds in rising order: those passed fail in the definition too, and the first that holds, or none, tells the row.
 use Rattle.songcode.specs.Lists.{if_then_else_}
 use Rattle.tokens.specs.Bases.{rowOfNumber}
 use borrow.Author.Tests.{lt-ltb, le-ltb}

@@ -1,3 +1,4 @@
+-- A sharp or a flat is looked up among its seven numbers, any other byte is 0; whatever is found is at most 2.
 use Rattle.tokens.proofs.RowLaws.{letter-row, sign-most}
 use Rattle.tokens.specs.Bases.{isLetter, signOf}
 use Rattle.songcode.specs.Lists.{if_then_else_}

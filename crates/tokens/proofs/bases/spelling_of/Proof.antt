@@ -1,3 +1,4 @@
+-- No spelling is listed past 33; each number up to it has its row, one of six places in it, and its spelling there.
 use Rattle.songcode.specs.Lists.{if_then_else_}
 use Rattle.songcode.specs.Bytes.{ascii}
 use Rattle.songcode.specs.answer.Chords.{rows, spellings, bases, spellingOf}

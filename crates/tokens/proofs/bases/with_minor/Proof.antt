@@ -1,3 +1,4 @@
+-- Whether an `m` stands there is told; the minor chord stands at most three behind the major one, so its number has room.
 use Rattle.tokens.proofs.RowLaws.{letter-row, minor-most}
 use Rattle.tokens.specs.Bases.{withMinor}
 use Rattle.songcode.specs.Lists.{if_then_else_}

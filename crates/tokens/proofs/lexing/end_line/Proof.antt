@@ -1,3 +1,4 @@
+-- Setting one word is what laying one means, so both promises hold by computing.
 use mathlib.Core.Path.{refl}
 use borrow.Author.Needs.{needs}
 use Rattle.tokens.proofs.lexing.end_line.Statement.{statement}

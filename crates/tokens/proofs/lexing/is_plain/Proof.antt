@@ -1,3 +1,4 @@
+-- A blank and the first three signs are not plain; a byte that is none of these is plain exactly where it is not the last sign.
 use Rattle.tokens.proofs.LexLaws.{blank-not-plain, sign-not-plain, last-sign}
 use Rattle.tokens.specs.Lexing.{isPlain}
 use mathlib.Core.Path.{refl, sym, _∙_}

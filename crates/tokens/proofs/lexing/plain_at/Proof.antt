@@ -1,3 +1,4 @@
+-- Past the end no plain byte stands; before it there is at least one exactly where the first byte is plain.
 use Rattle.tokens.proofs.LexLaws.{plain-over, plain-first}
 use lib.Dec.{ltb}
 use mathlib.Core.Path.{sym, ap, _∙_}

@@ -1,3 +1,4 @@
+-- Byte by byte: the place reached and the plain bytes from there on add up to the same end at every turn.
 use Rattle.tokens.proofs.LexLaws.{plain-over, plain-stop, plain-more}
 use Rattle.tokens.specs.Lexing.{plainLength}
 use Rattle.text.specs.Spans.{part}

@@ -1,3 +1,4 @@
+-- By its length: no byte is no decimal, one byte is what it says as digits, and so are more unless a zero stands in front.
 use Rattle.tokens.proofs.DecimalLaws.{decimal-empty, decimal-single, decimal-zero, decimal-more}
 use mathlib.Core.Path.{_∙_}
 use borrow.Author.Needs.{needs}

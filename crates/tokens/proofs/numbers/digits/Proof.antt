@@ -1,3 +1,4 @@
+-- Digit by digit: the number so far with the bytes that are left says what all say; a byte that is no digit, or one digit too many, ends it.
 use Rattle.tokens.proofs.DecimalLaws.{digits-over, digits-low, digits-high, digits-past, digits-more}
 use Rattle.tokens.specs.Decimals.{digitsFrom}
 use Rattle.songcode.specs.Bytes.{placed}

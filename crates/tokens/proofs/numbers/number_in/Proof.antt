@@ -1,3 +1,4 @@
+-- What is no decimal up to 9,999 is none in a range inside it; one that is has only the two bounds to pass.
 use Rattle.tokens.proofs.DecimalLaws.{number-not, number-is}
 use Rattle.songcode.specs.Bytes.{placed}
 use Rattle.songcode.specs.Lists.{if_then_else_}

@@ -1,3 +1,4 @@
+-- A chord's kind makes the `or` of the definition true; for any other only the bound of the last three signs is left.
 use Rattle.tokens.specs.Signs.{isPosition}
 use borrow.Author.Tests.{lt-ltb, le-ltb}
 use Rattle.tokens.proofs.signs.is_position.Statement.{statement}

@@ -1,3 +1,4 @@
+-- A kind below the line end's makes the `and` of the definition false; for any other only the upper bound is left.
 use Rattle.tokens.specs.Signs.{isSeparator}
 use borrow.Author.Tests.{le-leb, lt-leb}
 use Rattle.tokens.proofs.signs.is_separator.Statement.{statement}

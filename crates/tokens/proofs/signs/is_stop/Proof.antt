@@ -1,3 +1,4 @@
+-- The kind of a closing bracket is known at once; for another the lower bound fails, or it holds and only the upper one is left.
 use Rattle.tokens.specs.Signs.{isStop}
 use borrow.Author.Tests.{eq-eqb, ne-eqb, le-leb, lt-leb}
 use Rattle.tokens.proofs.signs.is_stop.Statement.{statement}

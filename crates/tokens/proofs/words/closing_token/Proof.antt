@@ -1,3 +1,4 @@
+-- A repeat that is read is at most 9,999, so its sum with the kind fits a word; where none is read the token is wrong.
 use Rattle.tokens.proofs.WordLaws.{number-there, number-high, closing-is, closing-wrong}
 use Rattle.songcode.specs.Bytes.{placed}
 use native.Mathlib.Omega.{arith}

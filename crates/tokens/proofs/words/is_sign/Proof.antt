@@ -1,3 +1,4 @@
+-- A text that is not of one byte is no sign; in one that is, its byte is compared.
 use Rattle.tokens.proofs.WordLaws.{sign-long, sign-single}
 use borrow.Author.Needs.{needs}
 use Rattle.tokens.proofs.words.is_sign.Statement.{statement}

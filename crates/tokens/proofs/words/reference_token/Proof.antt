@@ -1,3 +1,4 @@
+-- What is no count makes the wrong token; a count is at most 9,999, so the kind of a reference and it together still fit a word.
 use Rattle.tokens.proofs.WordLaws.{number-there, number-high, reference-is, reference-wrong}
 use Rattle.songcode.specs.Bytes.{placed}
 use native.Mathlib.Omega.{arith}

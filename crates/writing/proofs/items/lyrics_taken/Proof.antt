@@ -1,3 +1,4 @@
+-- No items is the model's first case; any other number is one more than some number, which is its second.
 use Rattle.writing.specs.Prompts.{lyricsTaken}
 use Rattle.writing.proofs.PromptLaws.{taken-some}
 use Rattle.writing.proofs.items.lyrics_taken.Statement.{statement}
