@@ -54,7 +54,7 @@ pub const MOVE_OUT_OF_RANGE: usize = 21;
 
 pub const NO_BEAT_WORD: usize = 22;
 
-// Light cues: "tables don't join up"; "a section with measures whose bpm is 0 or above 400".
+// Light cues: "tables that don't join up"; "a section with measures whose bpm is 0 or above 400".
 pub const NOT_JOINED: usize = 25;
 
 pub const NOT_TIMED: usize = 26;
