@@ -14,6 +14,7 @@ use Rattle.songcode.specs.Song.{KeyName, bpm, time, Key, Items, items, named, Cu
 use Rattle.songcode.specs.Answer.Keys.{key_place}
 use Rattle.songcode.specs.Answer.References.{definition_of, items_of, pattern_items}
 use Rattle.songcode.specs.Answer.Playing.{setting_named}
+use Rattle.songcode.specs.Answer.Flat.{flat_measure}
 use Rattle.songcode.specs.Description.WrittenPattern.{Number}
 use Rattle.songcode.specs.Description.WrittenSection.{Each, none_each, and_each, TimeText}
 use Rattle.songcode.specs.Description.Performance.{total, CutsFront, CutsBack, CutIf, Said, Says, Inherits}
@@ -26,6 +27,7 @@ use Rattle.songcode.specs.Description.WrittenLyrics.{CountedLine}
 use Rattle.songcode.proofs.InheritsAgree.{said_exact, unsaid_exact}
 use Rattle.songcode.proofs.ListLaws.{by_cases, nil_is_not_cons}
 use Rattle.songcode.proofs.MeterAgree.{plays_section}
+use Rattle.songcode.proofs.CopyLines.{behind}
 use Rattle.songcode.proofs.CopyMeasure.{measure_heads}
 use Rattle.songcode.proofs.CopyPattern.{row_heads, items_at, pattern_plays}
 use Rattle.songcode.proofs.Alike.{AlikeKey, Split, split, length_alike, blanks_alike, stops_alike, number_alike, time_alike}
@@ -169,7 +171,7 @@ heads_length : (k at : ℕ) (row : List (List Beat)) → Within k row → length
 unfolding row_heads Within
 heads_length k at [] w = refl
 heads_length k at ([] ∷ ms) w = absurd (let l = w.0 in omega arith)
-heads_length k at ((b ∷ m) ∷ ms) w = ap suc (heads_length k _ ms w.2)
+heads_length k at ((b ∷ m) ∷ ms) w = ap suc (heads_length k (behind at (flat_measure k (b ∷ m))) ms w.2)
 
 front_shorter : (o : Option Cut) (row kept : List (List Beat)) → CutIf CutsFront o row kept → length kept ≤ length row
 unfolding CutIf

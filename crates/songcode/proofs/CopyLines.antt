@@ -109,6 +109,7 @@ lines_append n at (r ∷ a) b = let e : suc n + length a ≡ n + suc (length a) 
 
 row_filled : (n at : ℕ) (r : List ℕ) → Filled r → is_blank_line (record { number = n; text = placed at r }) ≡ false
 unfolding is_blank_line is_empty placed
+row_filled n at [] f = elim f [ ]
 row_filled n at (b ∷ r) filled = refl
 
 not_blank_lem : (n at : ℕ) (rs : List (List ℕ)) → AllFilled rs → NotBlank (row_lines n at rs)

@@ -60,6 +60,8 @@ sections_parted : {R : Section → Parts → Type 0} (first : ℕ) (front : List
     × (length (parts_words first front ps) ≡ length front)
 unfolding parts_words flat_map
 sections_parted first [] x behind [] p qs none_each = (rw (add-zero first), refl)
+sections_parted first [] x behind (g ∷ ps) p qs h = elim h [ ]
+sections_parted first (f ∷ front) x behind [] p qs h = elim h [ ]
 sections_parted {R = R} first (f ∷ front) x behind (g ∷ ps) p qs (and_each h hs) =
     let r = sections_parted {R = R} (first + length (joined g)) front x behind ps p qs hs in
     let e : first + length (joined g ++ flat_map joined ps) ≡ first + length (joined g) + length (flat_map joined ps) =

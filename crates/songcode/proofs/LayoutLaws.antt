@@ -56,6 +56,8 @@ unpacked_below low (w ∷ ws) x rest =
 packed_small : (low : ℕ) (ws vs : List ℕ) (rest : ℕ) → Fit ws vs → rest < 2 ^ low → packed low ws vs + rest < 2 ^ (sum ws + low)
 unfolding packed sum Fit
 packed_small low [] [] rest f h = rw (zero-add rest, zero-add low) h
+packed_small low [] (v ∷ vs) rest f h = elim f [ ]
+packed_small low (w ∷ ws) [] rest f h = elim f [ ]
 packed_small low (w ∷ ws) (v ∷ vs) rest f h =
     let k = packed_small low ws vs rest f.1 h in
     rw (add_assoc (v * 2 ^ (sum ws + low)) (packed low ws vs) rest, add_assoc w (sum ws) low) (on_top w (sum ws + low) v (packed low ws vs + rest) f.0 k)
@@ -63,6 +65,8 @@ packed_small low (w ∷ ws) (v ∷ vs) rest f h =
 unpacked_packed : (low : ℕ) (ws vs : List ℕ) (rest : ℕ) → Fit ws vs → rest < 2 ^ low → unpacked low ws (packed low ws vs + rest) ≡ vs
 unfolding packed unpacked sum Fit
 unpacked_packed low [] [] rest f h = refl
+unpacked_packed low [] (v ∷ vs) rest f h = elim f [ ]
+unpacked_packed low (w ∷ ws) [] rest f h = elim f [ ]
 unpacked_packed low (w ∷ ws) (v ∷ vs) rest f h =
     let k = packed_small low ws vs rest f.1 h in
     let a = add_assoc (v * 2 ^ (sum ws + low)) (packed low ws vs) rest in

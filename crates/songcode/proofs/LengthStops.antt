@@ -27,8 +27,9 @@ use Rattle.songcode.proofs.SectionPlays.{meter_some, pass_of, row_plays, plays_r
 use Rattle.songcode.proofs.MeterAgree.{PlainSection, PlainSections, length_side, length_pass}
 use Rattle.songcode.proofs.MeterStops.{plain_member}
 
-pub gather_silent : {A B : Type 0} (f : A → List B) {xs : List A} {x : A} → flat_map f xs ≡ [] → Memᴰ x xs → f x ≡ []
+pub gather_silent : {A B : Type 0} (f : A → List B) {x : A} {xs : List A} → flat_map f xs ≡ [] → Memᴰ x xs → f x ≡ []
 unfolding flat_map
+gather_silent f {xs = []} e m = elim m [ ]
 gather_silent f {xs = y ∷ xs} e (mathlib.Core.List.Memᴰ.head p) = ap f p ∙ (append_is_nil (f y) (flat_map f xs) e).0
 gather_silent f {xs = y ∷ xs} e (mathlib.Core.List.Memᴰ.tail m) = gather_silent f (append_is_nil (f y) (flat_map f xs) e).1 m
 
@@ -155,11 +156,12 @@ in_long s sofar (y ∷ front) x behind h k =
     (pattern_items s.definitions y.pattern))
     (in_long s (sofar + section_count s y) front x behind (omega arith) (omega arith))
 
-in_cuts : (s : Song) (sofar : ℕ) {xs : List Section} {x : Section} → Memᴰ x xs → {c : Complaint}
+in_cuts : (s : Song) {x : Section} (sofar : ℕ) {xs : List Section} → Memᴰ x xs → {c : Complaint}
     → Memᴰ c (cut_faults (time_of s x) x.header x.modifiers (pattern_items s.definitions x.pattern))
     → Memᴰ c (length_faults s sofar xs)
 unfolding length_faults
-in_cuts s sofar {xs = y ∷ xs} {x = x} (mathlib.Core.List.Memᴰ.head e) {c} m =
+in_cuts s sofar {xs = []} i m = elim i [ ]
+in_cuts s {x = x} sofar {xs = y ∷ xs} (mathlib.Core.List.Memᴰ.head e) {c} m =
     mathlib.Core.List.Memᴰ.append_left (length_faults s (sofar + section_count s y) xs)
     (mathlib.Core.List.Memᴰ.append_right (complain_if (leb sofar most_measures && ltb most_measures (sofar + section_count s y)) 14 y.header)
     (subst (λ z. Memᴰ c (cut_faults (time_of s z) z.header z.modifiers (pattern_items s.definitions z.pattern))) e m))

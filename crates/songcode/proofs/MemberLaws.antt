@@ -20,6 +20,7 @@ module _ {A : Type 0} where
     pub written : xs ≡ before ++ (x ∷ behind)
 
   pub found : {x : A} {xs : List A} → Memᴰ x xs → Found x xs
+  found {xs = []} m = elim m [ ]
   found {xs = y ∷ ys} (Memᴰ.head e) = record { before = []; behind = ys; written = ap (λ z. z ∷ ys) (sym e) }
   found {xs = y ∷ ys} (Memᴰ.tail m) =
       let f = found m in
@@ -41,8 +42,9 @@ module _ {A B : Type 0} where
       (λ i. let g = in_gather f xs i in (g.0, Memᴰ.tail g.1, g.2))
       m
 
-  pub gather_in : (f : A → List B) {xs : List A} {x : A} {c : B} → Memᴰ x xs → Memᴰ c (f x) → Memᴰ c (flat_map f xs)
+  pub gather_in : (f : A → List B) {x : A} {xs : List A} {c : B} → Memᴰ x xs → Memᴰ c (f x) → Memᴰ c (flat_map f xs)
   unfolding flat_map
+  gather_in f {xs = []} i m = elim i [ ]
   gather_in f {xs = y ∷ ys} {c = c} (Memᴰ.head e) m = Memᴰ.append_left (flat_map f ys) (subst (λ z. Memᴰ c (f z)) e m)
   gather_in f {xs = y ∷ ys} (Memᴰ.tail i) m = Memᴰ.append_right (f y) (gather_in f i m)
 
@@ -83,8 +85,9 @@ any_found p [] e = true_is_not_false e refl
 any_found p (x ∷ xs) e =
     by_cases (p x) (λ t. (x, Memᴰ.head refl, t)) (λ f. let r = any_found p xs (rw f at e) in (r.0, Memᴰ.tail r.1, r.2))
 
-pub found_any : {A : Type 0} (p : A → Bool) {xs : List A} {x : A} → Memᴰ x xs → p x ≡ true → any p xs ≡ true
+pub found_any : {A : Type 0} (p : A → Bool) {x : A} {xs : List A} → Memᴰ x xs → p x ≡ true → any p xs ≡ true
 unfolding any
+found_any p {xs = []} m t = elim m [ ]
 found_any p {xs = y ∷ xs} (Memᴰ.head e) t = rw (sym (ap p e) ∙ t)
 found_any p {xs = y ∷ xs} (Memᴰ.tail m) t = by_cases (p y) (λ u. rw u) (λ f. rw (f, found_any p m t))
 

@@ -46,6 +46,7 @@ ends_run (l ∷ ls) e =
 
 run_ends : {q : Line} {ls : List Line} → Memᴰ q ls → is_pattern_line q ≡ false → is_empty (left is_pattern_line ls) ≡ false
 unfolding left if◌then◌else◌ is_empty
+run_ends {ls = []} m f = elim m [ ]
 run_ends {ls = l ∷ ls} (Memᴰ.head e) f = rw (sym (ap is_pattern_line e) ∙ f)
 run_ends {ls = l ∷ ls} (Memᴰ.tail m) f = by_cases (is_pattern_line l) (λ t. rw t (run_ends m f)) (λ g. rw g)
 
@@ -157,6 +158,7 @@ any_member k (x ∷ seen) e =
 
 member_any : (k : ℕ) {seen : List ℕ} → Memᴰ k seen → any (λ x. eqb x k) seen ≡ true
 unfolding any
+member_any k {seen = []} m = elim m [ ]
 member_any k {seen = x ∷ seen} (Memᴰ.head e) = rw (eq-eqb x k (sym e))
 member_any k {seen = x ∷ seen} (Memᴰ.tail m) = by_cases (eqb x k) (λ t. rw t) (λ f. rw (f, member_any k m))
 

@@ -313,6 +313,7 @@ module _ (room : Room) (bs : List ℕ) where
           ),
         ),
       )
+  given_refused c (in_later e1 (in_later e2 (in_later e3 (in_later e4 (in_later e5 (in_later e6 (in_later e7 (in_later e8 g)))))))) = elim g [ ]
 
   -- The lists of the stages before one that states something are empty.
   stated_given : (c : Complaint) (k : Stage) → Stated room bs k c → ((d : Complaint) → Stated room bs k d → Before c d) → NothingIn room bs (stages_before k)

@@ -55,6 +55,7 @@ module _ (s word : List ℕ) where
 -- The four signs: a byte is one of them, by its value.
 slip_listed : (b : Byte) {signs : List ℕ} → Memᴰ b.value signs → any (λ sign. is_byte sign b) signs ≡ true
 unfolding any is_byte
+slip_listed b {signs = []} m = elim m [ ]
 slip_listed b {signs = x ∷ xs} (Memᴰ.head e) = rw (eq-eqb b.value x e)
 slip_listed b {signs = x ∷ xs} (Memᴰ.tail m) = by_cases (is_byte x b) (λ h. rw h) (λ h. rw h (slip_listed b m))
 
@@ -66,6 +67,7 @@ listed_slip b (x ∷ xs) h =
 
 pub clean_sound : (bs : List Byte) → any is_slip bs ≡ false → (v : ℕ) → Memᴰ v (values bs) → Memᴰ v (ascii "%_=$") → ⊥
 unfolding any values is_slip
+clean_sound [] h v i m = elim i [ ]
 clean_sound (b ∷ bs) h v (Memᴰ.head e) m =
     true_is_not_false (slip_listed b (rw e at m)) (none_passes (is_slip b) (any is_slip bs) h).0
 clean_sound (b ∷ bs) h v (Memᴰ.tail i) m = clean_sound bs (none_passes (is_slip b) (any is_slip bs) h).1 v i m
