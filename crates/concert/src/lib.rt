@@ -1,4 +1,6 @@
 // Concert pitch for horns: a beat table moved by a signed number of semitones into a second table.
+#![tactic(auto)]
+
 mod pitches;
 mod tables;
 

@@ -1,4 +1,6 @@
 // Light cues above the reader: when each measure starts, in microseconds, from the section and measure tables alone.
+#![tactic(auto)]
+
 mod joins;
 mod lengths;
 mod starts;

@@ -1,4 +1,5 @@
 // What a cut takes: so many whole measures, and so many beats.
+#![tactic(auto)]
 
 // A count of measures; a count of beats. Neither stands for the other.
 #[derive(Drop)]

@@ -1,5 +1,7 @@
 // Why a chart is refused, and where: the reader's verdict, the clause of it that holds, the bytes that are to change, and the numbers that a
 // sentence needs.
+#![tactic(auto)]
+
 mod clauses;
 mod sums;
 mod times;

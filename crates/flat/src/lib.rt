@@ -1,4 +1,6 @@
 // A flat copy for paper: a song written out measure by measure as it is played, in a lent buffer.
+#![tactic(auto)]
+
 mod answers;
 mod copying;
 mod lines;

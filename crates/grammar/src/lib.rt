@@ -1,4 +1,6 @@
 // Pattern text against the rules: a small state by value, stepped by the words of its tokens.
+#![tactic(auto)]
+
 mod checks;
 mod kept;
 mod kinds;

@@ -1,4 +1,6 @@
 // The stages of a chart one after another: which refusal is given, and where none is, what the song's tables will hold.
+#![tactic(auto)]
+
 mod charts;
 mod counts;
 mod lengths;

@@ -1,4 +1,6 @@
 // A chart laid into the row of words: its definitions, each section behind the last one, and the words of its keys.
+#![tactic(auto)]
+
 mod definitions;
 mod keys;
 mod laying;

@@ -1,4 +1,6 @@
 // Reads a chart from standard input and prints the listing of its song, or its refusal.
+#![tactic(auto)]
+
 mod beats;
 mod listed;
 mod parts;

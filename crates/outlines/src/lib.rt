@@ -1,4 +1,6 @@
 // What a definition's text says, summed up once: for its references, its measures' sizes, its `%` and its length.
+#![tactic(auto)]
+
 mod around;
 mod even;
 mod faults;

@@ -1,5 +1,7 @@
 // The words of the tables: "bit-packed fields, most significant first, bits not named are 0".
 // Every field is asked to fit its bits, so that no field spills into its neighbour. `fields` takes words apart, `beats` has what is done with one of a beat.
+#![tactic(auto)]
+
 mod beats;
 mod fields;
 

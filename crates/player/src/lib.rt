@@ -1,4 +1,6 @@
 // Plays a pattern that stands as token words in a buffer into lent tables of measures and beats, in a section's N.
+#![tactic(auto)]
+
 mod again;
 mod bars;
 mod counting;

@@ -1,4 +1,6 @@
 // The reader: a chart read into lent tables, or counted without any.
+#![tactic(auto)]
+
 mod answers;
 mod counting;
 mod reading;

@@ -1,4 +1,6 @@
 // What a chart is refused for, by names, and which refusal is given: of one stage the earliest, of two stages the first.
+#![tactic(auto)]
+
 mod names;
 mod ranks;
 

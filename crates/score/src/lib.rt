@@ -1,4 +1,6 @@
 // The row of words in which a chart stands: its texts as stretches, its definitions by number.
+#![tactic(auto)]
+
 mod definitions;
 mod lyrics;
 mod stretches;

@@ -1,4 +1,6 @@
 // The blocks of a chart: where they begin and end, and what each says, as numbers and places.
+#![tactic(auto)]
+
 mod blocks;
 mod gathering;
 mod lines;

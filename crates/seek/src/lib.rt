@@ -1,4 +1,6 @@
 // The second call: the record of a measure table that holds a beat, searched for by halving.
+#![tactic(auto)]
+
 ghost use Rattle.std.specs.Prelude.{◌≡◌};
 ghost use Rattle.songcode.specs.Answer.Finding.{jump_to};
 ghost use Rattle.seek.specs.Answers.{foundOf};

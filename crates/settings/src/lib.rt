@@ -1,4 +1,6 @@
 // What a line of a chart is and says: its kind, its name and its setting, its header, its cut, its count and style.
+#![tactic(auto)]
+
 mod cutting;
 mod keys;
 mod kinds;

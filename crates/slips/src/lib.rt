@@ -1,4 +1,6 @@
 // From a refused chart to its slip: which clause of the refusal holds, which bytes are to change, and the numbers that a sentence about it needs.
+#![tactic(auto)]
+
 mod beginnings;
 mod blocks;
 mod counts;

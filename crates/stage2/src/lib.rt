@@ -1,4 +1,6 @@
 // Stage 2 of the reading, line by line.
+#![tactic(auto)]
+
 mod blocks;
 mod heads;
 mod lines;

@@ -1,4 +1,6 @@
 // The text of a chart: its bytes, its characters, its lines, and what stage 1 says of it.
+#![tactic(auto)]
+
 mod characters;
 mod ends;
 mod lines;

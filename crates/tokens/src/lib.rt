@@ -1,4 +1,6 @@
 // The tokens of pattern text as words; base chords, decimals, words.
+#![tactic(auto)]
+
 mod bases;
 mod keeping;
 mod lexing;

@@ -1,4 +1,6 @@
 // All tables of a song that nothing is wrong with, from the row.
+#![tactic(auto)]
+
 mod items;
 mod keys;
 mod songs;

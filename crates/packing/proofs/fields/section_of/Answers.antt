@@ -3,10 +3,9 @@ use Prim.Native.Nat.{◌^◌}
 use native.Mathlib.Omega.{arith}
 use Rattle.songcode.specs.Answer.Tables.{section_word}
 use Rattle.packing.proofs.Bits.{field_and_above}
-use Rattle.packing.proofs.fields.section_of.Statement.{statement}
-use Rattle.packing.proofs.fields.section_of.Tie as tie
+use Rattle.packing.proofs.fields.section_of.Goals as goal
 
-returns : tie.Need-returns
+pub returns : goal.returns
 unfolding section_word
 returns c =
     let word = c.args.word in
@@ -24,6 +23,3 @@ returns c =
       meter_fits = omega arith;
       tempo_fits = omega arith;
     }
-
-pub section-of-spec : {M : Type 1} → statement M
-section-of-spec = tie.close (tie.spec returns)

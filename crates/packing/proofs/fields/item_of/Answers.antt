@@ -2,10 +2,9 @@
 use Prim.Native.Nat.{◌^◌}
 use native.Mathlib.Omega.{arith}
 use Rattle.packing.proofs.Bits.{field_and_above}
-use Rattle.packing.proofs.fields.item_of.Statement.{statement}
-use Rattle.packing.proofs.fields.item_of.Tie as tie
+use Rattle.packing.proofs.fields.item_of.Goals as goal
 
-returns : tie.Need-returns
+pub returns : goal.returns
 returns c =
     let word = c.args.word in
     record {
@@ -22,6 +21,3 @@ returns c =
       measures_fits = omega arith;
       style_fits = omega arith;
     }
-
-pub item-of-spec : {M : Type 1} → statement M
-item-of-spec = tie.close (tie.spec returns)

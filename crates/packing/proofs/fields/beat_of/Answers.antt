@@ -1,13 +1,11 @@
 -- `beat_of` meets its contract: from each field's bit on stand that field and the ones above it, and the head is told by its bit.
 use Prim.Native.Nat.{◌/◌, ◌%◌, ◌^◌}
-use borrow.Author.Rules.{rules}
 use native.Mathlib.Omega.{arith}
 use Rattle.packing.specs.Fields.{packed_beat}
 use Rattle.packing.proofs.Bits.{field_and_above, bit_told}
-use Rattle.packing.proofs.fields.beat_of.Statement.{statement}
-use Rattle.packing.proofs.fields.beat_of.Tie as tie
+use Rattle.packing.proofs.fields.beat_of.Goals as goal
 
-returns : tie.Need-returns
+pub returns : goal.returns
 unfolding packed_beat
 returns c =
     let word = c.args.word in
@@ -22,6 +20,3 @@ returns c =
       extension_fits = omega arith;
       length_fits = omega arith;
     }
-
-pub beat-of-spec : {M : Type 1} → statement M
-beat-of-spec = tie.close (tie.spec (λ c. search rules) (λ c. search rules) (λ c. search rules) returns)
