@@ -6,6 +6,7 @@ use mathlib.Core.Path.{◌≡◌, refl}
 use Rattle.concert.specs.Pitches.{moved_root}
 use native.Mathlib.Omega.{arith}
 use Rattle.concert.proofs.pitches.moved_root.Goals as goal
+use Rattle.concert.proofs.pitches.moved_root.Goals.{Then-rest-lt0, Else-rest-lt0}
 
 pub overflow_add-rest : goal.overflow_add-rest
 overflow_add-rest c = sum_fits c.args.root c.args.shift c.requires.root_bound c.requires.shift_value
@@ -14,14 +15,14 @@ pub nonzero_rem-rest : goal.nonzero_rem-rest
 nonzero_rem-rest c = (omega arith, quotient_fits c.args.root c.args.shift c.requires.root_bound c.requires.shift_value)
 
 -- The remainder below zero, and twelve more.
-module _ (c : tie.Then1) where
+module _ (c : Then-rest-lt0) where
   below :
-      rest c.before.args.root c.before.args.shift c.before.requires.0 c.before.requires.1 +ℤ pos 12
-      ≡ pos (moved_root c.before.args.shift c.before.args.root)
+      rest c.args.root c.args.shift c.requires.root_bound c.requires.shift_value +ℤ pos 12
+      ≡ pos (moved_root c.args.shift c.args.root)
   unfolding rest total
   below =
-      lifted_root c.before.args.root c.before.args.shift c.before.requires.0 c.before.requires.1
-      (rw (rest_kept c.before.args.root c.before.args.shift c.before.requires.0 c.before.requires.1) at c.if1.true)
+      lifted_root c.args.root c.args.shift c.requires.root_bound c.requires.shift_value
+      (rw (rest_kept c.args.root c.args.shift c.requires.root_bound c.requires.shift_value) at c.if-rest-lt0.true)
 
 pub overflow_add-result : goal.overflow_add-result
 overflow_add-result c =
@@ -34,7 +35,7 @@ overflow_cast-result c =
     rw (
       rest_kept c.args.root c.args.shift c.requires.root_bound c.requires.shift_value,
       more_kept c.args.root c.args.shift c.requires.root_bound c.requires.shift_value,
-      below c,
+      below (goal.at.overflow_cast-result c).Then-rest-lt0,
     )
     (tt, record { fits = omega arith })
 
@@ -43,27 +44,27 @@ returns-then-rest-lt0 c =
     rw (
       rest_kept c.args.root c.args.shift c.requires.root_bound c.requires.shift_value,
       more_kept c.args.root c.args.shift c.requires.root_bound c.requires.shift_value,
-      below c,
+      below (goal.at.returns-then-rest-lt0 c).Then-rest-lt0,
     )
     refl
 
 -- The remainder from zero on.
-module _ (c : tie.Else1) where
+module _ (c : Else-rest-lt0) where
   above :
-      rest c.before.args.root c.before.args.shift c.before.requires.0 c.before.requires.1
-      ≡ pos (moved_root c.before.args.shift c.before.args.root)
+      rest c.args.root c.args.shift c.requires.root_bound c.requires.shift_value
+      ≡ pos (moved_root c.args.shift c.args.root)
   unfolding rest total
   above =
-      reduced_root c.before.args.root c.before.args.shift c.before.requires.0 c.before.requires.1
-      (rw (rest_kept c.before.args.root c.before.args.shift c.before.requires.0 c.before.requires.1) at c.if1.false)
+      reduced_root c.args.root c.args.shift c.requires.root_bound c.requires.shift_value
+      (rw (rest_kept c.args.root c.args.shift c.requires.root_bound c.requires.shift_value) at c.if-rest-lt0.false)
 
 pub overflow_cast-result-2 : goal.overflow_cast-result-2
 overflow_cast-result-2 c =
     let m = moved_below c.args.shift c.args.root in
-    rw (rest_kept c.args.root c.args.shift c.requires.root_bound c.requires.shift_value, above c)
+    rw (rest_kept c.args.root c.args.shift c.requires.root_bound c.requires.shift_value, above (goal.at.overflow_cast-result-2 c).Else-rest-lt0)
     (tt, record { fits = omega arith })
 
 pub returns : goal.returns
 returns c =
-    rw (rest_kept c.args.root c.args.shift c.requires.root_bound c.requires.shift_value, above c)
+    rw (rest_kept c.args.root c.args.shift c.requires.root_bound c.requires.shift_value, above (goal.at.returns c).Else-rest-lt0)
     refl

@@ -1,7 +1,6 @@
 -- Word by word: none that was passed is odd, so one of all is odd exactly if one of those that are left is.
 use Rattle.concert.specs.Moves.{is_odd}
 use Rattle.concert.proofs.TableLaws.{any_here, any_on, any_over}
-use Prim.Native.Nat.{◌-◌}
 use mathlib.Core.Path.{refl, sym, ◌∙◌}
 use borrow.Author.Rules.{rules}
 use Rattle.concert.proofs.tables.has_odd.Goals as goal

@@ -1,7 +1,6 @@
 -- `write_moved` meets its contract. The invariant: the first i words are moved, the second table holds what it held behind them.
 use Rattle.concert.specs.Moves.{is_odd, moved_word, moved_table}
 use Rattle.concert.proofs.TableLaws.{none_there, filled_more, filled_all}
-use Prim.Native.Nat.{◌-◌}
 use lib.IntN.{ℤ}
 use lib.ListN.{length-set}
 use lib.Seq.{sets}
@@ -20,7 +19,7 @@ pub moved_word-requires : goal.moved_word-requires
 moved_word-requires c =
     let even = none_there is_odd c.args.beats.now c.loop-i.i c.requires.beats_value c.loop-i-test.true in record {
       word_value = even;
-      shift_value = rw (to_z-of_z c.ranges.shift) c.requires.shift_value.0;
+      shift_value = rw (to_z-of_z c.ranges.shift) c.requires.shift_value;
     }
 
 pub loop-i-preserved : goal.loop-i-preserved

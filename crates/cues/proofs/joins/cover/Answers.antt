@@ -1,5 +1,4 @@
 -- Section by section: all cover if those left do from the measure reached, and that is at most the sum of two fields of 16 bits.
-use Prim.Native.Nat.{◌-◌}
 use mathlib.Core.Path.{refl, sym, ◌∙◌}
 use native.Mathlib.Omega.{arith}
 use Rattle.packing.proofs.RoundTrips.{section_fields}

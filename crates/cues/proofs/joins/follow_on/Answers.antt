@@ -1,5 +1,4 @@
 -- Measure by measure: the measures passed follow on, so all do if those that are left follow on from the beat reached.
-use Prim.Native.Nat.{◌-◌}
 use mathlib.Core.Path.{refl, sym, ◌∙◌}
 use native.Mathlib.Omega.{arith}
 use Rattle.packing.proofs.RoundTrips.{measure_fields}

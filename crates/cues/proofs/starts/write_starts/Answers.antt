@@ -2,7 +2,6 @@
 use Prim.Native.Nat.{ℕ, ◌+◌, ◌-◌}
 use mathlib.Core.Path.{◌≡◌, refl, sym, ◌∙◌, subst}
 use mathlib.Core.List.{List, []}
-use mathlib.Core.Bool.{true}
 use native.Mathlib.Omega.{arith}
 use lib.ListN.{length, get_or}
 use Rattle.songcode.specs.Lists.{sum}
@@ -35,7 +34,7 @@ loop-i-init c =
       j.0,
       c.requires.1,
       table_right _ refl refl,
-      measures_few c.args.measures.now j.1 (λ k. omega (arith, c.shared_slice_known-2-1.given k)),
+      measures_few c.args.measures.now j.1 (λ k. search rules),
       c.requires.2,
       omega arith,
       wrote_start _ _,

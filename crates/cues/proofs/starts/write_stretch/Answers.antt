@@ -1,5 +1,4 @@
 -- Measure by measure: the starts written so far and those of the measures that are left are the starts of the section.
-use Prim.Native.Nat.{◌-◌}
 use mathlib.Core.Path.{refl, sym, ◌∙◌}
 use native.Mathlib.Omega.{arith}
 use Rattle.songcode.proofs.MemoryLaws.{wrote_start, wrote_end}
