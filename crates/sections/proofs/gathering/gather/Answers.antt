@@ -4,13 +4,13 @@ use Rattle.sections.proofs.GatherLaws.{sought_start, sought_passed, sought_again
 use Rattle.sections.specs.Runs.{lines_of}
 use lib.ListN.{length, replicate}
 use native.Mathlib.Omega.{arith}
-use mathlib.Core.Logic.{⊎_elim}
 use mir.Val.{Fits}
 use mir.Syntax.{w64}
 use Prim.Native.Nat.{ℕ, ◌+◌, ◌-◌}
 use mathlib.Core.Path.{◌≡◌, refl}
 use mathlib.Core.List.{List}
 use Rattle.sections.proofs.gathering.gather.Goals as goal
+use Rattle.sections.proofs.gathering.gather.Goals.{then-slot-lt-SLOTS+then-lines-slot-eq0, then-slot-lt-SLOTS+else-lines-slot-eq0, else-slot-lt-SLOTS}
 use Rattle.sections.proofs.gathering.gather.Goals.{In-loop-at}
 
 pub loop-at-init : goal.loop-at-init
@@ -36,12 +36,11 @@ loop-at-preserved c =
       omega arith,
       omega arith,
       omega arith,
-      ⊎_elim
-          (λ w. rw (w.4, w.5, w.6) (sought_first here slot inv w.3.ensures w.2.taken w.0.taken))
-          (⊎_elim
-          (λ w. rw (w.3, w.4, w.5) (sought_again here slot inv w.2.left))
-          (λ w. rw (w.1, w.2, w.3) (sought_passed here slot inv w.0.left)))
-          c.if-slot-lt-SLOTS.branch,
+      elim c.if-slot-lt-SLOTS.branch [
+        | then-slot-lt-SLOTS+then-lines-slot-eq0 w ↦ rw (w.lines-is, w.starts-is, w.stops-is) (sought_first here slot inv w.said_on-new.ensures w.if-lines-slot-eq0.true w.if-slot-lt-SLOTS.true)
+        | then-slot-lt-SLOTS+else-lines-slot-eq0 w ↦ rw (w.lines-is, w.starts-is, w.stops-is) (sought_again here slot inv w.if-lines-slot-eq0.false)
+        | else-slot-lt-SLOTS w ↦ rw (w.lines-is, w.starts-is, w.stops-is) (sought_passed here slot inv w.if-slot-lt-SLOTS.false)
+      ],
     )
 
 -- The rows are as long as they were.
