@@ -1,5 +1,5 @@
 -- No spelling is listed past 33; each number up to it has its row, one of six places in it, and its spelling there.
-use Rattle.songcode.specs.Lists.{if◌then◌else◌}
+use Rattle.songcode.specs.Lists.{provided◌then◌else◌}
 use Rattle.songcode.specs.Bytes.{ascii}
 use Rattle.songcode.specs.Answer.Chords.{rows, spellings, bases, spelling_of}
 use Rattle.tokens.specs.Bases.{unpadded, first_of}
@@ -12,7 +12,7 @@ use native.Mathlib.Omega.{arith}
 use Rattle.tokens.proofs.bases.spelling_of.Goals as goal
 
 pub returns-then-number-gt33 : goal.returns-then-number-gt33
-unfolding unpadded if◌then◌else◌ spelling_of bases
+unfolding unpadded provided◌then◌else◌ spelling_of bases
 returns-then-number-gt33 c = let past : 34 ≤ c.args.number = omega arith in sym (get_or-eq_default bases [] past)
 
 pub offset_bounds-row : goal.offset_bounds-row
