@@ -9,7 +9,7 @@ use lib.ListN.{length}
 use borrow.Author.Tests.{leb-true}
 use Rattle.songcode.specs.Lists.{provided◌then◌else◌, every}
 use Rattle.songcode.specs.Bytes.{placed}
-use Rattle.songcode.specs.Answer.Characters.{Form, form, forms, is_tail, width_by, good_bytes, characters}
+use Rattle.songcode.specs.Answer.Characters.{Form, forms, is_tail, width_by, good_bytes, characters}
 use Rattle.songcode.specs.Description.WrittenText.{Character}
 use Rattle.songcode.proofs.ListLaws.{by_cases, true_is_not_false, every_all, all_member}
 use Rattle.songcode.proofs.FormLaws.{first_is_no_tail}

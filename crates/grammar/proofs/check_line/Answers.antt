@@ -1,5 +1,4 @@
 -- Token by token: the check so far with the text that is left ends as the check of the whole line does.
-use Prim.Native.Nat.{◌-◌}
 use mathlib.Core.Path.{sym, ap, ◌∙◌}
 use native.Mathlib.Omega.{arith}
 use Rattle.songcode.specs.Bytes.{placed}

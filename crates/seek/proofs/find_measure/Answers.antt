@@ -1,5 +1,4 @@
 -- The measure, if there is one, is among those between start and end; each probe leaves fewer of them.
-use Prim.Native.Nat.{◌-◌}
 use native.Mathlib.Omega.{arith}
 use Rattle.songcode.specs.Description.Joined.{end_beat}
 use Rattle.songcode.specs.Jumps.{Holds}

@@ -1,5 +1,5 @@
 -- Word by word: the check so far, with the words that are left, ends as the check with all words does.
-use Prim.Native.Nat.{◌+◌, ◌-◌}
+use Prim.Native.Nat.{◌+◌}
 use mathlib.Core.Path.{sym, ap, ◌∙◌}
 use native.Mathlib.Omega.{arith}
 use Rattle.text.specs.Spans.{part}

@@ -1,5 +1,4 @@
 -- Byte by byte: what is asked of the bytes from here on is what was asked of all, until one is barred or none is left.
-use Prim.Native.Nat.{◌-◌}
 use mathlib.Core.Path.{sym, ◌∙◌}
 use native.Mathlib.Omega.{arith}
 use Rattle.grammar.proofs.PartLaws.{barred_here, barred_further, barred_nowhere}
@@ -13,8 +12,7 @@ returns-then-is_barred c =
 
 pub loop-i-preserved : goal.loop-i-preserved
 loop-i-preserved c =
-    let l = c.loop-i in
-    (
+    let l = c.loop-i in (
       omega arith,
       sym (barred_further c.args.s.now l.i c.args.to c.loop-i-test.true c.requires.1
           (sym c.is_barred.ensures ∙ c.if-is_barred.false)) ∙ l.invariant.1,

@@ -3,7 +3,6 @@ use Rattle.sections.specs.Runs.{blank_line}
 use Rattle.sections.proofs.RunLaws.{walked_none, walked_over}
 use Rattle.sections.proofs.NextLaws.{next_is, blank_more, blank_stop}
 use native.Mathlib.Omega.{arith}
-use Prim.Native.Nat.{◌-◌}
 use Rattle.sections.proofs.blocks.next_block.Goals as goal
 
 pub loop-next-init : goal.loop-next-init
@@ -19,12 +18,12 @@ returns-then-behind-next c = let a = c.args in
 
 pub loop-next-preserved : goal.loop-next-preserved
 loop-next-preserved c = let a = c.args in (
-      omega arith,
-      omega arith,
-      omega arith,
-      blank_more a.s.now a.number a.at c.loop-next.lines c.loop-next.next c.past_blank-behind.ensures.0
-          c.loop-next-test.true c.loop-next.invariant.3 c.if-behind-next.false,
-    )
+  omega arith,
+  omega arith,
+  omega arith,
+  blank_more a.s.now a.number a.at c.loop-next.lines c.loop-next.next c.past_blank-behind.ensures.0
+      c.loop-next-test.true c.loop-next.invariant.3 c.if-behind-next.false,
+)
 
 pub returns : goal.returns
 returns c = let a = c.args in

@@ -2,7 +2,6 @@
 use Rattle.sections.specs.Gathering.{SoughtBy}
 use Rattle.sections.specs.Runs.{text_lines}
 use lib.ListN.{length, take}
-use mathlib.Core.Logic.{⊎_elim}
 use Prim.Native.Nat.{◌+◌, ◌-◌, ◌≤◌}
 use Rattle.sections.proofs.gathering.gather.Given as goal
 

@@ -1,5 +1,5 @@
 -- Every line before has another number, so the line of the number is still to come or the one at hand.
-use Prim.Native.Nat.{suc, ◌-◌}
+use Prim.Native.Nat.{suc}
 use mathlib.Core.Path.{◌≡◌, refl, sym, ap, ◌∙◌, subst}
 use mathlib.Core.List.{Memᴰ}
 use native.Mathlib.Omega.{arith}

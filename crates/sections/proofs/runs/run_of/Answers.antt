@@ -4,7 +4,7 @@ use Rattle.sections.specs.Runs.{passing}
 use Rattle.sections.proofs.RunLaws.{tested_shut, tested_parted, tested_whole, walked_none, walked_more, walked_stop, walked_over, longest}
 use native.Mathlib.Omega.{arith}
 use mathlib.Core.Path.{refl}
-use Prim.Native.Nat.{◌+◌, ◌-◌}
+use Prim.Native.Nat.{◌+◌}
 use Rattle.sections.proofs.runs.run_of.Goals as goal
 
 pub loop-next-init : goal.loop-next-init

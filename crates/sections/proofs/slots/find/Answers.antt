@@ -3,7 +3,6 @@ use Rattle.sections.proofs.SlotLaws.{setting_none, among_here, among_later, amon
 use Rattle.sections.specs.Runs.{lines_of}
 use native.Mathlib.Omega.{arith}
 use mathlib.Core.Path.{refl, sym, ◌∙◌}
-use Prim.Native.Nat.{◌-◌}
 use Rattle.sections.proofs.slots.find.Goals as goal
 
 pub loop-at-init : goal.loop-at-init

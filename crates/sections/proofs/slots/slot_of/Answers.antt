@@ -10,8 +10,7 @@ returns-then-a-e c = let a = c.args in (sym (slot_blank a.n a.s.now a.a a.e c.if
 
 pub returns-in-Key : goal.returns-in-Key
 returns-in-Key c = let a = c.args in
-    let h = c.if-a-e.false in
-    (
+    let h = c.if-a-e.false in (
       slot_key a.n a.s.now a.a a.e c.name_end-q.result c.name_end-q.ensures.0
           (key_read _ c.kind_of.ensures c.in-Key.is) c.key_named.ensures c.key_number.ensures,
       omega arith,
@@ -19,8 +18,7 @@ returns-in-Key c = let a = c.args in
 
 pub returns-in-Modifier : goal.returns-in-Modifier
 returns-in-Modifier c = let a = c.args in
-    let h = c.if-a-e.false in
-    (
+    let h = c.if-a-e.false in (
       slot_modifier a.n a.s.now a.a a.e c.name_end-q.result c.name_end-q.ensures.0
           (modifier_read _ c.kind_of.ensures c.in-Modifier.is) c.modifier_named.ensures
           c.modifier_number.ensures,

@@ -13,12 +13,12 @@ use Rattle.settings.proofs.lyrics.lyric_words.Goals as goal
 pub returns-then-k-a : goal.returns-then-k-a
 unfolding count_from
 returns-then-k-a c = let a = c.args in (
-      words_alone a.s.now a.a c.word_start-k.result a.e (omega arith) (omega arith) (omega arith) c.word_start-k.ensures.0
-          c.if-k-a.true,
-      omega arith,
-      omega arith,
-      omega arith,
-    )
+  words_alone a.s.now a.a c.word_start-k.result a.e (omega arith) (omega arith) (omega arith) c.word_start-k.ensures.0
+      c.if-k-a.true,
+  omega arith,
+  omega arith,
+  omega arith,
+)
 
 pub returns-in-Is : goal.returns-in-Is
 returns-in-Is c = let a = c.args in

@@ -9,18 +9,18 @@ loop-z-init c = (omega arith, omega arith, refl)
 
 pub returns-then-is_blank : goal.returns-then-is_blank
 returns-then-is_blank c = let a = c.args in (
-      c.loop-z.invariant.2 ∙ word_stop a.s.now a.a c.loop-z.z (omega arith) (omega arith) (sym c.is_blank.ensures ∙ c.if-is_blank.true),
-      omega arith,
-      omega arith,
-    )
+  c.loop-z.invariant.2 ∙ word_stop a.s.now a.a c.loop-z.z (omega arith) (omega arith) (sym c.is_blank.ensures ∙ c.if-is_blank.true),
+  omega arith,
+  omega arith,
+)
 
 pub loop-z-preserved : goal.loop-z-preserved
 loop-z-preserved c = let a = c.args in (
-      omega arith,
-      omega arith,
-      c.loop-z.invariant.2 ∙ word_more a.s.now a.a c.loop-z.z (omega arith) (omega arith)
-          (sym c.is_blank.ensures ∙ c.if-is_blank.false),
-    )
+  omega arith,
+  omega arith,
+  c.loop-z.invariant.2 ∙ word_more a.s.now a.a c.loop-z.z (omega arith) (omega arith)
+      (sym c.is_blank.ensures ∙ c.if-is_blank.false),
+)
 
 pub returns : goal.returns
 returns c = let a = c.args in

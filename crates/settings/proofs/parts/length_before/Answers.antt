@@ -1,5 +1,4 @@
 -- No byte passed has the value, so the bytes passed and those before it in the rest are those before it in the text.
-use Prim.Native.Nat.{◌-◌}
 use mathlib.Core.Path.{ap}
 use native.Mathlib.Omega.{arith}
 use borrow.Author.Tests.{eq-eqb, ne_eqb}

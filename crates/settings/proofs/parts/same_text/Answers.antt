@@ -1,5 +1,4 @@
 -- Texts of two lengths differ; in texts of one length the bytes passed agree, so they are the same where their rests are.
-use Prim.Native.Nat.{◌-◌}
 use mathlib.Core.Path.{refl, sym, ◌∙◌}
 use native.Mathlib.Omega.{arith}
 use Rattle.settings.proofs.PartLaws.{same_stop, same_more, same_over, same_lengths}

@@ -1,5 +1,4 @@
 -- No byte passed is blank, so the bytes passed and the word's length in the rest are the word's length in the text.
-use Prim.Native.Nat.{◌-◌}
 use mathlib.Core.Path.{sym, ap, ◌∙◌}
 use native.Mathlib.Omega.{arith}
 use mathlib.Core.Bool.{not}

@@ -1,5 +1,4 @@
 -- Byte by byte: the characters so far with those of the bytes that are left are those of the text; a tail adds none.
-use Prim.Native.Nat.{◌-◌}
 use mathlib.Core.Path.{sym, ◌∙◌}
 use native.Mathlib.Omega.{arith}
 use Rattle.settings.proofs.PhraseLaws.{characters_tail, characters_first, characters_over}

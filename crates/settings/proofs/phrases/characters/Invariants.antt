@@ -2,7 +2,6 @@
 use Prim.Native.Nat.{◌≤◌, ◌+◌, ◌-◌}
 use mathlib.Core.Path.{◌≡◌}
 use lib.ListN.{length, drop}
-use mathlib.Core.Logic.{⊎_elim}
 use Rattle.songcode.specs.Bytes.{placed}
 use Rattle.songcode.specs.Answer.Characters.{characters}
 use Rattle.settings.proofs.phrases.characters.Given as goal

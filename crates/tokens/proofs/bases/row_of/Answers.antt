@@ -19,40 +19,40 @@ returns-then-number-lt14 c = simp (le-ltb _ _ c.if-number-lt6.false, le-ltb _ _ 
 pub returns-then-number-lt20 : goal.returns-then-number-lt20
 unfolding row_of_number provided◌then◌else◌
 returns-then-number-lt20 c = simp (
-      le-ltb _ _ c.if-number-lt6.false,
-      le-ltb _ _ c.if-number-lt10.false,
-      le-ltb _ _ c.if-number-lt14.false,
-      lt-ltb _ _ c.if-number-lt20.true,
-    )
+  le-ltb _ _ c.if-number-lt6.false,
+  le-ltb _ _ c.if-number-lt10.false,
+  le-ltb _ _ c.if-number-lt14.false,
+  lt-ltb _ _ c.if-number-lt20.true,
+)
 
 pub returns-then-number-lt24 : goal.returns-then-number-lt24
 unfolding row_of_number provided◌then◌else◌
 returns-then-number-lt24 c = simp (
-      le-ltb _ _ c.if-number-lt6.false,
-      le-ltb _ _ c.if-number-lt10.false,
-      le-ltb _ _ c.if-number-lt14.false,
-      le-ltb _ _ c.if-number-lt20.false,
-      lt-ltb _ _ c.if-number-lt24.true,
-    )
+  le-ltb _ _ c.if-number-lt6.false,
+  le-ltb _ _ c.if-number-lt10.false,
+  le-ltb _ _ c.if-number-lt14.false,
+  le-ltb _ _ c.if-number-lt20.false,
+  lt-ltb _ _ c.if-number-lt24.true,
+)
 
 pub returns-then-number-lt28 : goal.returns-then-number-lt28
 unfolding row_of_number provided◌then◌else◌
 returns-then-number-lt28 c = simp (
-      le-ltb _ _ c.if-number-lt6.false,
-      le-ltb _ _ c.if-number-lt10.false,
-      le-ltb _ _ c.if-number-lt14.false,
-      le-ltb _ _ c.if-number-lt20.false,
-      le-ltb _ _ c.if-number-lt24.false,
-      lt-ltb _ _ c.if-number-lt28.true,
-    )
+  le-ltb _ _ c.if-number-lt6.false,
+  le-ltb _ _ c.if-number-lt10.false,
+  le-ltb _ _ c.if-number-lt14.false,
+  le-ltb _ _ c.if-number-lt20.false,
+  le-ltb _ _ c.if-number-lt24.false,
+  lt-ltb _ _ c.if-number-lt28.true,
+)
 
 pub returns : goal.returns
 unfolding row_of_number provided◌then◌else◌
 returns c = simp (
-      le-ltb _ _ c.if-number-lt6.false,
-      le-ltb _ _ c.if-number-lt10.false,
-      le-ltb _ _ c.if-number-lt14.false,
-      le-ltb _ _ c.if-number-lt20.false,
-      le-ltb _ _ c.if-number-lt24.false,
-      le-ltb _ _ c.if-number-lt28.false,
-    )
+  le-ltb _ _ c.if-number-lt6.false,
+  le-ltb _ _ c.if-number-lt10.false,
+  le-ltb _ _ c.if-number-lt14.false,
+  le-ltb _ _ c.if-number-lt20.false,
+  le-ltb _ _ c.if-number-lt24.false,
+  le-ltb _ _ c.if-number-lt28.false,
+)

@@ -3,7 +3,7 @@ use Rattle.songcode.proofs.MemoryLaws.{sets_moved}
 use lib.ListN.{get_or, length-set}
 use native.Mathlib.Omega.{arith}
 use mathlib.Core.Path.{◌≡◌, refl, ◌∙◌}
-use Prim.Native.Nat.{◌+◌, ◌-◌}
+use Prim.Native.Nat.{◌+◌}
 use Rattle.tokens.proofs.keeping.move_words.Goals as goal
 
 pub loop-i-init : goal.loop-i-init

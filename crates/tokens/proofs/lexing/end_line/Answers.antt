@@ -4,6 +4,6 @@ use Rattle.tokens.proofs.lexing.end_line.Goals as goal
 
 pub returns : goal.returns
 returns c = record {
-      held = refl;
-      fill = refl;
-    }
+  held = refl;
+  fill = refl;
+}

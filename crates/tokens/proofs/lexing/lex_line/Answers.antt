@@ -7,7 +7,7 @@ use lib.ListN.{length, set, length-set}
 use mathlib.Core.List.{[], ◌∷◌, ◌++◌, append_assoc, append-nil}
 use native.Mathlib.Omega.{arith}
 use mathlib.Core.Path.{◌≡◌, refl, sym, ap, ◌∙◌}
-use Prim.Native.Nat.{◌<◌, ◌≤◌, ◌+◌, ◌-◌}
+use Prim.Native.Nat.{◌<◌, ◌≤◌}
 use Rattle.tokens.proofs.lexing.lex_line.Goals as goal
 use Rattle.tokens.proofs.lexing.lex_line.Goals.{In-Token}
 

@@ -3,7 +3,6 @@ use Rattle.tokens.proofs.LexLaws.{plain_over, plain_stop, plain_more}
 use borrow.Author.Tests.{not-true, not-false}
 use native.Mathlib.Omega.{arith}
 use mathlib.Core.Path.{sym, ◌∙◌}
-use Prim.Native.Nat.{◌-◌}
 use Rattle.tokens.proofs.lexing.plain_end.Goals as goal
 
 pub returns-then-not-is_plain : goal.returns-then-not-is_plain

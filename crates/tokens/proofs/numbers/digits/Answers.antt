@@ -2,7 +2,6 @@
 use Rattle.tokens.proofs.DecimalLaws.{digits_over, digits_low, digits_high, digits_past, digits_more}
 use native.Mathlib.Omega.{arith}
 use mathlib.Core.Path.{sym, ◌∙◌}
-use Prim.Native.Nat.{◌-◌}
 use Rattle.tokens.proofs.numbers.digits.Goals as goal
 
 pub returns-then-b-lt48 : goal.returns-then-b-lt48

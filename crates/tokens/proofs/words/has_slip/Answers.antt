@@ -2,7 +2,6 @@
 use Rattle.tokens.proofs.TakenLaws.{slip_over, slip_here, slip_more}
 use native.Mathlib.Omega.{arith}
 use mathlib.Core.Path.{sym, ◌∙◌}
-use Prim.Native.Nat.{◌-◌}
 use Rattle.tokens.proofs.words.has_slip.Goals as goal
 
 pub returns-then-is_slip : goal.returns-then-is_slip
