@@ -18,7 +18,7 @@ use Rattle.songcode.specs.Answer.Modifiers.{ModifierName, of_repeat, of_cut_star
 use Rattle.songcode.specs.Answer.Sections.{kind_of_line, key_name_of, modifier_name_of, key_said, modifier_said, twice_by}
 use Rattle.songcode.proofs.LineAgree.{by_kind}
 use Rattle.songcode.proofs.ListLaws.{by_cases}
-use Rattle.refusals.specs.Ranks.{least, none}
+use Rattle.refusals.specs.Ranks.{least}
 use Rattle.stage2.specs.States.{no_marks, again, marked}
 
 -- What a line says is one of eight things.
