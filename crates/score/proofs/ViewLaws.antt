@@ -10,13 +10,12 @@ use lib.Dec.{eqb, leb}
 use lib.ListN.{length, drop, get_or, length-append}
 use lib.Seq.{get_or-drop, drop-drop, take-append_seam, drop-append_seam}
 use Rattle.songcode.proofs.ListLaws.{drop_take, both_pass}
-use Rattle.songcode.specs.Lists.{if◌then◌else◌, is_some}
+use Rattle.songcode.specs.Lists.{provided◌then◌else◌, is_some}
 use Rattle.songcode.specs.Song as song
 use Rattle.songcode.specs.Song.{Items, LyricLine, Modifiers, Section, Song}
 use Rattle.songcode.specs.Answer.References.{pattern_items}
 use Rattle.songcode.specs.Answer.Playing.{time_of, bpm_of, repeats}
 use Rattle.songcode.specs.Answer.Meter.{all_fit, count, most_measures}
-use Rattle.cuts.specs.declared.Cut.{Cut}
 use Rattle.score.specs.declared.views.View.{View}
 use Rattle.score.specs.Even.{is_whole, even_measures, even_pattern}
 use Rattle.score.specs.Sections.{side_row, pattern_row, cut_word, is_cut, cuts_by, cuts_row, lyric_by, lyric_row, parts_row, bit, section_row, sections_row}
@@ -90,8 +89,8 @@ cut_again (some c) h =
     rw (x, y)
 
 -- A song may have 65,535 measures, which is a field of 16 bits.
-counted_small : (b : Bool) (k : ℕ) → (b ≡ true → k ≤ 65535) → (if b then k else 0) < 65536
-unfolding if◌then◌else◌
+counted_small : (b : Bool) (k : ℕ) → (b ≡ true → k ≤ 65535) → (provided b then k else 0) < 65536
+unfolding provided◌then◌else◌
 counted_small true k h = let g = h refl in omega arith
 counted_small false k h = omega arith
 

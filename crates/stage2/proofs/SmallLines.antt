@@ -14,7 +14,6 @@ use Rattle.songcode.specs.Answer.Answer.{blocks_of}
 use Rattle.songcode.proofs.ListLaws.{Each}
 use Rattle.refusals.specs.Refusals.{refusal_of}
 use Rattle.text.specs.Spans.{line_of, spans_from, spans, line_text}
-use Rattle.text.specs.declared.lines.Line.{Line}
 use Rattle.text.proofs.LineLaws.{blocks_spans}
 use Rattle.refusals.specs.Ranks.{refusal_at}
 use Rattle.stage2.specs.Walk.{walked, at_first}
