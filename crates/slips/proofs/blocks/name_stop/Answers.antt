@@ -1,5 +1,4 @@
 -- Byte by byte: none that was passed is a `!`, and before the end the loop stops only at one.
-use Prim.Native.Nat.{◌-◌}
 use native.Mathlib.Omega.{arith}
 use Rattle.slips.proofs.FindLaws.{without_more}
 use Rattle.slips.proofs.blocks.name_stop.Goals as goal

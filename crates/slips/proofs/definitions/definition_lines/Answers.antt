@@ -1,5 +1,4 @@
 -- Block by block: the lines that are looked for are those of the blocks from the one at hand on.
-use Prim.Native.Nat.{◌-◌}
 use mathlib.Core.Path.{sym, ap, ◌∙◌}
 use native.Mathlib.Omega.{arith}
 use Rattle.sections.proofs.NextLaws.{blocks_start}

@@ -8,9 +8,9 @@ use Rattle.slips.proofs.patterns.read_end.Goals as goal
 
 pub returns-then-r-ne0 : goal.returns-then-r-ne0
 returns-then-r-ne0 c = record {
-      kept = λ n. refl;
-      told = λ at z f o. absurd (c.if-r-ne0.true z);
-    }
+  kept = λ n. refl;
+  told = λ at z f o. absurd (c.if-r-ne0.true z);
+}
 
 pub returns-then-r-gt0 : goal.returns-then-r-gt0
 returns-then-r-gt0 c =
@@ -25,12 +25,12 @@ returns-then-r-gt0 c =
 
 pub returns-then-r-eq-OPENS : goal.returns-then-r-eq-OPENS
 returns-then-r-eq-OPENS c = record {
-      kept = λ n. absurd (n c.if-r-ne0.false);
-      told = λ at z f o. (
+  kept = λ n. absurd (n c.if-r-ne0.false);
+  told = λ at z f o. (
     told_as at _ c.blamed-then-r-eq-OPENS.result c.blamed-then-r-eq-OPENS.ensures (told_earlier (omega arith, omega arith) refl f (inr (inr refl))),
     rw c.blamed-then-r-eq-OPENS.ensures.1 f,
   );
-    }
+}
 
 pub returns : goal.returns
 returns c =

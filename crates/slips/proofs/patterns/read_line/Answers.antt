@@ -1,5 +1,4 @@
 -- Token by token: up to the place reached no token is cut, and the reading has come so far or has stopped before.
-use Prim.Native.Nat.{◌-◌}
 use native.Mathlib.Omega.{arith}
 use Rattle.slips.proofs.LineReadLaws.{line_begun, line_more, line_done, line_over}
 use Rattle.slips.proofs.patterns.read_line.Goals as goal

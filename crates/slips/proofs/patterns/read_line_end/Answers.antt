@@ -9,9 +9,9 @@ use Rattle.slips.proofs.patterns.read_line_end.Goals as goal
 
 pub returns-then-r-ne0 : goal.returns-then-r-ne0
 returns-then-r-ne0 c = record {
-      kept = λ n. refl;
-      step = λ ts at g. absurd (c.if-r-ne0.true g.unblamed);
-    }
+  kept = λ n. refl;
+  step = λ ts at g. absurd (c.if-r-ne0.true g.unblamed);
+}
 
 pub returns-then-is_stuck : goal.returns-then-is_stuck
 unfolding kind_of

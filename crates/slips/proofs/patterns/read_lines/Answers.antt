@@ -1,5 +1,4 @@
 -- The lines of a text: each goes on from the one before, behind a line end.
-use Prim.Native.Nat.{◌-◌}
 use Rattle.sections.specs.Runs.{lines_of}
 use Rattle.slips.proofs.TextReadLaws.{text_start, text_more_line, text_none, text_over}
 use Rattle.slips.proofs.patterns.read_lines.Goals as goal

@@ -1,5 +1,4 @@
 -- The end of a place on its line: no line end is passed over, and where none stands before it, nothing is cut off.
-use Prim.Native.Nat.{◌-◌}
 use mathlib.Core.Path.{refl, ◌∙◌}
 use Rattle.slips.proofs.PlaceLaws.{same_line}
 use Rattle.slips.proofs.FindLaws.{no_lf, no_cr}

@@ -1,5 +1,4 @@
 -- Line by line: the tokens read so far and those that are left are those of the run.
-use Prim.Native.Nat.{◌-◌}
 use mathlib.Core.List.{List, []}
 use native.Mathlib.Omega.{arith}
 use Rattle.slips.specs.declared.readings.Reading.{Reading}

@@ -1,5 +1,4 @@
 -- A place below 26 is returned only where the number was seen there; the loop counts no further than 26.
-use Prim.Native.Nat.{◌-◌}
 use native.Mathlib.Omega.{arith}
 use Rattle.slips.proofs.referring.place_of.Goals as goal
 

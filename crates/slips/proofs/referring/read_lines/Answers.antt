@@ -1,5 +1,5 @@
 -- Line by line: the tokens read so far and those that are left are those of the run.
-use Prim.Native.Nat.{ℕ, ◌-◌}
+use Prim.Native.Nat.{ℕ}
 use mathlib.Core.List.{List, []}
 use native.Mathlib.Omega.{arith}
 use Rattle.slips.specs.declared.referring.Referring.{Referring}

@@ -43,7 +43,7 @@ returns-in-Token c =
 
 pub returns-in-End : goal.returns-in-End
 returns-in-End c = record {
-      at_le_next = (omega arith, omega arith, omega arith);
-      takes = takes_none c.args.s.now c.args.at c.args.to c.requires.0 c.requires.1 c.requires.2 c.next_token.ensures
-          c.in-End.is refl;
-    }
+  at_le_next = (omega arith, omega arith, omega arith);
+  takes = takes_none c.args.s.now c.args.at c.args.to c.requires.0 c.requires.1 c.requires.2 c.next_token.ensures
+      c.in-End.is refl;
+}

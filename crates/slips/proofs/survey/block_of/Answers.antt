@@ -1,5 +1,4 @@
 -- Block by block: one that holds the line is still to come, or it is the one at hand.
-use Prim.Native.Nat.{◌-◌}
 use mathlib.Core.Path.{sym, ◌∙◌, subst}
 use mathlib.Core.List.Memᴰ
 use mathlib.Core.List.{List, Memᴰ}

@@ -1,6 +1,5 @@
 -- Block by block: one that holds the line is still to come, or it is the one at hand.
 use Prim.Native.Nat.{◌+◌, ◌-◌, ◌≤◌}
-use mathlib.Core.List.Memᴰ
 use mathlib.Core.List.{Memᴰ}
 use lib.ListN.{length}
 use Rattle.songcode.specs.Answer.Lines.{Block, blocks}
