@@ -10,7 +10,7 @@ use settings::{BlockKind, block_kind, head_in};
 use text::{line_at, line_start, past_blank};
 
 // A line's number and place.
-#[derive(Drop)]
+#[derive(Clone, Copy)]
 pub struct Place {
     pub number: usize,
     pub at: usize,
