@@ -10,7 +10,8 @@ use Rattle.slips.proofs.definitions.definition_lines.Given as goal
 
 abbrev pub invariant-loop-p : goal.invariant-loop-p
 invariant-loop-p l =
-    (1 ≤ l.p.number) × (l.p.number ≤ l.p.at + 1) × (l.p.at ≤ length l.s) × OpensAt l.s l.p × (definition_lines l.number (blocks_of l.s) ≡ lines_from l.s l.number l.p)
+    (1 ≤ l.p.number) × (l.p.number ≤ l.p.at + 1) × (l.p.at ≤ length l.s) × OpensAt l.s l.p
+    × (definition_lines l.number (blocks_of l.s) ≡ lines_from l.s l.number l.p)
 
 abbrev pub decreases-loop-p : goal.decreases-loop-p
 decreases-loop-p l = length l.s - l.p.at

@@ -12,7 +12,8 @@ returns-then-clause-eq-REMOVER_INSIDE c = λ n l m. told_as c.args.from _ c.blam
     (told_earlier n (ap is_earlier c.if-clause-eq-REMOVER_INSIDE.true) l (inr (inr refl)))
 
 pub returns-then-clause-eq-SEPARATOR_LAST : goal.returns-then-clause-eq-SEPARATOR_LAST
-returns-then-clause-eq-SEPARATOR_LAST c = λ n l m. told_as c.args.from _ c.blamed-then-clause-eq-SEPARATOR_LAST.result c.blamed-then-clause-eq-SEPARATOR_LAST.ensures
+returns-then-clause-eq-SEPARATOR_LAST c = λ n l m. told_as c.args.from _ c.blamed-then-clause-eq-SEPARATOR_LAST.result
+    c.blamed-then-clause-eq-SEPARATOR_LAST.ensures
     (told_earlier n (ap is_earlier c.if-clause-eq-SEPARATOR_LAST.true) l (inr (inr refl)))
 
 pub returns-then-clause-eq-LOOP_COUNT_WRONG : goal.returns-then-clause-eq-LOOP_COUNT_WRONG

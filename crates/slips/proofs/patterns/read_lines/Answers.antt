@@ -15,7 +15,8 @@ returns-then-left-eq0 c =
     λ m ms e.
     text_none q.s.now q.whose (lines_of q.s.now q.run)
     (c.loop-at.invariant (lines_of q.s.now q.run)
-    (text_start q.s.now q.whose q.run l.result l.ensures m ms e r.result c.read_line-reading.result r.ensures c.read_line-reading.ensures.step k.result k.ensures))
+    (text_start q.s.now q.whose q.run l.result l.ensures m ms e r.result c.read_line-reading.result r.ensures c.read_line-reading.ensures.step k.result
+    k.ensures))
     c.if-left-eq0.true
 
 pub loop-at-preserved : goal.loop-at-preserved
@@ -25,7 +26,8 @@ loop-at-preserved c =
     λ lines i.
     text_more_line q.s.now q.whose lines (c.loop-at.invariant lines i) l.ensures
     c.loop-at-test.true c.if-left-eq0.false
-    c.read_line_end.result c.read_line_end.ensures.kept c.read_line_end.ensures.step c.read_line-reading-in-loop-at.result c.read_line-reading-in-loop-at.ensures.kept c.read_line-reading-in-loop-at.ensures.step
+    c.read_line_end.result c.read_line_end.ensures.kept c.read_line_end.ensures.step c.read_line-reading-in-loop-at.result
+    c.read_line-reading-in-loop-at.ensures.kept c.read_line-reading-in-loop-at.ensures.step
 
 pub returns : goal.returns
 returns c =
@@ -36,5 +38,6 @@ returns c =
     λ m ms e.
     text_over q.s.now q.whose (lines_of q.s.now q.run)
     (c.loop-at.invariant (lines_of q.s.now q.run)
-    (text_start q.s.now q.whose q.run l.result l.ensures m ms e r.result c.read_line-reading.result r.ensures c.read_line-reading.ensures.step k.result k.ensures))
+    (text_start q.s.now q.whose q.run l.result l.ensures m ms e r.result c.read_line-reading.result r.ensures c.read_line-reading.ensures.step k.result
+    k.ensures))
     c.loop-at-test.false

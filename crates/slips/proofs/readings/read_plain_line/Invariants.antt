@@ -7,7 +7,9 @@ use Rattle.slips.proofs.readings.read_plain_line.Given as goal
 
 abbrev pub invariant-loop-at : goal.invariant-loop-at
 invariant-loop-at l =
-    (l.at ≤ l.to) × ((done : List Mark) × Follows l.initial.reading done l.reading × ((ms : List Mark) → MarksFrom l.s l.at l.to ms → MarksFrom l.s l.from l.to (done ++ ms)))
+    (l.at ≤ l.to)
+    × ((done : List Mark) × Follows l.initial.reading done l.reading
+    × ((ms : List Mark) → MarksFrom l.s l.at l.to ms → MarksFrom l.s l.from l.to (done ++ ms)))
 
 abbrev pub decreases-loop-at : goal.decreases-loop-at
 decreases-loop-at l = l.to - l.at

@@ -28,7 +28,8 @@ returns-then-sign_of-eq-REFERENCE c =
     let l = c.token_from-t.ensures.at_le_next.0 in
     let d = c.if-t-first.false in
     c.number_of.ensures
-    ∙ names_some s c.args.run some c.line_at-first.ensures inside c.token_from-t.result (c.token_from-t.ensures.takes.there (omega arith)) c.token_from-t.ensures.at_le_next.1
+    ∙ names_some s c.args.run some c.line_at-first.ensures inside c.token_from-t.result
+    (c.token_from-t.ensures.takes.there (omega arith)) c.token_from-t.ensures.at_le_next.1
     (sym c.sign_of.ensures ∙ c.if-sign_of-eq-REFERENCE.true)
 
 pub returns : goal.returns
@@ -41,5 +42,6 @@ returns c =
     let some = c.if-run-eq0.false in
     let l = c.token_from-t.ensures.at_le_next.0 in
     let d = c.if-t-first.false in
-    names_none s c.args.run some c.line_at-first.ensures inside c.token_from-t.result (c.token_from-t.ensures.takes.there (omega arith)) c.token_from-t.ensures.at_le_next.1
+    names_none s c.args.run some c.line_at-first.ensures inside c.token_from-t.result
+    (c.token_from-t.ensures.takes.there (omega arith)) c.token_from-t.ensures.at_le_next.1
     (λ k. c.if-sign_of-eq-REFERENCE.false (c.sign_of.ensures ∙ k))

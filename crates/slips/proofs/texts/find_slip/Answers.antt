@@ -12,7 +12,8 @@ returns-then-refusal-eq-BAD_PATTERN c =
     let k = c.if-refusal-eq-BAD_PATTERN.true in
     record {
       ruled =
-          λ e. ruled_found a.s.now a.line c.spot_of-p.result c.spot_of-p.ensures.line_value c.spot_of-p.ensures.at_in_bounds c.pattern_slip.result c.pattern_slip.ensures;
+          λ e. ruled_found a.s.now a.line c.spot_of-p.result c.spot_of-p.ensures.line_value c.spot_of-p.ensures.at_in_bounds c.pattern_slip.result
+          c.pattern_slip.ensures;
       misfit = λ e. let z : ⊥ = omega arith in absurd z;
       stray = λ e. let z : ⊥ = omega arith in absurd z;
       uncounted = λ e. let z : ⊥ = omega arith in absurd z;
@@ -69,7 +70,8 @@ returns-then-refusal-eq-NO_CHORD_BEFORE c =
       misfit = λ e. let z : ⊥ = omega arith in absurd z;
       stray =
           λ e l h.
-          subst (λ y. MeterTold a.s.now a.line y x.clause x.from x.to) (c.spot_of-p.ensures.line_value l h) (c.meter_slip-then-refusal-eq-NO_CHORD_BEFORE.ensures.0 e);
+          subst (λ y. MeterTold a.s.now a.line y x.clause x.from x.to) (c.spot_of-p.ensures.line_value l h)
+          (c.meter_slip-then-refusal-eq-NO_CHORD_BEFORE.ensures.0 e);
       uncounted = λ e. let z : ⊥ = omega arith in absurd z;
       summed = λ e. let z : ⊥ = omega arith in absurd z;
     }
