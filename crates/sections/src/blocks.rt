@@ -28,7 +28,7 @@ pub struct Parts {
 }
 
 // What a section says: the number of its header, its keys and modifiers, and the lines of its pattern and lyrics.
-#[derive(Drop)]
+#[derive(Clone, Copy)]
 pub struct SectionRead {
     pub header: usize,
     pub keys: Keys,
