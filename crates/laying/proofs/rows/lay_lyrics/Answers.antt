@@ -1,5 +1,5 @@
 -- The words of the lines passed are laid, those of the lines left have room behind them.
-use Prim.Native.Nat.{ℕ, ◌+◌, ◌-◌, ◌*◌, ◌<◌, ◌≤◌}
+use Prim.Native.Nat.{ℕ, ◌+◌, ◌-◌, ◌*◌, ◌≤◌}
 use mathlib.Core.Path.{◌≡◌, refl, sym, ap, ◌∙◌, subst}
 use mathlib.Core.List.{List, [], ◌∷◌, ◌++◌, map, flat_map, append-nil, append_assoc}
 use native.Mathlib.Omega.{arith}
@@ -14,16 +14,8 @@ use Rattle.sections.specs.declared.runs.Run.{Run}
 use Rattle.sections.specs.Runs.{lines_of}
 use Rattle.score.proofs.ViewLaws.{lyrics_size}
 use Rattle.laying.proofs.LyricRowLaws.{lyrics_at, lyric_at, lyrics_none, lyrics_over, lyrics_more}
-use borrow.Author.Rules.{rules}
-use Rattle.laying.proofs.rows.lay_lyrics.Statement.{statement}
-use Rattle.laying.proofs.rows.lay_lyrics.Tie as tie
-
-record Passed (n : ℕ) (held words : List ℕ) (fill : ℕ) (left all : List LyricLine) : Type 0 where
-  done : List LyricLine
-  there : words ≡ sets held n (flat_map lyric_row done)
-  filled : fill ≡ n + length (flat_map lyric_row done)
-  same : done ++ left ≡ all
-  fit : LyricsFit done
+use Rattle.laying.proofs.rows.lay_lyrics.Goals as goal
+use Rattle.laying.proofs.rows.lay_lyrics.Invariants.{Passed}
 
 start : (n : ℕ) (held : List ℕ) (all : List LyricLine) → Passed n held held n all all
 unfolding flat_map LyricsFit
@@ -93,84 +85,55 @@ ended s run n held words fill left e p =
     let f = o.1 in
     (o.0, (omega arith, o.2))
 
-abbrev invariant-loop : tie.invariant-loop
-invariant-loop s words₀ n number₀ at₀ left₀ fill₀ words number at left fill =
-    (1 ≤ number)
-    × (number ≤ at + 1)
-    × (at ≤ length s)
-    × (0 < length (lyrics_at s number at left) → 2 ≤ number)
-    × Passed n words₀ words fill (lyrics_at s number at left) (lyrics_at s number₀ at₀ left₀)
-
-abbrev decreases-loop : tie.decreases-loop
-decreases-loop s words₀ n number₀ at₀ left₀ fill₀ words number at left fill = length s - at
-
-loop-holds : tie.Need-loop-init invariant-loop decreases-loop
+pub loop-at-init : goal.loop-at-init
 unfolding lines_of
-loop-holds c =
-    let a = c.before.before.args in
-    let p = c.before.before.requires in
+loop-at-init c =
+    let a = c.args in
+    let p = c.requires in
     let same = length-map (lines_of a.s.now a.run) lyric_line in
     (omega arith, omega arith, omega arith, λ h. p.1 (omega arith), start _ _ _)
 
-same_length : tie.Need-same-length invariant-loop decreases-loop
-same_length c =
-    let q = c.before.before in
-    let a = q.before.before.before.args in
-    (size _ _ _ _ _ _ q.loop.invariant.4 (roomy a.s.now a.run a.n a.words.now q.before.before.before.requires.3)).1
+pub shape_of-words-then-left-eq0 : goal.shape_of-words-then-left-eq0
+shape_of-words-then-left-eq0 c =
+    let a = c.args in
+    (size _ _ _ _ _ _ c.loop-at.invariant.4 (roomy a.s.now a.run a.n a.words.now c.requires.3)).1
 
-returns : tie.Need-returns invariant-loop decreases-loop
-returns c =
-    let q = c.before.before in
-    let l = q.loop in
-    let a = q.before.before.before.args in
-    let none = lyrics_none a.s.now l.number l.at l.left c.if1.true in
-    ended a.s.now a.run a.n a.words.now l.words l.fill _ none l.invariant.4
+pub returns-then-left-eq0 : goal.returns-then-left-eq0
+returns-then-left-eq0 c =
+    let l = c.loop-at in
+    let a = c.args in
+    let none = lyrics_none a.s.now l.number l.at l.left c.if-left-eq0.true in let said = ended a.s.now a.run a.n a.words.now l.words l.fill _ none l.invariant.4 in record { held = said.0; fill = said.1; fits = said.2 }
 
-line-at-requires : tie.Need-line-at-requires invariant-loop decreases-loop
-line-at-requires c κs = search rules
-
-lay-lyric-requires : tie.Need-lay-lyric-requires invariant-loop decreases-loop
-lay-lyric-requires c κs =
-    let q = c.before.before.before.before in
-    let l = q.loop in
-    let a = q.before.before.before.args in
+pub lay_lyric-requires : goal.lay_lyric-requires
+lay_lyric-requires c =
+    let l = c.loop-at in
+    let a = c.args in
     let more = ap (λ (ls : List LyricLine). length ls)
-    (lyrics_more a.s.now l.number l.at l.left c.before.line_at_lem.ensures c.before.before.before.loop-test.true
-    c.before.before.if1.false) in
-    let z = size _ _ _ _ _ _ l.invariant.4 (roomy a.s.now a.run a.n a.words.now q.before.before.before.requires.3) in
+    (lyrics_more a.s.now l.number l.at l.left c.line_at-line.ensures c.loop-at-test.true
+    c.if-left-eq0.false) in
+    let z = size _ _ _ _ _ _ l.invariant.4 (roomy a.s.now a.run a.n a.words.now c.requires.3) in
     let z0 = z.0 in
     let z1 = z.1 in
     let second = l.invariant.3 (omega arith) in
     (omega arith, omega arith, omega arith, omega arith, omega arith, omega arith, omega arith)
 
-add-fill : tie.Need-overflow-add-fill invariant-loop decreases-loop
-add-fill c =
-    let q = c.before.before.before.before.before.before.before in
-    let l = q.loop in
-    let a = q.before.before.before.args in
-    let z = (size _ _ _ _ _ _ l.invariant.4 (roomy a.s.now a.run a.n a.words.now q.before.before.before.requires.3)).0 in
+pub overflow_add-fill : goal.overflow_add-fill
+overflow_add-fill c =
+    let l = c.loop-at in
+    let a = c.args in
+    let z = (size _ _ _ _ _ _ l.invariant.4 (roomy a.s.now a.run a.n a.words.now c.requires.3)).0 in
     omega arith
 
-add-number : tie.Need-overflow-add-number invariant-loop decreases-loop
-add-number c = search rules
-
-sub-left : tie.Need-overflow-sub-left invariant-loop decreases-loop
-sub-left c = search rules
-
-loop-less : tie.Need-loop-smaller invariant-loop decreases-loop
-loop-less c = search rules
-
-loop-again : tie.Need-loop-preserved invariant-loop decreases-loop
-loop-again c =
-    let q = c.before.before.before.before.before.before.before in
-    let l = q.loop in
-    let a = q.before.before.before.args in
+pub loop-at-preserved : goal.loop-at-preserved
+loop-at-preserved c =
+    let l = c.loop-at in
+    let a = c.args in
     let s = a.s.now in
-    let line = c.before.before.before.before.line_at_lem.result in
-    let more = lyrics_more s l.number l.at l.left c.before.before.before.before.line_at_lem.ensures
-    c.before.before.before.before.before.before.loop-test.true c.before.before.before.before.before.if1.false in
+    let line = c.line_at-line.result in
+    let more = lyrics_more s l.number l.at l.left c.line_at-line.ensures
+    c.loop-at-test.true c.if-left-eq0.false in
     let fewer = ap (λ (ls : List LyricLine). length ls) more in
-    let z = (size _ _ _ _ _ _ l.invariant.4 (roomy s a.run a.n a.words.now q.before.before.before.requires.3)).0 in
+    let z = (size _ _ _ _ _ _ l.invariant.4 (roomy s a.run a.n a.words.now c.requires.3)).0 in
     let second = l.invariant.3 (omega arith) in (
       omega arith,
       omega arith,
@@ -178,25 +141,16 @@ loop-again c =
       (λ h. omega arith),
       step _ _ _ _ _ (lyric_at s l.number line) _ _
           (subst (λ (ls : List LyricLine). Passed a.n a.words.now l.words l.fill ls (lyrics_at s a.run.number a.run.at a.run.lines))
-          more l.invariant.4) c.before.before.lay-lyric.ensures.0 c.before.before.lay-lyric.ensures.1,
+          more l.invariant.4) c.lay_lyric.ensures.held c.lay_lyric.ensures.fits,
     )
 
-same-length-2 : tie.Need-same-length-2 invariant-loop decreases-loop
-same-length-2 c =
-    let q = c.before in
-    let a = q.before.before.before.args in
-    (size _ _ _ _ _ _ q.loop.invariant.4 (roomy a.s.now a.run a.n a.words.now q.before.before.before.requires.3)).1
+pub shape_of-words : goal.shape_of-words
+shape_of-words c =
+    let a = c.args in
+    (size _ _ _ _ _ _ c.loop-at.invariant.4 (roomy a.s.now a.run a.n a.words.now c.requires.3)).1
 
-returns-2 : tie.Need-returns-2 invariant-loop decreases-loop
-returns-2 c =
-    let q = c.before in
-    let l = q.loop in
-    let a = q.before.before.before.args in
-    let none = lyrics_over a.s.now l.number l.at l.left c.loop-test.false in
-    ended a.s.now a.run a.n a.words.now l.words l.fill _ none l.invariant.4
-
-pub lay-lyrics-spec : {M : Type 1} → statement M
-lay-lyrics-spec =
-    tie.close
-    (tie.spec invariant-loop decreases-loop loop-holds same_length returns line-at-requires lay-lyric-requires add-fill add-number sub-left loop-less
-    loop-again same-length-2 returns-2)
+pub returns : goal.returns
+returns c =
+    let l = c.loop-at in
+    let a = c.args in
+    let none = lyrics_over a.s.now l.number l.at l.left c.loop-at-test.false in let said = ended a.s.now a.run a.n a.words.now l.words l.fill _ none l.invariant.4 in record { held = said.0; fill = said.1; fits = said.2 }
