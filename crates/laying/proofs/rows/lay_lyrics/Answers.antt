@@ -102,7 +102,7 @@ pub returns-then-left-eq0 : goal.returns-then-left-eq0
 returns-then-left-eq0 c =
     let l = c.loop-at in
     let a = c.args in
-    let none = lyrics_none a.s.now l.number l.at l.left c.if-left-eq0.true in let said = ended a.s.now a.run a.n a.words.now l.words l.fill _ none l.invariant.4 in record { held = said.0; fill = said.1; fits = said.2 }
+    let none = lyrics_none a.s.now l.number l.at l.left c.if-left-eq0.true in let said = ended a.s.now a.run a.n a.words.now l.words l.fill _ none l.invariant.4 in record { held = said.0; fill = said.1.0; fits = said.1.1 }
 
 pub lay_lyric-requires : goal.lay_lyric-requires
 lay_lyric-requires c =
@@ -153,4 +153,4 @@ pub returns : goal.returns
 returns c =
     let l = c.loop-at in
     let a = c.args in
-    let none = lyrics_over a.s.now l.number l.at l.left c.loop-at-test.false in let said = ended a.s.now a.run a.n a.words.now l.words l.fill _ none l.invariant.4 in record { held = said.0; fill = said.1; fits = said.2 }
+    let none = lyrics_over a.s.now l.number l.at l.left c.loop-at-test.false in let said = ended a.s.now a.run a.n a.words.now l.words l.fill _ none l.invariant.4 in record { held = said.0; fill = said.1.0; fits = said.1.1 }
