@@ -20,7 +20,10 @@ write_song-requires c =
 
 pub returns : goal.returns
 unfolding tables
-returns c = let said = (
-      c.write_keys.ensures ∙ ap (λ (ws : List ℕ). sets c.args.keys.now 0 ws) (laid_keys c.requires.chart.laid),
-      c.write_song.ensures,
-    ) in record { keys = said.0; sections = said.1.0; measures = said.1.1.0; beats = said.1.1.1.0; items = said.1.1.1.1 }
+returns c = record {
+  keys = c.write_keys.ensures ∙ ap (λ (ws : List ℕ). sets c.args.keys.now 0 ws) (laid_keys c.requires.chart.laid);
+  sections = c.write_song.ensures.sections;
+  measures = c.write_song.ensures.measures;
+  beats = c.write_song.ensures.beats;
+  items = c.write_song.ensures.items;
+}

@@ -7,7 +7,7 @@ use Rattle.judging.proofs.AheadLaws.{ahead_low}
 use Rattle.writing.proofs.SongLaws.{First, midway_start, midway_end, midway_lengths, midway_first, midway_room}
 use Rattle.writing.proofs.SongLaws.{midway_further, midway_within, midway_fields, midway_few, midway_count, midway_lines, midway_next}
 use Rattle.writing.proofs.songs.write_song.Goals as goal
-use Rattle.writing.proofs.songs.write_song.Goals.{After-arrangement_in, After-section_at-v, In-loop-at}
+use Rattle.writing.proofs.songs.write_song.Goals.{After-section_at-v, In-loop-at}
 
 pub loop-at-init : goal.loop-at-init
 loop-at-init c = (
@@ -81,51 +81,51 @@ bounds-sections-k c = room (goal.at.bounds-sections-k c).After-section_at-v
 pub offset_bounds-items-i : goal.offset_bounds-items-i
 offset_bounds-items-i c = omega (
   arith,
-  (small (goal.at.offset_bounds-items-i c).After-section_at-v).1,
+  (small (goal.at.offset_bounds-items-i c).In-loop-at).1,
   c.loop-at.invariant.8,
 )
 
 pub write_lyrics-i-requires : goal.write_lyrics-i-requires
 write_lyrics-i-requires c =
     let l = c.loop-at in
-    let f = here (goal.at.write_lyrics-i-requires c).After-arrangement_in in
+    let f = here (goal.at.write_lyrics-i-requires c).After-section_at-v in
     midway_lines c.requires.song.0 f.midway c.requires.room c.section_at-v.ensures c.arrangement_in.ensures c.play_section-c.ensures c.lyrics_taken.ensures l.invariant.8 l.invariant.5
 
 pub overflow_add-i : goal.overflow_add-i
 overflow_add-i c =
     let l = c.loop-at in
-    let f = here (goal.at.overflow_add-i c).After-arrangement_in in
+    let f = here (goal.at.overflow_add-i c).After-section_at-v in
     let n = midway_count c.requires.song.0 f.midway c.requires.room c.section_at-v.ensures c.arrangement_in.ensures c.play_section-c.ensures c.lyrics_taken.ensures l.invariant.5 in
-    omega (arith, c.write_lyrics-i.ensures.count, (small (goal.at.overflow_add-i c).After-section_at-v).1)
+    omega (arith, c.write_lyrics-i.ensures.count, (small (goal.at.overflow_add-i c).In-loop-at).1)
 
 pub overflow_add-k : goal.overflow_add-k
 overflow_add-k c = omega (
   arith,
-  room (goal.at.overflow_add-k c).After-arrangement_in,
-  (small (goal.at.overflow_add-k c).After-section_at-v).0,
+  room (goal.at.overflow_add-k c).After-section_at-v,
+  (small (goal.at.overflow_add-k c).In-loop-at).0,
 )
 
 pub overflow_add-m : goal.overflow_add-m
 overflow_add-m c =
     let l = c.loop-at in
-    let f = here (goal.at.overflow_add-m c).After-arrangement_in in
+    let f = here (goal.at.overflow_add-m c).After-section_at-v in
     omega (arith, (midway_few c.requires.song.0 f.midway c.requires.room c.section_at-v.ensures c.arrangement_in.ensures c.play_section-c.ensures).0)
 
 pub overflow_add-b : goal.overflow_add-b
 overflow_add-b c =
     let l = c.loop-at in
-    let f = here (goal.at.overflow_add-b c).After-arrangement_in in
+    let f = here (goal.at.overflow_add-b c).After-section_at-v in
     omega (arith, (midway_few c.requires.song.0 f.midway c.requires.room c.section_at-v.ensures c.arrangement_in.ensures c.play_section-c.ensures).1)
 
 pub loop-at-smaller : goal.loop-at-smaller
 loop-at-smaller c =
-    let on = midway_further c.requires.song.0 (here (goal.at.loop-at-smaller c).After-arrangement_in).midway c.requires.room c.section_at-v.ensures in
+    let on = midway_further c.requires.song.0 (here (goal.at.loop-at-smaller c).After-section_at-v).midway c.requires.room c.section_at-v.ensures in
     omega (arith, c.loop-at-test.true)
 
 pub loop-at-preserved : goal.loop-at-preserved
 loop-at-preserved c =
     let l = c.loop-at in
-    let f = here (goal.at.loop-at-preserved c).After-arrangement_in in
+    let f = here (goal.at.loop-at-preserved c).After-section_at-v in
     let w = midway_next c.requires.song.0 f.midway c.requires.room c.section_at-v.ensures c.arrangement_in.ensures c.play_section-c.ensures c.lyrics_taken.ensures
     c.section_word.ensures c.write_lyrics-i.ensures.count c.write_lyrics-i.ensures.items in
     let g = midway_lengths w c.requires.room in
