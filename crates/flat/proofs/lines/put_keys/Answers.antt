@@ -1,5 +1,5 @@
 -- Line by line, as long as they are key lines.
-use Prim.Native.Nat.{ℕ, ◌+◌, ◌-◌, ◌≤◌}
+use Prim.Native.Nat.{ℕ, ◌+◌, ◌≤◌}
 use mathlib.Core.Path.{◌≡◌, refl, sym, ◌∙◌}
 use mathlib.Core.List.{List}
 use native.Mathlib.Omega.{arith}
@@ -9,7 +9,6 @@ use Rattle.songcode.specs.Answer.Sections.{is_key_line}
 use Rattle.sections.specs.Runs.{text_lines}
 use Rattle.flat.specs.Taken.{Reaches}
 use Rattle.flat.proofs.LineLaws.{keys_over, keys_step, keys_end, no_key, some_key, left_over, left_step, left_end}
-use borrow.Author.Tests.{not-true, not-false}
 use borrow.Author.Rules.{rules}
 use Rattle.flat.proofs.lines.put_keys.Goals as goal
 
@@ -28,7 +27,7 @@ loop-next-preserved c =
     let s = c.args.s.now in
     let found = c.line_at-line.ensures in
     let inside = c.loop-next-test.true in
-    let kind = some_key _ (sym c.is_key.ensures ∙ not-false _ c.if-not-is_key.false-raw) ∙ c.kind_of.ensures in
+    let kind = some_key _ (sym c.is_key.ensures ∙ c.if-not-is_key.false) ∙ c.kind_of.ensures in
     let more = keys_step s l.k l.next _ found inside _ _ kind c.put_line-out.ensures l.invariant.4 in
     let far = l.invariant.5 in
     (omega arith, omega arith, omega arith, search rules, more, omega arith, left_step s l.k l.next found inside kind ∙ l.invariant.6)
@@ -52,7 +51,7 @@ returns-then-not-is_key c =
     let s = e.s.now in
     let found = c.line_at-line.ensures in
     let inside = c.loop-next-test.true in
-    let none = no_key _ (sym c.is_key.ensures ∙ not-true _ c.if-not-is_key.true-raw) in
+    let none = no_key _ (sym c.is_key.ensures ∙ c.if-not-is_key.true) in
     let kind = c.kind_of.ensures in record {
       adds = sym (keys_end s l.k l.next _ found inside _ none kind) ∙ l.invariant.4;
       reaches = reached s e.number e.from l.k l.next (left_end s l.k l.next found inside _ none kind)

@@ -1,5 +1,4 @@
 -- Line by line: the lines that are left, put on the sheet so far, give what the whole run gives on the first sheet.
-use Prim.Native.Nat.{◌-◌}
 use mathlib.Core.Path.{refl, sym, ◌∙◌}
 use native.Mathlib.Omega.{arith}
 use Rattle.sections.specs.Runs.{lines_of}

@@ -1,5 +1,4 @@
 -- Letter by letter: what is left of the name up to its first 0 is still to be put; behind three letters nothing is left, for no base has more.
-use Prim.Native.Nat.{◌-◌}
 use mathlib.Core.Path.{refl}
 use native.Mathlib.Omega.{arith}
 use Rattle.flat.proofs.MeasureLaws.{spelling_short, base_next, base_done, base_over}

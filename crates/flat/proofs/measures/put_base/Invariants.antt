@@ -10,7 +10,8 @@ use Rattle.flat.proofs.measures.put_base.Given as goal
 abbrev pub invariant-loop-k : goal.invariant-loop-k
 invariant-loop-k l =
     (length l.copy ≡ length l.initial.copy) × (length (unpadded (drop l.k l.name)) + l.k ≤ 3)
-    × (puts (unpadded (drop l.k l.name)) (record { copy = l.copy; at = l.out }) ≡ puts (spelling_of l.number) (record { copy = l.initial.copy; at = l.initial.out }))
+    × (puts (unpadded (drop l.k l.name)) (record { copy = l.copy; at = l.out })
+    ≡ puts (spelling_of l.number) (record { copy = l.initial.copy; at = l.initial.out }))
 
 abbrev pub decreases-loop-k : goal.decreases-loop-k
 decreases-loop-k l = 3 - l.k

@@ -1,5 +1,4 @@
 -- Beat by beat: the positions from i on, put on the sheet so far, give what the whole line gives; a gap and the letters make one position.
-use Prim.Native.Nat.{◌-◌}
 use mathlib.Core.Path.{refl}
 use Rattle.flat.specs.Measures.{letters_at, positions}
 use Rattle.flat.proofs.MeasureLaws.{beat_next, beat_over}

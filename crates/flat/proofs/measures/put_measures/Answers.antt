@@ -1,5 +1,4 @@
 -- Measure by measure: the lines of the k - i measures from i on, put on the sheet so far, give what those of all k give.
-use Prim.Native.Nat.{◌-◌}
 use mathlib.Core.Path.{refl}
 use native.Mathlib.Nat.{sub-zero}
 use Rattle.flat.proofs.MeasureLaws.{measure_next, measure_over}

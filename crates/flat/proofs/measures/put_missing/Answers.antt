@@ -1,5 +1,4 @@
 -- Remover by remover: those from position i up to N, put on the sheet so far, give what all of them give on the first sheet.
-use Prim.Native.Nat.{◌-◌}
 use mathlib.Core.Path.{refl}
 use Rattle.songcode.specs.Bytes.{ascii}
 use Rattle.flat.proofs.MeasureLaws.{missing_next, missing_over}

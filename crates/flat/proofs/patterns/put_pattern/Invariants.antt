@@ -11,11 +11,11 @@ use Rattle.flat.proofs.patterns.put_pattern.Given as goal
 
 abbrev pub invariant-loop-x : goal.invariant-loop-x
 invariant-loop-x l =
-    (length l.beats ≡ length l.initial.measures) × (length l.copy ≡ length l.initial.beats) × (length l.from ≡ length l.initial.copy)
+    (length l.measures ≡ length l.initial.measures) × (length l.beats ≡ length l.initial.beats) × (length l.copy ≡ length l.initial.copy)
     × PlaysWithin l.words l.x 0 × Lent l.initial.measures l.initial.beats
-    × Stands l.s l.n (arranged_row l.words l.x) l.out (record { copy = l.from; at = out })
+    × Stands l.s l.n (arranged_row l.words l.x) l.from (record { copy = l.copy; at = l.out })
     (puts (pattern_lines l.s l.n (arranged_row l.words l.x)) (record { copy = l.initial.copy; at = l.initial.out }))
 
 abbrev pub decreases-loop-x : goal.decreases-loop-x
 decreases-loop-x l =
-    total (arranged_row l.words l.x) - l.out
+    total (arranged_row l.words l.x) - l.from

@@ -1,5 +1,4 @@
 -- Byte by byte: the bytes from i on, put on the sheet so far, give what the whole part gives on the first sheet.
-use Prim.Native.Nat.{◌-◌}
 use mathlib.Core.Path.{refl}
 use native.Mathlib.Omega.{arith}
 use Rattle.flat.proofs.SheetLaws.{part_next, part_over}

@@ -1,5 +1,5 @@
 -- Block by block, as long as they are metadata.
-use Prim.Native.Nat.{ℕ, ◌-◌}
+use Prim.Native.Nat.{ℕ}
 use mathlib.Core.Path.{refl, sym, ap, ◌∙◌}
 use mathlib.Core.List.{List}
 use mathlib.Core.Logic.{inl, inr}
@@ -30,7 +30,8 @@ pub loop-place-smaller : goal.loop-place-smaller
 loop-place-smaller c =
     let s = c.args.s.now in
     let kind = is_metadata _ (sym c.kind_at.ensures ∙ c.in-Metadata.is) in
-    let further = begun_further s c.loop-place.place c.loop-place.invariant.0 c.loop-place-test.true kind c.run_of-block.result c.next_block-place-in-Metadata.result
+    let further = begun_further s c.loop-place.place c.loop-place.invariant.0 c.loop-place-test.true kind c.run_of-block.result
+    c.next_block-place-in-Metadata.result
     c.run_of-block.ensures c.next_block-place-in-Metadata.ensures in
     omega arith
 

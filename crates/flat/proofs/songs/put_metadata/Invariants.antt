@@ -13,7 +13,8 @@ abbrev pub invariant-loop-place : goal.invariant-loop-place
 invariant-loop-place l =
     Begun l.s l.place
     × (length l.copy ≡ length l.initial.copy)
-    × (puts (said_from l.s l.place) (record { copy = l.copy; at = l.out }) ≡ puts (line_bytes (metadata_lines (blocks_of l.s))) (record { copy = l.initial.copy; at = l.initial.out }))
+    × (puts (said_from l.s l.place) (record { copy = l.copy; at = l.out })
+    ≡ puts (line_bytes (metadata_lines (blocks_of l.s))) (record { copy = l.initial.copy; at = l.initial.out }))
 
 abbrev pub decreases-loop-place : goal.decreases-loop-place
 decreases-loop-place l = length l.s - l.place.at

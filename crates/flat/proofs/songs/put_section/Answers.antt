@@ -24,15 +24,17 @@ next_block-next-requires c = let ending = c.put_ending-ended.ensures.reaches in 
 
 pub shape_of-copy : goal.shape_of-copy
 shape_of-copy c =
-    c.put_ending-ended.auto.1.1.0 ∙ c.put_pattern-played.auto.1.1.1.1.1.0 ∙ c.put_keys-keyed.auto.1.1.1.0
-    ∙ c.put_line-titled.auto.1.1.1.0 ∙ c.begin_block-begun.auto.0
+    c.put_ending-ended.auto.copy ∙ c.put_pattern-played.auto.copy ∙ c.put_keys-keyed.auto.copy
+    ∙ c.put_line-titled.auto.copy ∙ c.begin_block-begun.auto.copy
 
 pub returns : goal.returns
 returns c =
     let a = c.args in
     let row = arranged_row a.words.now a.x in record {
-      copy = section_done a.s.now a.p c.line_at-header.ensures a.x.n row c.requires.meter c.requires.row c.requires.heard c.put_keys-keyed.ensures.reaches a.at _ _ _ _ _ _
+      copy = section_done a.s.now a.p c.line_at-header.ensures a.x.n row c.requires.meter c.requires.row c.requires.heard c.put_keys-keyed.ensures.reaches
+          a.at _ _ _ _ _ _
           c.begin_block-begun.ensures c.put_line-titled.ensures c.put_keys-keyed.ensures.adds c.put_pattern-played.ensures.copy c.put_ending-ended.ensures.adds;
-      next = section_leads a.s.now a.p c.line_at-header.ensures c.requires.place.0 c.requires.place.1 c.put_keys-keyed.ensures.reaches c.put_ending-ended.ensures.reaches c.next_block-next.ensures;
+      next = section_leads a.s.now a.p c.line_at-header.ensures c.requires.place.0 c.requires.place.1 c.put_keys-keyed.ensures.reaches
+          c.put_ending-ended.ensures.reaches c.next_block-next.ensures;
       lent = c.put_pattern-played.ensures.lent;
     }

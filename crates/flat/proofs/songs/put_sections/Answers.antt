@@ -1,5 +1,4 @@
 -- Section by section: each is seen in the row, plays what the definitions say, and is written as a block.
-use Prim.Native.Nat.{◌-◌}
 use mathlib.Core.Path.{refl, sym, ap, ◌∙◌, subst}
 use mathlib.Core.List.{List}
 use native.Mathlib.Omega.{arith}
@@ -67,10 +66,11 @@ loop-place-preserved c =
       next.onward,
       (subst (λ (xs : List Section). Each (HeardIn s) xs) first l.invariant.3).1,
       c.put_section-done.ensures.lent,
-      c.put_section-done.auto.1.1.1.1.0 ∙ l.invariant.5,
-      c.put_section-done.auto.1.1.1.1.1.0 ∙ l.invariant.6,
-      c.put_section-done.auto.1.1.1.1.1.1.0 ∙ l.invariant.7,
-      ap (put_blocks (flat_from s c.put_section-done.result.next)) c.put_section-done.ensures.copy ∙ sym (blocks_next s l.place c.put_section-done.result.next _ next.opened)
+      c.put_section-done.auto.measures ∙ l.invariant.5,
+      c.put_section-done.auto.beats ∙ l.invariant.6,
+      c.put_section-done.auto.copy ∙ l.invariant.7,
+      ap (put_blocks (flat_from s c.put_section-done.result.next)) c.put_section-done.ensures.copy
+          ∙ sym (blocks_next s l.place c.put_section-done.result.next _ next.opened)
           ∙ l.invariant.8,
     )
 

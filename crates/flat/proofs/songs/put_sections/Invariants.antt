@@ -20,7 +20,8 @@ invariant-loop-place l =
     × (length l.measures ≡ length l.initial.measures)
     × (length l.beats ≡ length l.initial.beats)
     × (length l.copy ≡ length l.initial.copy)
-    × (put_blocks (flat_from l.s l.place) (record { copy = l.copy; at = l.out }) ≡ put_blocks (flat_from l.s l.initial.place) (record { copy = l.initial.copy; at = l.initial.out }))
+    × (put_blocks (flat_from l.s l.place) (record { copy = l.copy; at = l.out })
+    ≡ put_blocks (flat_from l.s l.initial.place) (record { copy = l.initial.copy; at = l.initial.out }))
 
 abbrev pub decreases-loop-place : goal.decreases-loop-place
 decreases-loop-place l = length l.s - l.place.at
