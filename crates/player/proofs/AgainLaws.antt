@@ -1,5 +1,5 @@
 -- A pass that is passed over, or written whole, done again by arithmetic or by copying: what playing its row would leave.
-use Rattle.std.proofs.Common.{◌≡◌, ℕ, zero, suc, ◌+◌, ◌-◌, ◌*◌, ◌<◌, ◌≤◌, true, false, List, [], ◌∷◌, map, length, take, sym, refl, ◌∙◌, subst, append-nil, arith, drop_of_length-le, take_all}
+use Rattle.std.proofs.Common.{◌≡◌, ℕ, zero, suc, ◌+◌, ◌-◌, ◌*◌, ◌<◌, ◌≤◌, List, [], ◌∷◌, map, length, take, sym, refl, ◌∙◌, subst, append-nil, arith, drop_of_length-le, take_all}
 use lib.Seq.{sets, take-nil}
 use Rattle.songcode.specs.Lists.{times}
 use Rattle.songcode.specs.Answer.Playing.{keep}
@@ -14,9 +14,6 @@ use Rattle.player.proofs.PageLaws.{not_none}
 use Rattle.player.proofs.ContentLaws.{Done, played}
 use Rattle.player.proofs.WindowLaws.{total_window, window_large, length_flat, length_heads}
 use Rattle.player.proofs.CopyLaws.{sets_again, map_same, heads_later}
-
-pub not_true : {X : Type 0} → false ≡ true → X
-not_true h = let z : ◌≡◌ {A = ℕ} 0 1 = cc in absurd (omega arith)
 
 -- What the two tests find.
 pub skips_found : (p q : Pen) (k m b : ℕ) → m ≡ p.todo - q.todo → b ≡ p.skip - q.skip → (q.todo ≡ 0 → ⊥) → (q.skip ≡ 0 → ⊥) → k * m ≤ q.todo

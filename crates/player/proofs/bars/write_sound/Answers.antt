@@ -10,11 +10,6 @@ pub write_words-requires : goal.write_words-requires
 write_words-requires c =
     omega (arith, c.requires.0, c.if-share-eq0.false, length-set c.args.bs.now c.args.b c.head_word.result)
 
-pub shape_of-bs : goal.shape_of-bs
-shape_of-bs c =
-    let a = c.args in
-    omega (arith, c.bs-1.given, length-set a.bs.now a.b c.head_word.result)
-
 pub returns : goal.returns
 returns c =
     let a = c.args in
