@@ -1,11 +1,8 @@
 -- Position by position: what the positions passed and those that are left hold is what the measure holds.
-use Rattle.std.proofs.Common.{refl, arith}
+use Rattle.std.proofs.Common.{arith}
 use Rattle.player.proofs.SignLaws.{position_inside}
 use Rattle.player.proofs.LookLaws.{test_of, chord_test, chord_sounds, chord_taken, chord_kept, look_done, look_more}
 use Rattle.player.proofs.measures.look.Goals as goal
-
-pub loop-l-init : goal.loop-l-init
-loop-l-init c = (omega arith, c.requires, refl, omega arith, refl)
 
 pub overflow_add-s : goal.overflow_add-s
 overflow_add-s c =
