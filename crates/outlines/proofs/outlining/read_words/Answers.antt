@@ -2,12 +2,9 @@
 use Rattle.outlines.proofs.PartLaws.{read_next, read_over}
 use Rattle.outlines.specs.Words.{look_up}
 use Rattle.outlines.specs.Readings.{Nested, nested}
-use mathlib.Core.Path.{refl, ap}
+use mathlib.Core.Path.{ap}
 use borrow.Author.Rules.{rules}
 use Rattle.outlines.proofs.outlining.read_words.Goals as goal
-
-pub loop-i-init : goal.loop-i-init
-loop-i-init c = (refl, refl)
 
 pub loop-i-preserved : goal.loop-i-preserved
 loop-i-preserved c =

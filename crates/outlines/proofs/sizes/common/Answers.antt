@@ -1,11 +1,8 @@
 -- Number by number: the search from the number at hand on ends as the search from 1; at 33 none is left to try.
 use Rattle.outlines.proofs.SizeLaws.{both_of, common_found, common_more, common_over}
-use mathlib.Core.Path.{refl, sym, ◌∙◌}
+use mathlib.Core.Path.{sym, ◌∙◌}
 use native.Mathlib.Omega.{arith}
 use Rattle.outlines.proofs.sizes.common.Goals as goal
-
-pub loop-m-init : goal.loop-m-init
-loop-m-init c = (omega arith, omega arith, refl)
 
 pub returns-then-both : goal.returns-then-both
 returns-then-both c =

@@ -2,14 +2,8 @@
 use Rattle.player.proofs.BarLaws.{bar_inside, bar_next, bar_room, bar_over}
 use Rattle.player.specs.Signs.{sounds_as}
 use Rattle.tokens.specs.Signs.{kind_of}
-use Rattle.std.proofs.Common.{◌+◌, ◌*◌, get_or, refl, ap, arith, rules}
+use Rattle.std.proofs.Common.{◌+◌, ◌*◌, get_or, refl, arith, rules}
 use Rattle.player.proofs.bars.write_bar.Goals as goal
-
-pub loop-i-init : goal.loop-i-init
-loop-i-init c =
-    let x = c.args.bar in
-    let e = ap (λ n. x.share * n) c.requires.0.sounding in
-    (refl, c.requires.0.last, c.requires.0.stop, omega (arith, e, c.requires.1), refl)
 
 pub offset_bounds-words-i : goal.offset_bounds-words-i
 offset_bounds-words-i c =

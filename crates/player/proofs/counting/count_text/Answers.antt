@@ -1,12 +1,8 @@
 -- The pen's numbers are those of the text.
 use Rattle.player.specs.Walks.{row_of}
 use Rattle.player.proofs.ShortLaws.{short_row}
-use Rattle.player.proofs.CountingLaws.{whole_fine, counted_text}
+use Rattle.player.proofs.CountingLaws.{counted_text}
 use Rattle.player.proofs.counting.count_text.Goals as goal
-
-pub rounds-q-requires : goal.rounds-q-requires
-rounds-q-requires c =
-    (whole_fine _ c.opening.ensures, c.requires.0)
 
 pub returns : goal.returns
 returns c =

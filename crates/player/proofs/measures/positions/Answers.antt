@@ -1,10 +1,7 @@
 -- Position by position: what is left to be written ends as the whole measure does.
 use Rattle.player.proofs.LookLaws.{parts_next, parts_over, fine_part}
-use Rattle.std.proofs.Common.{refl, rules}
+use Rattle.std.proofs.Common.{rules}
 use Rattle.player.proofs.measures.positions.Goals as goal
-
-pub loop-i-init : goal.loop-i-init
-loop-i-init c = let p = c.requires in (refl, p.0, p.1.last, p.1.stop, refl)
 
 pub loop-i-preserved : goal.loop-i-preserved
 loop-i-preserved c =

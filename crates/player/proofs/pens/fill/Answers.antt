@@ -1,11 +1,7 @@
 -- Beat by beat: the n - i beats that are left end as all n do from the first pen on, and a fine pen stays fine.
 use Rattle.player.proofs.PageLaws.{fill_next, fill_end, fine_of, moved_beat}
-use Rattle.std.proofs.Common.{refl, arith, rules}
-use native.Mathlib.Nat.{sub-zero}
+use Rattle.std.proofs.Common.{arith, rules}
 use Rattle.player.proofs.pens.fill.Goals as goal
-
-pub loop-i-init : goal.loop-i-init
-loop-i-init c = (omega arith, refl, c.requires, rw (sub-zero c.args.n))
 
 pub loop-i-preserved : goal.loop-i-preserved
 loop-i-preserved c =

@@ -51,24 +51,6 @@ rounds-ended-requires c =
       c.requires.0.countable.meter,
     )
 
-pub shape_of-ms : goal.shape_of-ms
-shape_of-ms c =
-    omega (
-      arith,
-      c.ms-3-1.given,
-      c.ms-2-1.given,
-      c.ms-1.given,
-    )
-
-pub shape_of-bs : goal.shape_of-bs
-shape_of-bs c =
-    omega (
-      arith,
-      c.bs-3-1.given,
-      c.bs-2-1.given,
-      c.bs-1.given,
-    )
-
 pub returns : goal.returns
 returns c =
     let at : AtPattern c.planned-plan.result c.rounds-led.result c.at_pattern.result =

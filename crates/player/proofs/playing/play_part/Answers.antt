@@ -5,19 +5,6 @@ use Rattle.player.specs.Walks.{row_of}
 use Rattle.std.proofs.Common.{◌∙◌, arith}
 use Rattle.player.proofs.playing.play_part.Goals as goal
 
-pub play_window-requires : goal.play_window-requires
-play_window-requires c =
-    let e = c.opening.ensures in (
-      c.requires.0,
-      record {
-        todo = e.1;
-        measures = e.4;
-        beats = e.5;
-        skip = omega (arith, e.2, c.requires.1);
-        fits = omega (arith, e.0, e.3, c.least-left.ensures);
-      },
-    )
-
 pub returns : goal.returns
 returns c =
     let a = c.args in

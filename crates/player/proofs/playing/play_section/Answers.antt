@@ -2,21 +2,7 @@
 use Rattle.player.proofs.SectionLaws.{plays_section}
 use Rattle.player.proofs.ShortLaws.{short_row}
 use Rattle.player.specs.Walks.{row_of}
-use Rattle.std.proofs.Common.{arith}
 use Rattle.player.proofs.playing.play_section.Goals as goal
-
-pub play_window-requires : goal.play_window-requires
-play_window-requires c =
-    let e = c.opening.ensures in (
-      record { countable = c.requires.countable; room = omega (arith, c.requires.room) },
-      record {
-        todo = e.1;
-        measures = e.4;
-        beats = e.5;
-        skip = omega (arith, e.2);
-        fits = omega (arith, e.0, e.3, c.requires.room);
-      },
-    )
 
 pub returns : goal.returns
 returns c =

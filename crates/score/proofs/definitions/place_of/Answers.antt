@@ -1,13 +1,10 @@
 -- From head to head: at the mark, at the definition, past it, past the last one.
 use Prim.Native.Nat.{◌+◌, ◌-◌}
-use mathlib.Core.Path.{refl, sym, ap, ◌∙◌}
+use mathlib.Core.Path.{sym, ap, ◌∙◌}
 use native.Mathlib.Omega.{arith}
 use Rattle.score.specs.Places.{place_by, place_of}
 use Rattle.score.proofs.PlaceLaws.{place_at_mark, place_found, place_more, place_over}
 use Rattle.score.proofs.definitions.place_of.Goals as goal
-
-pub loop-passed-init : goal.loop-passed-init
-loop-passed-init c = (omega arith, omega arith, refl)
 
 pub returns-then-length-eq0 : goal.returns-then-length-eq0
 unfolding place_of
