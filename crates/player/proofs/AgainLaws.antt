@@ -1,5 +1,6 @@
 -- A pass that is passed over, or written whole, done again by arithmetic or by copying: what playing its row would leave.
-use Rattle.std.proofs.Common.{◌≡◌, ℕ, zero, suc, ◌+◌, ◌-◌, ◌*◌, ◌<◌, ◌≤◌, List, [], ◌∷◌, map, length, take, sym, refl, ◌∙◌, subst, append-nil, arith, drop_of_length-le, take_all}
+use Rattle.std.proofs.Common.{◌≡◌, ℕ, zero, suc, ◌+◌, ◌-◌, ◌*◌, ◌<◌, ◌≤◌, List, [], ◌∷◌, map, length, take, sym, refl, ◌∙◌, subst, append-nil, arith}
+use Rattle.std.proofs.Common.{drop_of_length-le, take_all}
 use lib.Seq.{sets, take-nil}
 use Rattle.songcode.specs.Lists.{times}
 use Rattle.songcode.specs.Answer.Playing.{keep}

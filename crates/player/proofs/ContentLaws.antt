@@ -1,5 +1,6 @@
 -- What a played row leaves: the words of the window in both tables, and the pen's numbers.
-use Rattle.std.proofs.Common.{◌≡◌, ℕ, zero, suc, ◌+◌, ◌-◌, ◌≤◌, Bool, true, false, eqb, leb, List, [], ◌∷◌, length, take, drop, set, sym, refl, ◌∙◌, subst, add-one, arith, eq-eqb, ne_eqb, leb-false, leb-true}
+use Rattle.std.proofs.Common.{◌≡◌, ℕ, zero, suc, ◌+◌, ◌-◌, ◌≤◌, Bool, true, false, eqb, leb, List, [], ◌∷◌, length, take, drop, set, sym, refl, ◌∙◌, subst}
+use Rattle.std.proofs.Common.{add-one, arith, eq-eqb, ne_eqb, leb-false, leb-true}
 use lib.Seq.{sets, take-nil, drop-nil}
 use Rattle.songcode.specs.Answer.Playing.{keep}
 use Rattle.songcode.specs.Description.Performance.{total}

@@ -1,5 +1,6 @@
 -- Words of a table copied behind themselves: one law for each way through the loop, and what a copy of stored words is.
-use Rattle.std.proofs.Common.{◌≡◌, ℕ, suc, ◌+◌, ◌-◌, ◌*◌, ◌<◌, ◌≤◌, min, leb, List, [], ◌∷◌, map, length, get_or, take, drop, set, sym, refl, ◌∙◌, subst, arith, drop-cons, leb-false, leb-true}
+use Rattle.std.proofs.Common.{◌≡◌, ℕ, suc, ◌+◌, ◌-◌, ◌*◌, ◌<◌, ◌≤◌, min, leb, List, [], ◌∷◌, map, length, get_or, take, drop, set, sym, refl, ◌∙◌, subst, arith}
+use Rattle.std.proofs.Common.{drop-cons, leb-false, leb-true}
 use lib.Seq.{sets, length-sets, drop-set-add, take-set-le}
 use Rattle.songcode.specs.Answer.Tables.{measure_word}
 use Rattle.songcode.specs.Description.Performance.{total}

@@ -1,5 +1,6 @@
 -- Rows whose measures all have n beats: their beats, and the measures of a window, by arithmetic.
-use Rattle.std.proofs.Common.{◌≡◌, ℕ, zero, suc, ◌+◌, ◌-◌, ◌*◌, ◌/◌, ◌<◌, ◌≤◌, min, leb, List, [], ◌∷◌, ◌++◌, length, take, drop, sym, refl, ap, ◌∙◌, mul-le-mul, mul-suc, arith, length-drop, drop_of_length-le, length-take, take_all, leb-false, leb-true}
+use Rattle.std.proofs.Common.{◌≡◌, ℕ, zero, suc, ◌+◌, ◌-◌, ◌*◌, ◌/◌, ◌<◌, ◌≤◌, min, leb, List, [], ◌∷◌, ◌++◌, length, take, drop, sym, refl, ap, ◌∙◌}
+use Rattle.std.proofs.Common.{mul-le-mul, mul-suc, arith, length-drop, drop_of_length-le, length-take, take_all, leb-false, leb-true}
 use native.Mathlib.Nat.{add-div_right, div-eq_of_lt}
 use Rattle.songcode.specs.Lists.{times}
 use Rattle.songcode.specs.Answer.Playing.{keep}

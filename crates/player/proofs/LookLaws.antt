@@ -1,5 +1,6 @@
 -- Looking at the positions of a measure, and sounding them, one after another.
-use Rattle.std.proofs.Common.{◌≡◌, ℕ, suc, ◌+◌, ◌-◌, ◌*◌, ◌/◌, ◌<◌, ◌≤◌, Bool, true, false, List, [], ◌∷◌, ◌++◌, length, sym, ◌∙◌, mul-le-mul, div-mul-le_self, arith, le-ltb, lt-ltb, eq-eqb, ne_eqb}
+use Rattle.std.proofs.Common.{◌≡◌, ℕ, suc, ◌+◌, ◌-◌, ◌*◌, ◌/◌, ◌<◌, ◌≤◌, Bool, true, false, List, [], ◌∷◌, ◌++◌, length, sym, ◌∙◌, mul-le-mul, div-mul-le_self}
+use Rattle.std.proofs.Common.{arith, le-ltb, lt-ltb, eq-eqb, ne_eqb}
 use Rattle.songcode.specs.Lists.{provided◌then◌else◌}
 use Rattle.score.specs.Places.{word_of}
 use Rattle.tokens.specs.Signs.{kind_of, is_position}
@@ -43,7 +44,8 @@ look_done ws to i s l a b d e p q r =
 pub look_more : (ws : List ℕ) (to i w k s l x y a b d : ℕ) → w ≡ word_of ws to i → k ≡ kind_of w → x ≡ sounds_as k → y ≡ chord_of l w
     → is_position (kind_of (word_of ws to i)) ≡ true
     → i + length (positions_at ws to i) ≡ a → s + sounding_of (positions_at ws to i) ≡ b → chords_of l (positions_at ws to i) ≡ d
-    → (i + 1 + length (positions_at ws to (i + 1)) ≡ a) × (s + x + sounding_of (positions_at ws to (i + 1)) ≡ b) × (chords_of y (positions_at ws to (i + 1)) ≡ d)
+    → (i + 1 + length (positions_at ws to (i + 1)) ≡ a) × (s + x + sounding_of (positions_at ws to (i + 1)) ≡ b)
+    × (chords_of y (positions_at ws to (i + 1)) ≡ d)
 unfolding sounding_of chords_of
 look_more ws to i w k s l x y a b d f g h j e p q r =
     let n = positions_more ws to i e in
@@ -108,7 +110,8 @@ few_beats n at stop s share ps e f h k = let a = beats_few n (stop - at) s ps (o
 -- A measure of the text.
 pub one_done : (n : ℕ) (ws : List ℕ) (to at last stop share l : ℕ) (g h : Page) → stop ≡ at + length (positions_at ws to at)
     → share ≡ n / (stop - at) → l ≡ chords_of last (positions_at ws to at)
-    → h ≡ measure_of (parts_of share last (positions_at ws to at)) g → ◌≡◌ {A = End} (record { at = stop; last = l; page = h }) (finish (one_of n ws to at last) g)
+    → h ≡ measure_of (parts_of share last (positions_at ws to at)) g
+    → ◌≡◌ {A = End} (record { at = stop; last = l; page = h }) (finish (one_of n ws to at last) g)
 unfolding finish one_of play
 one_done n ws to at last stop share l g h e f k m =
     let z : stop - at ≡ length (positions_at ws to at) = omega arith in

@@ -1,5 +1,7 @@
 -- A part of a section: windows of windows and of rows behind one another, and what a caller that goes on from part to part knows of each.
-use Rattle.std.proofs.Common.{◌≡◌, ℕ, zero, suc, ◌+◌, ◌-◌, ◌<◌, ◌≤◌, min, leb, List, [], ◌∷◌, ◌++◌, length, get_or, take, drop, sym, refl, ap, ◌∙◌, append_assoc, arith, length-drop, drop_of_length-le, length-take, take_all, take-take, drop-drop, take-add, drop_at, leb-false, leb-true}
+use Rattle.std.proofs.Common.{◌≡◌, ℕ, zero, suc, ◌+◌, ◌-◌, ◌<◌, ◌≤◌, min, leb, List, [], ◌∷◌, ◌++◌, length, get_or, take, drop, sym, refl, ap, ◌∙◌}
+use Rattle.std.proofs.Common.{append_assoc, arith, length-drop, drop_of_length-le, length-take, take_all, take-take, drop-drop, take-add, drop_at, leb-false}
+use Rattle.std.proofs.Common.{leb-true}
 use lib.Seq.{take-nil, take-append_seam, drop-nil}
 use Rattle.songcode.specs.Answer.Playing.{keep}
 use Rattle.songcode.specs.Description.Performance.{total}

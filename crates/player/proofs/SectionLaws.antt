@@ -1,5 +1,6 @@
 -- From what a played row leaves to the contracts of counting, of the plan and of a section.
-use Rattle.std.proofs.Common.{◌≡◌, ℕ, zero, suc, ◌+◌, ◌-◌, ◌*◌, ◌≤◌, min, leb, List, [], ◌++◌, length, take, sym, refl, ap, ◌∙◌, subst, append-nil, arith, length-append, take_all, leb-false, leb-true}
+use Rattle.std.proofs.Common.{◌≡◌, ℕ, zero, suc, ◌+◌, ◌-◌, ◌*◌, ◌≤◌, min, leb, List, [], ◌++◌, length, take, sym, refl, ap, ◌∙◌, subst, append-nil, arith}
+use Rattle.std.proofs.Common.{length-append, take_all, leb-false, leb-true}
 use lib.Seq.{sets}
 use Rattle.songcode.specs.Lists.{times}
 use Rattle.songcode.specs.Description.Performance.{total}

@@ -1,5 +1,6 @@
 -- A written measure: its words are positions, and they sound what the definitions say.
-use Rattle.std.proofs.Common.{◌≡◌, ℕ, zero, suc, ◌+◌, ◌/◌, ◌<◌, true, false, List, [], ◌∷◌, ◌++◌, map, length, drop, replicate, sym, refl, ap, ◌∙◌, append_assoc, append-nil, arith, drop-drop, lt-ltb, ne_eqb}
+use Rattle.std.proofs.Common.{◌≡◌, ℕ, zero, suc, ◌+◌, ◌/◌, ◌<◌, true, false, List, [], ◌∷◌, ◌++◌, map, length, drop, replicate, sym, refl, ap, ◌∙◌}
+use Rattle.std.proofs.Common.{append_assoc, append-nil, arith, drop-drop, lt-ltb, ne_eqb}
 use mathlib.Core.List.{map-append, flat_map}
 use mathlib.Core.Option.{Option, none, some}
 use Rattle.songcode.specs.Lists.{provided◌then◌else◌}

@@ -1,5 +1,6 @@
 -- Laws of the walk, one for each way through the code.
-use Rattle.std.proofs.Common.{◌≡◌, ℕ, zero, suc, ◌+◌, ◌-◌, ◌<◌, ◌≤◌, Bool, true, false, eqb, ltb, leb, List, [], length, sym, refl, ap, ◌∙◌, arith, ltb-false, eq-eqb, ne_eqb, le-leb, leb-false}
+use Rattle.std.proofs.Common.{◌≡◌, ℕ, zero, suc, ◌+◌, ◌-◌, ◌<◌, ◌≤◌, Bool, true, false, eqb, ltb, leb, List, [], length, sym, refl, ap, ◌∙◌, arith, ltb-false}
+use Rattle.std.proofs.Common.{eq-eqb, ne_eqb, le-leb, leb-false}
 use borrow.Author.Tests.{eqb-false}
 use Rattle.songcode.specs.Lists.{provided◌then◌else◌, times}
 use Rattle.songcode.proofs.ListLaws.{by_cases}
@@ -21,7 +22,8 @@ pub end_page : (e : End) (r : Read) (g : Page) → e ≡ finish r g → e.page �
 unfolding finish
 end_page e r g k = rw k
 
-pub stop_test : (ws : List ℕ) (to i w k : ℕ) (r t : Bool) → w ≡ word_of ws to i → k ≡ kind_of w → r ≡ is_stop k → r ≡ t → is_stop (kind_of (word_of ws to i)) ≡ t
+pub stop_test : (ws : List ℕ) (to i w k : ℕ) (r t : Bool) → w ≡ word_of ws to i → k ≡ kind_of w → r ≡ is_stop k → r ≡ t
+    → is_stop (kind_of (word_of ws to i)) ≡ t
 stop_test ws to i w k r t a b d e = rw (← a, ← b, ← d) e
 
 pub finish_then : (r : Read) (k : ℕ → ℕ → Read) (g : Page) → finish (and_then r k) g ≡ finish (k r.at r.last) (play r.row g)
@@ -153,7 +155,8 @@ Onward inner = (to at last : ℕ) → at ≤ (inner to at last).at
 
 behind_on : (ws : List ℕ) (to at : ℕ) → at ≤ behind_of ws to at
 unfolding behind_of
-behind_on ws to at = by_cases (eqb (kind_of (word_of ws to at)) 56) (λ e. rw (e, provided◌then◌else◌) (omega arith)) (λ e. rw (e, provided◌then◌else◌) (omega arith))
+behind_on ws to at = by_cases (eqb (kind_of (word_of ws to at)) 56) (λ e. rw (e, provided◌then◌else◌) (omega arith))
+    (λ e. rw (e, provided◌then◌else◌) (omega arith))
 
 -- A word that ends no row, opens nothing, refers to nothing and separates nothing is a position.
 position_left : (k : ℕ) → is_stop k ≡ false → (k ≡ 57 → ⊥) → (k ≡ 55 → ⊥) → is_separator k ≡ false → is_position k ≡ true

@@ -1,5 +1,6 @@
 -- Items without a remover that fit N play measures of N beats each.
-use Rattle.std.proofs.Common.{◌≡◌, ℕ, suc, ◌+◌, ◌*◌, ◌/◌, ◌%◌, true, ◌&&◌, leb, List, [], ◌∷◌, map, length, refl, ap, ◌∙◌, append-nil, mul_comm, div-add-mod', arith, length-append, eqb-true}
+use Rattle.std.proofs.Common.{◌≡◌, ℕ, suc, ◌+◌, ◌*◌, ◌/◌, ◌%◌, true, ◌&&◌, leb, List, [], ◌∷◌, map, length, refl, ap, ◌∙◌, append-nil, mul_comm, div-add-mod'}
+use Rattle.std.proofs.Common.{arith, length-append, eqb-true}
 use mathlib.Core.List.{flat_map}
 use mathlib.Core.Option.{Option, none, some}
 use Rattle.songcode.specs.Lists.{provided◌then◌else◌}

@@ -1,5 +1,6 @@
 -- Laws of the window: how many beats it holds, and rows of which it keeps all.
-use Rattle.std.proofs.Common.{◌≡◌, ℕ, suc, ◌+◌, ◌-◌, ◌≤◌, min, Bool, true, false, leb, List, [], ◌∷◌, ◌++◌, length, take, drop, refl, ap, ◌∙◌, append_assoc, arith, length-append, length-drop, length-take, take_all, leb-false, leb-true}
+use Rattle.std.proofs.Common.{◌≡◌, ℕ, suc, ◌+◌, ◌-◌, ◌≤◌, min, Bool, true, false, leb, List, [], ◌∷◌, ◌++◌, length, take, drop, refl, ap, ◌∙◌, append_assoc}
+use Rattle.std.proofs.Common.{arith, length-append, length-drop, length-take, take_all, leb-false, leb-true}
 use Rattle.songcode.specs.Answer.Playing.{keep}
 use Rattle.songcode.specs.Description.Performance.{total}
 use Rattle.songcode.specs.EitherOrder.{Filled}

@@ -1,5 +1,6 @@
 -- Written tokens in the buffer: the word at a place and the text behind it, what ends a row, and what is no position.
-use Rattle.std.proofs.Common.{◌≡◌, ℕ, zero, suc, ◌+◌, ◌-◌, ◌/◌, ◌<◌, ◌≤◌, true, false, eqb, ltb, leb, List, [], ◌∷◌, ◌++◌, length, get_or, take, drop, sym, refl, ap, ◌∙◌, arith, length-drop, length-take, get_or-drop, drop-drop, ltb-true, ne_eqb, le-leb, leb-true}
+use Rattle.std.proofs.Common.{◌≡◌, ℕ, zero, suc, ◌+◌, ◌-◌, ◌/◌, ◌<◌, ◌≤◌, true, false, eqb, ltb, leb, List, [], ◌∷◌, ◌++◌, length, get_or, take, drop, sym}
+use Rattle.std.proofs.Common.{refl, ap, ◌∙◌, arith, length-drop, length-take, get_or-drop, drop-drop, ltb-true, ne_eqb, le-leb, leb-true}
 use borrow.Author.Tests.{lt-leb}
 use Rattle.songcode.specs.Lists.{provided◌then◌else◌, times}
 use Rattle.songcode.specs.Song.{nothing, a_line_end, Separator, by_semicolon, by_line_end, by_colon}
@@ -20,7 +21,8 @@ word_here ws to at w k e =
 
 pub word_none : (ws : List ℕ) (to at : ℕ) → drop at (take to ws) ≡ [] → word_of ws to at ≡ 3623878656
 unfolding word_of
-word_none ws to at e = let z : at + 0 ≡ at = omega arith in sym (rw z at (get_or-drop at (take to ws) 0 3623878656)) ∙ ap (λ (l : List ℕ). get_or l 0 3623878656) e
+word_none ws to at e = let z : at + 0 ≡ at = omega arith in sym (rw z at (get_or-drop at (take to ws) 0 3623878656))
+    ∙ ap (λ (l : List ℕ). get_or l 0 3623878656) e
 
 pub behind_here : (ws : List ℕ) (to at w : ℕ) (k : List ℕ) → drop at (take to ws) ≡ w ∷ k → drop (at + 1) (take to ws) ≡ k
 behind_here ws to at w k e = sym (drop-drop 1 at (take to ws)) ∙ ap (drop 1) e

@@ -15,13 +15,13 @@ use borrow.Author.Rules.{rules}
 use Rattle.cues.proofs.starts.write_starts.Goals as goal
 
 -- Nothing is left.
-sum-end : (time : ℕ) {xs : List ℕ} {all : ℕ} → xs ≡ [] → time + sum xs ≡ all → time ≡ all
+sum_end : (time : ℕ) {xs : List ℕ} {all : ℕ} → xs ≡ [] → time + sum xs ≡ all → time ≡ all
 unfolding sum
-sum-end time e h = let z : time + 0 ≡ _ = rw e at h in omega (arith, z)
+sum_end time e h = let z : time + 0 ≡ _ = rw e at h in omega (arith, z)
 
-starts-end : (time i : ℕ) (o o' xs all : List ℕ) → xs ≡ [] → Wrote o i o' (starts time xs) all → Wrote o i o' [] all
+starts_end : (time i : ℕ) (o o' xs all : List ℕ) → xs ≡ [] → Wrote o i o' (starts time xs) all → Wrote o i o' [] all
 unfolding starts
-starts-end time i o o' xs all e w = subst (λ ys. Wrote o i o' (starts time ys) all) e w
+starts_end time i o o' xs all e w = subst (λ ys. Wrote o i o' (starts time ys) all) e w
 
 pub loop-i-init : goal.loop-i-init
 unfolding all_right
@@ -98,6 +98,6 @@ returns c =
     let l = c.loop-i in
     let a = c.args in
     let n = lengths_none l.i l.first a.sections.now a.measures.now c.loop-i-test.false in record {
-      value = sum-end l.time n l.invariant.9;
-      cues_after = wrote_end _ l.first l.cues _ (starts-end l.time l.first _ l.cues _ _ n l.invariant.10);
+      value = sum_end l.time n l.invariant.9;
+      cues_after = wrote_end _ l.first l.cues _ (starts_end l.time l.first _ l.cues _ _ n l.invariant.10);
     }

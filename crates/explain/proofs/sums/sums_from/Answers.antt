@@ -1,5 +1,4 @@
 -- Every section passed stands in the row and has another header.
-use Prim.Native.Nat.{◌-◌}
 use mathlib.Core.Path.{refl, sym, ◌∙◌, subst}
 use mathlib.Core.List.{List, Memᴰ}
 use native.Mathlib.Omega.{arith}
@@ -11,14 +10,13 @@ use Rattle.explain.proofs.SumLaws.{sums_found, still_ahead, none_ahead}
 use Rattle.explain.proofs.sums.sums_from.Goals as goal
 
 pub loop-place-init : goal.loop-place-init
-loop-place-init c =
-    (
-      c.requires.row.0.onward,
-      row_is_start c.requires.row.0 c.requires.row.1 c.requires.row.2 c.requires.row.3,
-      refl,
-      unrefused_start c.requires.row.0 c.requires.song.1 c.requires.song.2,
-      λ y m h. subst (λ (ys : List Section). Memᴰ y ys) (sym c.requires.row.0.sections) m,
-    )
+loop-place-init c = (
+  c.requires.row.0.onward,
+  row_is_start c.requires.row.0 c.requires.row.1 c.requires.row.2 c.requires.row.3,
+  refl,
+  unrefused_start c.requires.row.0 c.requires.song.1 c.requires.song.2,
+  λ y m h. subst (λ (ys : List Section). Memᴰ y ys) (sym c.requires.row.0.sections) m,
+)
 
 pub lay_section-x-requires : goal.lay_section-x-requires
 lay_section-x-requires c =

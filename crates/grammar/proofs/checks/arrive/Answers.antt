@@ -8,9 +8,9 @@ use Rattle.grammar.specs.Checks.{moved, arrived}
 use Rattle.grammar.proofs.ArmLaws.{of_kind}
 use Rattle.grammar.proofs.checks.arrive.Goals as goal
 
-only-moved : (c : Check) (p : Place) (k : Kind) → (k ≡ Opens → ⊥) → (k ≡ Closes → ⊥) → (k ≡ Reference → ⊥) → moved c p ≡ arrived c p k
+only_moved : (c : Check) (p : Place) (k : Kind) → (k ≡ Opens → ⊥) → (k ≡ Closes → ⊥) → (k ≡ Reference → ⊥) → moved c p ≡ arrived c p k
 unfolding arrived
-only-moved c p =
+only_moved c p =
     of_kind (λ k. (k ≡ Opens → ⊥) → (k ≡ Closes → ⊥) → (k ≡ Reference → ⊥) → moved c p ≡ arrived c p k) (λ o s r. refl) (λ o s r. refl)
     (λ o s r. absurd (r refl)) (λ o s r. refl) (λ o s r. refl) (λ o s r. refl) (λ o s r. absurd (o refl)) (λ o s r. absurd (s refl)) (λ o s r. refl)
 
@@ -29,4 +29,4 @@ returns-in-Reference c = rw c.in-Reference.is c.refer_to.ensures
 pub returns-in_default : goal.returns-in_default
 unfolding arrived
 returns-in_default c = let q = c.args in c.move_to.ensures
-    ∙ only-moved q.c q.place q.kind c.in_default.not-Opens c.in_default.not-Closes c.in_default.not-Reference
+    ∙ only_moved q.c q.place q.kind c.in_default.not-Opens c.in_default.not-Closes c.in_default.not-Reference

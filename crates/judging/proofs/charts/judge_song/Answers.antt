@@ -26,7 +26,13 @@ add_keys-requires c =
     let room = c.requires.text.2.room in
     let long = c.later_stages-outcome.auto.words in
     let also = c.load-loaded.ensures.1 in record {
-      text = (c.requires.text.0, input_small c.args.s.now c.requires.text.0, c.requires.text.1, says_song refl c.requires.metadata.0 c.requires.metadata.1, omega arith);
+      text = (
+        c.requires.text.0,
+        input_small c.args.s.now c.requires.text.0,
+        c.requires.text.1,
+        says_song refl c.requires.metadata.0 c.requires.metadata.1,
+        omega arith,
+      );
       row = λ z. ((c.later_stages-outcome.ensures.laid z).blocks, (c.later_stages-outcome.ensures.laid z).sized);
     }
 

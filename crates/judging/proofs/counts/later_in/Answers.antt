@@ -1,5 +1,4 @@
 -- Line by line: the last count so far with the words that are left is that of all.
-use Prim.Native.Nat.{◌-◌}
 use mathlib.Core.Path.{refl, sym, ◌∙◌}
 use native.Mathlib.Omega.{arith}
 use lib.ListN.{take, length-take, length-drop}

@@ -14,9 +14,9 @@ use Rattle.judging.specs.Counts.{later_in, count_ending, stop_in, Ends, section_
 use Rattle.judging.proofs.LastCountLaws.{lyrics_within, lyrics_told, last_told}
 use Rattle.judging.proofs.counts.section_counts.Goals as goal
 
-counts-are : {a b c d : ℕ} {t u : LastCount} → a ≡ b → c ≡ d → t ≡ u
+counts_are : {a b c d : ℕ} {t u : LastCount} → a ≡ b → c ≡ d → t ≡ u
     → ◌≡◌ {A = SectionCounts} (record { sum = a; measures = c; last = t }) (record { sum = b; measures = d; last = u })
-counts-are p q r = rw (p, q, r)
+counts_are p q r = rw (p, q, r)
 
 pub count_section-played-requires : goal.count_section-played-requires
 count_section-played-requires c =
@@ -49,7 +49,7 @@ returns c =
     let tally = c.tally_lyrics-lyrics.ensures ∙ ap (λ (v : View). tally_in ws v.lyrics) view in
     let last = c.later_in.ensures ∙ ap (λ (v : View). later_in ws v.lyrics) view in
     λ x m.
-    counts-are (ap (λ (t : Tally). t.sum) (tally ∙ lyrics_told m))
+    counts_are (ap (λ (t : Tally). t.sum) (tally ∙ lyrics_told m))
     (c.count_section-played.ensures.0 ∙ ap (λ (y : Arrangement). length (arranged_row ws y)) plays ∙ m.measures)
     (c.count_place-last.ensures ∙ ap (λ (l : Lyric). count_ending l.number (stop_in s l) l.count) last ∙ (last_told m).is)
 

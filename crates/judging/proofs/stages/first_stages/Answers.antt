@@ -10,9 +10,9 @@ use Rattle.judging.proofs.stages.first_stages.Goals as goal
 
 pub returns-then-r-ne0 : goal.returns-then-r-ne0
 returns-then-r-ne0 c = record {
-      refusal = stage_refused _ _ _ c.judge_input-r.ensures c.if-r-ne0.true;
-      kept = λ z. absurd (c.if-r-ne0.true z);
-    }
+  refusal = stage_refused _ _ _ c.judge_input-r.ensures c.if-r-ne0.true;
+  kept = λ z. absurd (c.if-r-ne0.true z);
+}
 
 pub stage_two-requires : goal.stage_two-requires
 stage_two-requires c =

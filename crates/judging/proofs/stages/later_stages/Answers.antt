@@ -29,11 +29,11 @@ walk-requires c =
 
 pub returns : goal.returns
 returns c = record {
-      refusal = c.walk.ensures.refusal;
-      laid = λ z. record {
-        early = c.if-early-ne0.false;
-        blocks = (c.walk.ensures.row z).0;
-        sized = (c.walk.ensures.row z).1;
-        holds = c.walk.ensures.holds z;
-      };
-    }
+  refusal = c.walk.ensures.refusal;
+  laid = λ z. record {
+    early = c.if-early-ne0.false;
+    blocks = (c.walk.ensures.row z).0;
+    sized = (c.walk.ensures.row z).1;
+    holds = c.walk.ensures.holds z;
+  };
+}

@@ -13,7 +13,8 @@ refusal_is c = rw (← c.metered_refusal.ensures, ← c.lyric_refusal.ensures) c
 
 pub returns-then-refusal-ne0 : goal.returns-then-refusal-ne0
 unfolding outcome_of provided◌then◌else◌
-returns-then-refusal-ne0 c = rw (← (refusal_is (goal.at.returns-then-refusal-ne0 c).After-first_given-refusal), ne_eqb _ 0 c.if-refusal-ne0.true) c.refused.ensures
+returns-then-refusal-ne0 c = rw
+    (← (refusal_is (goal.at.returns-then-refusal-ne0 c).After-first_given-refusal), ne_eqb _ 0 c.if-refusal-ne0.true) c.refused.ensures
 
 pub returns : goal.returns
 unfolding outcome_of provided◌then◌else◌

@@ -15,19 +15,17 @@ use Rattle.songcode.specs.Answer.Tables.{tables}
 use lib.ListN.{length}
 use native.Mathlib.Omega.{arith}
 use mathlib.Core.Path.{refl, sym, ap, ◌∙◌, subst}
-use Prim.Native.Nat.{◌-◌}
 use Rattle.judging.proofs.walking.walk.Goals as goal
 use Rattle.judging.proofs.walking.walk.Goals.{then-refusal-eq0, else-refusal-eq0}
 
 pub loop-place-init : goal.loop-place-init
-loop-place-init c =
-    (
-      c.requires.place.0.onward,
-      row_is_start c.requires.place.0 c.requires.place.1 c.requires.place.2 c.requires.place.3,
-      refl,
-      references_start c.requires.place.0 c.requires.song.1,
-      rw (c.nothing_sung-sung.ensures, c.nothing_metered-metered.ensures) (walked_start c.requires.place.0),
-    )
+loop-place-init c = (
+  c.requires.place.0.onward,
+  row_is_start c.requires.place.0 c.requires.place.1 c.requires.place.2 c.requires.place.3,
+  refl,
+  references_start c.requires.place.0 c.requires.song.1,
+  rw (c.nothing_sung-sung.ensures, c.nothing_metered-metered.ensures) (walked_start c.requires.place.0),
+)
 
 pub lay_section-x-requires : goal.lay_section-x-requires
 lay_section-x-requires c =
@@ -49,7 +47,8 @@ returns-then-fault-ne0 c =
     let fault = c.name_fault-fault in
     let n = c.if-fault-ne0.true in
     let e = ap (λ (r : Totals). r.refusal) c.refused.ensures in
-    let three = references_stop c.lay_section-x.ensures.lays.opens (fault_at c.lay_section-x.result c.lay_section-x.ensures.lays (ready_told laid.ready) fault.ensures) n i.3 in record {
+    let three = references_stop c.lay_section-x.ensures.lays.opens
+    (fault_at c.lay_section-x.result c.lay_section-x.ensures.lays (ready_told laid.ready) fault.ensures) n i.3 in record {
       refusal = e ∙ stage_refused (reference_faults song) (playing_faults song) fault.result three n;
       holds = (λ z. refused_says c.refused.result fault.result e n z);
       row = (λ z. refused_says c.refused.result fault.result e n z);
@@ -58,8 +57,10 @@ returns-then-fault-ne0 c =
 
 pub with_measures-metered-requires : goal.with_measures-metered-requires
 with_measures-metered-requires c =
-    let i = c.loop-place.invariant in
-    (rw c.lay_section-x.ensures.lays.said (opened_measurable _ _ _ _ c.lay_section-x.ensures.lays.opens c.requires.song.0.time), lengths_small _ _ _ i.4.lengths)
+    let i = c.loop-place.invariant in (
+      rw c.lay_section-x.ensures.lays.said (opened_measurable _ _ _ _ c.lay_section-x.ensures.lays.opens c.requires.song.0.time),
+      lengths_small _ _ _ i.4.lengths,
+    )
 
 pub sing-sung-requires : goal.sing-sung-requires
 sing-sung-requires c =
@@ -78,8 +79,7 @@ loop-place-preserved c =
     let song = song_of c.args.s.now in
     let fault = c.name_fault-fault in
     let inside = c.loop-place-test.true in
-    let time = c.requires.song.0.time in
-    (
+    let time = c.requires.song.0.time in (
       c.lay_section-x.ensures.lays.opens.met.onward,
       laid,
       c.lay_section-x.ensures.length ∙ i.2,
@@ -88,10 +88,10 @@ loop-place-preserved c =
       elim c.if-refusal-eq0.branch [
         | then-refusal-eq0 v ↦
             walk_on c.lay_section-x.result c.lay_section-x.ensures.lays i.0 inside time _ _ i.4 c.with_measures-metered.ensures
-                c.metered_refusal-refusal.ensures v.if-refusal-eq0.true (v.sung-is ∙ v.sing-sung.ensures)
+            c.metered_refusal-refusal.ensures v.if-refusal-eq0.true (v.sung-is ∙ v.sing-sung.ensures)
         | else-refusal-eq0 v ↦
             walk_refused c.lay_section-x.result c.lay_section-x.ensures.lays i.0 inside time _ _ i.4 c.with_measures-metered.ensures
-                c.metered_refusal-refusal.ensures v.if-refusal-eq0.false v.sung-is
+            c.metered_refusal-refusal.ensures v.if-refusal-eq0.false v.sung-is
       ],
     )
 
@@ -107,7 +107,8 @@ returns c =
     let none = references_over s l.place over l.invariant.3 in record {
       refusal = ap (λ (t : Totals). t.refusal) c.outcome_of.ensures ∙ outcome_verdict l.invariant.1.ready.small over l.metered l.sung l.invariant.4 none;
       holds = (λ z. subst (λ t. Holds (tables (song_of s)) t) (sym c.outcome_of.ensures)
-            (outcome_holds l.invariant.1.ready.small over l.metered l.sung l.invariant.4 (ap (λ (t : Totals). t.refusal.number) (sym c.outcome_of.ensures) ∙ z)));
+          (outcome_holds l.invariant.1.ready.small over l.metered l.sung l.invariant.4
+          (ap (λ (t : Totals). t.refusal.number) (sym c.outcome_of.ensures) ∙ z)));
       row = (λ z. (row_is_blocks l.invariant.1 over, row_is_sized l.invariant.1 over));
       length = l.invariant.2;
     }

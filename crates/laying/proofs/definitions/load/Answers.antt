@@ -3,7 +3,6 @@ use Rattle.laying.specs.Loading.{blocks_from}
 use Rattle.laying.proofs.LoadLaws.{loading_first, loads_refused, loads_all}
 use Rattle.laying.proofs.MetadataLaws.{is_metadata, is_definition, is_section, not_definition, come_over}
 use lib.ListN.{length-set}
-use Prim.Native.Nat.{◌-◌}
 use mathlib.Core.Path.{refl, sym, ◌∙◌}
 use mathlib.Core.Logic.{inl, inr}
 use native.Mathlib.Omega.{arith}
@@ -30,12 +29,11 @@ shape_of-words-then-refusal-ne0 c =
     search rules
 
 pub returns-then-refusal-ne0 : goal.returns-then-refusal-ne0
-returns-then-refusal-ne0 c =
-    (
-      loads_refused c.args.s.now c.load_one-next.new.words c.loop-place.place c.load_one-next.result
-          c.load_one-next.ensures.0 c.if-refusal-ne0.true,
-      c.load_one-next.ensures.1 ∙ c.loop-place.invariant.1 ∙ length-set c.args.words.now 0 0,
-    )
+returns-then-refusal-ne0 c = (
+  loads_refused c.args.s.now c.load_one-next.new.words c.loop-place.place c.load_one-next.result
+      c.load_one-next.ensures.0 c.if-refusal-ne0.true,
+  c.load_one-next.ensures.1 ∙ c.loop-place.invariant.1 ∙ length-set c.args.words.now 0 0,
+)
 
 pub loop-place-smaller : goal.loop-place-smaller
 loop-place-smaller c =

@@ -51,10 +51,10 @@ returns c =
     let s = c.args.s.now in
     let ws = c.args.words.now in
     let r = c.read_definition-e in
-    let f = c.reference_fault-fault in
-    (
+    let f = c.reference_fault-fault in (
       loads_one s ws c.args.mark c.args.p c.requires.0 c.requires.1 c.requires.2 r.result r.ensures c.lay_run-end.new.words c.lay_run-end.result
-          c.lay_run-end.ensures.held c.lay_run-end.ensures.fill c.next_block.result c.next_block.ensures f.result f.ensures c.outline_of-outline.result c.enter.new.words
+          c.lay_run-end.ensures.held c.lay_run-end.ensures.fill c.next_block.result c.next_block.ensures f.result f.ensures c.outline_of-outline.result
+          c.enter.new.words
           c.outline_of-outline.ensures.outline c.enter.ensures,
       one_length s ws c.args.mark c.args.p c.requires.0 c.requires.1 c.requires.2 r.result r.ensures c.lay_run-end.new.words c.lay_run-end.result
           c.lay_run-end.ensures.held c.lay_run-end.ensures.fill c.outline_of-outline.result c.enter.new.words c.enter.ensures,

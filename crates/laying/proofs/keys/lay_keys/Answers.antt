@@ -1,5 +1,4 @@
 -- Key by key: the words before it are written, the rest of the table is as it was.
-use Prim.Native.Nat.{◌-◌}
 use mathlib.Core.Path.{refl}
 use native.Mathlib.Omega.{arith}
 use Rattle.songcode.specs.Answer.SongText.{metadata_lines}

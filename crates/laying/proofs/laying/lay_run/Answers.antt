@@ -1,5 +1,5 @@
 -- The words of the lines passed are laid, those of the lines from here on fit behind them.
-use Prim.Native.Nat.{◌-◌, ◌*◌, ◌^◌}
+use Prim.Native.Nat.{◌*◌, ◌^◌}
 use mathlib.Core.Path.{◌≡◌, refl, ap, ◌∙◌}
 use mathlib.Core.List.{[], ◌∷◌}
 use native.Mathlib.Omega.{arith}
@@ -63,8 +63,10 @@ returns-then-left-eq0 c =
     let i = v.invariant.2 in
     let inside = c.requires.0.inside in
     let g = first_line_lem c.args.run c.line_at-first.ensures c.if-run-eq0.false inside in
-    let r = g.room in let said = run_laid c.args.s.now c.args.run _ c.args.n c.args.words.now c.lay_line-fill.new.words v.words c.lay_line-fill.result v.fill
-    v.line v.at v.left g c.lay_line-fill.ensures.held c.lay_line-fill.ensures.fill.0 i (lays_end _ _ _ _ _ _ i c.if-left-eq0.true) in record { held = said.0; fill = said.1 }
+    let r = g.room in
+    let said = run_laid c.args.s.now c.args.run _ c.args.n c.args.words.now c.lay_line-fill.new.words v.words c.lay_line-fill.result v.fill
+    v.line v.at v.left g c.lay_line-fill.ensures.held c.lay_line-fill.ensures.fill.0 i
+    (lays_end _ _ _ _ _ _ i c.if-left-eq0.true) in record { held = said.0; fill = said.1 }
 
 pub end_line-begun-requires : goal.end_line-begun-requires
 end_line-begun-requires c =
@@ -81,7 +83,8 @@ lay_line-fill-requires-in-loop-at c =
     let same = v.invariant.2.same in
     let r = lays_room _ _ _ _ _ _ v.invariant.2 c.line_at-found.ensures c.loop-at-test.true
     c.if-left-eq0.false in
-    let l : length c.end_line-begun.new.words ≡ length v.words = ap length c.end_line-begun.ensures.held ∙ length-sets v.words v.fill (58 * 2 ^ 26 ∷ []) in record {
+    let l : length c.end_line-begun.new.words ≡ length v.words = ap length c.end_line-begun.ensures.held
+    ∙ length-sets v.words v.fill (58 * 2 ^ 26 ∷ []) in record {
       start_le_stop = (c.line_at-found.ensures.stop, omega arith, omega arith, omega arith);
       kept = (
         found_stop c.args.s.now c.line_at-found.ensures,
@@ -120,7 +123,8 @@ loop-at-preserved c =
           c.loop-at-test.true
           c.if-left-eq0.false c.end_line-begun.ensures.held c.end_line-begun.ensures.fill c.lay_line-fill-in-loop-at.ensures.held
           c.lay_line-fill-in-loop-at.ensures.fill.0 c.lay_line-fill-in-loop-at.ensures.fill.1,
-      rw (c.lay_line-fill-in-loop-at.ensures.held, c.end_line-begun.ensures.held) (kept_on c.end_line-begun.result new c.lay_line-fill-in-loop-at.ensures.fill.0 (omega arith) ended),
+      rw (c.lay_line-fill-in-loop-at.ensures.held, c.end_line-begun.ensures.held)
+          (kept_on c.end_line-begun.result new c.lay_line-fill-in-loop-at.ensures.fill.0 (omega arith) ended),
     )
 
 pub shape_of-words : goal.shape_of-words
@@ -134,5 +138,7 @@ returns c =
     let i = v.invariant.2 in
     let inside = c.requires.0.inside in
     let g = first_line_lem c.args.run c.line_at-first.ensures c.if-run-eq0.false inside in
-    let r = g.room in let said = run_laid c.args.s.now c.args.run _ c.args.n c.args.words.now c.lay_line-fill.new.words v.words c.lay_line-fill.result v.fill
-    v.line v.at v.left g c.lay_line-fill.ensures.held c.lay_line-fill.ensures.fill.0 i (lays_over _ _ _ _ _ _ i c.loop-at-test.false) in record { held = said.0; fill = said.1 }
+    let r = g.room in
+    let said = run_laid c.args.s.now c.args.run _ c.args.n c.args.words.now c.lay_line-fill.new.words v.words c.lay_line-fill.result v.fill
+    v.line v.at v.left g c.lay_line-fill.ensures.held c.lay_line-fill.ensures.fill.0 i
+    (lays_over _ _ _ _ _ _ i c.loop-at-test.false) in record { held = said.0; fill = said.1 }

@@ -7,7 +7,8 @@ use Rattle.laying.proofs.laying.lay_run.Given as goal
 
 abbrev pub invariant-loop-at : goal.invariant-loop-at
 invariant-loop-at l =
-    (l.line ≤ l.at + 2) × (l.at ≤ length l.s) × Lays l.s l.initial.words l.initial.fill l.initial.line l.initial.at l.initial.left l.words l.fill l.line l.at l.left
+    (l.line ≤ l.at + 2) × (l.at ≤ length l.s)
+    × Lays l.s l.initial.words l.initial.fill l.initial.line l.initial.at l.initial.left l.words l.fill l.line l.at l.left
     × KeptFrom l.s l.words l.fill
 
 abbrev pub decreases-loop-at : goal.decreases-loop-at

@@ -1,7 +1,6 @@
 -- Every block passed is metadata.
 use Rattle.laying.proofs.MetadataLaws.{is_metadata, is_definition, is_section, not_metadata, come_start, come_further}
 use Rattle.laying.proofs.MetadataLaws.{come_next, come_end, come_over}
-use Prim.Native.Nat.{◌-◌}
 use native.Mathlib.Omega.{arith}
 use mathlib.Core.Path.{sym, ◌∙◌}
 use mathlib.Core.Logic.{inl, inr}

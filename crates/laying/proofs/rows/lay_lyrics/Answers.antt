@@ -1,5 +1,5 @@
 -- The words of the lines passed are laid, those of the lines left have room behind them.
-use Prim.Native.Nat.{ℕ, ◌+◌, ◌-◌, ◌*◌, ◌≤◌}
+use Prim.Native.Nat.{ℕ, ◌+◌, ◌*◌, ◌≤◌}
 use mathlib.Core.Path.{◌≡◌, refl, sym, ap, ◌∙◌, subst}
 use mathlib.Core.List.{List, [], ◌∷◌, ◌++◌, map, flat_map, append-nil, append_assoc}
 use native.Mathlib.Omega.{arith}
@@ -29,7 +29,8 @@ fits_append (k ∷ a) l f g = (f.0, fits_append a l f.1 g)
 flat_append : (a b : List LyricLine) → flat_map lyric_row (a ++ b) ≡ flat_map lyric_row a ++ flat_map lyric_row b
 unfolding flat_map
 flat_append [] b = refl
-flat_append (l ∷ a) b = ap (λ (ws : List ℕ). lyric_row l ++ ws) (flat_append a b) ∙ sym (append_assoc (lyric_row l) (flat_map lyric_row a) (flat_map lyric_row b))
+flat_append (l ∷ a) b = ap (λ (ws : List ℕ). lyric_row l ++ ws) (flat_append a b)
+    ∙ sym (append_assoc (lyric_row l) (flat_map lyric_row a) (flat_map lyric_row b))
 
 step : (n : ℕ) (held words new : List ℕ) (fill : ℕ) (l : LyricLine) (left all : List LyricLine) → Passed n held words fill (l ∷ left) all
     → new ≡ sets words fill (lyric_row l) → LyricFits l → Passed n held new (fill + 2) left all
@@ -102,7 +103,8 @@ pub returns-then-left-eq0 : goal.returns-then-left-eq0
 returns-then-left-eq0 c =
     let l = c.loop-at in
     let a = c.args in
-    let none = lyrics_none a.s.now l.number l.at l.left c.if-left-eq0.true in let said = ended a.s.now a.run a.n a.words.now l.words l.fill _ none l.invariant.4 in record { held = said.0; fill = said.1.0; fits = said.1.1 }
+    let none = lyrics_none a.s.now l.number l.at l.left c.if-left-eq0.true in
+    let said = ended a.s.now a.run a.n a.words.now l.words l.fill _ none l.invariant.4 in record { held = said.0; fill = said.1.0; fits = said.1.1 }
 
 pub lay_lyric-requires : goal.lay_lyric-requires
 lay_lyric-requires c =
@@ -153,4 +155,5 @@ pub returns : goal.returns
 returns c =
     let l = c.loop-at in
     let a = c.args in
-    let none = lyrics_over a.s.now l.number l.at l.left c.loop-at-test.false in let said = ended a.s.now a.run a.n a.words.now l.words l.fill _ none l.invariant.4 in record { held = said.0; fill = said.1.0; fits = said.1.1 }
+    let none = lyrics_over a.s.now l.number l.at l.left c.loop-at-test.false in
+    let said = ended a.s.now a.run a.n a.words.now l.words l.fill _ none l.invariant.4 in record { held = said.0; fill = said.1.0; fits = said.1.1 }

@@ -15,10 +15,10 @@ use mathlib.Core.List.{List}
 use mathlib.Core.Path.{◌≡◌, refl, sym, ap, ◌∙◌}
 use Rattle.outlines.proofs.outlining.outline_of.Goals as goal
 
-outlined-is : (find : ℕ → Outline) (ws : List ℕ) {e : Bool} {s first : Reading} {r : Outline} → first ≡ started
+outlined_is : (find : ℕ → Outline) (ws : List ℕ) {e : Bool} {s first : Reading} {r : Outline} → first ≡ started
     → s ≡ (words_read find (nested first (replicate loops_deep 0)) ws).reading → e ≡ is_empty ws → r ≡ summed e (closed s) → r ≡ outlined find ws
 unfolding outlined outside
-outlined-is find ws b h e g = g ∙ rw (h, b, e) refl
+outlined_is find ws b h e g = g ∙ rw (h, b, e) refl
 
 pub returns : goal.returns
 unfolding loops_deep
@@ -26,7 +26,7 @@ returns c =
     let a = c.args in
     let l = c.least in
     let ws = drop a.text.from (take a.text.to a.words.now) in
-    let is = outlined-is (look_up a.words.now) ws c.start.ensures c.read_words-s.ensures
+    let is = outlined_is (look_up a.words.now) ws c.start.ensures c.read_words-s.ensures
     (ap (λ y. leb y a.text.from) l.ensures ∙ sym (part_empty a.words.now a.text.to a.text.from)) c.sum_up.ensures in
     let small = outlined_small (look_up a.words.now) ws in record {
       outline = is;

@@ -9,8 +9,8 @@ use Rattle.player.proofs.counting.count_even.Goals as goal
 use Rattle.player.proofs.counting.count_even.Goals.{After-planned-plan}
 
 -- What is kept of the pattern is small.
-plan-fits : (c : After-planned-plan) → (c.planned-plan.result.skip + c.planned-plan.result.left ≤ 4294967295) × (c.planned-plan.result.left ≤ 4294967295)
-plan-fits c =
+plan_fits : (c : After-planned-plan) → (c.planned-plan.result.skip + c.planned-plan.result.left ≤ 4294967295) × (c.planned-plan.result.left ≤ 4294967295)
+plan_fits c =
     let x = c.args.a in
     let ws = c.args.words.now in
     let h = c.requires.0.countable in
@@ -29,16 +29,16 @@ span-kept-requires c =
       λ some. kept_meter x.front x.back (times x.repeat row) x.n
           (level_times x.n x.repeat row (c.requires.0.countable.even c.requires.1).level)
           (λ z. some (omega arith)),
-      (plan-fits (goal.at.span-kept-requires c).After-planned-plan).0,
+      (plan_fits (goal.at.span-kept-requires c).After-planned-plan).0,
     )
 
 pub overflow_add-result-3 : goal.overflow_add-result-3
 overflow_add-result-3 c =
-    omega (arith, (plan-fits (goal.at.overflow_add-result-3 c).After-planned-plan).1, c.count_text-lead.ensures.bound.1)
+    omega (arith, (plan_fits (goal.at.overflow_add-result-3 c).After-planned-plan).1, c.count_text-lead.ensures.bound.1)
 
 pub overflow_add-result-4 : goal.overflow_add-result-4
 overflow_add-result-4 c =
-    omega (arith, (plan-fits (goal.at.overflow_add-result-4 c).After-planned-plan).1, c.count_text-lead.ensures.bound.1, c.count_text-tail.ensures.bound.1)
+    omega (arith, (plan_fits (goal.at.overflow_add-result-4 c).After-planned-plan).1, c.count_text-lead.ensures.bound.1, c.count_text-tail.ensures.bound.1)
 
 pub returns : goal.returns
 returns c =

@@ -9,7 +9,8 @@ beats_but-last-requires c =
     let few = c.tally-all.ensures.measures in (
       c.requires,
       omega arith,
-      tallied_all (repeated_row c.args.words.now c.args.a) c.tally-all.result.measures c.tally-all.result.beats c.requires.measures few c.tally-all.ensures.beats,
+      tallied_all
+          (repeated_row c.args.words.now c.args.a) c.tally-all.result.measures c.tally-all.result.beats c.requires.measures few c.tally-all.ensures.beats,
       c.tally-all.ensures.bound,
     )
 

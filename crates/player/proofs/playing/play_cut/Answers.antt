@@ -15,7 +15,8 @@ at_pattern-requires c =
     let row = row_of x.n ws x.pattern in
     let tail = row_of x.n ws x.tail in
     let pen = c.requires.1 in
-    skip_fits x.front x.back x.repeat lead row tail c.planned-plan.result (c.planned-plan.ensures.todo, c.planned-plan.ensures.skip, c.planned-plan.ensures.left) a.p c.rounds-led.result a.ms.now
+    skip_fits x.front x.back x.repeat lead row tail c.planned-plan.result
+    (c.planned-plan.ensures.todo, c.planned-plan.ensures.skip, c.planned-plan.ensures.left) a.p c.rounds-led.result a.ms.now
     a.bs.now _ _
     (pen.todo, pen.measures, pen.beats) (omega (arith, c.requires.0.room)) c.rounds-led.ensures c.requires.0.countable.cuts
     (short_times x.repeat row (short_row x.n ws c.requires.0.countable.meter x.pattern)) c.requires.0.countable.measures pen.skip
@@ -65,7 +66,8 @@ returns c =
     let tail = row_of x.n ws x.tail in
     let pen = c.requires.1 in
     let w =
-    wrote_window x.front x.back x.repeat lead row tail c.planned-plan.result (c.planned-plan.ensures.todo, c.planned-plan.ensures.skip, c.planned-plan.ensures.left) a.p c.rounds-led.result a.ms.now
+    wrote_window x.front x.back x.repeat lead row tail c.planned-plan.result
+    (c.planned-plan.ensures.todo, c.planned-plan.ensures.skip, c.planned-plan.ensures.left) a.p c.rounds-led.result a.ms.now
     a.bs.now _ _
     (pen.todo, pen.measures, pen.beats) (omega (arith, c.requires.0.room)) c.rounds-led.ensures
     _ _ _ _ _ _ _ _ at c.rounds-kept.ensures behind c.rounds-ended.ensures in

@@ -8,7 +8,8 @@ loop-at-init c = line_begun c.args.s.now c.args.whose c.args.from c.args.to c.re
 
 pub returns-then-t-at : goal.returns-then-t-at
 returns-then-t-at c =
-    let l = c.loop-at in let said = line_done l.invariant (c.token_from-t.ensures.takes.over c.if-t-at.true) in record { kept = said.0; step = said.1 }
+    let l = c.loop-at in
+    let said = line_done l.invariant (c.token_from-t.ensures.takes.over c.if-t-at.true) in record { kept = said.0; step = said.1 }
 
 pub loop-at-smaller : goal.loop-at-smaller
 loop-at-smaller c =
@@ -27,4 +28,6 @@ loop-at-preserved c =
     c.read_token-reading.result c.read_token-reading.ensures.kept c.read_token-reading.ensures.step
 
 pub returns : goal.returns
-returns c = let l = c.loop-at in let said = line_over l.invariant c.loop-at-test.false in record { kept = said.0; step = said.1 }
+returns c =
+    let said = line_over c.loop-at.invariant c.loop-at-test.false in
+    record { kept = said.0; step = said.1 }

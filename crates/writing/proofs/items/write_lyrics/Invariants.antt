@@ -14,7 +14,8 @@ invariant-loop-at l =
     × (l.initial.at < l.end → l.end ≤ length l.words)
     × (length l.items ≡ length l.initial.items)
     × (l.measure + counts_in (drop l.at (take l.end l.words)) ≤ 65535)
-    × Wrote l.initial.items l.i l.items (prompt_words l.measure (drop l.at (take l.end l.words))) (prompt_words l.initial.measure (drop l.initial.at (take l.end l.words)))
+    × Wrote l.initial.items l.i l.items (prompt_words l.measure (drop l.at (take l.end l.words)))
+    (prompt_words l.initial.measure (drop l.initial.at (take l.end l.words)))
 
 abbrev pub decreases-loop-at : goal.decreases-loop-at
 decreases-loop-at l = l.end - l.at

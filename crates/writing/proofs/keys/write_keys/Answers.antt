@@ -1,5 +1,5 @@
 -- The words passed are written, those from here on are what is left of the eight.
-use Prim.Native.Nat.{ℕ, ◌+◌, ◌-◌, ◌<◌, ◌≤◌}
+use Prim.Native.Nat.{ℕ, ◌+◌, ◌<◌, ◌≤◌}
 use mathlib.Core.Path.{◌≡◌, refl, ◌∙◌, subst}
 use mathlib.Core.List.{List, ◌∷◌}
 use native.Mathlib.Omega.{arith}
@@ -12,15 +12,15 @@ use Rattle.writing.proofs.keys.write_keys.Goals as goal
 abbrev eight : List ℕ → ℕ → List ℕ
 eight ws at = take 8 (drop at ws)
 
-eight-long : (ws : List ℕ) (at : ℕ) → at + 8 ≤ length ws → length (eight ws at) ≡ 8
-eight-long ws at h =
+eight_long : (ws : List ℕ) (at : ℕ) → at + 8 ≤ length ws → length (eight ws at) ≡ 8
+eight_long ws at h =
     let a = length-take 8 (drop at ws) in
     let b = length-drop at ws in
     omega arith
 
 next_word : (ws : List ℕ) (at k : ℕ) → at + 8 ≤ length ws → k < 8 → drop k (eight ws at) ≡ get_or ws (at + k) 0 ∷ drop (k + 1) (eight ws at)
 next_word ws at k h below =
-    let l = eight-long ws at h in
+    let l = eight_long ws at h in
     let w : get_or (eight ws at) k 0 ≡ get_or ws (at + k) 0 = get_or-take 8 (drop at ws) k 0 below ∙ get_or-drop at ws k 0 in
     drop-cons (eight ws at) k 0 (omega arith) ∙ rw (w, add-one k) refl
 
@@ -43,7 +43,7 @@ returns c =
     let a = c.args in
     let l = c.loop-k in
     let ws = a.words.now in
-    let long = eight-long ws a.at c.requires.0 in
+    let long = eight_long ws a.at c.requires.0 in
     let over = drop_of_length-le (eight ws a.at) {i = l.k} (omega arith) in
     wrote_end a.keys.now l.k l.keys (eight ws a.at)
     (subst (λ (vs : List ℕ). Wrote a.keys.now l.k l.keys vs (eight ws a.at)) over l.invariant.2)

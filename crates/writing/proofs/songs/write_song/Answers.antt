@@ -1,5 +1,5 @@
 -- The words of the sections passed are written in all four tables, those of the sections ahead have room behind them.
-use Prim.Native.Nat.{◌-◌, ◌<◌}
+use Prim.Native.Nat.{◌<◌}
 use mathlib.Core.Path.{refl}
 use native.Mathlib.Omega.{arith}
 use lib.ListN.{length}
@@ -89,13 +89,15 @@ pub write_lyrics-i-requires : goal.write_lyrics-i-requires
 write_lyrics-i-requires c =
     let l = c.loop-at in
     let f = here (goal.at.write_lyrics-i-requires c).After-section_at-v in
-    midway_lines c.requires.song.0 f.midway c.requires.room c.section_at-v.ensures c.arrangement_in.ensures c.play_section-c.ensures c.lyrics_taken.ensures l.invariant.8 l.invariant.5
+    midway_lines c.requires.song.0 f.midway c.requires.room c.section_at-v.ensures c.arrangement_in.ensures c.play_section-c.ensures c.lyrics_taken.ensures
+    l.invariant.8 l.invariant.5
 
 pub overflow_add-i : goal.overflow_add-i
 overflow_add-i c =
     let l = c.loop-at in
     let f = here (goal.at.overflow_add-i c).After-section_at-v in
-    let n = midway_count c.requires.song.0 f.midway c.requires.room c.section_at-v.ensures c.arrangement_in.ensures c.play_section-c.ensures c.lyrics_taken.ensures l.invariant.5 in
+    let n = midway_count c.requires.song.0 f.midway c.requires.room c.section_at-v.ensures c.arrangement_in.ensures c.play_section-c.ensures
+    c.lyrics_taken.ensures l.invariant.5 in
     omega (arith, c.write_lyrics-i.ensures.count, (small (goal.at.overflow_add-i c).In-loop-at).1)
 
 pub overflow_add-k : goal.overflow_add-k
@@ -126,15 +128,16 @@ pub loop-at-preserved : goal.loop-at-preserved
 loop-at-preserved c =
     let l = c.loop-at in
     let f = here (goal.at.loop-at-preserved c).After-section_at-v in
-    let w = midway_next c.requires.song.0 f.midway c.requires.room c.section_at-v.ensures c.arrangement_in.ensures c.play_section-c.ensures c.lyrics_taken.ensures
+    let w = midway_next c.requires.song.0 f.midway c.requires.room c.section_at-v.ensures c.arrangement_in.ensures c.play_section-c.ensures
+    c.lyrics_taken.ensures
     c.section_word.ensures c.write_lyrics-i.ensures.count c.write_lyrics-i.ensures.items in
     let g = midway_lengths w c.requires.room in
     (f.others, w, g.0, g.1, g.2, g.3, g.4, g.5, g.6)
 
 pub returns : goal.returns
 returns c = let g = midway_end c.loop-at.invariant.1 c.loop-at-test.false in record {
-      sections = g.0;
-      measures = g.1;
-      beats = g.2;
-      items = g.3;
-    }
+  sections = g.0;
+  measures = g.1;
+  beats = g.2;
+  items = g.3;
+}

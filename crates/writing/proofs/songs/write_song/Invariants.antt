@@ -10,7 +10,8 @@ use Rattle.writing.proofs.songs.write_song.Given as goal
 abbrev pub invariant-loop-at : goal.invariant-loop-at
 invariant-loop-at l =
     (xs : List Section)
-    × Midway l.s l.words l.count (record { sections = l.initial.sections; measures = l.initial.measures; beats = l.initial.beats; items = l.initial.items }) l.at l.end l.k l.m l.b l.i
+    × Midway l.s l.words l.count
+    (record { sections = l.initial.sections; measures = l.initial.measures; beats = l.initial.beats; items = l.initial.items }) l.at l.end l.k l.m l.b l.i
     (record { sections = l.sections; measures = l.measures; beats = l.beats; items = l.items }) xs
     × (length l.sections ≡ length l.initial.sections)
     × (length l.measures ≡ length l.initial.measures)
