@@ -8,7 +8,7 @@ use borrow.Author.Tests.{leb-true, ltb-true, eqb-true, not-true}
 use lib.Dec.{eqb, leb, ltb}
 use lib.IntN.{ℤ}
 use lib.ListN.{get_or}
-use Rattle.songcode.specs.Lists.{if◌then◌else◌, any}
+use Rattle.songcode.specs.Lists.{provided◌then◌else◌, any}
 use Rattle.songcode.specs.Answer.Chords.{spelling_of, root_of, is_minor}
 use Rattle.songcode.proofs.ListLaws.{by_cases, both_pass}
 use Rattle.songcode.proofs.EachBelow.{all_below, each_below}
@@ -39,10 +39,10 @@ unfoldable rooted : ℕ → Bool
 rooted b =
     leb (root_at b) 23
     && (eqb (root_of (spelling_of b)) (root_at b % 12)
-    && (if is_minor (spelling_of b) then leb 12 (root_at b) else ltb (root_at b) 12))
+    && (provided is_minor (spelling_of b) then leb 12 (root_at b) else ltb (root_at b) 12))
 
 each_rooted : (b : ℕ) → b < 34 → rooted b ≡ true
-unfolding rooted all_below if◌then◌else◌ root_of is_minor spelling_of
+unfolding rooted all_below provided◌then◌else◌ root_of is_minor spelling_of
 each_rooted = each_below rooted 34 refl
 
 pub record Rooted (b : ℕ) : Type 0 where
@@ -52,7 +52,7 @@ pub record Rooted (b : ℕ) : Type 0 where
   pub minor : 12 ≤ root_at b → is_minor (spelling_of b) ≡ true
 
 pub base_rooted : (b : ℕ) → b < 34 → Rooted b
-unfolding rooted if◌then◌else◌
+unfolding rooted provided◌then◌else◌
 base_rooted b h =
     let x = both_pass _ _ (each_rooted b h) in
     let y = both_pass _ _ x.1 in
@@ -100,10 +100,10 @@ sounds minor r =
     leb (sharp_base r minor) 33
     && (not (any (eqb 98) (spelling_of (sharp_base r minor)))
     && (eqb (root_of (spelling_of (sharp_base r minor))) r
-    && (if minor then is_minor (spelling_of (sharp_base r minor)) else not (is_minor (spelling_of (sharp_base r minor))))))
+    && (provided minor then is_minor (spelling_of (sharp_base r minor)) else not (is_minor (spelling_of (sharp_base r minor))))))
 
 each_sounds : (minor : Bool) (r : ℕ) → r < 12 → sounds minor r ≡ true
-unfolding sounds all_below sharp_base if◌then◌else◌ any root_of is_minor spelling_of
+unfolding sounds all_below sharp_base provided◌then◌else◌ any root_of is_minor spelling_of
 each_sounds true = each_below (sounds true) 12 refl
 each_sounds false = each_below (sounds false) 12 refl
 
@@ -113,8 +113,8 @@ pub record Sounds (minor : Bool) (r : ℕ) : Type 0 where
   pub root : root_of (spelling_of (sharp_base r minor)) ≡ r
   pub quality : is_minor (spelling_of (sharp_base r minor)) ≡ minor
 
-as_minor : (m b : Bool) → (if m then b else not b) ≡ true → b ≡ m
-unfolding if◌then◌else◌
+as_minor : (m b : Bool) → (provided m then b else not b) ≡ true → b ≡ m
+unfolding provided◌then◌else◌
 as_minor true b t = t
 as_minor false b t = not-true b t
 
@@ -129,12 +129,12 @@ name_sounds minor r h =
 
 -- And no other base chord is: one without a flat is the sharp name of its own root and quality.
 unfoldable sharp : ℕ → Bool
-sharp b = if any (eqb 98) (spelling_of b) then true else eqb (sharp_base (root_of (spelling_of b)) (is_minor (spelling_of b))) b
+sharp b = provided any (eqb 98) (spelling_of b) then true else eqb (sharp_base (root_of (spelling_of b)) (is_minor (spelling_of b))) b
 
 each_sharp : (b : ℕ) → b < 34 → sharp b ≡ true
-unfolding sharp all_below if◌then◌else◌ any sharp_base root_of is_minor spelling_of
+unfolding sharp all_below provided◌then◌else◌ any sharp_base root_of is_minor spelling_of
 each_sharp = each_below sharp 34 refl
 
 pub own_name : (b : ℕ) → b < 34 → any (eqb 98) (spelling_of b) ≡ false → sharp_base (root_of (spelling_of b)) (is_minor (spelling_of b)) ≡ b
-unfolding sharp if◌then◌else◌
+unfolding sharp provided◌then◌else◌
 own_name b h f = eqb-true _ _ (rw f at (each_sharp b h))

@@ -6,7 +6,7 @@ use native.Mathlib.Omega.{arith}
 use borrow.Author.Tests.{le-leb, lt-leb, eq-eqb, ne_eqb, leb-true, leb-false, eqb-true, eqb-false, not-false}
 use lib.Dec.{eqb, leb}
 use lib.IntN.{ℤ}
-use Rattle.songcode.specs.Lists.{if◌then◌else◌}
+use Rattle.songcode.specs.Lists.{provided◌then◌else◌}
 use Rattle.songcode.specs.Answer.Chords.{spelling_of, root_of, is_minor}
 use Rattle.songcode.proofs.ListLaws.{by_cases, none_passes, true_is_not_false}
 use Rattle.concert.specs.Pitches.{moved_root, moved_base}
@@ -61,7 +61,7 @@ packed_behind b r h = omega arith
 -- A word moved: silence, or a base and what was behind it.
 pub by_base : (P : ℕ → Type 0) (z : ℤ) (w : ℕ) → (base_in w ≡ 63 → P w)
     → ((base_in w ≡ 63 → ⊥) → P (moved_base z (base_in w) * 2 ^ 26 + behind_base w)) → P (moved_word z w)
-unfolding moved_word if◌then◌else◌
+unfolding moved_word provided◌then◌else◌
 by_base P z w f g = by_cases (eqb (base_in w) 63) (λ t. rw t (f (eqb-true (base_in w) 63 t))) (λ e. rw e (g (eqb-false (base_in w) 63 e)))
 
 pub behind_below : (w : ℕ) → behind_base w < 67108864

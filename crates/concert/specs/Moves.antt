@@ -1,6 +1,6 @@
 -- "From a beat table write a second one": each word moved, and the tables and moves that are refused.
 use Rattle.std.specs.Prelude.{ℕ, ◌+◌, ◌*◌, ◌/◌, ◌%◌, ◌^◌, List, map, Bool, not, ◌&&◌, ◌||◌, eqb, leb, ltb, ℤ, length}
-use Rattle.songcode.specs.Lists.{if◌then◌else◌, any}
+use Rattle.songcode.specs.Lists.{provided◌then◌else◌, any}
 use Rattle.concert.specs.Pitches.{is_allowed, moved_base}
 
 -- beats: "base 6 (63 silence)", the highest bits of 32; what stands behind it.
@@ -12,8 +12,8 @@ behind_base word = word % 2 ^ 26
 
 -- "Extensions and heads stay": nothing but the base changes, and a silence is no base chord.
 unfoldable pub moved_word : ℤ → ℕ → ℕ
-unfolding if◌then◌else◌ base_in behind_base moved_base
-moved_word move word = if eqb (base_in word) 63 then word else moved_base move (base_in word) * 2 ^ 26 + behind_base word
+unfolding provided◌then◌else◌ base_in behind_base moved_base
+moved_word move word = provided eqb (base_in word) 63 then word else moved_base move (base_in word) * 2 ^ 26 + behind_base word
 
 unfoldable pub moved_table : ℤ → List ℕ → List ℕ
 unfolding moved_word
@@ -26,5 +26,5 @@ is_odd word = (leb 34 (base_in word) && leb (base_in word) 62) || not (eqb (word
 
 -- "Refusals, in this order, line 0": 21, 22, 18; 0 where there is none.
 unfoldable pub refusal_of : ℤ → List ℕ → ℕ → ℕ
-unfolding if◌then◌else◌ is_allowed any is_odd
-refusal_of move beats lent = if not (is_allowed move) then 21 else if any is_odd beats then 22 else if ltb lent (length beats) then 18 else 0
+unfolding provided◌then◌else◌ is_allowed any is_odd
+refusal_of move beats lent = provided not (is_allowed move) then 21 else provided any is_odd beats then 22 else provided ltb lent (length beats) then 18 else 0

@@ -3,7 +3,7 @@ use Rattle.std.proofs.Math.Option
 use Rattle.std.specs.Prelude.{ℕ, suc, ◌+◌, ◌*◌, ◌%◌, List, [], ◌∷◌, ◌++◌, Bool, ◌&&◌, ℤ, pos, negsuc, get_or}
 use Prim.Native.String.{String}
 use Rattle.std.specs.Int.Signed.{le_z}
-use Rattle.songcode.specs.Lists.{if◌then◌else◌}
+use Rattle.songcode.specs.Lists.{provided◌then◌else◌}
 use Rattle.songcode.specs.Bytes.{ascii}
 use Rattle.songcode.specs.Answer.Chords.{spellings, spelling_of, number_of, root_of, is_minor}
 
@@ -26,8 +26,8 @@ unfoldable pub sharps : List String
 sharps = "C" ∷ "C#" ∷ "D" ∷ "D#" ∷ "E" ∷ "F" ∷ "F#" ∷ "G" ∷ "G#" ∷ "A" ∷ "A#" ∷ "B" ∷ []
 
 unfoldable pub sharp_name : ℕ → Bool → List ℕ
-unfolding if◌then◌else◌ spellings sharps ascii
-sharp_name root minor = get_or (spellings sharps) root [] ++ (if minor then ascii "m" else [])
+unfolding provided◌then◌else◌ spellings sharps ascii
+sharp_name root minor = get_or (spellings sharps) root [] ++ (provided minor then ascii "m" else [])
 
 unfoldable pub sharp_base : ℕ → Bool → ℕ
 unfolding number_of sharp_name

@@ -1,6 +1,6 @@
 -- "The lighting desk wants the start of each measure in microseconds", from the tables alone.
 use Rattle.std.specs.Prelude.{ℕ, zero, suc, ◌+◌, ◌*◌, ◌/◌, List, [], ◌∷◌, ◌++◌, Bool, ◌||◌, ◌&&◌, eqb, leb, length, take, drop}
-use Rattle.songcode.specs.Lists.{if◌then◌else◌, every}
+use Rattle.songcode.specs.Lists.{provided◌then◌else◌, every}
 use Rattle.songcode.specs.Description.Joined.{beat_count, measure_count, section_bpm, join_up}
 
 -- "entry 0 is 0, each other is 60,000,000 divided by bpm, rounded down"
@@ -33,8 +33,8 @@ is_timed section = eqb (measure_count section) 0 || (leb 1 (section_bpm section)
 
 -- "Refusals, in this order": 25, 26, 18; else 0.
 unfoldable pub refusal_of : List ℕ → List ℕ → ℕ → ℕ
-unfolding join_up is_timed every if◌then◌else◌
+unfolding join_up is_timed every provided◌then◌else◌
 refusal_of sections measures lent =
-    if join_up sections measures
-    then (if every is_timed sections then (if leb (length measures) lent then 0 else 18) else 26)
+    provided join_up sections measures
+    then (provided every is_timed sections then (provided leb (length measures) lent then 0 else 18) else 26)
     else 25

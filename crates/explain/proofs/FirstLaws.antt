@@ -6,7 +6,7 @@ use native.Mathlib.Omega.{arith}
 use lib.ListN.{length, get_or}
 use Rattle.songcode.specs.Answer.Answer as songcode
 use Rattle.songcode.specs.Answer.Answer.{refused, accepted, line_of_place, song_answer}
-use Rattle.songcode.specs.Lists.{if◌then◌else◌}
+use Rattle.songcode.specs.Lists.{provided◌then◌else◌}
 use Rattle.songcode.specs.Song.{Song}
 use Rattle.songcode.proofs.AnswerAgree.{of_chart, song_read}
 use Rattle.songcode.specs.Answer.Lines.{inside, ending}
@@ -41,7 +41,7 @@ not_line_0 text l k =
 
 -- A `%` ends no line.
 plain : (text : List ℕ) (n : ℕ) → get_or text n 0 ≡ 37 → end (get_or text n 0) ≡ inside
-unfolding ending if◌then◌else◌
+unfolding ending provided◌then◌else◌
 plain text n e = rw e refl
 
 -- What is told of a verdict and a slip at its place.

@@ -7,7 +7,7 @@ use mathlib.Core.Bool.{false}
 use mathlib.Core.Option.{Option, none, some, get_or, bind}
 use native.Mathlib.Omega.{arith}
 use lib.Dec.{eqb}
-use Rattle.songcode.specs.Lists.{if◌then◌else◌}
+use Rattle.songcode.specs.Lists.{provided◌then◌else◌}
 use Rattle.songcode.specs.Bytes.{Byte}
 use Rattle.songcode.specs.Answer.Lines.{Line, Block}
 use Rattle.songcode.specs.Song.{Sounds, only, also, measure, loop, refer, Items, one, next, Pattern, items, named, Definition, Section, Song}
@@ -81,18 +81,18 @@ definition_one n {b} {d} w =
     rw (definition_kind w) (ap (λ (k : ℕ). eqb k n) id)
 
 past_metadata : (n : ℕ) (ms bs : List Block) → Metadata ms → definition_lines n (ms ++ bs) ≡ definition_lines n bs
-unfolding Metadata definition_lines if◌then◌else◌ block_kind
+unfolding Metadata definition_lines provided◌then◌else◌ block_kind
 past_metadata n [] bs h = refl
 past_metadata n (m ∷ ms) bs h = rw (metadata_none n m (begins_metadata m.first.text h.0)) (past_metadata n ms bs h.1)
 
 of_sections_lem : (n : ℕ) {bs : List Block} {xs : List Section} → Each SectionBlock bs xs → definition_lines n bs ≡ []
-unfolding definition_lines if◌then◌else◌ block_kind
+unfolding definition_lines provided◌then◌else◌ block_kind
 of_sections_lem n none_each = refl
 of_sections_lem n (and_each {x = b} w ws) = rw (section_none n b (begins_section b.first.text w.no_key w.no_head)) (of_sections_lem n ws)
 
 of_definitions_lem : (n : ℕ) {bs : List Block} {ds : List Definition} → Each WrittenDefinition bs ds → (rest : List Block) → definition_lines n rest ≡ []
     → DefinitionLines (definition_lines n (bs ++ rest)) (items_of ds n)
-unfolding definition_lines if◌then◌else◌ items_of definition_of bind DefinitionLines
+unfolding definition_lines provided◌then◌else◌ items_of definition_of bind DefinitionLines
 of_definitions_lem n none_each rest e = rw e tt
 of_definitions_lem n (and_each {x = b} {y = d} w ws) rest e =
     by_cases (eqb d.id n)

@@ -8,7 +8,7 @@ use mathlib.Core.Option.{Option, get_or}
 use native.Mathlib.Omega.{arith}
 use native.Mathlib.Nat.{div-add-mod'}
 use lib.ListN.{length, length-append}
-use Rattle.songcode.specs.Lists.{if◌then◌else◌}
+use Rattle.songcode.specs.Lists.{provided◌then◌else◌}
 use Rattle.songcode.specs.Song.{Sounds, only, also, nothing, a_line_end, Separator, by_semicolon, by_line_end, by_colon, Measure}
 use Rattle.songcode.specs.Song.{Item, measure, loop, refer, Items, one, next}
 use Rattle.songcode.specs.Answer.Tokens.{Token, sound, remover, line_end, closes}
@@ -30,9 +30,9 @@ closed (suc k) ns = suc k ∷ ns
 
 -- Runs of positions; so many were met.
 unfoldable pub sizes_from : ℕ → List Token → List ℕ
-unfolding if◌then◌else◌ is_position closed
+unfolding provided◌then◌else◌ is_position closed
 sizes_from k [] = closed k []
-sizes_from k (t ∷ ts) = if is_position t then sizes_from (suc k) ts else closed k (sizes_from 0 ts)
+sizes_from k (t ∷ ts) = provided is_position t then sizes_from (suc k) ts else closed k (sizes_from 0 ts)
 
 abbrev pub sizes : List Token → List ℕ
 sizes ts = sizes_from 0 ts
@@ -43,7 +43,7 @@ closed_both zero ns ms = refl
 closed_both (suc k) ns ms = refl
 
 pub sizes_parted : (k : ℕ) (ts us : List Token) → sizes_from k (ts ++ (line_end ∷ us)) ≡ sizes_from k ts ++ sizes us
-unfolding sizes_from if◌then◌else◌ is_position
+unfolding sizes_from provided◌then◌else◌ is_position
 sizes_parted k [] us = closed_both k [] (sizes us)
 sizes_parted k (t ∷ ts) us =
     by_cases (is_position t)
@@ -57,7 +57,7 @@ over_sizes [] rows = refl
 over_sizes (m ∷ met) rows = refl
 
 of_measures : (met ms : List Mark) → map length (measures_from met ms) ≡ sizes_from (length met) (tokens_in ms)
-unfolding measures_from sizes_from if◌then◌else◌
+unfolding measures_from sizes_from provided◌then◌else◌
 of_measures met [] = over_sizes met []
 of_measures met (m ∷ ms) =
     let e : length (met ++ (m ∷ [])) ≡ suc (length met) = simp length-append (omega arith) in
@@ -84,14 +84,14 @@ unfoldable mutual
   items_sizes (next r s i) = items_sizes r ++ item_sizes i
 
 of_sounds : (k : ℕ) (ss : Sounds) (ts : List Token) → sizes_from k (write_sounds ss ts) ≡ sizes_from (sound_count ss + k) ts
-unfolding sizes_from write_sounds sound_count if◌then◌else◌ is_position
+unfolding sizes_from write_sounds sound_count provided◌then◌else◌ is_position
 of_sounds k (only s) ts = let e : suc k ≡ 1 + k = omega arith in ap (λ (j : ℕ). sizes_from j ts) e
 of_sounds k (also ss s) ts =
     let e : suc (sound_count ss + k) ≡ suc (sound_count ss) + k = omega arith in
     of_sounds k ss (sound s ∷ ts) ∙ ap (λ (j : ℕ). sizes_from j ts) e
 
 of_removers : (k n : ℕ) (ts : List Token) → sizes_from k (write_removers n ts) ≡ sizes_from (k + n) ts
-unfolding sizes_from write_removers if◌then◌else◌ is_position
+unfolding sizes_from write_removers provided◌then◌else◌ is_position
 of_removers k zero ts = let e : k ≡ k + 0 = omega arith in ap (λ (j : ℕ). sizes_from j ts) e
 of_removers k (suc n) ts =
     let e : suc (k + n) ≡ k + suc n = omega arith in of_removers k n (remover ∷ ts) ∙ ap (λ (j : ℕ). sizes_from j ts) e
@@ -121,7 +121,7 @@ of_measure m ts a =
     ∙ closed_some (sound_count m.sounds + m.removers) (sizes ts) (omega arith)
 
 apart_separator : (s : Separator) (ts : List Token) → Apart (write_separator s ts)
-unfolding sizes_from write_separator write_beside if◌then◌else◌ is_position closed
+unfolding sizes_from write_separator write_beside provided◌then◌else◌ is_position closed
 apart_separator by_semicolon ts k = refl
 apart_separator by_line_end ts k = refl
 apart_separator (by_colon nothing nothing) ts k = refl
@@ -130,7 +130,7 @@ apart_separator (by_colon a_line_end nothing) ts k = refl
 apart_separator (by_colon a_line_end a_line_end) ts k = refl
 
 of_separator : (s : Separator) (ts : List Token) → sizes (write_separator s ts) ≡ sizes ts
-unfolding sizes_from write_separator write_beside if◌then◌else◌ is_position closed
+unfolding sizes_from write_separator write_beside provided◌then◌else◌ is_position closed
 of_separator by_semicolon ts = refl
 of_separator by_line_end ts = refl
 of_separator (by_colon nothing nothing) ts = refl
@@ -139,11 +139,11 @@ of_separator (by_colon a_line_end nothing) ts = refl
 of_separator (by_colon a_line_end a_line_end) ts = refl
 
 apart_closes : (n : ℕ) (ts : List Token) → Apart (closes n ∷ ts)
-unfolding sizes_from if◌then◌else◌ is_position closed
+unfolding sizes_from provided◌then◌else◌ is_position closed
 apart_closes n ts k = refl
 
 mutual
-  unfolding write_item write_items item_sizes items_sizes sizes_from if◌then◌else◌ is_position closed
+  unfolding write_item write_items item_sizes items_sizes sizes_from provided◌then◌else◌ is_position closed
 
   of_item : (i : Item) (ts : List Token) → Apart ts → sizes (write_item i ts) ≡ item_sizes i ++ sizes ts
   of_item (measure m) ts a = of_measure m ts a
@@ -165,12 +165,12 @@ glue_sizes r s (next q t i) =
     ap (λ (ns : List ℕ). ns ++ item_sizes i) (glue_sizes r s q) ∙ append_assoc (items_sizes r) (items_sizes q) (item_sizes i)
 
 apart_end : (ts : List Token) → Apart (line_end ∷ ts)
-unfolding sizes_from if◌then◌else◌ is_position closed
+unfolding sizes_from provided◌then◌else◌ is_position closed
 apart_end ts k = refl
 
 module _ (f : ℕ → Option Items) (g : ℕ → List Token) (tied : Tied f g) where
   put_refer : (n : ℕ) (ts : List Token) → sizes (g n ++ ts) ≡ items_sizes (get_or (f n) (one (refer n))) ++ sizes ts
-  unfolding items_sizes item_sizes sizes_from if◌then◌else◌ is_position closed
+  unfolding items_sizes item_sizes sizes_from provided◌then◌else◌ is_position closed
   put_refer n ts =
       ⊎_elim
       (λ h. rw (h.0, h.1) refl)
@@ -178,7 +178,7 @@ module _ (f : ℕ → Option Items) (g : ℕ → List Token) (tied : Tied f g) w
       (tied n)
 
   mutual
-    unfolding write_item write_items put_tokens meant put_in put_in_item item_sizes items_sizes sizes_from if◌then◌else◌ is_position closed
+    unfolding write_item write_items put_tokens meant put_in put_in_item item_sizes items_sizes sizes_from provided◌then◌else◌ is_position closed
 
     put_item : (i : Item) (ts : List Token) → Apart (put_tokens g ts)
         → sizes (put_tokens g (write_item i ts)) ≡ items_sizes (put_in_item f i) ++ sizes (put_tokens g ts)
@@ -199,7 +199,7 @@ module _ (f : ℕ → Option Items) (g : ℕ → List Token) (tied : Tied f g) w
         ∙ ap (λ (ns : List ℕ). ns ++ sizes (put_tokens g ts)) (sym (glue_sizes (put_in f r) s (put_in_item f i)))
 
   pub said_sizes : (r : Items) (ts : List Token) → Says f g r ts → sizes ts ≡ items_sizes r
-  unfolding put_tokens meant sizes_from if◌then◌else◌ is_position closed
+  unfolding put_tokens meant sizes_from provided◌then◌else◌ is_position closed
   said_sizes r ts (as_written e) = ap sizes e ∙ of_items r (line_end ∷ []) (apart_end []) ∙ append-nil (items_sizes r)
   said_sizes r ts (with_put q h e) =
       ap sizes e ∙ put_items q (line_end ∷ []) (apart_end []) ∙ append-nil (items_sizes (put_in f q)) ∙ ap items_sizes (sym h)

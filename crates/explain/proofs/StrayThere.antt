@@ -6,7 +6,7 @@ use mathlib.Core.List.{List, [], ◌∷◌, ◌++◌, append-nil, Memᴰ}
 use mathlib.Core.Option.{some}
 use borrow.Author.Tests.{eqb-true, eqb-false}
 use lib.Dec.{eqb}
-use Rattle.songcode.specs.Lists.{if◌then◌else◌, left, every}
+use Rattle.songcode.specs.Lists.{provided◌then◌else◌, left, every}
 use Rattle.songcode.specs.Bytes.{Byte, placed, ascii, is_blank, not_blank}
 use Rattle.songcode.specs.Answer.Keys.{setting_in}
 use Rattle.songcode.specs.Answer.Lines.{Line, Block}
@@ -50,7 +50,7 @@ told_there s Text {clause} t x =
 
 -- A lead-in or tail: what stands behind the name of its line.
 setting_behind : (b : Byte) (bs : List Byte) → b.value ≡ 95 → setting_in (b ∷ bs) ≡ setting_in bs
-unfolding setting_in left not_blank is_blank if◌then◌else◌
+unfolding setting_in left not_blank is_blank provided◌then◌else◌
 setting_behind b bs e = rw e refl
 
 -- The tokens of the setting on every line of the file that is this one are those of the items.

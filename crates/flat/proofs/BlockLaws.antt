@@ -7,7 +7,7 @@ use native.Mathlib.Omega.{arith}
 use lib.Dec.{ltb}
 use lib.ListN.{length, length-append}
 use borrow.Author.Tests.{ltb-true, not-false}
-use Rattle.songcode.specs.Lists.{if◌then◌else◌, when}
+use Rattle.songcode.specs.Lists.{provided◌then◌else◌, when}
 use Rattle.songcode.specs.Bytes.{ascii}
 use Rattle.songcode.specs.Answer.Lines.{Line}
 use Rattle.songcode.specs.Answer.Answer.{most_bytes}
@@ -25,7 +25,7 @@ blocks_append (r ∷ a) b x = blocks_append a b (puts (block_bytes x.at r) x)
 
 -- A sheet with a byte keeps one, and a byte more is one.
 one_at : (b : ℕ) (x : Sheet) → 1 ≤ (put_one b x).at
-unfolding put_one if◌then◌else◌ most_bytes
+unfolding put_one provided◌then◌else◌ most_bytes
 one_at b x = by_cases (ltb 65536 x.at) (λ e. let h = ltb-true 65536 x.at e in rw e (omega arith)) (λ e. rw e (omega arith))
 
 kept_at : (bs : List ℕ) (x : Sheet) → 1 ≤ x.at → 1 ≤ (puts bs x).at

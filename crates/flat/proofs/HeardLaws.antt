@@ -7,7 +7,7 @@ use mathlib.Core.Option.{Option, none, some}
 use native.Mathlib.Omega.{arith}
 use borrow.Author.Tests.{le-ltb}
 use lib.ListN.{length, length-map}
-use Rattle.songcode.specs.Lists.{if◌then◌else◌}
+use Rattle.songcode.specs.Lists.{provided◌then◌else◌}
 use Rattle.songcode.specs.Bytes.{ascii, placed}
 use Rattle.songcode.specs.Answer.Chords.{Chord, bases, spelling_of}
 use Rattle.songcode.specs.Answer.Tables.{offset, head_bit, beat_by, beat_word}
@@ -40,7 +40,7 @@ module _ (s : List ℕ) (small : length s ≤ 65536) where
   base_at b o l h p q r t = omega arith
 
   chord_heard : (c : Chord) (h : Bool) → Known (placed 0 s) c → letters_at s (beat_by (some c) h) ≡ letters (some c)
-  unfolding letters_at letters beat_by stretch_at spelling_of if◌then◌else◌
+  unfolding letters_at letters beat_by stretch_at spelling_of provided◌then◌else◌
   chord_heard c h k =
       let f = chord_fits s c small k in
       let i = base_small c k in
@@ -55,7 +55,7 @@ module _ (s : List ℕ) (small : length s ≤ 65536) where
       )
 
   sound_heard : (o : Option Chord) (h : Bool) → OfIf (Known (placed 0 s)) o → letters_at s (beat_by o h) ≡ letters o
-  unfolding OfIf letters_at letters beat_by stretch_at spelling_of if◌then◌else◌ head_bit field
+  unfolding OfIf letters_at letters beat_by stretch_at spelling_of provided◌then◌else◌ head_bit field
   sound_heard none true k = refl
   sound_heard none false k = refl
   sound_heard (some c) h k = chord_heard c h k

@@ -7,7 +7,7 @@ use mathlib.Core.Bool.{Bool, true, false, not}
 use native.Mathlib.Omega.{arith}
 use lib.ListN.{length, take}
 use borrow.Author.Tests.{eqb-true}
-use Rattle.songcode.specs.Lists.{if◌then◌else◌, is_empty, taken, left}
+use Rattle.songcode.specs.Lists.{provided◌then◌else◌, is_empty, taken, left}
 use Rattle.songcode.specs.Bytes.{Byte, placed, values, ascii, same, is, is_byte}
 use Rattle.songcode.specs.Answer.Lines as songcode
 use Rattle.songcode.specs.Answer.Sections.{is_key_line, Kind, key_line, modifier_line, pattern_line, kind_of, kind_of_line, not_dashes, body, from_dashes}
@@ -91,7 +91,7 @@ key_body l e = key_text l.text (key_kind l e)
 
 module _ {A : Type 0} (p q : A → Bool) (h : (x : A) → p x ≡ true → q x ≡ true) where
   taken_within : (xs : List A) → taken p (taken q xs) ≡ taken p xs
-  unfolding taken if◌then◌else◌
+  unfolding taken provided◌then◌else◌
   taken_within [] = refl
   taken_within (x ∷ xs) =
       by_cases (p x)
@@ -99,7 +99,7 @@ module _ {A : Type 0} (p q : A → Bool) (h : (x : A) → p x ≡ true → q x �
       (λ e. by_cases (q x) (λ f. rw f (rw e)) (λ f. rw (f, e)))
 
   left_within : (xs : List A) → left q (left p xs) ≡ left q xs
-  unfolding left if◌then◌else◌
+  unfolding left provided◌then◌else◌
   left_within [] = refl
   left_within (x ∷ xs) = by_cases (p x) (λ e. rw (h x e) (rw e (left_within xs))) (λ e. rw e)
 
@@ -190,14 +190,14 @@ module _ (s : List ℕ) (n at : ℕ) where
   module _ {l : Line} (f : Found s n at l) (h : at < length s) where
     pub left_step : Key ≡ kind_is (kind_of (placed 0 (part l.start l.stop s)))
         → left is_key_line (text_lines s (n + 1) l.next) ≡ left is_key_line (text_lines s n at)
-    unfolding left if◌then◌else◌
+    unfolding left provided◌then◌else◌
     left_step e =
         let k : is_key_line (line_text s l) ≡ true = is_key_lem (line_text s l) (kind_here s l e) in
         rw (lines_found f h) (rw k)
 
     pub left_end : (k : settings.Kind) → (k ≡ Key → ⊥) → k ≡ kind_is (kind_of (placed 0 (part l.start l.stop s)))
         → text_lines s n at ≡ left is_key_line (text_lines s n at)
-    unfolding left if◌then◌else◌
+    unfolding left provided◌then◌else◌
     left_end k m e =
         let z : is_key_line (line_text s l) ≡ false = not_key (line_text s l) k m (kind_here s l e) in
         rw (lines_found f h) (rw z)
@@ -212,7 +212,7 @@ module _ (s : List ℕ) (n at : ℕ) (x : Sheet) where
     keys_more : Key ≡ kind_is (kind_of (placed 0 (part l.start l.stop s)))
         → puts (line_bytes (taken is_key_line (text_lines s n at))) x
         ≡ puts (line_bytes (taken is_key_line (text_lines s (n + 1) l.next))) (puts (end_line (part l.start l.stop s)) x)
-    unfolding taken if◌then◌else◌
+    unfolding taken provided◌then◌else◌
     keys_more e =
         let k : is_key_line (line_text s l) ≡ true = is_key_lem (line_text s l) (kind_here s l e) in
         rw (lines_found f h) (rw k (line_first s l (taken is_key_line (text_lines s (n + 1) l.next)) x))
@@ -223,7 +223,7 @@ module _ (s : List ℕ) (n at : ℕ) (x : Sheet) where
 
     pub keys_end : (k : settings.Kind) → (k ≡ Key → ⊥) → k ≡ kind_is (kind_of (placed 0 (part l.start l.stop s)))
         → puts (line_bytes (taken is_key_line (text_lines s n at))) x ≡ x
-    unfolding taken if◌then◌else◌ line_bytes flat_map puts
+    unfolding taken provided◌then◌else◌ line_bytes flat_map puts
     keys_end k m e =
         let z : is_key_line (line_text s l) ≡ false = not_key (line_text s l) k m (kind_here s l e) in
         rw (lines_found f h) (rw z)

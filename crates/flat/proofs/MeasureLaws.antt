@@ -9,7 +9,7 @@ use borrow.Author.Tests.{lt-ltb, le-ltb, ne_eqb, leb-true, leb-false}
 use lib.Dec.{leb}
 use lib.ListN.{length, take, drop, get_or, replicate, length-map, length-drop, drop_of_length-le, get_or-eq_default}
 use lib.Seq.{drop-cons, drop-length, take_all}
-use Rattle.songcode.specs.Lists.{if◌then◌else◌, every}
+use Rattle.songcode.specs.Lists.{provided◌then◌else◌, every}
 use Rattle.songcode.specs.Bytes.{ascii}
 use Rattle.songcode.specs.Answer.Chords.{bases, spelling_of}
 use Rattle.songcode.specs.Answer.Tables.{measure_word}
@@ -74,7 +74,7 @@ unfolding spelling_of bases every
 spelling_short n = letters_few bases n refl
 
 base_stop : (name : List ℕ) (k : ℕ) → get_or name k 0 ≡ 0 → unpadded (drop k name) ≡ []
-unfolding unpadded if◌then◌else◌
+unfolding unpadded provided◌then◌else◌
 base_stop name k e =
     by_cases
     (leb (length name) k)
@@ -82,7 +82,7 @@ base_stop name k e =
     (λ t. rw (drop-cons name k 0 (leb-false _ _ t), e))
 
 base_more : (name : List ℕ) (k : ℕ) → (get_or name k 0 ≡ 0 → ⊥) → unpadded (drop k name) ≡ get_or name k 0 ∷ unpadded (drop (k + 1) name)
-unfolding unpadded if◌then◌else◌
+unfolding unpadded provided◌then◌else◌
 base_more name k n =
     by_cases
     (leb (length name) k)
@@ -108,12 +108,12 @@ base_over name k x goal h l g = rw (no_bytes (unpadded (drop k name)) (omega ari
 
 -- A beat's letters.
 pub letters_none : (s : List ℕ) (w : ℕ) (b : BeatFields) → HoldsBeat w b → 33 < b.base → letters_at s w ≡ 95 ∷ []
-unfolding letters_at if◌then◌else◌ ascii
+unfolding letters_at provided◌then◌else◌ ascii
 letters_none s w b h f = rw ((beat_fields_lem h).0, lt-ltb _ _ f)
 
 pub letters_some : (s : List ℕ) (w : ℕ) (b : BeatFields) → HoldsBeat w b → b.base ≤ 33
     → letters_at s w ≡ spelling_of b.base ++ part (min b.extension (length s)) (min (b.extension + b.length) (length s)) s
-unfolding letters_at if◌then◌else◌ stretch_at
+unfolding letters_at provided◌then◌else◌ stretch_at
 letters_some s w b h f =
     let e = beat_fields_lem h in
     rw (e.0, le-ltb _ _ f, e.1, e.2) (ap (λ (t : List ℕ). spelling_of b.base ++ t) (sym (stretch_part s b.extension b.length)))

@@ -8,7 +8,7 @@ use borrow.Author.Tests.{lt-ltb, le-ltb, ltb-true, ltb-false}
 use lib.Dec.{ltb}
 use lib.ListN.{length, drop, get_or, set}
 use lib.Seq.{sets, drop-cons}
-use Rattle.songcode.specs.Lists.{if◌then◌else◌}
+use Rattle.songcode.specs.Lists.{provided◌then◌else◌}
 use Rattle.songcode.specs.Answer.Answer.{most_bytes}
 use Rattle.songcode.proofs.ListLaws.{by_cases}
 use Rattle.text.specs.Spans.{part}
@@ -16,11 +16,11 @@ use Rattle.flat.specs.Sheets.{Sheet, put_one, puts}
 
 -- One byte: past the most bytes nothing is looked at, before them it is counted.
 pub put_full : (b : ℕ) (x : Sheet) → 65536 < x.at → put_one b x ≡ x
-unfolding put_one if◌then◌else◌ most_bytes
+unfolding put_one provided◌then◌else◌ most_bytes
 put_full b x h = rw (lt-ltb _ _ h)
 
 pub put_room : (b : ℕ) (x : Sheet) → x.at ≤ 65536 → put_one b x ≡ record { copy = set x.copy x.at b; at = x.at + 1 }
-unfolding put_one if◌then◌else◌ most_bytes
+unfolding put_one provided◌then◌else◌ most_bytes
 put_room b x h = rw (le-ltb _ _ h)
 
 -- Both cases of a sheet.

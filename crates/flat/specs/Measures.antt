@@ -1,7 +1,7 @@
 -- The lines of measures from the words of the tables: a beat's letters stand in the file that its offset points into.
 use Rattle.std.specs.Prelude.{ℕ, zero, suc, ◌-◌, ◌≤◌, ◌≡◌, ltb, length, take, drop, replicate}
 use mathlib.Core.List.{List, [], ◌∷◌, ◌++◌, map, flat_map}
-use Rattle.songcode.specs.Lists.{if◌then◌else◌}
+use Rattle.songcode.specs.Lists.{provided◌then◌else◌}
 use Rattle.songcode.specs.Bytes.{ascii}
 use Rattle.songcode.specs.Answer.Chords.{spelling_of}
 use Rattle.songcode.specs.Description.Layout.{field}
@@ -12,8 +12,8 @@ use Rattle.player.specs.Texts.{row_words}
 
 -- What a beat sounds, by its letters; `_` for silence.
 unfoldable pub letters_at : List ℕ → ℕ → List ℕ
-unfolding if◌then◌else◌ ascii spelling_of field stretch_at
-letters_at s w = if ltb 33 (field 26 6 w) then ascii "_" else (spelling_of (field 26 6 w) ++ stretch_at 10 16 5 5 s w)
+unfolding provided◌then◌else◌ ascii spelling_of field stretch_at
+letters_at s w = provided ltb 33 (field 26 6 w) then ascii "_" else (spelling_of (field 26 6 w) ++ stretch_at 10 16 5 5 s w)
 
 -- "one space parts positions": it stands before every position but the first; the positions of a line from one on.
 unfoldable pub gap : ℕ → List ℕ

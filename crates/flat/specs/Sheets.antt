@@ -1,6 +1,6 @@
 -- A sheet: the lent buffer and how many bytes were written on it. A copy of more than 65,536 bytes is refused, so the count stops there.
 use Rattle.std.specs.Prelude.{ℕ, ◌+◌, ◌≡◌, List, [], ◌∷◌, ltb, set}
-use Rattle.songcode.specs.Lists.{if◌then◌else◌}
+use Rattle.songcode.specs.Lists.{provided◌then◌else◌}
 use Rattle.songcode.specs.Answer.Answer.{most_bytes}
 
 pub record Sheet : Type 0 where
@@ -9,8 +9,8 @@ pub record Sheet : Type 0 where
 
 -- A byte behind those that were written; nothing is stored past the buffer's end.
 unfoldable pub put_one : ℕ → Sheet → Sheet
-unfolding if◌then◌else◌ most_bytes
-put_one b x = if ltb most_bytes x.at then x else record { copy = set x.copy x.at b; at = x.at + 1 }
+unfolding provided◌then◌else◌ most_bytes
+put_one b x = provided ltb most_bytes x.at then x else record { copy = set x.copy x.at b; at = x.at + 1 }
 
 unfoldable pub puts : List ℕ → Sheet → Sheet
 unfolding put_one

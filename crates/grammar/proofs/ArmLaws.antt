@@ -1,7 +1,7 @@
 -- Steps of the check: one that leads nowhere, one that leads on, and those of a check that is spoiled.
 use mathlib.Core.Path.{◌≡◌, refl, sym, ap, ◌∙◌}
 use mathlib.Core.Bool.{Bool, true, false}
-use Rattle.songcode.specs.Lists.{if◌then◌else◌}
+use Rattle.songcode.specs.Lists.{provided◌then◌else◌}
 use Rattle.grammar.specs.declared.kinds.Kind.{Kind}
 use Rattle.grammar.specs.declared.kinds.Kind.TheVariants.{Sound, Remover, Reference, Semicolon, Colon, LineEnd, Opens, Closes, Wrong}
 use Rattle.grammar.specs.declared.checks.Place.{Place}
@@ -13,11 +13,11 @@ use Rattle.grammar.specs.Checks.{spoiled, is_bad, arrived, check_step}
 -- A step that leads nowhere, and one that leads on.
 module _ (c : Check) (k : Kind) {r : Check} {p : Place} {b : Bool} (is : b ≡ is_bad p) (next : p ≡ next_place c.place k) where
   pub step_bad : b ≡ true → r ≡ spoiled → r ≡ check_step c k
-  unfolding check_step if◌then◌else◌
+  unfolding check_step provided◌then◌else◌
   step_bad t h = let e : is_bad (next_place c.place k) ≡ true = ap is_bad (sym next) ∙ (sym is ∙ t) in rw e h
 
   pub step_on : b ≡ false → r ≡ arrived c p k → r ≡ check_step c k
-  unfolding check_step if◌then◌else◌
+  unfolding check_step provided◌then◌else◌
   step_on t h =
       let e : is_bad (next_place c.place k) ≡ false = ap is_bad (sym next) ∙ (sym is ∙ t) in
       rw e (h ∙ ap (λ (q : Place). arrived c q k) next)

@@ -6,7 +6,7 @@ use mathlib.Core.Bool.{Bool, true, false, ◌||◌}
 use native.Mathlib.Omega.{arith}
 use borrow.Author.Tests.{ne_eqb}
 use lib.Dec.{eqb, leb}
-use Rattle.songcode.specs.Lists.{if◌then◌else◌, any}
+use Rattle.songcode.specs.Lists.{provided◌then◌else◌, any}
 use Rattle.songcode.specs.Song.{silence}
 use Rattle.songcode.specs.Answer.Tokens.{Token, sound, closes}
 use Rattle.songcode.specs.Answer.PatternText.{loops_deep}
@@ -74,7 +74,7 @@ abbrev Ends : Bool → Check → Type 0
 Ends b c = (definition_fine c ≡ true) × (c.named ≡ b)
 
 closes_one : (p : Place) (n : ℕ) (b : Bool) → is_behind p ≡ true → check_step (check p (suc n) b) Closes ≡ check Full n b
-unfolding check_step arrived closed if◌then◌else◌
+unfolding check_step arrived closed provided◌then◌else◌
 closes_one Sounds n b h = let e : suc n - 1 ≡ n = omega arith in rw (ne_eqb (suc n) 0 (λ z. omega arith), e) refl
 closes_one Removed n b h = let e : suc n - 1 ≡ n = omega arith in rw (ne_eqb (suc n) 0 (λ z. omega arith), e) refl
 closes_one Alone n b h = let e : suc n - 1 ≡ n = omega arith in rw (ne_eqb (suc n) 0 (λ z. omega arith), e) refl
@@ -91,7 +91,7 @@ closes_all zero p b h = (rw h refl, refl)
 closes_all (suc n) p b h = subst (λ (d : Check). Ends b (check_run d (kinds_of (loop_ends n)))) (sym (closes_one p n b h)) (closes_all n Full b refl)
 
 pub ended_rightly : (c : Check) → is_bad c.place ≡ false → Ends c.named (check_run c (kinds_of (ending_tokens c)))
-unfolding ending_tokens item_for check_run kinds_of kind_of check_step arrived if◌then◌else◌
+unfolding ending_tokens item_for check_run kinds_of kind_of check_step arrived provided◌then◌else◌
 ended_rightly c h = go c.place c.loops c.named h
   where
     go : (p : Place) (n : ℕ) (b : Bool) → is_bad p ≡ false → Ends b (check_run (check p n b) (kinds_of (ending_tokens (check p n b))))
@@ -110,7 +110,7 @@ unfoldable pub is_ruined : Check → Bool
 is_ruined c = is_bad c.place || c.named
 
 bad_step : (c : Check) (k : Kind) → is_bad c.place ≡ true → is_bad (check_step c k).place ≡ true
-unfolding check_step if◌then◌else◌
+unfolding check_step provided◌then◌else◌
 bad_step c k h = go c.place c.loops c.named h
   where
     at_bad : (n : ℕ) (b : Bool) (j : Kind) → is_bad (check_step (check Bad n b) j).place ≡ true
@@ -155,11 +155,11 @@ or_true true = refl
 or_true false = refl
 
 named_opened : (c : Check) → c.named ≡ true → is_ruined (opened c) ≡ true
-unfolding opened if◌then◌else◌ is_ruined
+unfolding opened provided◌then◌else◌ is_ruined
 named_opened c h = by_cases (leb loops_deep c.loops) (λ t. simp t) (λ t. simp (t, h))
 
 named_closed : (c : Check) → c.named ≡ true → is_ruined (closed c) ≡ true
-unfolding closed if◌then◌else◌ is_ruined
+unfolding closed provided◌then◌else◌ is_ruined
 named_closed c h = by_cases (eqb c.loops 0) (λ t. simp t) (λ t. simp (t, h))
 
 named_arrived : (c : Check) (p : Place) → c.named ≡ true → (k : Kind) → is_ruined (arrived c p k) ≡ true
@@ -169,7 +169,7 @@ named_arrived c p h =
     of_kind (λ k. is_ruined (arrived c p k) ≡ true) m m (or_true (is_bad p)) m m m (named_opened c h) (named_closed c h) m
 
 named_step : (c : Check) (k : Kind) → c.named ≡ true → is_ruined (check_step c k) ≡ true
-unfolding check_step if◌then◌else◌ is_ruined
+unfolding check_step provided◌then◌else◌ is_ruined
 named_step c k h = by_cases (is_bad (next_place c.place k)) (λ t. simp t) (λ t. simp t (named_arrived c (next_place c.place k) h k))
 
 ruined_by : (c : Check) {P : Type 0} → is_ruined c ≡ true → (is_bad c.place ≡ true → P) → (c.named ≡ true → P) → P
@@ -224,7 +224,7 @@ passed_arrived c p h =
     of_kind (λ k. Passed (arrived c p k).place) h h h h h h (passed_late _ (late_opened c)) (passed_late _ (late_closed c)) h
 
 passed_step : (c : Check) (k : Kind) → Passed (check_step c k).place
-unfolding check_step if◌then◌else◌ is_late
+unfolding check_step provided◌then◌else◌ is_late
 passed_step c k =
     by_cases (is_bad (next_place c.place k)) (λ t. simp t) (λ t. simp t (passed_arrived c (next_place c.place k) (passed_place c.place k) k))
 

@@ -5,7 +5,7 @@ use mathlib.Core.List.{List, [], ◌∷◌}
 use mathlib.Core.Bool.{Bool, true, false}
 use native.Mathlib.Omega.{arith}
 use lib.Dec.{eqb, leb}
-use Rattle.songcode.specs.Lists.{if◌then◌else◌, is_some}
+use Rattle.songcode.specs.Lists.{provided◌then◌else◌, is_some}
 use Rattle.songcode.specs.Answer.Tokens.{Token, sound, remover, reference, semicolon, colon, line_end, opens, closes, wrong}
 use Rattle.songcode.specs.Answer.PatternText.{whole_reference, loops_deep}
 use Rattle.songcode.proofs.ListLaws.{by_cases}
@@ -35,11 +35,11 @@ abbrev Late : Check → Type 0
 Late c = is_late c.place ≡ true
 
 pub late_opened : (c : Check) → Late (opened c)
-unfolding opened if◌then◌else◌ is_late
+unfolding opened provided◌then◌else◌ is_late
 late_opened c = by_cases (leb loops_deep c.loops) (λ t. simp t) (λ t. simp t)
 
 pub late_closed : (c : Check) → Late (closed c)
-unfolding closed if◌then◌else◌ is_late
+unfolding closed provided◌then◌else◌ is_late
 late_closed c = by_cases (eqb c.loops 0) (λ t. simp t) (λ t. simp t)
 
 late_arrived : (c : Check) (p : Place) → is_late p ≡ true → (k : Kind) → Late (arrived c p k)
@@ -48,7 +48,7 @@ late_arrived c p h = of_kind (λ k. Late (arrived c p k)) h h h h h h (late_open
 
 -- A step that leads to a late place, or nowhere, leads to a late check.
 late_step : (c : Check) (k : Kind) → is_late (next_place c.place k) ≡ true → Late (check_step c k)
-unfolding check_step if◌then◌else◌ is_late
+unfolding check_step provided◌then◌else◌ is_late
 late_step c k h = by_cases (is_bad (next_place c.place k)) (λ t. simp t) (λ t. simp t (late_arrived c (next_place c.place k) h k))
 
 alone_late : (k : Kind) → is_late (next_place Alone k) ≡ true

@@ -5,7 +5,7 @@ use mathlib.Core.List.{List, [], ◌∷◌}
 use mathlib.Core.Bool.{true, false}
 use native.Mathlib.Omega.{arith}
 use lib.ListN.{length}
-use Rattle.songcode.specs.Lists.{if◌then◌else◌, is_some, any}
+use Rattle.songcode.specs.Lists.{provided◌then◌else◌, is_some, any}
 use Rattle.songcode.specs.Bytes.{Byte, placed}
 use Rattle.songcode.specs.Answer.Tokens.{tokens}
 use Rattle.songcode.specs.Answer.Tokens as songcode
@@ -58,9 +58,9 @@ module _ (c : Check) (s : List ℕ) (at to : ℕ) (p : at ≤ to) (q : to ≤ le
 
 -- Lead-ins and tails.
 pub side_barred : (bs : List Byte) → any barred bs ≡ true → is_some (side_text bs) ≡ false
-unfolding side_text is_some if◌then◌else◌
+unfolding side_text is_some provided◌then◌else◌
 side_barred bs h = rw h refl
 
 pub side_fine : (bs : List Byte) → any barred bs ≡ false → is_some (side_text bs) ≡ unnamed_fine (check_text first bs)
-unfolding side_text if◌then◌else◌
+unfolding side_text provided◌then◌else◌
 side_fine bs h = rw h (sym (unnamed_fine_lem (tokens bs)))

@@ -8,7 +8,7 @@ use native.Mathlib.Omega.{arith}
 use borrow.Author.Tests.{le-leb, lt-leb, leb-true, leb-false, ne_eqb}
 use lib.Dec.{leb}
 use lib.ListN.{length}
-use Rattle.songcode.specs.Lists.{if◌then◌else◌, is_empty}
+use Rattle.songcode.specs.Lists.{provided◌then◌else◌, is_empty}
 use Rattle.songcode.specs.Song.{Separator, Measure, Item, measure, loop, refer}
 use Rattle.songcode.specs.Answer.PatternText.{Begun, start, more, add, depth_i, depth, loops_deep, references_i, references}
 use Rattle.songcode.proofs.ListLaws.{by_cases}
@@ -23,26 +23,26 @@ use Rattle.grammar.proofs.ArmLaws.{stays_spoiled}
 
 -- Up to the limit a check is itself, and past it spoiled.
 pub within_limit : (d : ℕ) (c : Check) → d ≤ loops_deep → within d c ≡ c
-unfolding within if◌then◌else◌
+unfolding within provided◌then◌else◌
 within_limit d c h = simp (le-leb _ _ h)
 
 pub past_limit : (d : ℕ) (c : Check) → loops_deep < d → within d c ≡ spoiled
-unfolding within if◌then◌else◌
+unfolding within provided◌then◌else◌
 past_limit d c h = simp (lt-leb _ _ h)
 
 pub by_limit : {X : Type 0} (d : ℕ) → (d ≤ loops_deep → X) → (loops_deep < d → X) → X
 by_limit d f g = by_cases (leb d loops_deep) (λ t. f (leb-true _ _ t)) (λ t. g (leb-false _ _ t))
 
 opens_within : (p : Place) (n : ℕ) (b : Bool) → n < loops_deep → opened (check p n b) ≡ check Wants (suc n) b
-unfolding opened if◌then◌else◌
+unfolding opened provided◌then◌else◌
 opens_within p n b h = simp (lt-leb _ _ h, add-one)
 
 opens_past : (p : Place) (n : ℕ) (b : Bool) → loops_deep ≤ n → opened (check p n b) ≡ spoiled
-unfolding opened if◌then◌else◌
+unfolding opened provided◌then◌else◌
 opens_past p n b h = simp (le-leb _ _ h)
 
 closes_one : (p : Place) (n : ℕ) (b : Bool) → closed (check p (suc n) b) ≡ check Full n b
-unfolding closed if◌then◌else◌
+unfolding closed provided◌then◌else◌
 closes_one p n b = let e : suc n - 1 ≡ n = omega arith in simp (ne_eqb (suc n) 0 (λ z. omega arith), e)
 
 -- What a step does to a check, it does to it within the limit: a check that is spoiled stays so.
@@ -132,5 +132,5 @@ module _ (p : Place) (r : Begun) (i : Item) (h : (n : ℕ) (b : Bool) → closed
       (step_within _ _ Closes _ (sym (closes_one p (length os) _) ∙ h (suc (length os)) _))
 
   pub none_closed : spoiled ≡ check_step (check_item p r [] i) Closes
-  unfolding check_item closed if◌then◌else◌
+  unfolding check_item closed provided◌then◌else◌
   none_closed = spoiled_within _ _ Closes (h 0 _)

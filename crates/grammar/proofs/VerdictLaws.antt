@@ -8,7 +8,7 @@ use native.Mathlib.Omega.{arith}
 use borrow.Author.Tests.{le-leb, lt-leb, ne_eqb}
 use lib.Dec.{leb}
 use lib.ListN.{length}
-use Rattle.songcode.specs.Lists.{if◌then◌else◌, is_empty, is_some}
+use Rattle.songcode.specs.Lists.{provided◌then◌else◌, is_empty, is_some}
 use Rattle.songcode.specs.Answer.Lines.{Line}
 use Rattle.songcode.specs.Song.{Item, Items, items}
 use Rattle.songcode.specs.Answer.Tokens.{Token, sound, remover, reference, semicolon, colon, line_end, opens, closes, wrong, tokens_of}
@@ -55,7 +55,7 @@ module _ (test : Bool → Bool) where
       (λ l. rw (past_limit d (check p 0 b) l, lt-leb d loops_deep l) refl)
 
   kept_some : (r : Items) → is_some (kept (λ q. test (is_empty (references q))) r) ≡ (leb (depth r) loops_deep && test (is_empty (references r)))
-  unfolding kept if◌then◌else◌ is_some
+  unfolding kept provided◌then◌else◌ is_some
   kept_some r = by_cases (leb (depth r) loops_deep && test (is_empty (references r))) (λ t. simp t) (λ t. simp t)
 
   whole_row : (p : Place) (r : Begun) (i : Item) → is_behind p ≡ true

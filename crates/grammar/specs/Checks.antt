@@ -1,6 +1,6 @@
 -- The check of a pattern text, stepped by the kinds of its tokens.
 use Rattle.std.specs.Prelude.{ℕ, ◌+◌, ◌-◌, List, [], ◌∷◌, Bool, true, false, eqb, leb}
-use Rattle.songcode.specs.Lists.{if◌then◌else◌}
+use Rattle.songcode.specs.Lists.{provided◌then◌else◌}
 use Rattle.songcode.specs.Bytes.{Byte}
 use Rattle.songcode.specs.Answer.Lines.{Line}
 use Rattle.songcode.specs.Answer.Tokens.{tokens, tokens_of}
@@ -31,12 +31,12 @@ referred c p = check p c.loops true
 
 -- A loop that opens; in as many as may be open at once, none.
 unfoldable pub opened : Check → Check
-unfolding if◌then◌else◌
-opened c = if leb loops_deep c.loops then spoiled else check Wants (c.loops + 1) c.named
+unfolding provided◌then◌else◌
+opened c = provided leb loops_deep c.loops then spoiled else check Wants (c.loops + 1) c.named
 
 unfoldable pub closed : Check → Check
-unfolding if◌then◌else◌
-closed c = if eqb c.loops 0 then spoiled else check Full (c.loops - 1) c.named
+unfolding provided◌then◌else◌
+closed c = provided eqb c.loops 0 then spoiled else check Full (c.loops - 1) c.named
 
 -- The place of the last row.
 abbrev pub is_bad : Place → Bool
@@ -57,8 +57,8 @@ arrived c p Wrong = moved c p
 
 -- The check behind one more token, and behind several.
 unfoldable pub check_step : Check → Kind → Check
-unfolding if◌then◌else◌ arrived
-check_step c k = if is_bad (next_place c.place k) then spoiled else arrived c (next_place c.place k) k
+unfolding provided◌then◌else◌ arrived
+check_step c k = provided is_bad (next_place c.place k) then spoiled else arrived c (next_place c.place k) k
 
 unfoldable pub check_run : Check → List Kind → Check
 unfolding check_step

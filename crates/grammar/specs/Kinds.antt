@@ -1,6 +1,6 @@
 -- What a token is to the rules of pattern text; told of the token, and of its word.
 use Rattle.std.specs.Prelude.{ℕ, ◌-◌, ◌/◌, ◌^◌, List, [], ◌∷◌, ltb, get_or}
-use Rattle.songcode.specs.Lists.{if◌then◌else◌}
+use Rattle.songcode.specs.Lists.{provided◌then◌else◌}
 use Rattle.songcode.specs.Answer.Tokens.{Token, sound, remover, reference, semicolon, colon, line_end, opens, closes, wrong}
 use Rattle.grammar.specs.declared.kinds.Kind.{Kind}
 use Rattle.grammar.specs.declared.kinds.Kind.TheVariants.{Sound, Remover, Reference, Semicolon, Colon, LineEnd, Opens, Closes, Wrong}
@@ -27,8 +27,8 @@ abbrev pub signs : List Kind
 signs = Reference ∷ Closes ∷ Opens ∷ LineEnd ∷ Colon ∷ Semicolon ∷ Remover ∷ Sound ∷ Sound ∷ []
 
 unfoldable pub sign_kind : ℕ → Kind
-unfolding if◌then◌else◌
-sign_kind n = if is_chord n then Sound else if ltb n 55 then Wrong else get_or signs (n - 55) Sound
+unfolding provided◌then◌else◌
+sign_kind n = provided is_chord n then Sound else provided ltb n 55 then Wrong else get_or signs (n - 55) Sound
 
 unfoldable pub word_kind : ℕ → Kind
 unfolding sign_kind

@@ -1,6 +1,6 @@
 -- What the check keeps of a reading of pattern text.
 use Rattle.std.specs.Prelude.{ℕ, zero, suc, ◌+◌, max, List, [], ◌∷◌, ◌++◌, not, leb, length}
-use Rattle.songcode.specs.Lists.{if◌then◌else◌, is_empty}
+use Rattle.songcode.specs.Lists.{provided◌then◌else◌, is_empty}
 use Rattle.songcode.specs.Song.{nothing, a_line_end, by_semicolon, by_line_end, by_colon, Item, measure, loop, refer}
 use Rattle.songcode.specs.Answer.PatternText.{Begun, start, more, State, wants, has, ended, bad, depth_i, depth, loops_deep, references_i, references}
 use Rattle.grammar.specs.declared.checks.Place.{Place}
@@ -54,8 +54,8 @@ references_rows (r ∷ os) = references_rows os ++ references_begun r
 
 -- A check, if loops do not stand too deep in loops.
 unfoldable pub within : ℕ → Check → Check
-unfolding if◌then◌else◌
-within d c = if leb d loops_deep then c else spoiled
+unfolding provided◌then◌else◌
+within d c = provided leb d loops_deep then c else spoiled
 
 -- What the check is at a place in rows, in front of an item or with one.
 unfoldable pub check_rows : Place → Begun → List Begun → Check

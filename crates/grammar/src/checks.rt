@@ -10,7 +10,7 @@ use tokens::LOOPS_DEEP;
 // Fresh: nothing was read. Wants: an item is to come. Joins: so it is, behind a `:` that a line end may still join.
 // Sounds: in a measure; Removed: in one with removers. Alone: behind a `$n` that is all there was. Full: behind a loop or a `$n`.
 // Ended: behind an item and a line end. Bad: against the rules.
-#[derive(Drop)]
+#[derive(Clone, Copy)]
 pub enum Place {
     Fresh,
     Wants,
@@ -24,7 +24,7 @@ pub enum Place {
 }
 
 // A place, whether a `$n` was read, and how many loops are open. (Small fields together: a gap of seven bytes behind one is slow to copy.)
-#[derive(Drop)]
+#[derive(Clone, Copy)]
 pub struct Check {
     pub place: Place,
     pub named: bool,

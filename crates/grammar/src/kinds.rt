@@ -6,7 +6,7 @@ use tokens::{
     AGAIN, CHORDS, CLOSES, COLON, LINE_END, OPENS, REFERENCE, REMOVER, SEMICOLON, SILENCE, kind,
 };
 
-#[derive(Drop)]
+#[derive(Clone, Copy)]
 pub enum Kind {
     Sound,
     Remover,

@@ -9,7 +9,7 @@ use native.Mathlib.Nat.{mul-le-mul}
 use lib.Dec.{eqb}
 use lib.ListN.{length}
 use borrow.Author.Tests.{eq-eqb, ne_eqb, eqb-true, eqb-false}
-use Rattle.songcode.specs.Lists.{if◌then◌else◌, is_empty, times}
+use Rattle.songcode.specs.Lists.{provided◌then◌else◌, is_empty, times}
 use Rattle.songcode.specs.Complaints.{complain_if}
 use Rattle.songcode.specs.Song.{Cut, Items, Beat}
 use Rattle.songcode.specs.Song as song
@@ -98,7 +98,7 @@ module _ (ws : List ℕ) (n header : ℕ) (ms : song.Modifiers) (m : Modifiers) 
     (front : m.front ≡ cut_is ms.cut_start) (back : m.back ≡ cut_is ms.cut_end) where
   row_cut : (r : Items) → Carries ws t.pattern (some r) → 1 ≤ n → all_fit n r ≡ true → has_cut m ≡ true
       → cut_away ws n m t ≡ is_empty (kept_measures n ms (some r))
-  unfolding Carries cut_away kept_measures if◌then◌else◌
+  unfolding Carries cut_away kept_measures provided◌then◌else◌
   row_cut r w one fit e =
       let row = measures_of n none r in
       rw (w.0, e, front, back, cut_said_lem ms.cut_start, cut_said_lem ms.cut_end, often, w.2 n)
@@ -107,7 +107,7 @@ module _ (ws : List ℕ) (n header : ℕ) (ms : song.Modifiers) (m : Modifiers) 
 
   row_uncut : (r : Items) → Carries ws t.pattern (some r) → has_cut m ≡ false
       → cut_away ws n m t ≡ is_empty (kept_measures n ms (some r))
-  unfolding Carries cut_away kept_measures cut_row applied has_cut if◌then◌else◌
+  unfolding Carries cut_away kept_measures cut_row applied has_cut provided◌then◌else◌
   row_uncut r w e =
       let q = none_passes (read_cut m.front) (read_cut m.back) e in
       let f = no_cut ms.cut_start (ap read_cut (sym front) ∙ q.0) in
@@ -117,7 +117,7 @@ module _ (ws : List ℕ) (n header : ℕ) (ms : song.Modifiers) (m : Modifiers) 
   pub cut_away_is : (o : Option Items) → Carries ws t.pattern o → 1 ≤ n
       → ((r : Items) → o ≡ some r → all_fit n r ≡ true) → is_modified m ≡ any_said ms
       → cut_faults n header ms o ≡ complain_if (cut_away ws n m t) 15 header
-  unfolding Carries cut_faults cut_away vacant if◌then◌else◌
+  unfolding Carries cut_faults cut_away vacant provided◌then◌else◌
   cut_away_is none w one fit changed = let e : t.pattern.outline.empty ≡ true = ap (λ (x : Outline). x.empty) w.0 in rw (e, changed)
   cut_away_is (some r) w one fit changed =
       ap (λ b. complain_if b 15 header) (sym (by_cases (has_cut m) (λ e. row_cut r w one (fit r refl) e) (λ e. row_uncut r w e)))

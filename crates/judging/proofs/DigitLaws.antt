@@ -8,7 +8,7 @@ use borrow.Author.Tests.{lt-ltb, le-ltb, ltb-true, ltb-false}
 use lib.Dec.{ltb}
 use lib.ListN.{length, drop, length-append, length-drop}
 use lib.Seq.{drop_at}
-use Rattle.songcode.specs.Lists.{if◌then◌else◌}
+use Rattle.songcode.specs.Lists.{provided◌then◌else◌}
 use Rattle.songcode.specs.Bytes.{Byte}
 use Rattle.songcode.specs.Apart.{Decimal, digit, more_digits}
 use Rattle.songcode.specs.Seams.{number_written}
@@ -23,10 +23,10 @@ use Rattle.songcode.proofs.SeamsHold.{seams_hold}
 
 -- As the code tells them apart.
 abbrev pub digit_count : ℕ → ℕ
-digit_count n = if ltb n 10 then 1 else (if ltb n 100 then 2 else (if ltb n 1000 then 3 else 4))
+digit_count n = provided ltb n 10 then 1 else (provided ltb n 100 then 2 else (provided ltb n 1000 then 3 else 4))
 
 one_more_lem : (n d : ℕ) → 1 ≤ n → d < 10 → n * 10 + d ≤ 9999 → digit_count (n * 10 + d) ≡ digit_count n + 1
-unfolding if◌then◌else◌
+unfolding provided◌then◌else◌
 one_more_lem n d low h few =
     let a : 10 ≤ n * 10 + d = omega arith in
     by_cases (ltb n 10)
@@ -47,7 +47,7 @@ one_more_lem n d low h few =
     rw (e, f, lt-ltb n 1000 m, le-ltb (n * 10 + d) 10 a, le-ltb (n * 10 + d) 100 b, le-ltb (n * 10 + d) 1000 c) refl))
 
 decimal_length : {ds : List Byte} {n : ℕ} → Decimal ds n → n ≤ 9999 → length ds ≡ digit_count n
-unfolding if◌then◌else◌
+unfolding provided◌then◌else◌
 decimal_length (digit b d h e) few = rw (lt-ltb d 10 h) refl
 decimal_length (more_digits {ds} {zs} {n} b d k low h e z) few =
     let i = decimal_length k (omega arith) in

@@ -7,7 +7,7 @@ use mathlib.Core.Option.{Option, none, some, bind}
 use native.Mathlib.Omega.{arith}
 use lib.Dec.{eqb}
 use borrow.Author.Tests.{eq-eqb}
-use Rattle.songcode.specs.Lists.{if◌then◌else◌, when}
+use Rattle.songcode.specs.Lists.{provided◌then◌else◌, when}
 use Rattle.songcode.specs.Bytes.{placed}
 use Rattle.songcode.specs.Complaints.{Complaint, complain_if}
 use Rattle.songcode.specs.Song.{Items, Section, Song, Side}
@@ -53,7 +53,7 @@ carried_fault ws t (some r) n line w a b = told_fault t.outline n line r w.1 a b
 
 -- A lead-in or tail is on the line of its setting.
 pub side_line_lem : (s : List ℕ) (r : Said) {o : Option Side} → bind (setting_at s r) side_said ≡ o → (x : Side) → o ≡ some x → x.line ≡ r.line
-unfolding setting_at side_said side_on bind if◌then◌else◌
+unfolding setting_at side_said side_on bind provided◌then◌else◌
 side_line_lem s r e x h =
     by_cases (eqb r.line 0)
     (λ t. let z : none ≡ some x = rw t at (e ∙ h) in none_some refl z)

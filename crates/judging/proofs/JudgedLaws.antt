@@ -4,7 +4,7 @@ use Prim.Native.Nat.{ℕ, ◌≤◌, min}
 use mathlib.Core.Path.{◌≡◌, refl, sym, ap, ◌∙◌}
 use mathlib.Core.List.{List, [], ◌∷◌, ◌++◌, append_assoc, append-nil, flat_map}
 use lib.ListN.{length}
-use Rattle.songcode.specs.Lists.{if◌then◌else◌}
+use Rattle.songcode.specs.Lists.{provided◌then◌else◌}
 use Rattle.songcode.specs.Complaints.{Complaint}
 use Rattle.songcode.specs.Song.{Section}
 use Rattle.songcode.specs.Answer.Playing.{time_among}
@@ -51,7 +51,7 @@ module _ (s : List ℕ) (p : Place) (best f : ℕ) (e : f ≡ least (section_met
 
   -- Where nothing is complained of up to a section's end, nothing was before it, and nothing is of it.
   pub judged_clear : (refusal_at (min best f)).number ≡ 0 → ((refusal_at best).number ≡ 0) × (here ≡ [])
-  unfolding Judged least refusal_at if◌then◌else◌
+  unfolding Judged least refusal_at provided◌then◌else◌
   judged_clear z =
       let done = w.0 in
       let same : least (done ++ here) ≡ min best f = least_append done here ∙ rw (w.1, e) refl in

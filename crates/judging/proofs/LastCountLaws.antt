@@ -10,7 +10,7 @@ use borrow.Author.Tests.{ne_eqb, leb-true, ltb-true, ltb-false}
 use lib.Dec.{leb, ltb}
 use lib.ListN.{length, take, drop, get_or, length-append, length-take, length-drop}
 use lib.Seq.{take_at}
-use Rattle.songcode.specs.Lists.{if◌then◌else◌}
+use Rattle.songcode.specs.Lists.{provided◌then◌else◌}
 use Rattle.songcode.specs.Bytes.{Byte, values, ascii, begins, placed, is_blank}
 use Rattle.songcode.specs.Song.{LyricLine, Section}
 use Rattle.songcode.specs.Seams.{number_written}
@@ -65,7 +65,7 @@ seven mark bs e = leb-true 7 (length bs) (both_pass (begins mark (values bs) && 
 
 styled_offset : (a : ℕ) (w : List ℕ) → 0 < length w
     → (a ≤ offset (styled (placed a w)).text) × (offset (styled (placed a w)).text < a + length w)
-unfolding styled if◌then◌else◌
+unfolding styled provided◌then◌else◌
 styled_offset a w h =
     let l = length_placed a w in
     by_cases (bracketed (ascii "***") (placed a w)) (λ e. rw e (marked (ascii "***") e))
@@ -187,7 +187,7 @@ module _ (s : List ℕ) (n at : ℕ) where
   here = lyric_line (line_text s (line_at s n at))
 
   tells_here : (t : Lyric) (c : LastCount) → Tells s t c → LyricFits here → Tells s (later_of t (seen here)) (count_place c here (count_of here))
-  unfolding lyric_line line_of LyricFits later_of if◌then◌else◌ count_place count_of count_ending
+  unfolding lyric_line line_of LyricFits later_of provided◌then◌else◌ count_place count_of count_ending
   tells_here t c old f = by (count_of here) refl
     where
       by : (o : Option ℕ) → count_of here ≡ o → Tells s (later_of t (seen here)) (count_place c here (count_of here))

@@ -7,7 +7,7 @@ use mathlib.Core.Option.{Option, none, some}
 use native.Mathlib.Omega.{arith}
 use lib.Dec.{leb, ltb}
 use borrow.Author.Tests.{le-leb, le-ltb, lt-ltb, eq-eqb}
-use Rattle.songcode.specs.Lists.{if◌then◌else◌, is_empty, when}
+use Rattle.songcode.specs.Lists.{provided◌then◌else◌, is_empty, when}
 use Rattle.songcode.specs.Complaints.{complaint, complain_if, goes_first, earlier, earliest}
 use Rattle.songcode.specs.Song.{Items, Section, Song, Modifiers}
 use Rattle.songcode.specs.Answer.References.{pattern_items}
@@ -46,7 +46,7 @@ length_behind song line sofar (x ∷ xs) w =
     (length_behind song line (sofar + section_count song x) xs w.1)
 
 passing_first : (b : Bool) (line : ℕ) → refusal_of (earliest (complaint 14 line ∷ complain_if b 15 line)) ≡ record { number = 14; line = line }
-unfolding refusal_of earliest earlier goes_first complain_if when if◌then◌else◌
+unfolding refusal_of earliest earlier goes_first complain_if when provided◌then◌else◌
 passing_first true line = rw (le-ltb line line (omega arith), eq-eqb line line refl)
 passing_first false line = refl
 

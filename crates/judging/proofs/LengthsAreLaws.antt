@@ -8,7 +8,7 @@ use native.Mathlib.Omega.{arith}
 use lib.Dec.{eqb, ltb}
 use lib.ListN.{length}
 use borrow.Author.Tests.{eq-eqb, ne_eqb, eqb-true, eqb-false, ltb-true, ltb-false}
-use Rattle.songcode.specs.Lists.{if◌then◌else◌}
+use Rattle.songcode.specs.Lists.{provided◌then◌else◌}
 use Rattle.songcode.specs.Complaints.{earliest}
 use Rattle.songcode.specs.Answer.Playing.{time_among}
 use Rattle.songcode.specs.Answer.Meter.{meter_faults, length_faults}
@@ -49,7 +49,7 @@ lengths_end s p x h w e = ⊎_elim (λ a. a.0 ∙ measured_end s p x.measures h 
 -- Where nothing is refused up to a section's end, nothing was before it, and its measures are added.
 pub lengths_added : (ws : List ℕ) (n header : ℕ) (m : Modifiers) (t : Texts) (x : Lengths) → (with_lengths ws n header m t x).refusal.number ≡ 0
     → (x.refusal.number ≡ 0) × ((with_lengths ws n header m t x).measures ≡ x.measures + count_of_texts m t)
-unfolding with_lengths if◌then◌else◌
+unfolding with_lengths provided◌then◌else◌
 lengths_added ws n header m t x h =
     by_cases (eqb x.refusal.number 0)
     (λ e. (eqb-true x.refusal.number 0 e, rw e))
@@ -72,7 +72,7 @@ module _ (s ws : List ℕ) (p : Place) (r : Opened) (w : Opens s p ws r) {time :
 
   fault_next : x.measures ≤ 65535 → (meter_faults (song_of s) ≡ [] → Measured s p x.measures)
       → next (length_fault ws n r.section.header m r.texts all)
-  unfolding LengthsAre length_fault if◌then◌else◌
+  unfolding LengthsAre length_fault provided◌then◌else◌
   fault_next small measured =
       by_cases (ltb 65535 all)
       (λ e. rw e (inr (
@@ -86,7 +86,7 @@ module _ (s ws : List ℕ) (p : Place) (r : Opened) (w : Opens s p ws r) {time :
       (λ c. rw (e, c) (inl (refl, few, (λ f. opened_on s ws p r w t o inside x.measures small (measured f) few c)))))
 
   pub lengths_next : LengthsAre s p x → LengthsAre s r.next (with_lengths ws n r.section.header m r.texts x)
-  unfolding LengthsAre with_lengths if◌then◌else◌
+  unfolding LengthsAre with_lengths provided◌then◌else◌
   lengths_next =
       ⊎_elim
       (λ a. rw (eq-eqb x.refusal.number 0 (ap (λ (f : Refusal). f.number) a.0)) (fault_next a.1 a.2))

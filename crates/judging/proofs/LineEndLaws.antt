@@ -6,7 +6,7 @@ use mathlib.Core.List.{List, [], ◌∷◌}
 use native.Mathlib.Omega.{arith}
 use lib.ListN.{length, take, drop, get_or, length-take, length-drop}
 use lib.Seq.{drop-drop}
-use Rattle.songcode.specs.Lists.{if◌then◌else◌}
+use Rattle.songcode.specs.Lists.{provided◌then◌else◌}
 use Rattle.songcode.proofs.ListLaws.{by_cases, drop_take}
 use Rattle.tokens.proofs.LineFitLaws.{line_rest}
 use Rattle.text.specs.Spans.{blank, line_length, front_blanks, grown, solid_length, line_of, line_at}
@@ -30,7 +30,7 @@ grown_blank (suc n) h = omega arith
 
 -- Behind the blanks in front what is solid ends where it ends.
 front_solid : (xs : List ℕ) → 0 < solid_length (drop (front_blanks xs) xs) → front_blanks xs + solid_length (drop (front_blanks xs) xs) ≡ solid_length xs
-unfolding front_blanks solid_length if◌then◌else◌
+unfolding front_blanks solid_length provided◌then◌else◌
 front_solid [] h = refl
 front_solid (b ∷ bs) h =
     by_cases (blank b)
@@ -41,13 +41,13 @@ front_solid (b ∷ bs) h =
     (λ e. rw e (rw e (omega arith)))
 
 solid_on : (xs : List ℕ) → 0 < solid_length xs → 0 < solid_length (drop (front_blanks xs) xs)
-unfolding front_blanks solid_length if◌then◌else◌
+unfolding front_blanks solid_length provided◌then◌else◌
 solid_on [] h = h
 solid_on (b ∷ bs) h =
     by_cases (blank b) (λ e. rw e (solid_on bs (grown_blank (solid_length bs) (rw e at h)))) (λ e. rw e h)
 
 first_plain : (xs : List ℕ) → 0 < length (drop (front_blanks xs) xs) → blank (get_or (drop (front_blanks xs) xs) 0 0) ≡ false
-unfolding front_blanks if◌then◌else◌
+unfolding front_blanks provided◌then◌else◌
 first_plain [] h = absurd (let z : ⊥ = omega arith in z)
 first_plain (b ∷ bs) h = by_cases (blank b) (λ e. rw e (first_plain bs (rw e at h))) (λ e. rw e e)
 

@@ -8,7 +8,7 @@ use native.Mathlib.Omega.{arith}
 use lib.Dec.{eqb}
 use lib.ListN.{length}
 use borrow.Author.Tests.{eq-eqb, ne_eqb, eqb-true}
-use Rattle.songcode.specs.Lists.{if◌then◌else◌, is_some}
+use Rattle.songcode.specs.Lists.{provided◌then◌else◌, is_some}
 use Rattle.songcode.specs.Answer.Lines.{Block, blocks}
 use Rattle.songcode.specs.Answer.Numbers.{repeat_in}
 use Rattle.songcode.specs.Song.{Cut, Modifier, Side}
@@ -40,11 +40,11 @@ use Rattle.laying.specs.Rows.{read_cut, has_cut}
 
 -- A place that is no line says nothing; one that says something is on a line.
 line_there : (s : List ℕ) (r : Said) {x : Side} → bind (setting_at s r) side_said ≡ some x → r.line ≡ 0 → ⊥
-unfolding setting_at bind if◌then◌else◌
+unfolding setting_at bind provided◌then◌else◌
 line_there s r {x} e z = let h : none ≡ some x = rw (eq-eqb r.line 0 z) at e in none_some refl h
 
 no_line : (s : List ℕ) (r : Said) → setting_at s r ≡ none → r.line ≡ 0
-unfolding setting_at if◌then◌else◌
+unfolding setting_at provided◌then◌else◌
 no_line s r e = by_cases (eqb r.line 0) (λ t. eqb-true r.line 0 t) (λ t. none_some (rw t at e) refl)
 
 cut_said_lem : {c : CutRead} (o : Option Cut) → c ≡ cut_is o → read_cut c ≡ is_some o

@@ -8,7 +8,7 @@ use native.Mathlib.Omega.{arith}
 use native.Mathlib.Nat.{le_refl}
 use lib.ListN.{length}
 use borrow.Author.Tests.{eq-eqb, ne_eqb}
-use Rattle.songcode.specs.Lists.{if◌then◌else◌, when}
+use Rattle.songcode.specs.Lists.{provided◌then◌else◌, when}
 use Rattle.songcode.specs.Complaints.{Complaint, complaint, complain_if, earliest, earlier}
 use Rattle.songcode.specs.Song.{Section, Song}
 use Rattle.songcode.specs.Answer.Lyrics.{has_counts, sum_fault, sum_faults}
@@ -53,7 +53,7 @@ off_start s p b = inl (refl, ap (flat_map (sum_fault (song_of s))) b.sections)
 
 pub off_next : {s ws : List ℕ} {p : Place} (x : Opened) → Opens s p ws x → Onward s p → (off : ℕ) (b : Bool) → b ≡ off_sum (song_of s) (section_at s p)
     → OffIs s p off → OffIs s x.next (off_with off b x.section.header)
-unfolding OffIs off_with if◌then◌else◌
+unfolding OffIs off_with provided◌then◌else◌
 off_next {s} {ws} {p} x o w off b e =
     ⊎_elim
     (λ a. rw (eq-eqb off 0 a.0) (by_cases b
@@ -75,7 +75,7 @@ off_next {s} {ws} {p} x o w off b e =
 -- Behind the last section, where it is known whether lines have counts.
 pub off_refusal : (s : List ℕ) (p : Place) (off : ℕ) (c : Bool) → length s ≤ p.at → c ≡ has_counts (song_of s) → OffIs s p off
     → off_fault c off ≡ refusal_of (earliest (sum_faults (song_of s)))
-unfolding OffIs off_fault sum_faults flat_map refusal_of earliest if◌then◌else◌
+unfolding OffIs off_fault sum_faults flat_map refusal_of earliest provided◌then◌else◌
 off_refusal s p off c h e w =
     by_cases (has_counts (song_of s))
     (λ t. rw (e, t) (⊎_elim

@@ -8,7 +8,7 @@ use native.Mathlib.Omega.{arith}
 use borrow.Author.Tests.{eqb-true, eqb-false}
 use lib.Dec.{eqb}
 use lib.ListN.{length}
-use Rattle.songcode.specs.Lists.{if◌then◌else◌, is_some}
+use Rattle.songcode.specs.Lists.{provided◌then◌else◌, is_some}
 use Rattle.songcode.specs.Complaints.{Complaint, complaint, earlier, earliest}
 use Rattle.songcode.specs.Song.{Pattern, items, named, Definition, Section}
 use Rattle.songcode.specs.Answer.References.{definition_of, named_fault, section_reference, definitions_references, reference_faults}
@@ -70,7 +70,7 @@ module _ (ds : List Definition) (header : ℕ) where
   -- What the code finds of a name.
   pub name_fault_lem : {s ws : List ℕ} → Told s ws → ds ≡ (song_of s).definitions → (x : Pattern) (k : ℕ) → Names x k
       → name_fault ws k header ≡ refusal_of (earliest (section_reference ds x header))
-  unfolding name_fault if◌then◌else◌
+  unfolding name_fault provided◌then◌else◌
   name_fault_lem {s} {ws} told e x k names =
       let there : is_missing ws k ≡ not (is_some (definition_of k ds)) = told.missing k ∙ ap (λ (d : List Definition). not (is_some (definition_of k d))) (sym e) in
       by_cases (eqb k 0)

@@ -8,7 +8,7 @@ use native.Mathlib.Omega.{arith}
 use borrow.Author.Tests.{eqb-true, eqb-false, ltb-false}
 use lib.Dec.{eqb, leb, ltb}
 use lib.ListN.{length}
-use Rattle.songcode.specs.Lists.{if◌then◌else◌, is_empty}
+use Rattle.songcode.specs.Lists.{provided◌then◌else◌, is_empty}
 use Rattle.songcode.specs.Complaints.{Complaint, complaint, complain_if, earliest, stage_or, verdict}
 use Rattle.songcode.specs.Song.{Items, Section, Song, LyricLine, Modifiers}
 use Rattle.songcode.specs.Answer.Playing.{time_of, kept_measures, played}
@@ -54,7 +54,7 @@ stage_none xs r h e z = refused_none xs h (ap (λ (q : Refusal). q.number) (sym 
 
 -- Of two stages the first that refuses, and of two groups of stages.
 pub given_none : (a b : Refusal) → (first_given a b).number ≡ 0 → (a.number ≡ 0) × (b.number ≡ 0)
-unfolding first_given if◌then◌else◌
+unfolding first_given provided◌then◌else◌
 given_none a b h =
     by_cases (eqb a.number 0)
     (λ t. (eqb-true a.number 0 t, rw t at h))
@@ -62,7 +62,7 @@ given_none a b h =
 
 pub two_stages : (xs ys : List Complaint) (a b : Refusal) → Each Numbered xs → a ≡ refusal_of (earliest xs) → (xs ≡ [] → b ≡ refusal_of (earliest ys))
     → first_given a b ≡ refusal_of (verdict (xs ∷ ys ∷ []))
-unfolding first_given if◌then◌else◌
+unfolding first_given provided◌then◌else◌
 two_stages xs ys a b h e g =
     by_cases (eqb a.number 0)
     (λ t.
@@ -72,7 +72,7 @@ two_stages xs ys a b h e g =
 
 pub groups_given : (xs ys : List (List Complaint)) (a b : Refusal) → a ≡ refusal_of (verdict xs)
     → (a.number ≡ 0 → (verdict xs ≡ none) × (b ≡ refusal_of (verdict ys))) → first_given a b ≡ refusal_of (verdict (xs ++ ys))
-unfolding first_given if◌then◌else◌ stage_or
+unfolding first_given provided◌then◌else◌ stage_or
 groups_given xs ys a b e g =
     by_cases (eqb a.number 0)
     (λ t.
@@ -86,19 +86,19 @@ unfolding flat_map Each
 numbered_gather f h [] = tt
 numbered_gather f h (x ∷ xs) = each_append Numbered (f x) (flat_map f xs) (h x) (numbered_gather f h xs)
 
-numbered_when : (b : Bool) (xs : List Complaint) → Each Numbered xs → Each Numbered (if b then xs else [])
-unfolding if◌then◌else◌ Each
+numbered_when : (b : Bool) (xs : List Complaint) → Each Numbered xs → Each Numbered (provided b then xs else [])
+unfolding provided◌then◌else◌ Each
 numbered_when true xs h = h
 numbered_when false xs h = tt
 
 pub numbered_input : (s : List ℕ) → Each Numbered (input_faults s)
-unfolding input_faults if◌then◌else◌ Each Numbered
+unfolding input_faults provided◌then◌else◌ Each Numbered
 numbered_input s = by_cases (ltb most_bytes (length s))
     (λ e. rw e (omega arith, tt))
     (λ e. rw e (numbered_if (ltb (good_bytes 0 s) (length s)) 2 (line_of_place (good_bytes 0 s) s) (omega arith)))
 
 pub input_small : (s : List ℕ) → input_faults s ≡ [] → length s ≤ 65536
-unfolding input_faults if◌then◌else◌ most_bytes
+unfolding input_faults provided◌then◌else◌ most_bytes
 input_small s h = by_cases (ltb 65536 (length s))
     (λ e. let z : complaint 1 0 ∷ [] ≡ [] = rw e at h in nil_is_not_cons (sym z))
     (λ e. ltb-false 65536 (length s) e)

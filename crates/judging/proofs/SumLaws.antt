@@ -8,7 +8,7 @@ use native.Mathlib.Omega.{arith}
 use lib.Dec.{eqb, ltb}
 use lib.ListN.{length, length-map, length-append}
 use borrow.Author.Tests.{ne_eqb}
-use Rattle.songcode.specs.Lists.{if◌then◌else◌, is_empty, is_some, every}
+use Rattle.songcode.specs.Lists.{provided◌then◌else◌, is_empty, is_some, every}
 use Rattle.songcode.specs.Song.{Items, LyricLine, Section, Song, Beat}
 use Rattle.songcode.specs.Answer.References.{pattern_items}
 use Rattle.songcode.specs.Answer.Playing.{played}
@@ -58,13 +58,13 @@ no_lines (l ∷ ls) = ne_eqb (suc (length ls)) 0 (λ z. let y : ⊥ = omega arit
 
 -- Every line that has a number from 1 on has a count where no line is bare.
 first_some : (a b : ℕ) → 1 ≤ a → eqb (first_line a b) 0 ≡ false
-unfolding first_line if◌then◌else◌
+unfolding first_line provided◌then◌else◌
 first_some a b h =
     let n : eqb a 0 ≡ false = ne_eqb a 0 (λ z. let y : ⊥ = omega arith in absurd y) in
     by_cases (eqb b 0) (λ e. rw (n, e) n) (λ e. by_cases (ltb b a) (λ f. rw (n, e, f) e) (λ f. rw (n, e, f) n))
 
 bare_none : (ls : List LyricLine) → Numbered ls → eqb (bare_line ls) 0 ≡ every is_counted ls
-unfolding bare_line every if◌then◌else◌ Each
+unfolding bare_line every provided◌then◌else◌ Each
 bare_none [] h = refl
 bare_none (l ∷ ls) h =
     by_cases (is_counted l)
@@ -209,7 +209,7 @@ prompted_parts s x e =
     (b.0, b.1, a.1)
 
 pub all_taken : (s : Song) (xs : List Section) → every (is_prompted s) xs ≡ true → taken_from s xs ≡ flat_map lyrics_of xs
-unfolding flat_map every if◌then◌else◌ lyrics_of
+unfolding flat_map every provided◌then◌else◌ lyrics_of
 all_taken s [] e = refl
 all_taken s (x ∷ xs) e =
     let a = both_pass (is_prompted s x) (every (is_prompted s) xs) e in
@@ -219,8 +219,8 @@ pub all_prompted : (s : Song) → has_items s ≡ true → every (is_prompted s)
 unfolding has_items
 all_prompted s e = e
 
-items_length : (s : Song) → length (map item_word (prompts s)) ≡ (if has_items s then length (flat_map lyrics_of s.sections) else 0)
-unfolding prompts if◌then◌else◌ lines_taken
+items_length : (s : Song) → length (map item_word (prompts s)) ≡ (provided has_items s then length (flat_map lyrics_of s.sections) else 0)
+unfolding prompts provided◌then◌else◌ lines_taken
 items_length s =
     by_cases (has_items s)
     (λ e. rw e (prompts_length 0 (lines_taken s) ∙ ap length (all_taken s s.sections (all_prompted s e))))

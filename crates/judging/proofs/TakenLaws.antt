@@ -7,7 +7,7 @@ use mathlib.Core.Option.{Option, none, some}
 use native.Mathlib.Omega.{arith}
 use lib.Dec.{eqb, ltb}
 use borrow.Author.Tests.{not-true, not-false, ne_eqb, ltb-true, ltb-false, eqb-true}
-use Rattle.songcode.specs.Lists.{if◌then◌else◌, any, when}
+use Rattle.songcode.specs.Lists.{provided◌then◌else◌, any, when}
 use Rattle.songcode.specs.Complaints.{Complaint, complaint, complain_if, goes_first, earlier, earliest}
 use Rattle.songcode.specs.Song.{LyricLine, Section, Song}
 use Rattle.songcode.specs.Answer.Lyrics.{is_counted, is_played, lines_taken, has_counts, count_faults}
@@ -23,7 +23,7 @@ abbrev pub Numbered : List LyricLine → Type 0
 Numbered ls = Each (λ (l : LyricLine). 1 ≤ l.number) ls
 
 bare_append : (xs ys : List LyricLine) → bare_line (xs ++ ys) ≡ first_line (bare_line xs) (bare_line ys)
-unfolding bare_line if◌then◌else◌ first_line
+unfolding bare_line provided◌then◌else◌ first_line
 bare_append [] ys = refl
 bare_append (l ∷ xs) ys =
     by_cases (is_counted l)
@@ -32,15 +32,15 @@ bare_append (l ∷ xs) ys =
 
 -- The lyric lines that are taken of these sections.
 abbrev pub taken_from : Song → List Section → List LyricLine
-taken_from s xs = flat_map (λ x. if is_played s x then x.lyrics else []) xs
+taken_from s xs = flat_map (λ x. provided is_played s x then x.lyrics else []) xs
 
 module _ (s : Song) (x : Section) (xs : List Section) {empty : Bool} (p : empty ≡ not (is_played s x)) where
   taken_played : empty ≡ false → taken_from s (x ∷ xs) ≡ x.lyrics ++ taken_from s xs
-  unfolding flat_map if◌then◌else◌
+  unfolding flat_map provided◌then◌else◌
   taken_played e = let q = not-false (is_played s x) (sym p ∙ e) in rw q
 
   taken_not : empty ≡ true → taken_from s (x ∷ xs) ≡ taken_from s xs
-  unfolding flat_map if◌then◌else◌
+  unfolding flat_map provided◌then◌else◌
   taken_not e = let q = not-true (is_played s x) (sym p ∙ e) in rw q
 
   pub taken_numbered : Numbered x.lyrics → Numbered (taken_from s xs) → Numbered (taken_from s (x ∷ xs))
@@ -51,14 +51,14 @@ module _ (s : Song) (x : Section) (xs : List Section) {empty : Bool} (p : empty 
 
   module _ (y : Taken) {t : Tally} (i : t ≡ tallied x.lyrics) where
     pub taken_counted : (taken_with empty y t).counted || any is_counted (taken_from s xs) ≡ y.counted || any is_counted (taken_from s (x ∷ xs))
-    unfolding taken_with tallied if◌then◌else◌
+    unfolding taken_with tallied provided◌then◌else◌
     taken_counted =
         by_cases empty
         (λ e. rw (taken_not e, e))
         (λ e. rw (taken_played e, any_append, e, i) (or_assoc y.counted (any is_counted x.lyrics) (any is_counted (taken_from s xs))))
 
     pub taken_bare : first_line (taken_with empty y t).bare (bare_line (taken_from s xs)) ≡ first_line y.bare (bare_line (taken_from s (x ∷ xs)))
-    unfolding taken_with tallied if◌then◌else◌
+    unfolding taken_with tallied provided◌then◌else◌
     taken_bare =
         by_cases empty
         (λ e. rw (taken_not e, e))
@@ -70,7 +70,7 @@ bare_of zero = none
 bare_of (suc n) = some (complaint 16 (suc n))
 
 first_is : (n m : ℕ) → earlier (complaint 16 (suc n)) (some (complaint 16 (suc m))) ≡ complaint 16 (suc (min n m))
-unfolding earlier goes_first if◌then◌else◌
+unfolding earlier goes_first provided◌then◌else◌
 first_is n m =
     by_cases (ltb (suc n) (suc m))
     (λ e. let h = ltb-true (suc n) (suc m) e in
@@ -92,7 +92,7 @@ abbrev uncounted : LyricLine → List Complaint
 uncounted l = complain_if (not (is_counted l)) 16 l.number
 
 first_bare : (ls : List LyricLine) → Numbered ls → earliest (flat_map uncounted ls) ≡ bare_of (bare_line ls)
-unfolding earliest flat_map complain_if when bare_line bare_of Each if◌then◌else◌
+unfolding earliest flat_map complain_if when bare_line bare_of Each provided◌then◌else◌
 first_bare [] a = refl
 first_bare (l ∷ ls) a =
     by_cases (is_counted l)
@@ -101,17 +101,17 @@ first_bare (l ∷ ls) a =
     (bare_line ls) a.0))
 
 fault_of_lem : (b : ℕ) → count_fault (record { counted = true; bare = b }) ≡ refusal_of (bare_of b)
-unfolding count_fault refusal_of bare_of if◌then◌else◌
+unfolding count_fault refusal_of bare_of provided◌then◌else◌
 fault_of_lem zero = refl
 fault_of_lem (suc b) = rw (ne_eqb (suc b) 0 (λ (z : suc b ≡ 0). let y : ⊥ = omega arith in y))
 
 no_fault : (b : ℕ) → count_fault (record { counted = false; bare = b }) ≡ refusal_of (earliest [])
-unfolding count_fault refusal_of earliest if◌then◌else◌
+unfolding count_fault refusal_of earliest provided◌then◌else◌
 no_fault b = refl
 
 pub count_refusal : (s : Song) (y : Taken) → y.counted ≡ has_counts s → y.bare ≡ bare_line (lines_taken s) → Numbered (lines_taken s)
     → count_fault y ≡ refusal_of (earliest (count_faults s))
-unfolding count_faults if◌then◌else◌
+unfolding count_faults provided◌then◌else◌
 count_refusal s y i j a =
     let parts : y ≡ record { counted = has_counts s; bare = bare_line (lines_taken s) } = rw (← i, ← j) refl in
     ap count_fault parts

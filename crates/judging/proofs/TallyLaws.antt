@@ -8,7 +8,7 @@ use native.Mathlib.Omega.{arith}
 use lib.Dec.{eqb, ltb}
 use lib.ListN.{length, take, drop, length-take, length-drop}
 use borrow.Author.Tests.{ne_eqb, eqb-true, ltb-true, ltb-false}
-use Rattle.songcode.specs.Lists.{if◌then◌else◌, is_some, any}
+use Rattle.songcode.specs.Lists.{provided◌then◌else◌, is_some, any}
 use Rattle.songcode.specs.Song.{LyricLine}
 use Rattle.songcode.specs.Answer.Lyrics.{count_of, is_counted, counted}
 use Rattle.songcode.proofs.ListLaws.{by_cases}
@@ -31,15 +31,15 @@ use Rattle.judging.proofs.LyricLaws.{count_said}
 
 -- The first of two lines, where 0 is none.
 pub zero_first : (b : ℕ) → first_line 0 b ≡ b
-unfolding first_line if◌then◌else◌
+unfolding first_line provided◌then◌else◌
 zero_first b = refl
 
 pub first_zero : (a : ℕ) → first_line a 0 ≡ a
-unfolding first_line if◌then◌else◌
+unfolding first_line provided◌then◌else◌
 first_zero a = by_cases (eqb a 0) (λ e. rw e (sym (eqb-true a 0 e))) (λ e. rw e)
 
 pub first_two : (a b : ℕ) → first_line (suc a) (suc b) ≡ suc (min a b)
-unfolding first_line if◌then◌else◌
+unfolding first_line provided◌then◌else◌
 first_two a b =
     let p = ne_eqb (suc a) 0 (λ (z : suc a ≡ 0). let y : ⊥ = omega arith in y) in
     let q = ne_eqb (suc b) 0 (λ (z : suc b ≡ 0). let y : ⊥ = omega arith in y) in
@@ -73,7 +73,7 @@ none_joined u = tally_is (omega arith) (omega arith) refl (zero_first u.bare)
 
 joined_more : (t : Tally) (l : LyricLine) (ls : List LyricLine) (k : ℕ) → count_of l ≡ count_from k
     → joined (with_line t l.number k) (tallied ls) ≡ joined t (tallied (l ∷ ls))
-unfolding joined with_line tallied any counted bare_line is_counted is_some count_from if◌then◌else◌
+unfolding joined with_line tallied any counted bare_line is_counted is_some count_from provided◌then◌else◌
 joined_more t l ls zero e =
     tally_is (omega arith) (rw e (omega arith)) (rw e) (rw e (sym (first_assoc t.bare l.number (bare_line ls))))
 joined_more t l ls (suc k) e =
@@ -81,11 +81,11 @@ joined_more t l ls (suc k) e =
     (tally_is (omega arith) (rw e (omega arith)) (rw e (sym (or-true t.counted))) (rw e))
 
 pub with_lines : (t : Tally) (n k : ℕ) → (with_line t n k).lines ≡ t.lines + 1
-unfolding with_line if◌then◌else◌
+unfolding with_line provided◌then◌else◌
 with_lines t n k = by_cases (eqb k 0) (λ e. rw e) (λ e. rw e)
 
 pub with_sum : (t : Tally) (n k : ℕ) → (with_line t n k).sum ≡ t.sum + k
-unfolding with_line if◌then◌else◌
+unfolding with_line provided◌then◌else◌
 with_sum t n k = by_cases (eqb k 0) (λ e. let z = eqb-true k 0 e in rw e (omega arith)) (λ e. rw e)
 
 -- The words of the lines tell their tally.

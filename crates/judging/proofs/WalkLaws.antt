@@ -8,7 +8,7 @@ use native.Mathlib.Omega.{arith}
 use lib.Dec.{eqb}
 use lib.ListN.{length}
 use borrow.Author.Tests.{eq-eqb, eqb-true, eqb-false}
-use Rattle.songcode.specs.Lists.{if◌then◌else◌, any}
+use Rattle.songcode.specs.Lists.{provided◌then◌else◌, any}
 use Rattle.songcode.specs.Complaints.{verdict, earliest, stage_or}
 use Rattle.songcode.specs.Song.{Section, Song}
 use Rattle.songcode.specs.Answer.References.{reference_faults}
@@ -76,7 +76,7 @@ pub record Walked (s : List ℕ) (p : Place) (x : Metered) (y : Sung) : Type 0 w
   pub sung : (metered_refusal x).number ≡ 0 → SungIs s p x.lengths.measures y
 
 sung_start : (s : List ℕ) (p : Place) → Begins s p → SungIs s p 0 nothing_sung
-unfolding has_counts lines_taken first_line if◌then◌else◌
+unfolding has_counts lines_taken first_line provided◌then◌else◌
 sung_start s p b =
     record {
       sections = omega arith;
@@ -160,7 +160,7 @@ module _ {s old ws : List ℕ} {p : Place} {keys : Keys} {at : ℕ} (r : Opened)
       few = subst (λ (k : ℕ). k ≤ 65535) added.1 (lengths_small s r.next next.lengths next_lengths unrefused.1)
 
       is : SungIs s p x.lengths.measures y
-      unfolding metered_refusal first_given if◌then◌else◌
+      unfolding metered_refusal first_given provided◌then◌else◌
       is = before.sung (rw (eq-eqb (refusal_at x.meters).number 0 unrefused_meters.0) added.0)
 
       row : row_of_texts ws n r.texts r.section.modifiers ≡ row_words (played song here)
@@ -303,7 +303,7 @@ module _ {s : List ℕ} {p : Place} (small : length s ≤ 65536) (over : length 
   later_verdict e = walk_verdict ∙ sym (stage_passed (reference_faults all) (playing_faults all) e)
 
   pub outcome_verdict : reference_faults all ≡ [] → (outcome_of x y).refusal ≡ refusal_of (verdict (later_faults all))
-  unfolding outcome_of totals_of if◌then◌else◌ refusal_of
+  unfolding outcome_of totals_of provided◌then◌else◌ refusal_of
   outcome_verdict e =
       by_cases (eqb (walk_refusal x y).number 0)
       (λ t.
@@ -312,7 +312,7 @@ module _ {s : List ℕ} {p : Place} (small : length s ≤ 65536) (over : length 
       (λ t. rw t (later_verdict e))
 
   pub outcome_holds : (outcome_of x y).refusal.number ≡ 0 → Holds (tables all) (outcome_of x y)
-  unfolding outcome_of walk_refusal if◌then◌else◌
+  unfolding outcome_of walk_refusal provided◌then◌else◌
   outcome_holds h =
       by_cases (eqb (walk_refusal x y).number 0)
       (λ t.

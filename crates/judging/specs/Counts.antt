@@ -2,7 +2,7 @@
 use Rattle.std.specs.Prelude.{ℕ, zero, suc, ◌-◌, ◌≤◌, ◌≡◌, eqb, length, take, drop}
 use mathlib.Core.List.{List, [], ◌∷◌, map, flat_map}
 use Rattle.std.proofs.Math.Option.{Option, none, some}
-use Rattle.songcode.specs.Lists.{if◌then◌else◌}
+use Rattle.songcode.specs.Lists.{provided◌then◌else◌}
 use Rattle.songcode.specs.Song.{LyricLine, Section, Song}
 use Rattle.songcode.specs.Seams.{number_written}
 use Rattle.songcode.specs.Answer.Sections.{lyric_line}
@@ -58,8 +58,8 @@ abbrev pub no_lyric : Lyric
 no_lyric = record { offset = 0; length = 0; number = 0; count = 0; style = 0 }
 
 unfoldable pub later_of : Lyric → Lyric → Lyric
-unfolding if◌then◌else◌
-later_of t l = if eqb l.count 0 then t else l
+unfolding provided◌then◌else◌
+later_of t l = provided eqb l.count 0 then t else l
 
 unfoldable pub later_words : Lyric → List ℕ → Lyric
 unfolding later_of

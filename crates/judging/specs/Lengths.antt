@@ -1,6 +1,6 @@
 -- What stage 5 finds of a section: its measures before cuts, and whether its cuts leave a beat.
 use Rattle.std.specs.Prelude.{ℕ, ◌+◌, ◌-◌, ◌*◌, ◌≤◌, ◌≡◌, Bool, not, ◌||◌, List, eqb, ltb, length}
-use Rattle.songcode.specs.Lists.{if◌then◌else◌, times}
+use Rattle.songcode.specs.Lists.{provided◌then◌else◌, times}
 use Rattle.refusals.specs.declared.Refusal.{Refusal}
 use Rattle.refusals.specs.Refusals.{nothing_refused}
 use Rattle.settings.specs.Cuts.{CutFits}
@@ -50,10 +50,10 @@ is_modified m = not (eqb m.repeat 1) || not (eqb m.before.line 0) || not (eqb m.
 
 -- What the code finds of the cuts of a section played in n.
 unfoldable pub cut_away : List ℕ → ℕ → Modifiers → Texts → Bool
-unfolding if◌then◌else◌ is_modified has_cut cut_or_none times
+unfolding provided◌then◌else◌ is_modified has_cut cut_or_none times
 cut_away ws n m t =
-    if t.pattern.outline.empty then is_modified m
-    else (if has_cut m
+    provided t.pattern.outline.empty then is_modified m
+    else (provided has_cut m
     then eqb
     (last_beat (cut_or_none m.back) (times m.repeat (row_of n ws t.pattern.at))
     - first_beat (cut_or_none m.front) (times m.repeat (row_of n ws t.pattern.at)))
@@ -62,16 +62,16 @@ cut_away ws n m t =
 
 -- What is refused of a section played in n, where the song has so many measures up to its end.
 unfoldable pub length_fault : List ℕ → ℕ → ℕ → Modifiers → Texts → ℕ → Refusal
-unfolding if◌then◌else◌
+unfolding provided◌then◌else◌
 length_fault ws n header m t measures =
-    if ltb 65535 measures then record { number = 14; line = header }
-    else (if cut_away ws n m t then record { number = 15; line = header } else nothing_refused)
+    provided ltb 65535 measures then record { number = 14; line = header }
+    else (provided cut_away ws n m t then record { number = 15; line = header } else nothing_refused)
 
 -- With one more section; where one is refused, those behind it are not asked.
 unfoldable pub with_lengths : List ℕ → ℕ → ℕ → Modifiers → Texts → Lengths → Lengths
-unfolding if◌then◌else◌ length_fault
+unfolding provided◌then◌else◌ length_fault
 with_lengths ws n header m t x =
-    if eqb x.refusal.number 0 then record {
+    provided eqb x.refusal.number 0 then record {
       refusal = length_fault ws n header m t (x.measures + count_of_texts m t);
       measures = x.measures + count_of_texts m t;
     }

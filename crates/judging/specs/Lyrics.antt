@@ -1,6 +1,6 @@
 -- Lyric lines summed up: how many they are, their counts, and the first line without one.
 use Rattle.std.specs.Prelude.{ℕ, ◌+◌, ◌≤◌, ◌≡◌, Bool, true, false, not, ◌||◌, ◌&&◌, List, [], ◌∷◌, eqb, ltb, length, take, drop}
-use Rattle.songcode.specs.Lists.{if◌then◌else◌, any}
+use Rattle.songcode.specs.Lists.{provided◌then◌else◌, any}
 use Rattle.songcode.specs.Song.{LyricLine}
 use Rattle.songcode.specs.Answer.Lyrics.{is_counted, counted}
 use Rattle.refusals.specs.declared.Refusal.{Refusal}
@@ -12,13 +12,13 @@ use Rattle.judging.specs.declared.lyrics.Taken.{Taken}
 
 -- The least of two line numbers, where 0 is none.
 unfoldable pub first_line : ℕ → ℕ → ℕ
-unfolding if◌then◌else◌
-first_line a b = if eqb a 0 then b else (if eqb b 0 then a else (if ltb b a then b else a))
+unfolding provided◌then◌else◌
+first_line a b = provided eqb a 0 then b else (provided eqb b 0 then a else (provided ltb b a then b else a))
 
 unfoldable pub with_line : Tally → ℕ → ℕ → Tally
-unfolding if◌then◌else◌ first_line
+unfolding provided◌then◌else◌ first_line
 with_line t number count =
-    if eqb count 0 then record { lines = t.lines + 1; sum = t.sum; counted = t.counted; bare = first_line t.bare number }
+    provided eqb count 0 then record { lines = t.lines + 1; sum = t.sum; counted = t.counted; bare = first_line t.bare number }
     else record { lines = t.lines + 1; sum = t.sum + count; counted = true; bare = t.bare }
 
 abbrev pub no_lines : Tally
@@ -42,9 +42,9 @@ pub record Inside (ws : List ℕ) (t : Stretch) : Type 0 where
 
 -- The least number of a line without a count; 0 if all have one.
 unfoldable pub bare_line : List LyricLine → ℕ
-unfolding if◌then◌else◌ first_line is_counted
+unfolding provided◌then◌else◌ first_line is_counted
 bare_line [] = 0
-bare_line (l ∷ ls) = if is_counted l then bare_line ls else first_line l.number (bare_line ls)
+bare_line (l ∷ ls) = provided is_counted l then bare_line ls else first_line l.number (bare_line ls)
 
 unfoldable pub tallied : List LyricLine → Tally
 unfolding any is_counted counted bare_line
@@ -52,10 +52,10 @@ tallied ls = record { lines = length ls; sum = counted ls; counted = any is_coun
 
 -- With the lyric lines of one more section, which are taken where its pattern is not empty.
 unfoldable pub taken_with : Bool → Taken → Tally → Taken
-unfolding if◌then◌else◌ first_line
-taken_with empty y t = if empty then y else record { counted = y.counted || t.counted; bare = first_line y.bare t.bare }
+unfolding provided◌then◌else◌ first_line
+taken_with empty y t = provided empty then y else record { counted = y.counted || t.counted; bare = first_line y.bare t.bare }
 
 -- What stage 6 refuses of the lines taken.
 unfoldable pub count_fault : Taken → Refusal
-unfolding if◌then◌else◌
-count_fault y = if y.counted && not (eqb y.bare 0) then record { number = 16; line = y.bare } else nothing_refused
+unfolding provided◌then◌else◌
+count_fault y = provided y.counted && not (eqb y.bare 0) then record { number = 16; line = y.bare } else nothing_refused

@@ -1,6 +1,6 @@
 -- What stages 6 and 7 sum up from section to section, where the stages before refuse nothing.
 use Rattle.std.specs.Prelude.{ℕ, ◌+◌, ◌≤◌, Bool, not, ◌&&◌, List, eqb}
-use Rattle.songcode.specs.Lists.{if◌then◌else◌}
+use Rattle.songcode.specs.Lists.{provided◌then◌else◌}
 use Rattle.refusals.specs.declared.Refusal.{Refusal}
 use Rattle.refusals.specs.Refusals.{first_given, nothing_refused}
 use Rattle.player.specs.declared.playing.Counts.{Counts}
@@ -13,8 +13,8 @@ use Rattle.judging.specs.Sums.{TextsWithin, counts_of, has_prompts, sum_differs,
 
 -- The first header whose section's counts do not sum to its measures; 0 is none.
 unfoldable pub off_with : ℕ → Bool → ℕ → ℕ
-unfolding if◌then◌else◌
-off_with off differs header = if eqb off 0 then (if differs then header else 0) else off
+unfolding provided◌then◌else◌
+off_with off differs header = provided eqb off 0 then (provided differs then header else 0) else off
 
 -- With one more section: its lyric lines, and what it plays.
 unfoldable pub sung_with : Bool → ℕ → Tally → Counts → Sung → Sung
@@ -41,8 +41,8 @@ pub record Singable (ws : List ℕ) (n : ℕ) (x : Opened) (y : Sung) : Type 0 w
 
 -- What stage 7 refuses, where the lines have counts.
 unfoldable pub off_fault : Bool → ℕ → Refusal
-unfolding if◌then◌else◌
-off_fault counted off = if counted && not (eqb off 0) then record { number = 17; line = off } else nothing_refused
+unfolding provided◌then◌else◌
+off_fault counted off = provided counted && not (eqb off 0) then record { number = 17; line = off } else nothing_refused
 
 unfoldable pub lyric_refusal : Sung → Refusal
 unfolding first_given count_fault off_fault

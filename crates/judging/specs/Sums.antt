@@ -1,6 +1,6 @@
 -- A section played from its texts, and what the sections of a song hold in all.
 use Rattle.std.specs.Prelude.{ℕ, ◌+◌, ◌≡◌, Bool, not, ◌&&◌, List, eqb, length}
-use Rattle.songcode.specs.Lists.{if◌then◌else◌}
+use Rattle.songcode.specs.Lists.{provided◌then◌else◌}
 use Rattle.songcode.specs.Answer.Tables.{Tables}
 use Rattle.songcode.specs.Description.Performance.{total}
 use Rattle.refusals.specs.declared.Refusal.{Refusal}
@@ -48,14 +48,14 @@ abbrev pub refused_with : Refusal → Totals
 refused_with refusal = record { refusal = refusal; sections = 0; measures = 0; beats = 0; items = 0 }
 
 unfoldable pub totals_of : Sums → Totals
-unfolding if◌then◌else◌
+unfolding provided◌then◌else◌
 totals_of x =
     record {
       refusal = nothing_refused;
       sections = x.sections;
       measures = x.measures;
       beats = x.beats;
-      items = if x.all then x.lines else 0;
+      items = provided x.all then x.lines else 0;
     }
 
 -- The numbers are the lengths of the tables.

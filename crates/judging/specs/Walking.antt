@@ -1,6 +1,6 @@
 -- What the walk over the sections begins with, and what it answers behind the last of them.
 use Rattle.std.specs.Prelude.{true, false, eqb}
-use Rattle.songcode.specs.Lists.{if◌then◌else◌}
+use Rattle.songcode.specs.Lists.{provided◌then◌else◌}
 use Rattle.refusals.specs.declared.Refusal.{Refusal}
 use Rattle.refusals.specs.Refusals.{first_given, nothing_refused}
 use Rattle.refusals.specs.Ranks.{none}
@@ -28,5 +28,5 @@ unfolding first_given metered_refusal lyric_refusal
 walk_refusal x y = first_given (metered_refusal x) (lyric_refusal y)
 
 unfoldable pub outcome_of : Metered → Sung → Totals
-unfolding if◌then◌else◌ walk_refusal totals_of
-outcome_of x y = if eqb (walk_refusal x y).number 0 then totals_of y.sums else refused_with (walk_refusal x y)
+unfolding provided◌then◌else◌ walk_refusal totals_of
+outcome_of x y = provided eqb (walk_refusal x y).number 0 then totals_of y.sums else refused_with (walk_refusal x y)

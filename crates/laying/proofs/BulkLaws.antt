@@ -8,7 +8,7 @@ use native.Mathlib.Omega.{arith}
 use borrow.Author.Tests.{eqb-true}
 use lib.Dec.{eqb}
 use lib.ListN.{length}
-use Rattle.songcode.specs.Lists.{if◌then◌else◌, is_empty, is_some, taken, left}
+use Rattle.songcode.specs.Lists.{provided◌then◌else◌, is_empty, is_some, taken, left}
 use Rattle.songcode.specs.Bytes.{Byte}
 use Rattle.songcode.specs.Answer.Lines.{Line, Block, shut, join, runs, blocks}
 use Rattle.songcode.specs.Answer.Sections.{kind_of_line, kind_of, setting_of, is_pattern_line, not_pattern_line, not_dashes, pattern_run, body, from_dashes}
@@ -100,22 +100,22 @@ slot_solid l k h e = go l.text refl
 
 -- The modifiers of a section: a lead-in and a tail on lines of their own, and cuts on others.
 unfoldable pub cuts_there : Option Setting → Option Setting → ℕ
-unfolding is_some if◌then◌else◌
-cuts_there a b = if is_some a || is_some b then 2 else 0
+unfolding is_some provided◌then◌else◌
+cuts_there a b = provided is_some a || is_some b then 2 else 0
 
 cuts_most : (a b : Option Setting) → cuts_there a b ≤ 2
-unfolding cuts_there is_some if◌then◌else◌
+unfolding cuts_there is_some provided◌then◌else◌
 cuts_most none none = omega arith
 cuts_most none (some x) = omega arith
 cuts_most (some x) b = omega arith
 
 cuts_none : 0 + 0 + cuts_there none none ≤ 0
-unfolding cuts_there is_some if◌then◌else◌
+unfolding cuts_there is_some provided◌then◌else◌
 cuts_none = omega arith
 
 pub modifiers_weight : (ls : List Line) → said_weight (setting_among 11 ls) + said_weight (setting_among 12 ls)
     + cuts_there (setting_among 9 ls) (setting_among 10 ls) ≤ weight ls
-unfolding setting_among said_weight weight if◌then◌else◌
+unfolding setting_among said_weight weight provided◌then◌else◌
 modifiers_weight [] = cuts_none
 modifiers_weight (l ∷ ls) =
     let h = modifiers_weight ls in

@@ -7,7 +7,7 @@ use mathlib.Core.Bool.{Bool, true, false}
 use mathlib.Core.Option.{Option, none, some}
 use native.Mathlib.Omega.{arith}
 use borrow.Author.Tests.{lt-ltb, le-ltb, le-leb, eq-eqb}
-use Rattle.songcode.specs.Lists.{if◌then◌else◌, when}
+use Rattle.songcode.specs.Lists.{provided◌then◌else◌, when}
 use Rattle.songcode.specs.Complaints.{Complaint, complain_if, goes_first, earlier, earliest}
 use Rattle.songcode.specs.Description.Given.{Before}
 use Rattle.songcode.specs.Song.{Section}
@@ -44,7 +44,7 @@ goes_behind_both c d e p q =
     (λ f. f)
 
 earlier_both : (c d e : Complaint) → earlier c (some (earlier d (some e))) ≡ earlier (earlier c (some d)) (some e)
-unfolding earlier if◌then◌else◌
+unfolding earlier provided◌then◌else◌
 earlier_both c d e =
     by_cases (goes_first c d)
     (λ p. by_cases (goes_first d e)
@@ -85,7 +85,7 @@ numbered_if false n line h = tt
 
 -- One of the list satisfies whatever all do.
 pub earliest_each : (P : Complaint → Type 0) (xs : List Complaint) (c : Complaint) → Each P xs → earliest xs ≡ some c → P c
-unfolding Each earliest earlier if◌then◌else◌
+unfolding Each earliest earlier provided◌then◌else◌
 earliest_each P [] c h e = let z : ◌≡◌ {A = ℕ} 0 1 = cc in absurd (omega arith)
 earliest_each P (d ∷ xs) c h e = of (earliest xs) (λ b q. earliest_each P xs b h.1 q) (same_some (earlier d (earliest xs)) c e)
   where
@@ -119,7 +119,7 @@ unfoldable pub Behind : ℕ → Complaint → Type 0
 Behind line c = line < c.line
 
 pub first_wins : (line : ℕ) (xs ys : List Complaint) → Each (UpTo line) xs → Each (Behind line) ys → (xs ≡ [] → ⊥) → earliest (xs ++ ys) ≡ earliest xs
-unfolding UpTo Behind first_of earlier if◌then◌else◌ Before
+unfolding UpTo Behind first_of earlier provided◌then◌else◌ Before
 first_wins line xs ys h k n = earliest_append xs ys ∙ of (earliest xs) (earliest ys) refl refl
   where
     of : (x y : Option Complaint) → earliest xs ≡ x → earliest ys ≡ y → first_of x y ≡ x

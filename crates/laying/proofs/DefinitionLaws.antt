@@ -8,7 +8,7 @@ use native.Mathlib.Omega.{arith}
 use borrow.Author.Tests.{leb-false, not-false}
 use lib.Dec.{eqb, leb}
 use lib.ListN.{length}
-use Rattle.songcode.specs.Lists.{if◌then◌else◌, any, prepend, is_some}
+use Rattle.songcode.specs.Lists.{provided◌then◌else◌, any, prepend, is_some}
 use Rattle.songcode.specs.Bytes.{Byte}
 use Rattle.songcode.specs.Answer.Lines.{Line, Block, blocks}
 use Rattle.songcode.specs.Complaints.{complain_if}
@@ -55,7 +55,7 @@ text_says (l ∷ ls) e = go (definition_text l ls) refl (complain_if_nil (not (i
 
 -- A number that no earlier definition has is not found.
 pub fresh_none : (k : ℕ) (ds : List Definition) → any (λ x. eqb x k) (map id_of ds) ≡ false → definition_of k ds ≡ none
-unfolding any id_of definition_of if◌then◌else◌
+unfolding any id_of definition_of provided◌then◌else◌
 fresh_none k [] e = refl
 fresh_none k (d ∷ ds) e = let h = none_passes (eqb d.id k) (any (λ x. eqb x k) (map id_of ds)) e in rw h.0 (fresh_none k ds h.1)
 

@@ -5,7 +5,7 @@ use mathlib.Core.List.{List}
 use mathlib.Core.Bool.{not}
 use borrow.Author.Tests.{eqb-true, eqb-false}
 use lib.Dec.{eqb}
-use Rattle.songcode.specs.Lists.{if◌then◌else◌, is_some}
+use Rattle.songcode.specs.Lists.{provided◌then◌else◌, is_some}
 use Rattle.songcode.specs.Song.{Pattern}
 use Rattle.songcode.specs.Answer.References.{pattern_items}
 use Rattle.songcode.specs.Answer.Answer.{song_of}
@@ -20,7 +20,7 @@ use Rattle.laying.proofs.NamedLaws.{name_there, named_nothing, named_some}
 
 pub empty_pattern : (ws : List ℕ) (t : Stretch) {s : List ℕ} → Told s ws → (p : Pattern) → PatternFits p → Holds ws t (pattern_row p)
     → is_empty_text ws t ≡ not (is_some (pattern_items (song_of s).definitions p))
-unfolding is_empty_text if◌then◌else◌ pattern_items is_some named_text
+unfolding is_empty_text provided◌then◌else◌ pattern_items is_some named_text
 empty_pattern ws t {s} told p f h =
     let names = name_there ws t p f h.words in
     by_cases (eqb (named_at ws t) 0)

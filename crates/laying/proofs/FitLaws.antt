@@ -9,7 +9,7 @@ use borrow.Author.Tests.{leb-true, leb-false}
 use lib.Dec.{eqb, leb}
 use lib.ListN.{length, take, drop, length-take, length-drop, drop_of_length-le}
 use lib.Seq.{take-nil}
-use Rattle.songcode.specs.Lists.{if◌then◌else◌}
+use Rattle.songcode.specs.Lists.{provided◌then◌else◌}
 use Rattle.songcode.specs.Bytes.{Byte, placed, is, is_byte}
 use Rattle.songcode.specs.Answer.Numbers.{count_in, repeat_in}
 use Rattle.songcode.specs.Answer.Chords.{Chord, chord_in}
@@ -67,8 +67,8 @@ unfolding chord_token Counted
 chord_counted none = tt
 chord_counted (some c) = tt
 
-if_counted : (t : Bool) (x y : Token) → Counted x → Counted y → Counted (if t then x else y)
-unfolding if◌then◌else◌
+if_counted : (t : Bool) (x y : Token) → Counted x → Counted y → Counted (provided t then x else y)
+unfolding provided◌then◌else◌
 if_counted true x y f g = f
 if_counted false x y f g = g
 
@@ -137,7 +137,7 @@ module _ (s : List ℕ) (small : length s ≤ 65536) where
           rw z tt
 
   pub said_good : (r : Said) → Each Good (said_tokens (setting_at s r))
-  unfolding said_tokens setting_at if◌then◌else◌ Each
+  unfolding said_tokens setting_at provided◌then◌else◌ Each
   said_good r = by_cases (eqb r.line 0) (λ t. rw t tt) (λ t. rw t (part_good r.start r.stop))
 
   GoodLine : Line → Type 0

@@ -9,7 +9,7 @@ use borrow.Author.Tests.{eq-eqb, ne_eqb}
 use lib.Dec.{eqb}
 use lib.ListN.{length, take, drop, get_or, length-append, take-append-drop}
 use lib.Seq.{sets, sets-eq, get_or-drop, take-take, take_at}
-use Rattle.songcode.specs.Lists.{if◌then◌else◌}
+use Rattle.songcode.specs.Lists.{provided◌then◌else◌}
 use Rattle.songcode.specs.Song.{Items, Definition}
 use Rattle.songcode.specs.Answer.References.{definition_of, items_of, put_in}
 use Rattle.songcode.proofs.ListLaws.{by_cases}
@@ -67,7 +67,7 @@ module _ (all : List Definition) (ws : List ℕ) (n : ℕ) where
 
   found : (k at : ℕ) (ds : List Definition) (rest : List ℕ) → length ds ≤ k → DefinitionsFit all ds → drop at ws ≡ definitions_row all ds ++ (0 ∷ rest)
       → FoundAt (place_by k ws at n) (definition_of n ds)
-  unfolding FoundAt place_by if◌then◌else◌ definition_of definitions_row flat_map DefinitionsFit
+  unfolding FoundAt place_by provided◌then◌else◌ definition_of definitions_row flat_map DefinitionsFit
   found zero at [] rest h f e = rw (first_at at (0 ∷ rest) e) refl
   found (suc k) at [] rest h f e = let z : length_at ws at ≡ 0 = rw (first_at at (0 ∷ rest) e) refl in rw (eq-eqb (length_at ws at) 0 z) z
   found zero at (d ∷ ds) rest h f e = let z : ⊥ = omega arith in absurd z
@@ -83,7 +83,7 @@ module _ (all : List Definition) (ws : List ℕ) (n : ℕ) where
 
   -- What is found of the number.
   held_none : (place : ℕ) → place_of ws n ≡ place → length_at ws place ≡ 0 → Held all ws none (is_missing ws n) (stretch_of ws n) (look_up ws n)
-  unfolding Held is_missing stretch_of look_up if◌then◌else◌
+  unfolding Held is_missing stretch_of look_up provided◌then◌else◌
   held_none place is e = rw (is, e) (refl, omega arith, refl)
 
   module _ (place : ℕ) (is : place_of ws n ≡ place) (d : Definition) (rest : List ℕ) (fits : DefinitionFits all d)
@@ -100,7 +100,7 @@ module _ (all : List Definition) (ws : List ℕ) (n : ℕ) where
     stretch_is = rw (is, length_there place d rest fits there) refl
 
     outline_is : look_up ws n ≡ outline_of (items_of all) d.items
-    unfolding look_up if◌then◌else◌ definition_row DefinitionFits
+    unfolding look_up provided◌then◌else◌ definition_row DefinitionFits
     outline_is = rw (not_missing, is, word_at place 1 _ there) (outline_back all (items_of all) d.items fits.1)
 
     text_there : (t : List ℕ) → text_row d.items ≡ t → drop (place + 2) (take ends ws) ≡ t

@@ -6,7 +6,7 @@ use native.Mathlib.Omega.{arith}
 use lib.Dec.{ltb}
 use lib.ListN.{length, take, drop, take-append-drop}
 use borrow.Author.Tests.{le-ltb, ltb-false}
-use Rattle.songcode.specs.Lists.{if◌then◌else◌}
+use Rattle.songcode.specs.Lists.{provided◌then◌else◌}
 use Rattle.songcode.specs.Bytes.{Byte, placed}
 use Rattle.songcode.specs.Answer.Characters.{is_tail, good_bytes, characters}
 use Rattle.songcode.specs.Answer.Answer.{most_bytes, input_faults}
@@ -16,7 +16,7 @@ use Rattle.songcode.proofs.CharacterBytes.{stretch_short}
 use Rattle.text.specs.Spans.{part}
 
 pub characters_le : (bs : List Byte) → characters bs ≤ length bs
-unfolding characters if◌then◌else◌
+unfolding characters provided◌then◌else◌
 characters_le [] = omega arith
 characters_le (b ∷ bs) =
     let h = characters_le bs in
@@ -30,7 +30,7 @@ part_short s a e g =
 
 -- A text of which stage 1 does not complain.
 pub input_good : (s : List ℕ) → length s ≤ 65536 → input_faults s ≡ [] → good_bytes 0 s ≡ length s
-unfolding input_faults most_bytes if◌then◌else◌
+unfolding input_faults most_bytes provided◌then◌else◌
 input_good s h e =
     let g = good_bytes_le 0 s in
     let bad = ltb-false (good_bytes 0 s) (length s) (complain_if_nil (ltb (good_bytes 0 s) (length s)) 2 _ (rw (le-ltb 65536 (length s) h) at e)) in

@@ -7,7 +7,7 @@ use mathlib.Core.Option.{Option, none, some, bind}
 use native.Mathlib.Omega.{arith}
 use lib.ListN.{take, drop}
 use Rattle.songcode.specs.Complaints.{earliest}
-use Rattle.songcode.specs.Lists.{if◌then◌else◌, is_some}
+use Rattle.songcode.specs.Lists.{provided◌then◌else◌, is_some}
 use Rattle.songcode.specs.Answer.Lines.{Line}
 use Rattle.songcode.specs.Song.{Items, named, Definition}
 use Rattle.songcode.specs.Answer.PatternText.{loops_deep, references}
@@ -126,7 +126,7 @@ module _ (ds earlier : List Definition) (ws : List ℕ)
     pub fault_is : (i : Option Items) → definitions.Says ls i
         → refusal (fault_in (is_missing ws) (look_up ws) (drop at.from (take at.to ws))) head
         ≡ earliest (definition_references earlier i head)
-    unfolding fault_in all_faults faultless fault_number refusal earliest definition_references if◌then◌else◌ definitions.Says
+    unfolding fault_in all_faults faultless fault_number refusal earliest definition_references provided◌then◌else◌ definitions.Says
     fault_is none w = rw (nothing_there w) refl
     fault_is (some r) w = fault_given earlier (is_missing ws) (look_up ws) earlier_known head ws at r (stands r w) (fits r w) w.1
 

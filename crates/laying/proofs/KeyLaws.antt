@@ -9,7 +9,7 @@ use native.Mathlib.Numerals.{add-one}
 use lib.ListN.{length, drop, get_or}
 use lib.Seq.{sets, drop-cons}
 use borrow.Author.Tests.{ne_eqb}
-use Rattle.songcode.specs.Lists.{if◌then◌else◌}
+use Rattle.songcode.specs.Lists.{provided◌then◌else◌}
 use Rattle.songcode.specs.Bytes.{Byte, placed}
 use Rattle.songcode.specs.Answer.Lines.{Line}
 use Rattle.songcode.specs.Song.{KeyName, name, artist, original, capo, bpm, time, warning, end}
@@ -35,7 +35,7 @@ module _ (s : List ℕ) (r : Said) where
     text = placed r.start (part r.start r.stop s)
 
     is_there : setting_at s r ≡ some (record { line = r.line; text = text })
-    unfolding setting_at if◌then◌else◌
+    unfolding setting_at provided◌then◌else◌
     is_there = rw (ne_eqb r.line 0 there)
 
     -- The setting's place and length fit the fields of its word.

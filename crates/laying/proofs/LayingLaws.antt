@@ -8,7 +8,7 @@ use lib.Dec.{ltb}
 use lib.ListN.{length, take, length-append}
 use lib.Seq.{sets, length-sets, take-nil}
 use mathlib.Core.Option.{none, some}
-use Rattle.songcode.specs.Lists.{if◌then◌else◌}
+use Rattle.songcode.specs.Lists.{provided◌then◌else◌}
 use Rattle.songcode.specs.Bytes.{placed}
 use Rattle.songcode.specs.Answer.Lines as songcode
 use Rattle.songcode.specs.Answer.Tokens.{Token, line_end, lexed, word, tokens, tokens_of}
@@ -199,7 +199,7 @@ run_laid s run l n held table words fill₀ fill line at left f a b i e =
 -- A setting that is said, and how long it is.
 pub said_some : (s : List ℕ) (r : Said) → (r.line ≡ 0 → ⊥)
     → setting_at s r ≡ some (record { line = r.line; text = placed r.start (part r.start r.stop s) })
-unfolding setting_at if◌then◌else◌
+unfolding setting_at provided◌then◌else◌
 said_some s r h = rw (ne_eqb _ _ h)
 
 pub said_weight_lem : (s : List ℕ) (r : Said) → (r.line ≡ 0 → ⊥) → r.stop ≤ length s → said_weight (setting_at s r) ≡ r.stop - r.start
@@ -211,5 +211,5 @@ unfolding said_tokens
 said_tokens_lem s r h = rw (said_some s r h)
 
 pub nothing_said : (s : List ℕ) (r : Said) → r.line ≡ 0 → token_words (said_tokens (setting_at s r)) ≡ []
-unfolding setting_at if◌then◌else◌ said_tokens token_words
+unfolding setting_at provided◌then◌else◌ said_tokens token_words
 nothing_said s r h = rw h

@@ -8,7 +8,7 @@ use borrow.Author.Tests.{eqb-true}
 use lib.Dec.{eqb}
 use lib.ListN.{length, take, drop, set, length-append}
 use lib.Seq.{sets, length-sets, take-suc-set}
-use Rattle.songcode.specs.Lists.{if◌then◌else◌}
+use Rattle.songcode.specs.Lists.{provided◌then◌else◌}
 use Rattle.songcode.specs.Complaints.{Complaint, complaint, complain_if, earliest}
 use Rattle.songcode.specs.Answer.Lines.{Block, blocks}
 use Rattle.songcode.specs.Song.{Definition}
@@ -116,7 +116,7 @@ module _ (s ws : List ℕ) (p : Place) (faultless : text_faults (blocks_of s) �
 
 -- A number is looked up among the definitions before a place and then among those behind it.
 definition_append : (n : ℕ) (ds es : List Definition) → definition_of n (ds ++ es) ≡ or_else (definition_of n ds) (definition_of n es)
-unfolding definition_of if◌then◌else◌ or_else
+unfolding definition_of provided◌then◌else◌ or_else
 definition_append n [] es = refl
 definition_append n (d ∷ ds) es = by_cases (eqb d.id n) (λ t. rw t refl) (λ t. rw t (definition_append n ds es))
 
@@ -330,7 +330,7 @@ module _ (s ws : List ℕ) (mark : ℕ) (p : Place) (w : Loading s ws mark p) (i
             subst (λ (ys : List ℕ). Front ds (w.done ++ (new_definition ∷ [])) ys end) (sym is) g
 
         same_next : (n : ℕ) → definition_of n (new_definition ∷ w.earlier) ≡ definition_of n (w.done ++ (new_definition ∷ []))
-        unfolding definition_of if◌then◌else◌ or_else
+        unfolding definition_of provided◌then◌else◌ or_else
         same_next n =
             by_cases (eqb e.id n)
             (λ t.

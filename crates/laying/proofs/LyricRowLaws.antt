@@ -7,7 +7,7 @@ use native.Mathlib.Omega.{arith}
 use borrow.Author.Tests.{eqb-true, eqb-false, ltb-true, ltb-false}
 use lib.Dec.{eqb, ltb}
 use lib.ListN.{length, take}
-use Rattle.songcode.specs.Lists.{if◌then◌else◌, taken, left}
+use Rattle.songcode.specs.Lists.{provided◌then◌else◌, taken, left}
 use Rattle.songcode.specs.Bytes.{placed}
 use Rattle.songcode.specs.Song.{LyricLine}
 use Rattle.songcode.specs.Answer.Lines as text
@@ -81,7 +81,7 @@ unfolding placed
 nothing_part s a e h = let z : e - a ≡ 0 = omega arith in rw z
 
 place_is : (s : List ℕ) (a e : ℕ) → a ≤ e → e ≤ length s → place_word a e ≡ offset (placed a (part a e s)) * 65536 + length (placed a (part a e s))
-unfolding place_word if◌then◌else◌ offset
+unfolding place_word provided◌then◌else◌ offset
 place_is s a e h f =
     by_cases (eqb a e)
     (λ t. rw (t, nothing_part s a e (eqb-true a e t)) refl)

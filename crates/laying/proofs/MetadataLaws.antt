@@ -9,7 +9,7 @@ use native.Mathlib.Omega.{arith}
 use borrow.Author.Tests.{ne_eqb}
 use lib.Dec.{eqb}
 use lib.ListN.{length, take}
-use Rattle.songcode.specs.Lists.{if◌then◌else◌, is_empty, taken, left}
+use Rattle.songcode.specs.Lists.{provided◌then◌else◌, is_empty, taken, left}
 use Rattle.songcode.specs.Bytes.{Byte}
 use Rattle.songcode.specs.Answer.Lines.{Line, Block, blocks}
 use Rattle.songcode.specs.Complaints.{complain_if}
@@ -63,7 +63,7 @@ not_definition (inr e) h = let z : section ≡ definition = sym e ∙ h in zero_
 
 -- The first setting of lines behind others; blank lines say none.
 among_append : (k : ℕ) (xs ys : List Line) → setting_among k (xs ++ ys) ≡ or_else (setting_among k xs) (setting_among k ys)
-unfolding setting_among or_else if◌then◌else◌
+unfolding setting_among or_else provided◌then◌else◌
 among_append k [] ys = refl
 among_append k (x ∷ xs) ys = by_cases (eqb (slot_of x) k) (λ e. rw e) (λ e. rw e (among_append k xs ys))
 
@@ -85,7 +85,7 @@ blank_slot l e = of l.text refl e
     of (b ∷ bs) h f = true_is_not_false f refl
 
 blank_among : (k : ℕ) → k < 8 → (ls : List Line) → setting_among k (taken blank_line ls) ≡ none
-unfolding setting_among taken if◌then◌else◌
+unfolding setting_among taken provided◌then◌else◌
 blank_among k h [] = refl
 blank_among k h (l ∷ ls) =
     by_cases (blank_line l)
@@ -104,11 +104,11 @@ begins_full s n at h = of (block_at s n at).first.text h
 module _ (s : List ℕ) (n at : ℕ) (inside : at < length s) (full : passing Full (block_at s n at).first ≡ true) where
   -- The lines of the block at a place, and those behind it.
   pub block_lines : taken (passing Full) (text_lines s n at) ≡ (block_at s n at).first ∷ (block_at s n at).others
-  unfolding taken block_at if◌then◌else◌
+  unfolding taken block_at provided◌then◌else◌
   block_lines = rw (lines_next s n at inside) (rw full refl)
 
   pub block_past : left (passing Full) (text_lines s n at) ≡ lines_past s n at
-  unfolding left lines_past block_at if◌then◌else◌
+  unfolding left lines_past block_at provided◌then◌else◌
   block_past = rw (lines_next s n at inside) (rw full refl)
 
 -- All blocks before the place are metadata, and these are their lines.

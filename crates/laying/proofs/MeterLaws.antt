@@ -6,7 +6,7 @@ use mathlib.Core.Option.{Option, none, some, get_or, bind}
 use native.Mathlib.Omega.{arith}
 use lib.Dec.{eqb}
 use borrow.Author.Tests.{ne_eqb}
-use Rattle.songcode.specs.Lists.{if◌then◌else◌}
+use Rattle.songcode.specs.Lists.{provided◌then◌else◌}
 use Rattle.songcode.specs.Bytes.{Byte}
 use Rattle.songcode.specs.Song.{bpm, time, Key, Section, Song}
 use Rattle.songcode.specs.Answer.Keys.{bpm_in, time_in}
@@ -39,10 +39,10 @@ time_fits ks = go (time_among ks) (time_range ks)
 -- "N is the section's time, else the song's"; 0 stands for none.
 pub meter_is : (s : Song) (x : Section) {own song : ℕ} → own ≡ get_or (time_among x.keys) 0 → song ≡ get_or (time_among s.keys) 0
     → meter_of own song ≡ time_of s x
-unfolding meter_of time_of if◌then◌else◌
+unfolding meter_of time_of provided◌then◌else◌
 meter_is s x e f = rw (e, f) (go (time_among x.keys) (time_among s.keys) (time_range x.keys) (time_range s.keys))
   where
-    go : (o p : Option ℕ) → Ranged o → Ranged p → (if eqb (get_or o 0) 0 then (if eqb (get_or p 0) 0 then 4 else get_or p 0) else get_or o
+    go : (o p : Option ℕ) → Ranged o → Ranged p → (provided eqb (get_or o 0) 0 then (provided eqb (get_or p 0) 0 then 4 else get_or p 0) else get_or o
         0) ≡ get_or o (get_or p 4)
     go none none a b = refl
     go none (some n) a b = let h = (b n refl).0 in rw (ne_eqb n 0 (λ z. omega arith))
@@ -69,13 +69,13 @@ bpm_few ks n e = go (setting_named bpm ks) e
 -- "bpm (section's, else song's, else 511)"
 pub tempo_is : (s : Song) (x : Section) {own song : ℕ} → own ≡ get_or (bpm_among x.keys) 511 → song ≡ get_or (bpm_among s.keys) 511
     → tempo_of own song ≡ bpm_of s x
-unfolding tempo_of bpm_of if◌then◌else◌
+unfolding tempo_of bpm_of provided◌then◌else◌
 tempo_is s x e f = rw (e, f) (go (bpm_among x.keys) (get_or (bpm_among s.keys) 511) (bpm_few x.keys))
   where
-    go : (o : Option ℕ) (k : ℕ) → ((n : ℕ) → o ≡ some n → n ≤ 400) → (if eqb (get_or o 511) 511 then k else get_or o 511) ≡ get_or o k
+    go : (o : Option ℕ) (k : ℕ) → ((n : ℕ) → o ≡ some n → n ≤ 400) → (provided eqb (get_or o 511) 511 then k else get_or o 511) ≡ get_or o k
     go none k h = refl
     go (some n) k h = let g = h n refl in rw (ne_eqb n 511 (λ z. let y : ⊥ = omega arith in absurd y))
 
 pub tempo_few : (own song : ℕ) → own ≤ 511 → song ≤ 511 → tempo_of own song ≤ 511
-unfolding tempo_of if◌then◌else◌
+unfolding tempo_of provided◌then◌else◌
 tempo_few own song h k = by_cases (eqb own 511) (λ e. rw e k) (λ e. rw e h)

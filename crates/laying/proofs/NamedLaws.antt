@@ -6,7 +6,7 @@ use mathlib.Core.Option.{some}
 use native.Mathlib.Omega.{arith}
 use borrow.Author.Tests.{eq-eqb, ne_eqb}
 use lib.ListN.{take, drop}
-use Rattle.songcode.specs.Lists.{if◌then◌else◌}
+use Rattle.songcode.specs.Lists.{provided◌then◌else◌}
 use Rattle.songcode.specs.Answer.Lines.{Line}
 use Rattle.songcode.specs.Song.{Items, Pattern, items, named}
 use Rattle.songcode.specs.Answer.Tokens.{Token, reference}
@@ -38,7 +38,7 @@ pattern_shape (l ∷ ls) (named n) e = text_lines_complete (pattern_sound l ls (
 
 -- Its words stand in the row.
 pub name_there : (ws : List ℕ) (t : Stretch) (p : Pattern) → PatternFits p → drop t.from (take t.to ws) ≡ pattern_row p → Names p (named_at ws t)
-unfolding PatternFits pattern_row items_row Stands Names named_at if◌then◌else◌
+unfolding PatternFits pattern_row items_row Stands Names named_at provided◌then◌else◌
 name_there ws t (items r) f h = rw (ne_eqb _ 55 (plain_word ws t r f h)) refl
 name_there ws t (named n) f h = let w = named_word ws t n f.1 h in (rw (eq-eqb _ 55 w.0) w.1, f.0, f.1)
 

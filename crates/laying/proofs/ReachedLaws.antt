@@ -8,7 +8,7 @@ use borrow.Author.Tests.{ltb-true, ltb-false, leb-true, leb-false}
 use lib.Dec.{ltb, leb}
 use lib.ListN.{length, drop, get_or}
 use lib.Seq.{drop-cons}
-use Rattle.songcode.specs.Lists.{if◌then◌else◌, left}
+use Rattle.songcode.specs.Lists.{provided◌then◌else◌, left}
 use Rattle.songcode.specs.Answer.Lines.{Line, cr, inside, ending}
 use Rattle.songcode.proofs.ListLaws.{by_cases, taken_left, nil_is_not_cons}
 use Rattle.text.specs.Spans.{end, longer, line_length, break_width, break_length, line_of, line_at, line_text, spans_from}
@@ -25,7 +25,7 @@ use Rattle.laying.proofs.WeightLaws.{line_there, run_few}
 
 -- From any byte of a line the next line is the same.
 cr_then : (bs : List ℕ) → 1 < break_width cr (end (get_or bs 0 0)) → break_width cr (end (get_or bs 0 0)) ≡ suc (whole bs)
-unfolding break_width ending if◌then◌else◌ line_length longer break_length
+unfolding break_width ending provided◌then◌else◌ line_length longer break_length
 cr_then [] h = absurd (omega arith)
 cr_then (b ∷ bs) h =
     by_ending b

@@ -9,7 +9,7 @@ use borrow.Author.Tests.{eqb-true, eqb-false, ltb-true, ltb-false}
 use lib.Dec.{eqb, ltb}
 use lib.ListN.{length, take, drop, set, length-append, length-map}
 use lib.Seq.{sets, length-sets, take-set-le, take-set-lt, drop-set-lt}
-use Rattle.songcode.specs.Lists.{if◌then◌else◌, is_some}
+use Rattle.songcode.specs.Lists.{provided◌then◌else◌, is_some}
 use Rattle.songcode.specs.Answer.Lines.{Line, Block, blocks}
 use Rattle.songcode.specs.Song.{LyricLine, named, Section}
 use Rattle.songcode.specs.Answer.Modifiers.{of_before, of_after, modifier_place, before_said, after_said}
@@ -66,7 +66,7 @@ use Rattle.laying.proofs.TextLaws.{side_carries, items_carries, carries_either, 
 
 -- A cut that is read is said on a line.
 cuts_said_lem : (a b : Option Setting) (v w : ℕ) → length (cuts_by (read_cut (cut_said a) || read_cut (cut_said b)) v w) ≤ cuts_there a b
-unfolding cut_said cut_is bind cuts_there is_some if◌then◌else◌ cuts_by
+unfolding cut_said cut_is bind cuts_there is_some provided◌then◌else◌ cuts_by
 cuts_said_lem none none v w = omega arith
 cuts_said_lem none (some x) v w = most (read_cut (cut_said (some x)))
   where
@@ -591,7 +591,7 @@ module _ {s : List ℕ} {p : Place} {at : ℕ} {held : List ℕ} {met : Met} {so
         mid_length = ap length there ∙ length-sets held (at + 4) (parts_said s r)
 
         items_pattern : eqb (named_at mid text) 0 ≡ true → Carries words pattern_text (pattern_items (song_of s).definitions x.pattern)
-        unfolding outline_by if◌then◌else◌ pattern_said
+        unfolding outline_by provided◌then◌else◌ pattern_said
         items_pattern e =
             let h : Names x.pattern 0 = rw (eqb-true (named_at mid text) 0 e) at names in
             rw (e, plays_itself words text x.pattern pattern_said_lem.1 (pattern_again ∙ pattern_same) h, pattern_there, ← pattern_again)
@@ -599,7 +599,7 @@ module _ {s : List ℕ} {p : Place} {at : ℕ} {held : List ℕ} {met : Met} {so
             (pattern_shape lines x.pattern m.written) (run_good s small r.pattern) pattern_again)
 
         named_pattern : eqb (named_at mid text) 0 ≡ false → Carries words pattern_text (pattern_items (song_of s).definitions x.pattern)
-        unfolding outline_by if◌then◌else◌ named_text
+        unfolding outline_by provided◌then◌else◌ named_text
         named_pattern e =
             let n = named_at mid text in
             let k = eqb-false n 0 e in

@@ -10,7 +10,7 @@ use native.Mathlib.Omega.{arith}
 use lib.Dec.{eqb, leb}
 use lib.ListN.{length, length-append}
 use borrow.Author.Tests.{leb-true, eqb-true, eqb-false, not-false}
-use Rattle.songcode.specs.Lists.{if◌then◌else◌, any, every, taken, left, is_some}
+use Rattle.songcode.specs.Lists.{provided◌then◌else◌, any, every, taken, left, is_some}
 use Rattle.songcode.specs.Bytes.{Byte, values, ascii, same, is, is_byte}
 use Rattle.songcode.specs.Answer.Characters.{characters}
 use Rattle.songcode.specs.Answer.Numbers.{is_decimal, value_from, number_in}
@@ -38,8 +38,8 @@ same_length v w e =
     (λ t. eqb-true (length w) (length v) t)
     (λ t. true_is_not_false e (same_lengths v w (eqb-false (length w) (length v) t)))
 
-some_if : {A : Type 0} (t : Bool) (x : A) → is_some (if t then some x else none) ≡ true → t ≡ true
-unfolding is_some if◌then◌else◌
+some_if : {A : Type 0} (t : Bool) (x : A) → is_some (provided t then some x else none) ≡ true → t ≡ true
+unfolding is_some provided◌then◌else◌
 some_if true x e = refl
 some_if false x e = true_is_not_false e refl
 
@@ -54,7 +54,7 @@ number_short low high bs e =
     (d.0, omega arith)
 
 time_short : (bs : List Byte) → is_some (time_in bs) ≡ true → (0 < length bs) × (length bs ≤ 35)
-unfolding time_in is ascii is_some if◌then◌else◌
+unfolding time_in is ascii is_some provided◌then◌else◌
 time_short bs e =
     let q : Byte → Bool = λ b. not (is_byte (code "/") b) in
     by_cases (is "/4" (left q bs))
@@ -137,7 +137,7 @@ line_short l e =
     (λ k. let z : metadata_fault l ≡ complaint 8 l.number ∷ [] = rw (k, metadata_fault) in nil_is_not_cons (sym e ∙ z))
 
 settings_short : (k : ℕ) (ls : List Line) → flat_map metadata_fault ls ≡ [] → ShortSetting (setting_among k ls)
-unfolding flat_map setting_among ShortSetting if◌then◌else◌
+unfolding flat_map setting_among ShortSetting provided◌then◌else◌
 settings_short k [] e = tt
 settings_short k (l ∷ ls) e =
     let h = append_is_nil (metadata_fault l) (flat_map metadata_fault ls) e in

@@ -8,7 +8,7 @@ use native.Mathlib.Omega.{arith}
 use borrow.Author.Tests.{leb-true}
 use lib.Dec.{leb}
 use lib.ListN.{length, take, drop}
-use Rattle.songcode.specs.Lists.{if◌then◌else◌}
+use Rattle.songcode.specs.Lists.{provided◌then◌else◌}
 use Rattle.songcode.specs.Song.{Items, Pattern, items, Definition, Side}
 use Rattle.songcode.specs.Answer.Tokens.{Token, tokens}
 use Rattle.songcode.specs.Answer.PatternText.{depth, loops_deep, references, side_text}
@@ -103,12 +103,12 @@ carries_either vs ws (some r) t u a b = (a.0, a.1, b.2)
 
 -- How many measures it has, if each has N beats.
 pub carries_even : (ws : List ℕ) (t : Text) (i : Option Items) (n : ℕ) → Carries ws t i → 1 ≤ n → n ≤ 32 → even_in t.outline n ≡ even_measures n i
-unfolding Carries even_measures even_in vacant if◌then◌else◌
+unfolding Carries even_measures even_in vacant provided◌then◌else◌
 carries_even ws t none n c low high = rw c.0 (by_cases (divides 1 n) (λ e. rw e) (λ e. rw e))
 carries_even ws t (some r) n c low high = tells_even t.outline r n c.1 low high
 
 pub even_few : (o : Outline) (n : ℕ) → even_in o n < 65536
-unfolding even_in if◌then◌else◌
+unfolding even_in provided◌then◌else◌
 even_few o n =
     by_cases (leb o.measures 65535)
     (λ e.

@@ -8,7 +8,7 @@ use native.Mathlib.Omega.{arith}
 use borrow.Author.Tests.{ltb-true, ltb-false}
 use lib.Dec.{ltb}
 use lib.ListN.{length, take, drop, length-append, length-take, length-drop}
-use Rattle.songcode.specs.Lists.{if◌then◌else◌, taken, left}
+use Rattle.songcode.specs.Lists.{provided◌then◌else◌, taken, left}
 use Rattle.songcode.specs.Bytes.{Byte, placed, is_blank, not_blank}
 use Rattle.songcode.specs.Answer.Lines.{Line}
 use Rattle.songcode.specs.Answer.Keys.{setting_in}
@@ -116,7 +116,7 @@ weight_behind s n at h k =
 
 -- A setting is no longer than its line; two settings stand on two lines.
 left_length : (p : Byte → Bool) (bs : List Byte) → length (left p bs) ≤ length bs
-unfolding left if◌then◌else◌
+unfolding left provided◌then◌else◌
 left_length p [] = omega arith
 left_length p (b ∷ bs) = let h = left_length p bs in by_cases (p b) (λ e. rw e (omega arith)) (λ e. rw e (omega arith))
 

@@ -1,7 +1,7 @@
 -- The tokens of some lines, as they are laid into the buffer; the number that a pattern names, and a text of the row.
 use Rattle.std.specs.Prelude.{ℕ, ◌+◌, ◌≤◌, ◌≡◌, List, [], ◌∷◌, length}
 use Rattle.std.proofs.Math.Option.{Option, none, some}
-use Rattle.songcode.specs.Lists.{if◌then◌else◌}
+use Rattle.songcode.specs.Lists.{provided◌then◌else◌}
 use Rattle.songcode.specs.Answer.Lines.{Line}
 use Rattle.songcode.specs.Song.{Pattern, items, named}
 use Rattle.songcode.specs.Answer.Tokens.{Token, tokens, tokens_of}
@@ -37,5 +37,5 @@ Names (named n) k = (k ≡ n) × (1 ≤ n) × (n ≤ 9999)
 
 -- The first word of a text that names a definition is a reference.
 unfoldable pub named_at : List ℕ → Stretch → ℕ
-unfolding if◌then◌else◌ word_of
-named_at ws t = if is_reference (kind_of (word_of ws t.to t.from)) then number_of (word_of ws t.to t.from) else 0
+unfolding provided◌then◌else◌ word_of
+named_at ws t = provided is_reference (kind_of (word_of ws t.to t.from)) then number_of (word_of ws t.to t.from) else 0

@@ -3,7 +3,7 @@ use Rattle.std.specs.Prelude.{ℕ, ◌+◌, ◌-◌, ◌*◌, ◌/◌, ◌<◌, 
 use mathlib.Core.List.{List, [], ◌∷◌, ◌++◌, map, flat_map}
 use Rattle.std.proofs.Math.Option.{get_or}
 use Rattle.std.proofs.lemmas.List.Edits.{sets}
-use Rattle.songcode.specs.Lists.{if◌then◌else◌}
+use Rattle.songcode.specs.Lists.{provided◌then◌else◌}
 use Rattle.songcode.specs.Song.{Song}
 use Rattle.songcode.specs.Answer.Lines.{Block, blocks}
 use Rattle.songcode.specs.Answer.Sections.{lyric_line}
@@ -37,17 +37,17 @@ use Rattle.laying.specs.Scores.{Ready, Opens}
 
 -- "N is the section's time, else the song's"; 0 is no time. "bpm (section's, else song's, else 511)"
 unfoldable pub meter_of : ℕ → ℕ → ℕ
-unfolding if◌then◌else◌
-meter_of own song = if eqb own 0 then (if eqb song 0 then 4 else song) else own
+unfolding provided◌then◌else◌
+meter_of own song = provided eqb own 0 then (provided eqb song 0 then 4 else song) else own
 
 unfoldable pub tempo_of : ℕ → ℕ → ℕ
-unfolding if◌then◌else◌
-tempo_of own song = if eqb own 511 then song else own
+unfolding provided◌then◌else◌
+tempo_of own song = provided eqb own 511 then song else own
 
 -- The word that tells where a text stands: offset 16, length 16; 0 for an empty text.
 unfoldable pub place_word : ℕ → ℕ → ℕ
-unfolding if◌then◌else◌
-place_word start stop = if eqb start stop then 0 else start * 65536 + (stop - start)
+unfolding provided◌then◌else◌
+place_word start stop = provided eqb start stop then 0 else start * 65536 + (stop - start)
 
 -- The words of the cuts as the code reads them.
 abbrev pub read_cut : CutRead → Bool
@@ -105,8 +105,8 @@ about_section r h at p ws =
 
 -- What a text says; one that names a definition says what that definition does.
 unfoldable pub outline_by : List ℕ → Stretch → ℕ → Outline
-unfolding if◌then◌else◌ outlined look_up
-outline_by ws t n = if eqb n 0 then outlined (look_up ws) (drop t.from (take t.to ws)) else look_up ws n
+unfolding provided◌then◌else◌ outlined look_up
+outline_by ws t n = provided eqb n 0 then outlined (look_up ws) (drop t.from (take t.to ws)) else look_up ws n
 
 -- The texts at these places, with what they say; a pattern that names a definition plays that definition's text.
 unfoldable pub text_at : List ℕ → ℕ → ℕ → Text

@@ -1,7 +1,7 @@
 -- When the buffer holds the definitions of a song, and the texts of a section.
 use Rattle.std.specs.Prelude.{ℕ, ◌+◌, ◌<◌, ◌≤◌, ◌≡◌, List, [], Bool, false, not, eqb, length}
 use Rattle.std.proofs.Math.Option.{Option, none, some, bind}
-use Rattle.songcode.specs.Lists.{if◌then◌else◌, is_some}
+use Rattle.songcode.specs.Lists.{provided◌then◌else◌, is_some}
 use Rattle.songcode.specs.Complaints.{earliest}
 use Rattle.songcode.specs.Answer.Lines.{blocks}
 use Rattle.songcode.specs.Song.{Items, named, Definition, Section, Side}
@@ -34,8 +34,8 @@ named_text ws n = record { at = stretch_of ws n; outline = look_up ws n }
 
 -- Whether a text names an empty definition.
 unfoldable pub is_empty_text : List ℕ → Stretch → Bool
-unfolding if◌then◌else◌ named_at look_up
-is_empty_text ws t = if eqb (named_at ws t) 0 then false else (look_up ws (named_at ws t)).empty
+unfolding provided◌then◌else◌ named_at look_up
+is_empty_text ws t = provided eqb (named_at ws t) 0 then false else (look_up ws (named_at ws t)).empty
 
 -- A text in the buffer that plays these items, references put in, and whose outline tells of them; no items are an empty text.
 unfoldable pub Carries : List ℕ → Text → Option Items → Type 0

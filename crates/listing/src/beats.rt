@@ -1,33 +1,30 @@
 // A beat as the listing shows it.
 use super::parts::show_part;
 use packing::beat_of;
+use std::io;
 use tokens::spelling_of;
 
-fn show_name(name: [u8; 3]) {
+fn show_name(out: &impl Print, name: [u8; 3]) -> io::Result<()> {
     if name[1] == 0 {
-        io::write_all(1, &[name[0]]);
-        return;
+        return out.write_all(&[name[0]]);
     }
     if name[2] == 0 {
-        io::write_all(1, &[name[0], name[1]]);
-        return;
+        return out.write_all(&[name[0], name[1]]);
     }
-    io::write_all(1, &name);
+    out.write_all(&name)
 }
 
 // `.` goes on with the sound before, `_` is silence.
-pub fn show_beat(text: &[u8], word: u32) {
+pub fn show_beat(out: &impl Print, text: &[u8], word: u32) -> io::Result<()> {
     let b = beat_of(word);
     if !b.head {
-        io::write_all(1, b" .");
-        return;
+        return out.write_all(b" .");
     }
     let base = b.base;
     if 33 < base {
-        io::write_all(1, b" _");
-        return;
+        return out.write_all(b" _");
     }
-    io::write_all(1, b" ");
-    show_name(spelling_of(base));
-    show_part(text, b.extension, b.length);
+    out.write_all(b" ")?;
+    show_name(out, spelling_of(base))?;
+    show_part(out, text, b.extension, b.length)
 }

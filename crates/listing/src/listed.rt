@@ -2,79 +2,85 @@
 use super::beats::show_beat;
 use super::parts::{least, show_part};
 use packing::{item_of, measure_of, section_of};
+use std::io;
 
-fn show_measure(text: &[u8], word: u32, beats: &[u32]) {
-    io::write_all(1, b"measure");
+fn show_measure(out: &impl Print, text: &[u8], word: u32, beats: &[u32]) -> io::Result<()> {
+    out.write_all(b"measure")?;
     let m = measure_of(word);
     let start = least(m.first, beats.len());
     let end = start + least(m.beats, beats.len() - start);
-    let mut i = start;
-    while i < end {
-        show_beat(text, beats[i]);
-        i += 1;
+    for beat in &beats[start..end] {
+        show_beat(out, text, *beat)?;
     }
-    io::write_all(1, b"\n");
+    out.write_all(b"\n")
 }
 
-fn show_measures(text: &[u8], first: usize, count: usize, measures: &[u32], beats: &[u32]) {
+fn show_measures(
+    out: &impl Print,
+    text: &[u8],
+    first: usize,
+    count: usize,
+    measures: &[u32],
+    beats: &[u32],
+) -> io::Result<()> {
     let start = least(first, measures.len());
     let end = start + least(count, measures.len() - start);
-    let mut i = start;
-    while i < end {
-        show_measure(text, measures[i], beats);
-        i += 1;
+    for measure in &measures[start..end] {
+        show_measure(out, text, *measure, beats)?;
     }
+    Ok(())
 }
 
-fn show_section(text: &[u8], word: u64, measures: &[u32], beats: &[u32]) {
+fn show_section(
+    out: &impl Print,
+    text: &[u8],
+    word: u64,
+    measures: &[u32],
+    beats: &[u32],
+) -> io::Result<()> {
     let s = section_of(word);
-    io::write_all(1, b"section ");
-    io::print_decimal(1, s.header as u64);
-    io::write_all(1, b" ");
-    io::print_decimal(1, s.measures as u64);
-    io::write_all(1, b" ");
-    io::print_decimal(1, s.meter as u64);
-    io::write_all(1, b"\n");
-    show_measures(text, s.first, s.measures, measures, beats);
+    println!(out; "section {} {} {}", s.header, s.measures, s.meter)?;
+    show_measures(out, text, s.first, s.measures, measures, beats)
 }
 
-pub fn show_sections(text: &[u8], count: usize, sections: &[u64], measures: &[u32], beats: &[u32]) {
+pub fn show_sections(
+    out: &impl Print,
+    text: &[u8],
+    count: usize,
+    sections: &[u64],
+    measures: &[u32],
+    beats: &[u32],
+) -> io::Result<()> {
     let end = least(count, sections.len());
-    let mut i = 0;
-    while i < end {
-        show_section(text, sections[i], measures, beats);
-        i += 1;
+    for section in &sections[..end] {
+        show_section(out, text, *section, measures, beats)?;
     }
+    Ok(())
 }
 
-fn show_style(style: usize) {
+fn show_style(out: &impl Print, style: usize) -> io::Result<()> {
     if style == 0 {
-        io::write_all(1, b"plain");
+        out.write_all(b"plain")
     } else if style == 1 {
-        io::write_all(1, b"info");
+        out.write_all(b"info")
     } else {
-        io::write_all(1, b"crew");
+        out.write_all(b"crew")
     }
 }
 
-fn show_item(text: &[u8], word: u64) {
+fn show_item(out: &impl Print, text: &[u8], word: u64) -> io::Result<()> {
     let item = item_of(word);
-    io::write_all(1, b"item ");
-    show_style(item.style);
-    io::write_all(1, b" ");
-    io::print_decimal(1, item.first as u64);
-    io::write_all(1, b" ");
-    io::print_decimal(1, item.measures as u64);
-    io::write_all(1, b" ");
-    show_part(text, item.offset, item.length);
-    io::write_all(1, b"\n");
+    out.write_all(b"item ")?;
+    show_style(out, item.style)?;
+    print!(out; " {} {} ", item.first, item.measures)?;
+    show_part(out, text, item.offset, item.length)?;
+    out.write_all(b"\n")
 }
 
-pub fn show_items(text: &[u8], count: usize, items: &[u64]) {
+pub fn show_items(out: &impl Print, text: &[u8], count: usize, items: &[u64]) -> io::Result<()> {
     let end = least(count, items.len());
-    let mut i = 0;
-    while i < end {
-        show_item(text, items[i]);
-        i += 1;
+    for item in &items[..end] {
+        show_item(out, text, *item)?;
     }
+    Ok(())
 }

@@ -5,16 +5,39 @@ mod beats;
 mod listed;
 mod parts;
 
+ghost use Rattle.std.specs.Prelude.{◌≤◌, ◌<◌, length, take, IfOk};
+ghost use Rattle.std.specs.Io.KnownBytes.{Consumes, IsAtEnd};
+
 use listed::{show_items, show_sections};
 use reader::Answer;
+use std::io;
+use std::io::Read;
 
-fn main() {
+fn main(rt: HostRuntime) -> io::Result<()> {
     let mut text = [0u8; 65537];
-    let n = io::read_full(0, &mut text);
-    list(&text[..n]);
+    let n = read_full(&mut rt.stdin(), &mut text)?;
+    list(&rt, &text[..n])
 }
 
-fn list(text: &[u8]) {
+// Reads until the text is full or the input ends, and returns how many bytes it put at the start of the text.
+fn read_full<R: Read>(input: &mut R, text: &mut [u8]) -> io::Result<usize>
+    ensures bound { IfOk result (λ n. n ≤ length text.new) }
+    ensures bytes { IfOk result (λ n.
+        Consumes (R.remaining input.old) (R.remaining input.new) (take n text.new)) }
+    ensures end { IfOk result (λ n. n < length text.new → IsAtEnd (R.remaining input.new)) }
+{
+    let mut done = 0;
+    while done < text.len() {
+        let n = input.read(&mut text[done..])?;
+        if n == 0 {
+            break;
+        }
+        done += n;
+    }
+    Ok(done)
+}
+
+fn list(out: &impl Print, text: &[u8]) -> io::Result<()> {
     let mut keys = [0u32; 8];
     let mut sections = [0u64; 512];
     let mut measures = [0u32; 2048];
@@ -29,30 +52,20 @@ fn list(text: &[u8]) {
         &mut items,
     );
     if a.refusal != 0 {
-        show_refusal(a);
-    } else {
-        show_counts(a);
-        show_sections(text, a.sections, &sections, &measures, &beats);
-        show_items(text, a.items, &items);
+        return show_refusal(out, &a);
     }
+    show_counts(out, &a)?;
+    show_sections(out, text, a.sections, &sections, &measures, &beats)?;
+    show_items(out, text, a.items, &items)
 }
 
-fn show_refusal(a: Answer) {
-    io::write_all(1, b"refused ");
-    io::print_decimal(1, a.refusal as u64);
-    io::write_all(1, b" line ");
-    io::print_decimal(1, a.line as u64);
-    io::write_all(1, b"\n");
+fn show_refusal(out: &impl Print, a: &Answer) -> io::Result<()> {
+    println!(out; "refused {} line {}", a.refusal, a.line)
 }
 
-fn show_counts(a: Answer) {
-    io::write_all(1, b"song ");
-    io::print_decimal(1, a.sections as u64);
-    io::write_all(1, b" ");
-    io::print_decimal(1, a.measures as u64);
-    io::write_all(1, b" ");
-    io::print_decimal(1, a.beats as u64);
-    io::write_all(1, b" ");
-    io::print_decimal(1, a.items as u64);
-    io::write_all(1, b"\n");
+fn show_counts(out: &impl Print, a: &Answer) -> io::Result<()> {
+    println!(out;
+        "song {} {} {} {}",
+        a.sections, a.measures, a.beats, a.items
+    )
 }

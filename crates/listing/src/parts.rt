@@ -1,6 +1,8 @@
 // Parts of the text, and the lesser of two places that keeps them inside it.
 ghost use Rattle.std.specs.Prelude.{◌≤◌};
 
+use std::io;
+
 pub fn least(a: usize, b: usize) -> usize
     ensures upper_bound { result ≤ a }
     ensures upper_bound_2 { result ≤ b }
@@ -9,8 +11,8 @@ pub fn least(a: usize, b: usize) -> usize
 }
 
 // Prints so many bytes of the text from a place on.
-pub fn show_part(text: &[u8], at: usize, length: usize) {
+pub fn show_part(out: &impl Print, text: &[u8], at: usize, length: usize) -> io::Result<()> {
     let start = least(at, text.len());
     let end = start + least(length, text.len() - start);
-    io::write_all(1, &text[start..end]);
+    out.write_all(&text[start..end])
 }

@@ -6,7 +6,7 @@ use mathlib.Core.Option.{Option, none}
 use native.Mathlib.Omega.{arith}
 use borrow.Author.Tests.{ne_eqb, lt-ltb}
 use lib.Dec.{eqb}
-use Rattle.songcode.specs.Lists.{if◌then◌else◌, is_some}
+use Rattle.songcode.specs.Lists.{provided◌then◌else◌, is_some}
 use Rattle.songcode.specs.Answer.Chords.{Chord}
 use Rattle.songcode.specs.Song.{Sound, chord, again, silence, Sounds, only, also, Separator, Item, measure, loop, refer, Items, one, next}
 use Rattle.songcode.specs.Answer.PatternText.{references_i, references}
@@ -115,11 +115,11 @@ stray_glue last r t (next q u i) =
 
 -- The end of a measure says nothing of chords.
 pub closed_chord : (s : Reading) → (closed s).chord ≡ s.chord
-unfolding closed measured if◌then◌else◌
+unfolding closed measured provided◌then◌else◌
 closed_chord s = by_cases (eqb s.positions 0) (λ e. rw e) (λ e. rw e)
 
 pub closed_wants : (s : Reading) → (closed s).wants ≡ s.wants
-unfolding closed measured if◌then◌else◌
+unfolding closed measured provided◌then◌else◌
 closed_wants s = by_cases (eqb s.positions 0) (λ e. rw e) (λ e. rw e)
 
 removed_chord : (n : ℕ) (s : Reading) → (removed n s).chord ≡ s.chord

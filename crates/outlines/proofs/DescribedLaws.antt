@@ -7,7 +7,7 @@ use native.Mathlib.Omega.{arith}
 use native.Mathlib.Nat.{mod_self}
 use borrow.Author.Tests.{eq-eqb, eqb-true, eqb-false}
 use lib.Dec.{eqb}
-use Rattle.songcode.specs.Lists.{if◌then◌else◌}
+use Rattle.songcode.specs.Lists.{provided◌then◌else◌}
 use Rattle.songcode.specs.Song.{Item, measure, loop, refer, Items, one, next}
 use Rattle.songcode.specs.Answer.PatternText.{depth, loops_deep}
 use Rattle.songcode.specs.Answer.Playing.{positions}
@@ -74,7 +74,7 @@ described_shallow own put h = omega arith
 
 -- A number that divides exactly those that pass is the first that passes.
 first_is : (test : ℕ → Bool) (s k m : ℕ) → 1 ≤ m → m ≤ s → s ≤ m + k → ((n : ℕ) → m ≤ n → n < m + k → divides s n ≡ test n) → first_from test k m ≡ s
-unfolding first_from if◌then◌else◌ divides
+unfolding first_from provided◌then◌else◌ divides
 first_is test s zero m a b c e = omega arith
 first_is test s (suc k) m a b c e =
     by_cases (eqb m s)

@@ -5,7 +5,7 @@ use mathlib.Core.List.{List, ◌∷◌}
 use mathlib.Core.Bool.{Bool, ◌||◌}
 use native.Mathlib.Omega.{arith}
 use borrow.Author.Tests.{ne_eqb}
-use Rattle.songcode.specs.Lists.{if◌then◌else◌, any}
+use Rattle.songcode.specs.Lists.{provided◌then◌else◌, any}
 use Rattle.songcode.specs.Song.{Sound, chord, again, silence, Sounds, only, also, nothing, a_line_end, Separator, by_semicolon, by_line_end}
 use Rattle.songcode.specs.Song.{by_colon, Item, measure, loop, refer, Items, one, next}
 use Rattle.songcode.specs.Answer.Tokens.{Token, sound, remover, reference, opens, closes}
@@ -45,7 +45,7 @@ module _ (missing : ℕ → Bool) (find : ℕ → Outline) where
     fault_items (next r t i) g = fault_item i (fault_items r g)
 
   sound_fault : (x : Sound) (g : Faults) → ChordFits x → faults_read missing find g (token_word (sound x)) ≡ g
-  unfolding faults_read bracket_read if◌then◌else◌ token_word ChordFits
+  unfolding faults_read bracket_read provided◌then◌else◌ token_word ChordFits
   sound_fault (chord c) g h =
       let k : kind_of (chord_word c) < 34 = omega arith in
       rw (
@@ -58,11 +58,11 @@ module _ (missing : ℕ → Bool) (find : ℕ → Outline) where
   sound_fault silence g h = refl
 
   closes_fault : (n : ℕ) (g : Faults) → n < 67108864 → faults_read missing find g (token_word (closes n)) ≡ risen g
-  unfolding faults_read bracket_read if◌then◌else◌ token_word
+  unfolding faults_read bracket_read provided◌then◌else◌ token_word
   closes_fault n g h = let a : (56 * 2 ^ 26 + n) / 67108864 ≡ 56 = omega arith in rw a
 
   refer_fault : (n : ℕ) (g : Faults) → n < 67108864 → faults_read missing find g (token_word (reference n)) ≡ reference_read (missing n) (find n) g
-  unfolding faults_read if◌then◌else◌ token_word
+  unfolding faults_read provided◌then◌else◌ token_word
   refer_fault n g h =
       let a : (55 * 2 ^ 26 + n) / 67108864 ≡ 55 = omega arith in
       let b : (55 * 2 ^ 26 + n) % 67108864 ≡ n = omega arith in
@@ -76,13 +76,13 @@ module _ (missing : ℕ → Bool) (find : ℕ → Outline) where
       ∙ ap (λ (t : Faults). all_faults missing find t (token_words k)) (sound_fault x g h.1)
 
   removers_fault : (n : ℕ) (g : Faults) (k : List Token) → all_faults missing find g (token_words (write_removers n k)) ≡ all_faults missing find g (token_words k)
-  unfolding write_removers token_words token_word all_faults faults_read bracket_read if◌then◌else◌
+  unfolding write_removers token_words token_word all_faults faults_read bracket_read provided◌then◌else◌
   removers_fault zero g k = refl
   removers_fault (suc n) g k = removers_fault n g (remover ∷ k)
 
   separator_fault : (t : Separator) (g : Faults) (k : List Token) → all_faults missing find g (token_words (write_separator t k)) ≡ all_faults missing
       find g (token_words k)
-  unfolding write_separator write_beside token_words token_word all_faults faults_read bracket_read if◌then◌else◌
+  unfolding write_separator write_beside token_words token_word all_faults faults_read bracket_read provided◌then◌else◌
   separator_fault by_semicolon g k = refl
   separator_fault by_line_end g k = refl
   separator_fault (by_colon nothing nothing) g k = refl
@@ -91,7 +91,7 @@ module _ (missing : ℕ → Bool) (find : ℕ → Outline) where
   separator_fault (by_colon a_line_end a_line_end) g k = refl
 
   opens_fault : (g : Faults) (k : List Token) → all_faults missing find g (token_words (opens ∷ k)) ≡ all_faults missing find (sunk g) (token_words k)
-  unfolding token_words token_word all_faults faults_read bracket_read if◌then◌else◌
+  unfolding token_words token_word all_faults faults_read bracket_read provided◌then◌else◌
   opens_fault g k = refl
 
   mutual

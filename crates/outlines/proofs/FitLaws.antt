@@ -6,7 +6,7 @@ use native.Mathlib.Omega.{arith}
 use native.Mathlib.Nat.{mod-eq_of_lt, mod-lt, dvd-mod_iff, dvd_trans, mod-eq-zero_of_dvd, dvd_of_mod-eq-zero}
 use borrow.Author.Tests.{eq-eqb, ne_eqb, eqb-true, eqb-false, leb-true, leb-false, ltb-true}
 use lib.Dec.{eqb, leb, ltb}
-use Rattle.songcode.specs.Lists.{if◌then◌else◌}
+use Rattle.songcode.specs.Lists.{provided◌then◌else◌}
 use Rattle.songcode.proofs.ListLaws.{by_cases, both_pass, pass_both, true_is_not_false}
 use Rattle.outlines.specs.Sizes.{divides, first_from, common_by, joined}
 
@@ -33,7 +33,7 @@ record First (test : ℕ → Bool) (k m c : ℕ) : Type 0 where
   least : (n : ℕ) → m ≤ n → n < m + k → test n ≡ true → c ≤ n
 
 first_found : (test : ℕ → Bool) (k m : ℕ) → First test k m (first_from test k m)
-unfolding first_from if◌then◌else◌
+unfolding first_from provided◌then◌else◌
 first_found test zero m = record { from = omega arith; passes = λ h. (let z : ⊥ = omega arith in absurd z); least = λ n h l e. omega arith }
 first_found test (suc k) m = by_cases (test m)
     (λ e. rw e (record { from = omega arith; passes = λ h. e; least = λ n h l f. h }))
@@ -103,7 +103,7 @@ common_divides a b n h k =
 
 -- In an N of 1 to 32.
 pub joined_fits : (s p n : ℕ) → 1 ≤ n → n ≤ 32 → divides (joined s p) n ≡ (divides s n && divides p n)
-unfolding joined if◌then◌else◌
+unfolding joined provided◌then◌else◌
 joined_fits s p n h k = by_cases (ltb 32 s)
     (λ e. let l = ltb-true 32 s e in rw (e, large_not s n h (omega arith)))
     (λ e. by_cases (divides p s)

@@ -8,7 +8,7 @@ use mathlib.Core.Option.{Option, none, some}
 use native.Mathlib.Omega.{arith}
 use borrow.Author.Tests.{eq-eqb, le-ltb}
 use lib.Dec.{eqb}
-use Rattle.songcode.specs.Lists.{if◌then◌else◌, any, is_empty, when}
+use Rattle.songcode.specs.Lists.{provided◌then◌else◌, any, is_empty, when}
 use Rattle.songcode.specs.Complaints.{Complaint, complaint, complain_if, goes_first, earlier, earliest}
 use Rattle.songcode.specs.Song.{Items, Definition}
 use Rattle.songcode.specs.Answer.PatternText.{references, no_reference}
@@ -34,13 +34,13 @@ abbrev pub TenOrEleven : ℕ → Complaint → Type 0
 TenOrEleven head c = (c ≡ complaint 10 head) ⊎ (c ≡ complaint 11 head)
 
 first_ten : (t u : Bool) (head : ℕ) → some (earlier (complaint 10 head) (given t u head)) ≡ given true u head
-unfolding earlier given goes_first if◌then◌else◌
+unfolding earlier given goes_first provided◌then◌else◌
 first_ten true u head = rw (le-ltb head head (omega arith), eq-eqb head head refl)
 first_ten false true head = rw (le-ltb head head (omega arith), eq-eqb head head refl)
 first_ten false false head = refl
 
 first_eleven : (t u : Bool) (head : ℕ) → some (earlier (complaint 11 head) (given t u head)) ≡ given t true head
-unfolding earlier given goes_first if◌then◌else◌
+unfolding earlier given goes_first provided◌then◌else◌
 first_eleven true u head = rw (le-ltb head head (omega arith), eq-eqb head head refl)
 first_eleven false true head = rw (le-ltb head head (omega arith), eq-eqb head head refl)
 first_eleven false false head = refl
@@ -56,11 +56,11 @@ given_first head (c ∷ cs) h = go h.0 (given_first head cs h.1)
     go (inr e) i = rw (e, i) (first_eleven (has 10 cs) (has 11 cs) head)
 
 pub refusal_ten : (f : Faults) (u : Bool) (head : ℕ) → f.missing ≡ true → refusal (fault_number f) head ≡ given true u head
-unfolding refusal fault_number given if◌then◌else◌
+unfolding refusal fault_number given provided◌then◌else◌
 refusal_ten f u head e = rw e
 
 pub refusal_other : (f : Faults) (u : Bool) (head : ℕ) → f.missing ≡ false → f.deep ≡ u → refusal (fault_number f) head ≡ given false u head
-unfolding refusal fault_number given if◌then◌else◌
+unfolding refusal fault_number given provided◌then◌else◌
 refusal_other f true head e d = rw (e, d)
 refusal_other f false head e d = rw (e, d)
 

@@ -6,7 +6,7 @@ use mathlib.Core.Option.{Option}
 use native.Mathlib.Omega.{arith}
 use borrow.Author.Tests.{eq-eqb, ne_eqb, eqb-true}
 use lib.Dec.{eqb}
-use Rattle.songcode.specs.Lists.{if◌then◌else◌}
+use Rattle.songcode.specs.Lists.{provided◌then◌else◌}
 use Rattle.songcode.specs.Song.{Sounds, only, also, Measure, Separator, Item, measure, loop, refer, Items, one, next}
 use Rattle.songcode.specs.Answer.Tokens.{sound}
 use Rattle.songcode.specs.Answer.PatternText.{references_i, references}
@@ -27,15 +27,15 @@ use Rattle.outlines.proofs.TreeLaws.{heard_in, heard_all, removed, after_item, a
 
 -- Where a measure ends.
 pub closed_none : (s : Reading) → (closed s).positions ≡ 0
-unfolding closed measured if◌then◌else◌
+unfolding closed measured provided◌then◌else◌
 closed_none s = by_cases (eqb s.positions 0) (λ e. rw e (eqb-true s.positions 0 e)) (λ e. rw e)
 
 pub closed_same : (s : Reading) → s.positions ≡ 0 → closed s ≡ s
-unfolding closed if◌then◌else◌
+unfolding closed provided◌then◌else◌
 closed_same s h = rw (eq-eqb s.positions 0 h)
 
 closed_one : (s : Reading) → 1 ≤ s.positions → closed s ≡ measured s
-unfolding closed if◌then◌else◌
+unfolding closed provided◌then◌else◌
 closed_one s h = rw (ne_eqb s.positions 0 (λ z. omega arith))
 
 -- The positions of a measure; nothing else of these changes within it.

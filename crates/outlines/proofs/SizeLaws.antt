@@ -6,7 +6,7 @@ use native.Mathlib.Omega.{arith}
 use native.Mathlib.Nat.{mul-le-mul}
 use borrow.Author.Tests.{leb-true, leb-false}
 use lib.Dec.{leb}
-use Rattle.songcode.specs.Lists.{if◌then◌else◌}
+use Rattle.songcode.specs.Lists.{provided◌then◌else◌}
 use Rattle.songcode.proofs.ListLaws.{by_cases}
 use Rattle.outlines.specs.Sizes.{divides, common_by}
 
@@ -17,11 +17,11 @@ some_left : (m : ℕ) → m ≤ 32 → 33 - m ≡ suc (33 - (m + 1))
 some_left m h = omega arith
 
 pub common_found : (m a b : ℕ) → m ≤ 32 → (divides a m && divides b m) ≡ true → common_by (33 - m) m a b ≡ m
-unfolding common_by if◌then◌else◌
+unfolding common_by provided◌then◌else◌
 common_found m a b h e = rw (some_left m h, e)
 
 pub common_more : (m a b : ℕ) → m ≤ 32 → (divides a m && divides b m) ≡ false → common_by (33 - m) m a b ≡ common_by (33 - (m + 1)) (m + 1) a b
-unfolding common_by if◌then◌else◌
+unfolding common_by provided◌then◌else◌
 common_more m a b h e = rw (some_left m h, e)
 
 pub common_over : (m a b : ℕ) → 33 ≤ m → common_by (33 - m) m a b ≡ m

@@ -6,7 +6,7 @@ use mathlib.Core.Bool.{Bool, false, ◌||◌, not, or-true}
 use native.Mathlib.Omega.{arith}
 use lib.Dec.{eqb}
 use lib.ListN.{take, drop}
-use Rattle.songcode.specs.Lists.{if◌then◌else◌, is_empty}
+use Rattle.songcode.specs.Lists.{provided◌then◌else◌, is_empty}
 use Rattle.songcode.specs.Song.{Sounds, only, also, Item, measure, loop, refer, Items, one, next}
 use Rattle.songcode.specs.Answer.Tokens.{Token, sound}
 use Rattle.songcode.specs.Answer.PatternText.{depth_i, depth, loops_deep, references_i, references}
@@ -43,11 +43,11 @@ mutual
   items_some (next r t i) k = items_some r _
 
 closed_deepest : (s : Reading) → (closed s).deepest ≡ s.deepest
-unfolding closed measured if◌then◌else◌
+unfolding closed measured provided◌then◌else◌
 closed_deepest s = by_cases (eqb s.positions 0) (λ e. rw e) (λ e. rw e)
 
 closed_refers : (s : Reading) → (closed s).refers ≡ s.refers
-unfolding closed measured if◌then◌else◌
+unfolding closed measured provided◌then◌else◌
 closed_refers s = by_cases (eqb s.positions 0) (λ e. rw e) (λ e. rw e)
 
 all_deepest : (xs : Sounds) (s : Reading) → (heard_all xs s).deepest ≡ s.deepest

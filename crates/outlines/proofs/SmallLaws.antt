@@ -5,7 +5,7 @@ use mathlib.Core.Bool.{Bool, ◌||◌, ◌&&◌}
 use native.Mathlib.Omega.{arith}
 use lib.Dec.{eqb, ltb}
 use lib.ListN.{get_or}
-use Rattle.songcode.specs.Lists.{if◌then◌else◌}
+use Rattle.songcode.specs.Lists.{provided◌then◌else◌}
 use Rattle.songcode.proofs.ListLaws.{by_cases}
 use Rattle.tokens.specs.Signs.{kind_of, number_of, is_position}
 use Rattle.outlines.specs.declared.readings.Outline.{Outline}
@@ -19,7 +19,7 @@ abbrev Sizes : ℕ → Type 0
 Sizes s = (1 ≤ s) × (s ≤ 33)
 
 pub first_between : (test : ℕ → Bool) (k m : ℕ) → (m ≤ first_from test k m) × (first_from test k m ≤ m + k)
-unfolding first_from if◌then◌else◌
+unfolding first_from provided◌then◌else◌
 first_between test zero m = (omega arith, omega arith)
 first_between test (suc k) m =
     by_cases (test m)
@@ -29,7 +29,7 @@ first_between test (suc k) m =
     let b = h.1 in rw e (omega arith, omega arith))
 
 joined_small : (s p : ℕ) → Sizes s → Sizes (joined s p)
-unfolding joined if◌then◌else◌ common_by
+unfolding joined provided◌then◌else◌ common_by
 joined_small s p h =
     by_cases (ltb 32 s || divides p s) (λ e. rw e h) (λ e. rw e (first_between (λ n. divides s n && divides p n) 32 1))
 
@@ -38,7 +38,7 @@ abbrev Small : Reading → Type 0
 Small s = Sizes s.sizes × (s.count ≤ 65536) × (s.deepest ≤ 7)
 
 closed_small : (s : Reading) → Small s → Small (closed s)
-unfolding closed if◌then◌else◌ measured
+unfolding closed provided◌then◌else◌ measured
 closed_small s h = by_cases (eqb s.positions 0) (λ e. rw e h) (λ e. rw e (joined_small s.sizes s.positions h.0, omega arith, h.2))
 
 opened_small : (s : Reading) → Small s → Small (opened s)
@@ -50,7 +50,7 @@ unfolding loop_shut
 shut_small n outer s h = (h.0, omega arith, h.2)
 
 step_small : (s : Nested) (w : ℕ) → Small s.reading → Small (step_of s w).reading
-unfolding step_of if◌then◌else◌ sounded entered left
+unfolding step_of provided◌then◌else◌ sounded entered left
 step_small s w h =
     by_cases (is_position (kind_of w))
     (λ a. rw a h)
@@ -62,7 +62,7 @@ step_small s w h =
 
 module _ (find : ℕ → Outline) where
   word_small : (s : Nested) (w : ℕ) → Small s.reading → Small (word_read find s w).reading
-  unfolding word_read if◌then◌else◌ referred
+  unfolding word_read provided◌then◌else◌ referred
   word_small s w h =
       by_cases (eqb (kind_of w) 55)
       (λ e. rw e (joined_small s.reading.sizes (find (number_of w)).sizes h.0, omega arith, h.2))

@@ -7,7 +7,7 @@ use borrow.Author.Tests.{ne_eqb, lt-ltb}
 use lib.Dec.{eqb}
 use lib.ListN.{length, get_or, set, length-set}
 use lib.Seq.{get_or-set_same, get_or-set_other}
-use Rattle.songcode.specs.Lists.{if◌then◌else◌}
+use Rattle.songcode.specs.Lists.{provided◌then◌else◌}
 use Rattle.songcode.specs.Song.{Sound, chord, again, silence, Sounds, only, also, nothing, a_line_end, Separator, by_semicolon}
 use Rattle.songcode.specs.Song.{by_line_end, by_colon, Item, measure, loop, refer, Items, one, next}
 use Rattle.songcode.specs.Answer.Tokens.{Token, sound, remover, reference, opens, closes}
@@ -51,7 +51,7 @@ unfoldable mutual
 
 -- Behind an item the level is that before it.
 pub closed_level : (s : Reading) → (closed s).level ≡ s.level
-unfolding closed measured if◌then◌else◌
+unfolding closed measured provided◌then◌else◌
 closed_level s = by_cases (eqb s.positions 0) (λ e. rw e) (λ e. rw e)
 
 all_level : (xs : Sounds) (s : Reading) → (heard_all xs s).level ≡ s.level
@@ -83,7 +83,7 @@ module _ (find : ℕ → Outline) where
 
 read_sound : (find : ℕ → Outline) (x : Sound) (s : Reading) (a : List ℕ) → ChordFits x
     → word_read find (nested s a) (token_word (sound x)) ≡ nested (heard_in x s) a
-unfolding word_read step_of is_position if◌then◌else◌ heard_in token_word ChordFits
+unfolding word_read step_of is_position provided◌then◌else◌ heard_in token_word ChordFits
 read_sound find (chord c) s a h =
     let k = chord_kind (chord_word c) h in
     let x = ne_eqb (kind_of (chord_word c)) 55 (λ z. omega arith) in
@@ -93,7 +93,7 @@ read_sound find again s a h = refl
 read_sound find silence s a h = refl
 
 read_closes : (find : ℕ → Outline) (n : ℕ) (h : Nested) → n < 67108864 → word_read find h (token_word (closes n)) ≡ left n h
-unfolding word_read step_of is_position if◌then◌else◌ token_word
+unfolding word_read step_of is_position provided◌then◌else◌ token_word
 read_closes find n h l =
     let a : (56 * 2 ^ 26 + n) / 67108864 ≡ 56 = omega arith in
     let b : (56 * 2 ^ 26 + n) % 67108864 ≡ n = omega arith in
@@ -101,7 +101,7 @@ read_closes find n h l =
 
 read_refers : (find : ℕ → Outline) (n : ℕ) (s : Reading) (a : List ℕ) → n < 67108864
     → word_read find (nested s a) (token_word (reference n)) ≡ nested (referred (find n) s) a
-unfolding word_read if◌then◌else◌ token_word
+unfolding word_read provided◌then◌else◌ token_word
 read_refers find n s a h =
     let x : (55 * 2 ^ 26 + n) / 67108864 ≡ 55 = omega arith in
     let y : (55 * 2 ^ 26 + n) % 67108864 ≡ n = omega arith in
@@ -109,7 +109,7 @@ read_refers find n s a h =
 
 -- A measure ends once.
 pub closed_closed : (s : Reading) → closed (closed s) ≡ closed s
-unfolding closed measured if◌then◌else◌
+unfolding closed measured provided◌then◌else◌
 closed_closed s = by_cases (eqb s.positions 0) (λ e. rw (e, e)) (λ e. rw e)
 
 sounds_read : (find : ℕ → Outline) (xs : Sounds) (s : Reading) (a : List ℕ) (k : List Token) → ChordsFit xs
@@ -121,13 +121,13 @@ sounds_read find (also xs x) s a k h =
 
 removers_read : (find : ℕ → Outline) (n : ℕ) (s : Reading) (a : List ℕ) (k : List Token)
     → words_read find (nested s a) (token_words (write_removers n k)) ≡ words_read find (nested (removed n s) a) (token_words k)
-unfolding write_removers token_words token_word words_read word_read step_of is_position if◌then◌else◌ removed
+unfolding write_removers token_words token_word words_read word_read step_of is_position provided◌then◌else◌ removed
 removers_read find zero s a k = refl
 removers_read find (suc n) s a k = removers_read find n s a (remover ∷ k)
 
 separator_read : (find : ℕ → Outline) (t : Separator) (s : Reading) (a : List ℕ) (k : List Token)
     → words_read find (nested s a) (token_words (write_separator t k)) ≡ words_read find (nested (closed s) a) (token_words k)
-unfolding write_separator write_beside token_words token_word words_read word_read step_of is_position if◌then◌else◌
+unfolding write_separator write_beside token_words token_word words_read word_read step_of is_position provided◌then◌else◌
 separator_read find by_semicolon s a k = refl
 separator_read find by_line_end s a k = refl
 separator_read find (by_colon nothing nothing) s a k = refl
@@ -138,7 +138,7 @@ separator_read find (by_colon a_line_end a_line_end) s a k =
 
 opens_read : (find : ℕ → Outline) (s : Reading) (a : List ℕ) (k : List Token)
     → words_read find (nested s a) (token_words (opens ∷ k)) ≡ words_read find (nested (opened s) (set a s.level s.count)) (token_words k)
-unfolding token_words token_word words_read word_read step_of is_position if◌then◌else◌ entered
+unfolding token_words token_word words_read word_read step_of is_position provided◌then◌else◌ entered
 opens_read find s a k = refl
 
 -- A closing bracket takes back what was kept for the row around its loop.

@@ -6,7 +6,7 @@ use mathlib.Core.Option.{Option, some}
 use native.Mathlib.Omega.{arith}
 use borrow.Author.Tests.{ne_eqb, leb-true, leb-false, lt-leb}
 use lib.Dec.{eqb, leb}
-use Rattle.songcode.specs.Lists.{if◌then◌else◌}
+use Rattle.songcode.specs.Lists.{provided◌then◌else◌}
 use Rattle.songcode.specs.Song.{Sound, chord, again, silence, Sounds, only, also, Separator, Item, measure, loop, refer, Items, one, next}
 use Rattle.songcode.specs.Answer.PatternText.{references_i, references}
 use Rattle.songcode.specs.Answer.References.{glue, put_in_item, put_in}
@@ -26,7 +26,7 @@ use Rattle.outlines.proofs.TreeLaws.{heard_in, heard_all, removed, after_item, a
 use Rattle.outlines.proofs.MeterLaws.{and_assoc}
 
 pub closed_whole : (s : Reading) → (closed s).whole ≡ s.whole
-unfolding closed measured if◌then◌else◌
+unfolding closed measured provided◌then◌else◌
 closed_whole s = by_cases (eqb s.positions 0) (λ e. rw e) (λ e. rw e)
 
 -- What sounds is no remover.
@@ -76,8 +76,8 @@ module _ (find : ℕ → Outline) (f : ℕ → Option Items) where
         ∙ and_assoc s.whole (is_whole (put_in f r)) (is_whole (put_in_item f i))
         ∙ ap (λ b. s.whole && b) (sym (whole_glue (put_in f r) u (put_in_item f i)))
 
-few_capped : (a b : Bool) (c : ℕ) → (if a && (b && leb (min 65536 c) 65535) then min 65536 c else 0) ≡ (if (a && b) && leb c 65535 then c else 0)
-unfolding if◌then◌else◌
+few_capped : (a b : Bool) (c : ℕ) → (provided a && (b && leb (min 65536 c) 65535) then min 65536 c else 0) ≡ (provided (a && b) && leb c 65535 then c else 0)
+unfolding provided◌then◌else◌
 few_capped a b c = by_cases (leb c 65535)
     (λ e. let l = leb-true c 65535 e in
     let m : min 65536 c ≡ c = omega arith in rw (m, and_assoc a b (leb c 65535)))

@@ -1,6 +1,6 @@
 -- What is wrong with the references of a text, read word by word.
 use Rattle.std.specs.Prelude.{ℕ, ◌+◌, ◌-◌, List, [], ◌∷◌, Bool, false, ◌||◌, ltb}
-use Rattle.songcode.specs.Lists.{if◌then◌else◌}
+use Rattle.songcode.specs.Lists.{provided◌then◌else◌}
 use Rattle.songcode.specs.Answer.PatternText.{loops_deep}
 use Rattle.tokens.specs.Signs.{kind_of, number_of, is_opening, is_closing, is_reference}
 use Rattle.outlines.specs.declared.readings.Outline.{Outline}
@@ -17,16 +17,16 @@ unfolding too_deep
 reference_read missing o f = record { level = f.level; missing = f.missing || missing; deep = f.deep || too_deep f.level o }
 
 unfoldable pub bracket_read : ℕ → Faults → Faults
-unfolding if◌then◌else◌
+unfolding provided◌then◌else◌
 bracket_read k f =
-    if is_opening k then record { level = inner_level f.level; missing = f.missing; deep = f.deep }
-    else (if is_closing k then record { level = f.level - 1; missing = f.missing; deep = f.deep }
+    provided is_opening k then record { level = inner_level f.level; missing = f.missing; deep = f.deep }
+    else (provided is_closing k then record { level = f.level - 1; missing = f.missing; deep = f.deep }
     else f)
 
 -- Each word, with what references find.
 unfoldable pub faults_read : (ℕ → Bool) → (ℕ → Outline) → Faults → ℕ → Faults
-unfolding if◌then◌else◌ reference_read bracket_read
-faults_read missing find f w = if is_reference (kind_of w) then reference_read (missing (number_of w)) (find (number_of w)) f else bracket_read (kind_of w) f
+unfolding provided◌then◌else◌ reference_read bracket_read
+faults_read missing find f w = provided is_reference (kind_of w) then reference_read (missing (number_of w)) (find (number_of w)) f else bracket_read (kind_of w) f
 
 unfoldable pub all_faults : (ℕ → Bool) → (ℕ → Outline) → Faults → List ℕ → Faults
 unfolding faults_read
@@ -37,8 +37,8 @@ unfoldable pub faultless : Faults
 faultless = record { level = 0; missing = false; deep = false }
 
 unfoldable pub fault_number : Faults → ℕ
-unfolding if◌then◌else◌
-fault_number f = if f.missing then 10 else (if f.deep then 11 else 0)
+unfolding provided◌then◌else◌
+fault_number f = provided f.missing then 10 else (provided f.deep then 11 else 0)
 
 unfoldable pub fault_in : (ℕ → Bool) → (ℕ → Outline) → List ℕ → ℕ
 unfolding all_faults faultless fault_number

@@ -1,6 +1,6 @@
 -- A text read word by word into its outline.
 use Rattle.std.specs.Prelude.{ℕ, ◌+◌, ◌-◌, ◌*◌, min, max, List, [], ◌∷◌, Bool, true, false, ◌||◌, ◌&&◌, not, eqb, get_or, replicate, set}
-use Rattle.songcode.specs.Lists.{if◌then◌else◌, is_empty}
+use Rattle.songcode.specs.Lists.{provided◌then◌else◌, is_empty}
 use Rattle.songcode.specs.Answer.PatternText.{loops_deep}
 use Rattle.tokens.specs.Signs.{kind_of, number_of, is_position, is_chord, is_again, is_remover, is_opening, is_closing, is_reference}
 use Rattle.outlines.specs.declared.readings.Outline.{Outline}
@@ -42,8 +42,8 @@ measured s =
 
 -- The end of a measure, if one is at hand.
 unfoldable pub closed : Reading → Reading
-unfolding if◌then◌else◌ measured
-closed s = if eqb s.positions 0 then s else measured s
+unfolding provided◌then◌else◌ measured
+closed s = provided eqb s.positions 0 then s else measured s
 
 -- One loop further in; the word of an outline holds no level above 7.
 abbrev pub inner_level : ℕ → ℕ
@@ -114,17 +114,17 @@ left n h = nested (loop_shut n (get_or h.around (h.reading.level - 1) 0) (closed
 
 -- Any word but a reference; what is no position and no bracket ends a measure.
 unfoldable pub step_of : Nested → ℕ → Nested
-unfolding if◌then◌else◌ is_position sounded entered left closed
+unfolding provided◌then◌else◌ is_position sounded entered left closed
 step_of h w =
-    if is_position (kind_of w) then nested (sounded (kind_of w) h.reading) h.around
-    else (if is_opening (kind_of w) then entered h
-    else (if is_closing (kind_of w) then left (number_of w) h
+    provided is_position (kind_of w) then nested (sounded (kind_of w) h.reading) h.around
+    else (provided is_opening (kind_of w) then entered h
+    else (provided is_closing (kind_of w) then left (number_of w) h
     else nested (closed h.reading) h.around))
 
 -- Each word, with the outlines that references find.
 unfoldable pub word_read : (ℕ → Outline) → Nested → ℕ → Nested
-unfolding if◌then◌else◌ referred step_of
-word_read find h w = if is_reference (kind_of w) then nested (referred (find (number_of w)) h.reading) h.around else step_of h w
+unfolding provided◌then◌else◌ referred step_of
+word_read find h w = provided is_reference (kind_of w) then nested (referred (find (number_of w)) h.reading) h.around else step_of h w
 
 unfoldable pub words_read : (ℕ → Outline) → Nested → List ℕ → Nested
 unfolding word_read

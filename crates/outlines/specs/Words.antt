@@ -1,6 +1,6 @@
 -- The outline of a definition as a word of the row, behind its head, and what is found of a number.
 use Rattle.std.specs.Prelude.{ℕ, ◌+◌, ◌*◌, ◌/◌, ◌%◌, List, Bool, true, false, eqb, get_or}
-use Rattle.songcode.specs.Lists.{if◌then◌else◌}
+use Rattle.songcode.specs.Lists.{provided◌then◌else◌}
 use Rattle.score.specs.Places.{length_at, place_of}
 use Rattle.score.specs.Sections.{bit}
 use Rattle.outlines.specs.declared.readings.Outline.{Outline}
@@ -40,5 +40,5 @@ is_missing ws x = eqb (length_at ws (place_of ws x)) 0
 
 -- The outline of the definition of that number.
 unfoldable pub look_up : List ℕ → ℕ → Outline
-unfolding if◌then◌else◌ is_missing vacant outline_in place_of
-look_up ws x = if is_missing ws x then vacant else outline_in (get_or ws (place_of ws x + 1) 0)
+unfolding provided◌then◌else◌ is_missing vacant outline_in place_of
+look_up ws x = provided is_missing ws x then vacant else outline_in (get_or ws (place_of ws x + 1) 0)

@@ -1,7 +1,7 @@
 -- The beats of a measure written one position after another, where the table has room for all of them.
 use Rattle.std.proofs.Common.{◌≡◌, ℕ, zero, suc, ◌+◌, ◌-◌, ◌*◌, ◌<◌, ◌≤◌, List, [], ◌∷◌, ◌++◌, length, get_or, take, drop, set, replicate, sym, refl, ap, ◌∙◌, add-one, arith, length-take, take_all, lt-ltb, eq-eqb, ne_eqb}
 use lib.Seq.{sets}
-use Rattle.songcode.specs.Lists.{if◌then◌else◌}
+use Rattle.songcode.specs.Lists.{provided◌then◌else◌}
 use Rattle.songcode.proofs.MemoryLaws.{sets_append}
 use Rattle.score.specs.Places.{word_of}
 use Rattle.score.proofs.WordLaws.{word_is}
@@ -40,21 +40,21 @@ sound_some (suc k) v b t t' n e = let z : suc k - 1 ≡ k = omega arith in e ∙
 -- A position.
 pub bar_removed : (share last w k b : ℕ) (t : List ℕ) → k ≡ kind_of w → k ≡ 61
     → (b ≡ b + share * sounds_as (kind_of w)) × (t ≡ sets t b (part_of share last w))
-unfolding part_of sounds_as if◌then◌else◌
+unfolding part_of sounds_as provided◌then◌else◌
 bar_removed share last w k b t e h = let z = eq-eqb (kind_of w) 61 (sym e ∙ h) in (simp z (omega arith), simp z)
 
 -- A chord sounds itself.
 pub chord_voice : (last w k : ℕ) → k ≡ kind_of w → k < 34 → w ≡ voice_of last w
-unfolding voice_of if◌then◌else◌
+unfolding voice_of provided◌then◌else◌
 chord_voice last w k e h = simp (lt-ltb (kind_of w) 34 (omega arith))
 
 pub bar_place : (share w k b : ℕ) → k ≡ kind_of w → (k ≡ 61 → ⊥) → b + share ≡ b + share * sounds_as (kind_of w)
-unfolding sounds_as if◌then◌else◌
+unfolding sounds_as provided◌then◌else◌
 bar_place share w k b e n = let y : (kind_of w ≡ 61 → ⊥) = λ x. n (e ∙ x) in simp (ne_eqb (kind_of w) 61 y) (omega arith)
 
 pub bar_sounds : (share last w k v b : ℕ) (t t' : List ℕ) → k ≡ kind_of w → (k ≡ 61 → ⊥) → v ≡ voice_of last w → t' ≡ sets t b (lasting_of share v)
     → t' ≡ sets t b (part_of share last w)
-unfolding part_of if◌then◌else◌
+unfolding part_of provided◌then◌else◌
 bar_sounds share last w k v b t t' e n p q = let y : (kind_of w ≡ 61 → ⊥) = λ x. n (e ∙ x) in simp (ne_eqb (kind_of w) 61 y, ← p) q
 
 -- The positions of a measure.

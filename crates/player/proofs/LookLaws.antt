@@ -1,6 +1,6 @@
 -- Looking at the positions of a measure, and sounding them, one after another.
 use Rattle.std.proofs.Common.{◌≡◌, ℕ, suc, ◌+◌, ◌-◌, ◌*◌, ◌/◌, ◌<◌, ◌≤◌, Bool, true, false, List, [], ◌∷◌, ◌++◌, length, sym, ◌∙◌, mul-le-mul, div-mul-le_self, arith, le-ltb, lt-ltb, eq-eqb, ne_eqb}
-use Rattle.songcode.specs.Lists.{if◌then◌else◌}
+use Rattle.songcode.specs.Lists.{provided◌then◌else◌}
 use Rattle.score.specs.Places.{word_of}
 use Rattle.tokens.specs.Signs.{kind_of, is_position}
 use Rattle.player.specs.Signs.{voice_of, chord_of, chords_of, lasting_of, part_of, parts_of, sounds_as, sounding_of, positions_at}
@@ -19,16 +19,16 @@ unfolding is_position
 chord_test ws to i w k a b h = rw (← a, ← b, lt-ltb k 34 h)
 
 pub chord_sounds : (k : ℕ) → k < 34 → 1 ≡ sounds_as k
-unfolding sounds_as if◌then◌else◌
+unfolding sounds_as provided◌then◌else◌
 chord_sounds k h = rw (ne_eqb k 61 (λ z. omega arith))
 
 pub chord_taken : (l w k : ℕ) → k ≡ kind_of w → k < 34 → w ≡ chord_of l w
-unfolding chord_of if◌then◌else◌
+unfolding chord_of provided◌then◌else◌
 chord_taken l w k e h = simp (← e, lt-ltb k 34 h)
 
 -- No other position changes the last chord.
 pub chord_kept : (l w k : ℕ) → k ≡ kind_of w → 34 ≤ k → l ≡ chord_of l w
-unfolding chord_of if◌then◌else◌
+unfolding chord_of provided◌then◌else◌
 chord_kept l w k e h = simp (← e, le-ltb k 34 h)
 
 pub look_done : (ws : List ℕ) (to i s l a b d : ℕ) → is_position (kind_of (word_of ws to i)) ≡ false
@@ -56,12 +56,12 @@ look_more ws to i w k s l x y a b d f g h j e p q r =
 
 -- One position.
 pub part_removed : (share last w k : ℕ) (g : Ink) → k ≡ kind_of w → k ≡ 61 → g ≡ inked (part_of share last w) g
-unfolding part_of inked if◌then◌else◌
+unfolding part_of inked provided◌then◌else◌
 part_removed share last w k g e h = simp (eq-eqb (kind_of w) 61 (sym e ∙ h))
 
 pub part_sounds : (share last w k v : ℕ) (g h : Ink) → k ≡ kind_of w → (k ≡ 61 → ⊥) → v ≡ voice_of last w → h ≡ inked (lasting_of share v) g
     → h ≡ inked (part_of share last w) g
-unfolding part_of if◌then◌else◌
+unfolding part_of provided◌then◌else◌
 part_sounds share last w k v g h e n p q = let z : (kind_of w ≡ 61 → ⊥) = λ y. n (e ∙ y) in simp (ne_eqb (kind_of w) 61 z, ← p) q
 
 -- The positions of a measure.

@@ -1,6 +1,6 @@
 -- Every measure that is walked has as many beats as N at most, so that a row's beats can be counted.
 use Rattle.std.proofs.Common.{ℕ, zero, suc, ◌+◌, ◌*◌, ◌/◌, ◌≤◌, eqb, List, [], ◌∷◌, ◌++◌, length, take, refl, arith, length-take}
-use Rattle.songcode.specs.Lists.{if◌then◌else◌, times}
+use Rattle.songcode.specs.Lists.{provided◌then◌else◌, times}
 use Rattle.songcode.specs.Description.Performance.{total}
 use Rattle.songcode.proofs.ListLaws.{by_cases}
 use Rattle.score.specs.declared.stretches.Stretch.{Stretch}
@@ -60,21 +60,21 @@ module _ (n : ℕ) (ws : List ℕ) (h : n ≤ 32) where
   short_item inner i to at last =
       let w = word_of ws to at in
       by_cases (eqb (kind_of w) 57)
-      (λ a. rw (a, if◌then◌else◌) (short_append (inner to (at + 1) last).row
+      (λ a. rw (a, provided◌then◌else◌) (short_append (inner to (at + 1) last).row
       (times (passes_of ws to (inner to (at + 1) last).at) (inner to (at + 1) last).row) (i to (at + 1) last)
       (short_times (passes_of ws to (inner to (at + 1) last).at) (inner to (at + 1) last).row (i to (at + 1) last))))
       (λ a.
-      by_cases (eqb (kind_of w) 55) (λ b. rw (a, b, if◌then◌else◌) (i (stretch_of ws (number_of w)).to (stretch_of ws (number_of w)).from last))
-      (λ b. by_cases (is_separator (kind_of w)) (λ f. rw (a, b, f, if◌then◌else◌) tt) (λ f. rw (a, b, f, if◌then◌else◌) (short_one to at last))))
+      by_cases (eqb (kind_of w) 55) (λ b. rw (a, b, provided◌then◌else◌) (i (stretch_of ws (number_of w)).to (stretch_of ws (number_of w)).from last))
+      (λ b. by_cases (is_separator (kind_of w)) (λ f. rw (a, b, f, provided◌then◌else◌) tt) (λ f. rw (a, b, f, provided◌then◌else◌) (short_one to at last))))
 
   short_rows : (inner : ℕ → ℕ → ℕ → Read) → Shorts inner → (f : ℕ) → Shorts (rows_by inner n ws f)
   unfolding rows_by and_then Short
   short_rows inner i zero to at last = tt
   short_rows inner i (suc f) to at last =
-      by_cases (is_stop (kind_of (word_of ws to at))) (λ e. rw (e, if◌then◌else◌) tt)
+      by_cases (is_stop (kind_of (word_of ws to at))) (λ e. rw (e, provided◌then◌else◌) tt)
       (λ e.
       let r = item_of inner n ws to at last in
-      rw (e, if◌then◌else◌) (short_append r.row (rows_by inner n ws f to r.at r.last).row (short_item inner i to at last)
+      rw (e, provided◌then◌else◌) (short_append r.row (rows_by inner n ws f to r.at r.last).row (short_item inner i to at last)
       (short_rows inner i f to r.at r.last)))
 
   short_level : (k : ℕ) → Shorts (level k n ws)

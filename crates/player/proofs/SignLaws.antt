@@ -1,7 +1,7 @@
 -- Laws of the token words: what is found in a text, and the positions of a measure one by one.
 use Rattle.std.proofs.Common.{◌≡◌, ℕ, zero, suc, ◌+◌, ◌*◌, ◌<◌, ◌≤◌, true, false, ◌&&◌, ◌||◌, eqb, ltb, leb, List, [], ◌∷◌, length, get_or, take, drop, sym, refl, ap, ◌∙◌, add-one, arith, length-append, drop_of_length-le, length-take, drop-cons, leb-false, leb-true}
 use lib.ListN.{length-replicate}
-use Rattle.songcode.specs.Lists.{if◌then◌else◌}
+use Rattle.songcode.specs.Lists.{provided◌then◌else◌}
 use Rattle.songcode.proofs.ListLaws.{by_cases}
 use Rattle.score.specs.Places.{word_of}
 use Rattle.score.proofs.WordLaws.{word_past, word_over}
@@ -38,11 +38,11 @@ stop_inside ws to at e =
 -- The positions of a measure: none, or one and those behind it.
 none_of : (w : ℕ) (xs : List ℕ) → is_position (kind_of w) ≡ false → positions_of (w ∷ xs) ≡ []
 unfolding positions_of
-none_of w xs e = rw (e, if◌then◌else◌)
+none_of w xs e = rw (e, provided◌then◌else◌)
 
 pub one_of : (w : ℕ) (xs : List ℕ) → is_position (kind_of w) ≡ true → positions_of (w ∷ xs) ≡ w ∷ positions_of xs
 unfolding positions_of
-one_of w xs e = rw (e, if◌then◌else◌)
+one_of w xs e = rw (e, provided◌then◌else◌)
 
 pub positions_none : (ws : List ℕ) (to at : ℕ) → is_position (kind_of (word_of ws to at)) ≡ false → positions_at ws to at ≡ []
 unfolding positions_at word_of positions_of
@@ -78,8 +78,8 @@ lasting_length (suc k) v = ap suc (length-replicate k v)
 pub part_length : (share last w : ℕ) → length (part_of share last w) ≡ share * sounds_as (kind_of w)
 unfolding part_of sounds_as
 part_length share last w =
-    by_cases (eqb (kind_of w) 61) (λ e. rw (e, if◌then◌else◌) (omega arith))
-    (λ e. rw (e, if◌then◌else◌) (lasting_length share (voice_of last w) ∙ omega arith))
+    by_cases (eqb (kind_of w) 61) (λ e. rw (e, provided◌then◌else◌) (omega arith))
+    (λ e. rw (e, provided◌then◌else◌) (lasting_length share (voice_of last w) ∙ omega arith))
 
 pub parts_length : (share last : ℕ) (ps : List ℕ) → length (parts_of share last ps) ≡ share * sounding_of ps
 unfolding parts_of sounding_of
@@ -94,7 +94,7 @@ parts_length share last (w ∷ ps) =
 
 sounds_one : (k : ℕ) → sounds_as k ≤ 1
 unfolding sounds_as
-sounds_one k = by_cases (eqb k 61) (λ e. rw (e, if◌then◌else◌) (omega arith)) (λ e. rw (e, if◌then◌else◌) (omega arith))
+sounds_one k = by_cases (eqb k 61) (λ e. rw (e, provided◌then◌else◌) (omega arith)) (λ e. rw (e, provided◌then◌else◌) (omega arith))
 
 pub sounding_length : (ps : List ℕ) → sounding_of ps ≤ length ps
 unfolding sounding_of

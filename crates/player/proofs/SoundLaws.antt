@@ -2,7 +2,7 @@
 use Rattle.std.proofs.Common.{◌≡◌, ℕ, zero, suc, ◌+◌, ◌/◌, ◌<◌, true, false, List, [], ◌∷◌, ◌++◌, map, length, drop, replicate, sym, refl, ap, ◌∙◌, append_assoc, append-nil, arith, drop-drop, lt-ltb, ne_eqb}
 use mathlib.Core.List.{map-append, flat_map}
 use mathlib.Core.Option.{Option, none, some}
-use Rattle.songcode.specs.Lists.{if◌then◌else◌}
+use Rattle.songcode.specs.Lists.{provided◌then◌else◌}
 use Rattle.songcode.specs.Answer.Chords.{Chord}
 use Rattle.songcode.specs.Song.{Sound, chord, again, silence, Sounds, only, also, Measure, beat}
 use Rattle.songcode.specs.Answer.Tokens.{Token, sound, remover}
@@ -40,21 +40,21 @@ lasting_words (suc k) v = rw (map_replicate beat_word k (beat v false), ← head
 
 low_voice : (last w : ℕ) → kind_of w < 34 → voice_of last w ≡ w
 unfolding voice_of
-low_voice last w h = rw (lt-ltb (kind_of w) 34 h, if◌then◌else◌)
+low_voice last w h = rw (lt-ltb (kind_of w) 34 h, provided◌then◌else◌)
 
 low_chord : (last w : ℕ) → kind_of w < 34 → chord_of last w ≡ w
 unfolding chord_of
-low_chord last w h = rw (lt-ltb (kind_of w) 34 h, if◌then◌else◌)
+low_chord last w h = rw (lt-ltb (kind_of w) 34 h, provided◌then◌else◌)
 
 -- A position: what it sounds, and the last chord behind it.
 sound_voice : (last : Option Chord) (s : Sound) → ChordFits s → voice_of (voice_word last) (token_word (sound s)) ≡ voice_word (heard last s)
-unfolding ChordFits heard token_word voice_word voice_of if◌then◌else◌
+unfolding ChordFits heard token_word voice_word voice_of provided◌then◌else◌
 sound_voice last (chord c) h = low_voice (voice_word last) (chord_word c) (chord_kind (chord_word c) h)
 sound_voice last again h = refl
 sound_voice last silence h = refl
 
 sound_chord : (last : Option Chord) (s : Sound) → ChordFits s → chord_of (voice_word last) (token_word (sound s)) ≡ voice_word (chord_after last s)
-unfolding ChordFits chord_after token_word voice_word chord_of if◌then◌else◌
+unfolding ChordFits chord_after token_word voice_word chord_of provided◌then◌else◌
 sound_chord last (chord c) h = low_chord (voice_word last) (chord_word c) (chord_kind (chord_word c) h)
 sound_chord last again h = refl
 sound_chord last silence h = refl
@@ -75,7 +75,7 @@ sound_part : (share : ℕ) (last : Option Chord) (s : Sound) → ChordFits s
     → part_of share (voice_word last) (token_word (sound s)) ≡ map beat_word (lasting share (heard last s))
 unfolding part_of
 sound_part share last s h =
-    rw (ne_eqb (kind_of (token_word (sound s))) 61 (sound_stays s h), if◌then◌else◌, sound_voice last s h) (lasting_words share (heard last s))
+    rw (ne_eqb (kind_of (token_word (sound s))) 61 (sound_stays s h), provided◌then◌else◌, sound_voice last s h) (lasting_words share (heard last s))
 
 -- The sounds of a measure, in front of more positions.
 sounds_parts : (share : ℕ) (last : Option Chord) (ss : Sounds) (k : List Token) → ChordsFit ss
@@ -116,12 +116,12 @@ sounds_positions (also ss s) k j h e =
 
 -- The removers.
 removers_parts : (share l n : ℕ) (k : List Token) → parts_of share l (token_words (write_removers n k)) ≡ parts_of share l (token_words k)
-unfolding write_removers token_words token_word parts_of part_of chord_of if◌then◌else◌
+unfolding write_removers token_words token_word parts_of part_of chord_of provided◌then◌else◌
 removers_parts share l zero k = refl
 removers_parts share l (suc n) k = removers_parts share l n (remover ∷ k)
 
 removers_chords : (l n : ℕ) (k : List Token) → chords_of l (token_words (write_removers n k)) ≡ chords_of l (token_words k)
-unfolding write_removers token_words token_word chords_of chord_of if◌then◌else◌
+unfolding write_removers token_words token_word chords_of chord_of provided◌then◌else◌
 removers_chords l zero k = refl
 removers_chords l (suc n) k = removers_chords l n (remover ∷ k)
 

@@ -1,7 +1,7 @@
 -- Laws of the walk, one for each way through the code.
 use Rattle.std.proofs.Common.{◌≡◌, ℕ, zero, suc, ◌+◌, ◌-◌, ◌<◌, ◌≤◌, Bool, true, false, eqb, ltb, leb, List, [], length, sym, refl, ap, ◌∙◌, arith, ltb-false, eq-eqb, ne_eqb, le-leb, leb-false}
 use borrow.Author.Tests.{eqb-false}
-use Rattle.songcode.specs.Lists.{if◌then◌else◌, times}
+use Rattle.songcode.specs.Lists.{provided◌then◌else◌, times}
 use Rattle.songcode.proofs.ListLaws.{by_cases}
 use Rattle.score.specs.declared.stretches.Stretch.{Stretch}
 use Rattle.score.specs.Places.{stretch_of, word_of}
@@ -31,13 +31,13 @@ finish_then r k g = rw (play_append r.row (k r.at r.last).row g)
 -- Rows, behind what stands inside.
 module _ (inner : ℕ → ℕ → ℕ → Read) (n : ℕ) (ws : List ℕ) where
   pub rows_stop : (f to at last : ℕ) → is_stop (kind_of (word_of ws to at)) ≡ true → rows_by inner n ws f to at last ≡ stop at last
-  unfolding rows_by if◌then◌else◌
+  unfolding rows_by provided◌then◌else◌
   rows_stop zero to at last e = refl
   rows_stop (suc f) to at last e = rw e
 
   pub rows_more : (f to at last : ℕ) → 1 ≤ f → is_stop (kind_of (word_of ws to at)) ≡ false
       → rows_by inner n ws f to at last ≡ and_then (item_of inner n ws to at last) (rows_by inner n ws (f - 1) to)
-  unfolding rows_by if◌then◌else◌
+  unfolding rows_by provided◌then◌else◌
   rows_more zero to at last h e = let z : ⊥ = omega arith in absurd z
   rows_more (suc f) to at last h e = let z : suc f - 1 ≡ f = omega arith in rw (e, z)
 
@@ -52,19 +52,19 @@ module _ (inner : ℕ → ℕ → ℕ → Read) (n : ℕ) (ws : List ℕ) where
   -- One item.
   pub item_loop : (to at last w k : ℕ) (e : End) (g : Page) → w ≡ word_of ws to at → k ≡ kind_of w → k ≡ 57
       → e ≡ finish (loop_of inner ws to (at + 1) last) g → e ≡ finish (item_of inner n ws to at last) g
-  unfolding item_of item_by if◌then◌else◌
+  unfolding item_of item_by provided◌then◌else◌
   item_loop to at last w k e g a b t m = simp (← a, eq-eqb (kind_of w) 57 (sym b ∙ t)) m
 
   pub item_refer : (to at last w k x : ℕ) (e : End) (g : Page) → w ≡ word_of ws to at → k ≡ kind_of w → (k ≡ 57 → ⊥) → k ≡ 55 → x ≡ number_of w
       → e ≡ finish (ref_of inner ws x at last) g → e ≡ finish (item_of inner n ws to at last) g
-  unfolding item_of item_by if◌then◌else◌
+  unfolding item_of item_by provided◌then◌else◌
   item_refer to at last w k x e g a b s t y m =
       let u : (kind_of w ≡ 57 → ⊥) = λ z. s (b ∙ z) in
       simp (← a, ne_eqb (kind_of w) 57 u, eq-eqb (kind_of w) 55 (sym b ∙ t)) (rw y at m)
 
   pub item_separator : (to at last w k : ℕ) (r : Bool) (g : Page) → w ≡ word_of ws to at → k ≡ kind_of w → (k ≡ 57 → ⊥) → (k ≡ 55 → ⊥)
       → r ≡ is_separator k → r ≡ true → ◌≡◌ {A = End} (record { at = at + 1; last = last; page = g }) (finish (item_of inner n ws to at last) g)
-  unfolding item_of item_by if◌then◌else◌ finish play
+  unfolding item_of item_by provided◌then◌else◌ finish play
   item_separator to at last w k r g a b s t y m =
       let u : (kind_of w ≡ 57 → ⊥) = λ z. s (b ∙ z) in
       let v : (kind_of w ≡ 55 → ⊥) = λ z. t (b ∙ z) in
@@ -73,7 +73,7 @@ module _ (inner : ℕ → ℕ → ℕ → Read) (n : ℕ) (ws : List ℕ) where
 
   pub item_one : (to at last w k : ℕ) (r : Bool) (e : End) (g : Page) → w ≡ word_of ws to at → k ≡ kind_of w → (k ≡ 57 → ⊥) → (k ≡ 55 → ⊥)
       → r ≡ is_separator k → r ≡ false → e ≡ finish (one_of n ws to at last) g → e ≡ finish (item_of inner n ws to at last) g
-  unfolding item_of item_by if◌then◌else◌
+  unfolding item_of item_by provided◌then◌else◌
   item_one to at last w k r e g a b s t y m q =
       let u : (kind_of w ≡ 57 → ⊥) = λ z. s (b ∙ z) in
       let v : (kind_of w ≡ 55 → ⊥) = λ z. t (b ∙ z) in
@@ -153,7 +153,7 @@ Onward inner = (to at last : ℕ) → at ≤ (inner to at last).at
 
 behind_on : (ws : List ℕ) (to at : ℕ) → at ≤ behind_of ws to at
 unfolding behind_of
-behind_on ws to at = by_cases (eqb (kind_of (word_of ws to at)) 56) (λ e. rw (e, if◌then◌else◌) (omega arith)) (λ e. rw (e, if◌then◌else◌) (omega arith))
+behind_on ws to at = by_cases (eqb (kind_of (word_of ws to at)) 56) (λ e. rw (e, provided◌then◌else◌) (omega arith)) (λ e. rw (e, provided◌then◌else◌) (omega arith))
 
 -- A word that ends no row, opens nothing, refers to nothing and separates nothing is a position.
 position_left : (k : ℕ) → is_stop k ≡ false → (k ≡ 57 → ⊥) → (k ≡ 55 → ⊥) → is_separator k ≡ false → is_position k ≡ true
@@ -185,28 +185,28 @@ pub item_onward : (inner : ℕ → ℕ → ℕ → Read) (n : ℕ) (ws : List �
 unfolding item_of item_by loop_of looped ref_of one_of
 item_onward inner n ws to at last i e =
     let w = word_of ws to at in
-    by_cases (eqb (kind_of w) 57) (λ a. rw (a, if◌then◌else◌)
+    by_cases (eqb (kind_of w) 57) (λ a. rw (a, provided◌then◌else◌)
     (let h = i to (at + 1) last in
     let k = behind_on ws to (inner to (at + 1) last).at in omega arith))
     (λ a.
-    by_cases (eqb (kind_of w) 55) (λ b. rw (a, b, if◌then◌else◌) (omega arith))
+    by_cases (eqb (kind_of w) 55) (λ b. rw (a, b, provided◌then◌else◌) (omega arith))
     (λ b.
-    by_cases (is_separator (kind_of w)) (λ f. rw (a, b, f, if◌then◌else◌) (omega arith))
+    by_cases (is_separator (kind_of w)) (λ f. rw (a, b, f, provided◌then◌else◌) (omega arith))
     (λ f.
     let p = position_left (kind_of w) e (eqb-false (kind_of w) 57 a) (eqb-false (kind_of w) 55 b) f in
     let l : length (positions_at ws to at) ≡ suc (length (positions_at ws to (at + 1))) = ap length (positions_more ws to at p) in
-    rw (a, b, f, if◌then◌else◌) (omega arith))))
+    rw (a, b, f, provided◌then◌else◌) (omega arith))))
 
 rows_onward : (inner : ℕ → ℕ → ℕ → Read) (n : ℕ) (ws : List ℕ) → Onward inner → (f : ℕ) → Onward (rows_by inner n ws f)
 unfolding rows_by and_then
 rows_onward inner n ws i zero to at last = omega arith
 rows_onward inner n ws i (suc f) to at last =
-    by_cases (is_stop (kind_of (word_of ws to at))) (λ e. rw (e, if◌then◌else◌) (omega arith))
+    by_cases (is_stop (kind_of (word_of ws to at))) (λ e. rw (e, provided◌then◌else◌) (omega arith))
     (λ e.
     let r = item_of inner n ws to at last in
     let h = item_onward inner n ws to at last i e in
     let k = rows_onward inner n ws i f to r.at r.last in
-    rw (e, if◌then◌else◌) (omega arith))
+    rw (e, provided◌then◌else◌) (omega arith))
 
 pub level_onward : (k : ℕ) (n : ℕ) (ws : List ℕ) → Onward (level k n ws)
 unfolding level

@@ -1,7 +1,7 @@
 -- A measure, a loop, a reference and a separator that stand written in the buffer, each walked.
 use Rattle.std.proofs.Common.{◌≡◌, ℕ, ◌+◌, ◌-◌, ◌<◌, ◌≤◌, true, false, eqb, List, [], ◌∷◌, length, take, drop, sym, refl, ap, ◌∙◌, arith, drop-drop}
 use mathlib.Core.Option.{Option}
-use Rattle.songcode.specs.Lists.{if◌then◌else◌, times}
+use Rattle.songcode.specs.Lists.{provided◌then◌else◌, times}
 use Rattle.songcode.specs.Answer.Chords.{Chord}
 use Rattle.songcode.specs.Song.{Measure, Beside, nothing, a_line_end, Separator, by_semicolon, by_line_end, by_colon, Beat}
 use Rattle.songcode.specs.Answer.Tokens.{Token, reference, semicolon, colon, line_end, opens, closes}
@@ -46,7 +46,7 @@ module _ (ws : List ℕ) (n : ℕ) where
         let p : is_position (kind_of (word_of ws to at)) ≡ true = position_there ws to at (omega arith) in
         let o = position_only (kind_of (word_of ws to at)) p in
         record {
-          walked = rw (o.not_open, o.not_refer, o.not_separator, if◌then◌else◌) (record {
+          walked = rw (o.not_open, o.not_refer, o.not_separator, provided◌then◌else◌) (record {
             row_is = rw (l, ps) (ap (λ x. x ∷ []) (measure_beats_lem n last m h));
             last_is = rw ps (measure_chord last m h);
             text_is = rw l (sym (drop-drop (positions m) at (take to ws)) ∙ ap (drop (positions m)) e ∙ measure_drop m k);
@@ -58,7 +58,7 @@ module _ (ws : List ℕ) (n : ℕ) where
     pub loop_passed : (j : ℕ) (row : List (List Beat)) (l : Option Chord) (x : List ℕ) (k : List Token) → 1 ≤ j → j < 67108864
         → drop at (take to ws) ≡ token_word opens ∷ x → Walked to (inner to (at + 1) (voice_word last)) row l (closes j ∷ k)
         → Passed inner to at last (times j row) l k
-    unfolding item_of item_by loop_of looped passes_of behind_of token_word token_words is_stop if◌then◌else◌
+    unfolding item_of item_by loop_of looped passes_of behind_of token_word token_words is_stop provided◌then◌else◌
     loop_passed j row l x k h i e w =
         let r = inner to (at + 1) (voice_word last) in
         let o : word_of ws to at ≡ 3825205248 = word_here ws to at 3825205248 x e in
@@ -77,7 +77,7 @@ module _ (ws : List ℕ) (n : ℕ) where
     pub refer_passed : (j : ℕ) (row : List (List Beat)) (l : Option Chord) (k k' : List Token) → j < 67108864
         → drop at (take to ws) ≡ token_word (reference j) ∷ token_words k
         → Walked (stretch_of ws j).to (inner (stretch_of ws j).to (stretch_of ws j).from (voice_word last)) row l k' → Passed inner to at last row l k
-    unfolding item_of item_by ref_of is_stop if◌then◌else◌
+    unfolding item_of item_by ref_of is_stop provided◌then◌else◌
     refer_passed j row l k k' i e w =
         let o : word_of ws to at ≡ token_word (reference j) = word_here ws to at (token_word (reference j)) (token_words k) e in
         let c = refers_kind j i in
@@ -109,7 +109,7 @@ module _ (ws : List ℕ) (n : ℕ) where
       pub not_stop : is_stop (kind_of w) ≡ false
 
     pub step_across : (f at w : ℕ) (k : List Token) → Separates w → drop at (take to ws) ≡ w ∷ token_words k → to ≤ at + f → Across f at k
-    unfolding item_of item_by and_then if◌then◌else◌
+    unfolding item_of item_by and_then provided◌then◌else◌
     step_across f at w k s e h =
         let i = inside_here ws to at w (token_words k) e in
         let o : word_of ws to at ≡ w = word_here ws to at w (token_words k) e in

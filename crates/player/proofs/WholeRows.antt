@@ -2,7 +2,7 @@
 use Rattle.std.proofs.Common.{◌≡◌, ℕ, suc, ◌+◌, ◌*◌, ◌/◌, ◌%◌, true, ◌&&◌, leb, List, [], ◌∷◌, map, length, refl, ap, ◌∙◌, append-nil, mul_comm, div-add-mod', arith, length-append, eqb-true}
 use mathlib.Core.List.{flat_map}
 use mathlib.Core.Option.{Option, none, some}
-use Rattle.songcode.specs.Lists.{if◌then◌else◌}
+use Rattle.songcode.specs.Lists.{provided◌then◌else◌}
 use Rattle.songcode.specs.Answer.Chords.{Chord}
 use Rattle.songcode.specs.Song.{Sounds, only, also, Measure, Item, measure, loop, refer, Items, one, next, Beat}
 use Rattle.songcode.specs.Answer.Playing.{heard, last_sounds, last_items, voices, lasting, sound_count, positions, beats_of, measures_item, measures_of}
@@ -62,7 +62,7 @@ words_level n (x ∷ row) f = (word_count x ∙ f.0, words_level n row f.1)
 
 -- The row of a pattern that is told to be even.
 pub even_row : (n : ℕ) (r : Items) → (even_measures n (some r) ≡ 0 → ⊥) → Even n (even_measures n (some r)) (row_words (measures_of n none r))
-unfolding even_measures most_measures if◌then◌else◌
+unfolding even_measures most_measures provided◌then◌else◌
 even_row n r h = by_cases ((is_whole r && all_fit n r) && leb (count r) 65535)
     (λ q.
     let a = both_pass (is_whole r && all_fit n r) (leb (count r) 65535) q in

@@ -1,7 +1,7 @@
 -- Written tokens in the buffer: the word at a place and the text behind it, what ends a row, and what is no position.
 use Rattle.std.proofs.Common.{◌≡◌, ℕ, zero, suc, ◌+◌, ◌-◌, ◌/◌, ◌<◌, ◌≤◌, true, false, eqb, ltb, leb, List, [], ◌∷◌, ◌++◌, length, get_or, take, drop, sym, refl, ap, ◌∙◌, arith, length-drop, length-take, get_or-drop, drop-drop, ltb-true, ne_eqb, le-leb, leb-true}
 use borrow.Author.Tests.{lt-leb}
-use Rattle.songcode.specs.Lists.{if◌then◌else◌, times}
+use Rattle.songcode.specs.Lists.{provided◌then◌else◌, times}
 use Rattle.songcode.specs.Song.{nothing, a_line_end, Separator, by_semicolon, by_line_end, by_colon}
 use Rattle.songcode.specs.Answer.Tokens.{Token, reference, closes}
 use Rattle.songcode.proofs.WrittenBefore.{write_beside, write_separator}
@@ -62,7 +62,7 @@ Apart k = positions_of (token_words k) ≡ []
 pub ends_apart : (k : List Token) → Ends k → Apart k
 unfolding Ends Apart positions_of token_words
 ends_apart [] h = refl
-ends_apart (t ∷ k) h = rw (h.1, if◌then◌else◌)
+ends_apart (t ∷ k) h = rw (h.1, provided◌then◌else◌)
 
 -- A position is no other kind of word.
 pub record Only (k : ℕ) : Type 0 where
@@ -102,7 +102,7 @@ times_one (suc k) row h = let z : suc k - 1 ≡ k = omega arith in rw z
 
 -- No position stands in front of a separator.
 pub separator_apart : (s : Separator) (k : List Token) → Apart (write_separator s k)
-unfolding Apart write_separator write_beside token_words token_word positions_of is_position if◌then◌else◌
+unfolding Apart write_separator write_beside token_words token_word positions_of is_position provided◌then◌else◌
 separator_apart by_semicolon k = refl
 separator_apart by_line_end k = refl
 separator_apart (by_colon nothing a) k = refl

@@ -1,17 +1,17 @@
 -- What a position sounds, the last chord behind it, and the positions of a measure.
 use Rattle.std.specs.Prelude.{ℕ, zero, suc, ◌+◌, List, [], ◌∷◌, ◌++◌, take, drop, replicate}
-use Rattle.songcode.specs.Lists.{if◌then◌else◌}
+use Rattle.songcode.specs.Lists.{provided◌then◌else◌}
 use Rattle.tokens.specs.Signs.{kind_of, is_position, is_chord, is_again, is_remover, silence_word}
 
 -- What a position sounds, as the word of a beat without head: itself, the last chord for `%`, silence.
 -- Where no chord was yet the last one is silence.
 unfoldable pub voice_of : ℕ → ℕ → ℕ
-unfolding if◌then◌else◌
-voice_of last w = if is_chord (kind_of w) then w else (if is_again (kind_of w) then last else silence_word)
+unfolding provided◌then◌else◌
+voice_of last w = provided is_chord (kind_of w) then w else (provided is_again (kind_of w) then last else silence_word)
 
 unfoldable pub chord_of : ℕ → ℕ → ℕ
-unfolding if◌then◌else◌
-chord_of last w = if is_chord (kind_of w) then w else last
+unfolding provided◌then◌else◌
+chord_of last w = provided is_chord (kind_of w) then w else last
 
 unfoldable pub chords_of : ℕ → List ℕ → ℕ
 unfolding chord_of
@@ -25,8 +25,8 @@ lasting_of (suc k) v = (v + 16) ∷ replicate k v
 
 -- The beats of a position; a remover has none.
 unfoldable pub part_of : ℕ → ℕ → ℕ → List ℕ
-unfolding if◌then◌else◌ lasting_of voice_of
-part_of share last w = if is_remover (kind_of w) then [] else lasting_of share (voice_of last w)
+unfolding provided◌then◌else◌ lasting_of voice_of
+part_of share last w = provided is_remover (kind_of w) then [] else lasting_of share (voice_of last w)
 
 unfoldable pub parts_of : ℕ → ℕ → List ℕ → List ℕ
 unfolding part_of chord_of
@@ -35,8 +35,8 @@ parts_of share last (w ∷ ws) = part_of share last w ++ parts_of share (chord_o
 
 -- How many positions sound.
 unfoldable pub sounds_as : ℕ → ℕ
-unfolding if◌then◌else◌
-sounds_as k = if is_remover k then 0 else 1
+unfolding provided◌then◌else◌
+sounds_as k = provided is_remover k then 0 else 1
 
 unfoldable pub sounding_of : List ℕ → ℕ
 unfolding sounds_as
@@ -45,9 +45,9 @@ sounding_of (w ∷ ws) = sounds_as (kind_of w) + sounding_of ws
 
 -- The positions that stand in a row.
 unfoldable pub positions_of : List ℕ → List ℕ
-unfolding if◌then◌else◌ is_position
+unfolding provided◌then◌else◌ is_position
 positions_of [] = []
-positions_of (w ∷ ws) = if is_position (kind_of w) then w ∷ positions_of ws else []
+positions_of (w ∷ ws) = provided is_position (kind_of w) then w ∷ positions_of ws else []
 
 unfoldable pub positions_at : List ℕ → ℕ → ℕ → List ℕ
 unfolding positions_of

@@ -1,6 +1,6 @@
 -- What token words mean as they are walked: rows of measures, the place where the walk ends, and the last chord.
 use Rattle.std.specs.Prelude.{ℕ, zero, suc, ◌+◌, ◌-◌, ◌/◌, ◌<◌, ◌≤◌, List, [], ◌∷◌, ◌++◌, length}
-use Rattle.songcode.specs.Lists.{if◌then◌else◌, times}
+use Rattle.songcode.specs.Lists.{provided◌then◌else◌, times}
 use Rattle.score.specs.declared.stretches.Stretch.{Stretch}
 use Rattle.score.specs.Places.{word_of, stretch_of}
 use Rattle.tokens.specs.Signs.{kind_of, number_of, is_separator, is_stop, is_opening, is_closing, is_reference}
@@ -45,8 +45,8 @@ unfolding word_of
 passes_of ws to at = number_of (word_of ws to at) - 1
 
 unfoldable pub behind_of : List ℕ → ℕ → ℕ → ℕ
-unfolding if◌then◌else◌ word_of
-behind_of ws to at = if is_closing (kind_of (word_of ws to at)) then at + 1 else at
+unfolding provided◌then◌else◌ word_of
+behind_of ws to at = provided is_closing (kind_of (word_of ws to at)) then at + 1 else at
 
 unfoldable pub looped : List ℕ → ℕ → Read → Read
 unfolding times passes_of behind_of
@@ -68,11 +68,11 @@ ref_of inner ws x at last =
     }
 
 unfoldable pub item_by : (ℕ → ℕ → ℕ → Read) → ℕ → List ℕ → ℕ → ℕ → ℕ → ℕ → Read
-unfolding if◌then◌else◌ loop_of ref_of one_of is_separator
+unfolding provided◌then◌else◌ loop_of ref_of one_of is_separator
 item_by inner n ws w to at last =
-    if is_opening (kind_of w) then loop_of inner ws to (at + 1) last
-    else (if is_reference (kind_of w) then ref_of inner ws (number_of w) at last
-    else (if is_separator (kind_of w) then stop (at + 1) last
+    provided is_opening (kind_of w) then loop_of inner ws to (at + 1) last
+    else (provided is_reference (kind_of w) then ref_of inner ws (number_of w) at last
+    else (provided is_separator (kind_of w) then stop (at + 1) last
     else one_of n ws to at last))
 
 unfoldable pub item_of : (ℕ → ℕ → ℕ → Read) → ℕ → List ℕ → ℕ → ℕ → ℕ → Read
@@ -80,10 +80,10 @@ unfolding item_by word_of
 item_of inner n ws to at last = item_by inner n ws (word_of ws to at) to at last
 
 unfoldable pub rows_by : (ℕ → ℕ → ℕ → Read) → ℕ → List ℕ → ℕ → ℕ → ℕ → ℕ → Read
-unfolding if◌then◌else◌ is_stop word_of item_of and_then
+unfolding provided◌then◌else◌ is_stop word_of item_of and_then
 rows_by inner n ws zero to at last = stop at last
 rows_by inner n ws (suc f) to at last =
-    if is_stop (kind_of (word_of ws to at)) then stop at last else and_then (item_of inner n ws to at last) (rows_by inner n ws f to)
+    provided is_stop (kind_of (word_of ws to at)) then stop at last else and_then (item_of inner n ws to at last) (rows_by inner n ws f to)
 
 -- So many levels of rows, one in the loops and references of the other.
 unfoldable pub level : ℕ → ℕ → List ℕ → ℕ → ℕ → ℕ → Read

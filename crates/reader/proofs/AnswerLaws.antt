@@ -8,7 +8,7 @@ use lib.Dec.{eqb}
 use native.Mathlib.Omega.{arith}
 use lib.ListN.{length}
 use lib.Seq.{sets}
-use Rattle.songcode.specs.Lists.{if◌then◌else◌, when}
+use Rattle.songcode.specs.Lists.{provided◌then◌else◌, when}
 use Rattle.songcode.specs.Complaints.{complaint, complain_if, earlier, earliest}
 use Rattle.songcode.specs.Song.{Song}
 use Rattle.songcode.specs.Answer.Tables.{Tables, tables, key_words, key_order}
@@ -65,7 +65,7 @@ module _ (bs ws : List ℕ) (chart : Chart) (input : input_faults bs ≡ []) (te
     song_counts = let h = (j.writable z).holds in rw (h.sections, h.measures, h.beats, h.items) refl
 
   pub counted_is : Counted bs (counted_by totals)
-  unfolding counted_by if◌then◌else◌ answer_of
+  unfolding counted_by provided◌then◌else◌ answer_of
   counted_is = record {
     answer =
         by_cases (eqb totals.refusal.number 0)
@@ -84,7 +84,7 @@ module _ (bs ws : List ℕ) (chart : Chart) (input : input_faults bs ≡ []) (te
         go (accepted t) e = absurd (n (ap (λ (r : Answer). r.refusal) (counted_is.answer ∙ ap answer_of e)))
 
     no_refusal : (counted_by totals).refusal ≡ 0 → totals.refusal.number ≡ 0
-    unfolding counted_by if◌then◌else◌
+    unfolding counted_by provided◌then◌else◌
     no_refusal z =
         by_cases (eqb totals.refusal.number 0) (λ t. eqb-true totals.refusal.number 0 t) (λ t. let y : totals.refusal.number ≡ 0 = rw t at z in y)
 
@@ -99,7 +99,7 @@ module _ (bs ws : List ℕ) (chart : Chart) (input : input_faults bs ≡ []) (te
       long h = roomy_accepted (room_is room) bs (is_song (no_refusal z)) (long_is room (song_of bs) (counted_by totals) told h)
 
     pub answered_is : answered_by totals room ≡ answer_of (answer (room_is room) bs)
-    unfolding answered_by if◌then◌else◌ answer_of
+    unfolding answered_by provided◌then◌else◌ answer_of
     answered_is =
         by_cases (eqb (counted_by totals).refusal 0)
         (λ t.
@@ -111,7 +111,7 @@ module _ (bs ws : List ℕ) (chart : Chart) (input : input_faults bs ≡ []) (te
 
     -- Where nothing is refused, the tables have room, and can be written.
     pub answered_song : (answered_by totals room).refusal ≡ 0 → (answer (room_is room) bs ≡ accepted (tables (song_of bs))) × Writable bs ws chart
-    unfolding answered_by if◌then◌else◌
+    unfolding answered_by provided◌then◌else◌
     answered_song e =
         by_cases (eqb (counted_by totals).refusal 0)
         (λ t.

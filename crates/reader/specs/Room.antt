@@ -1,6 +1,6 @@
 -- The answer to a chart by what stages 3 to 7 found in it, and by the room in the lent tables.
 use Rattle.std.specs.Prelude.{ℕ, Bool, ◌||◌, eqb, ltb}
-use Rattle.songcode.specs.Lists.{if◌then◌else◌}
+use Rattle.songcode.specs.Lists.{provided◌then◌else◌}
 use Rattle.songcode.specs.Answer.Answer as songcode
 use Rattle.judging.specs.declared.sums.Totals.{Totals}
 use Rattle.reader.specs.declared.answers.Answer.{Answer}
@@ -16,8 +16,8 @@ abbrev pub accepted_with : Totals → Answer
 accepted_with t = record { refusal = 0; line = 0; sections = t.sections; measures = t.measures; beats = t.beats; items = t.items }
 
 unfoldable pub counted_by : Totals → Answer
-unfolding if◌then◌else◌
-counted_by t = if eqb t.refusal.number 0 then accepted_with t else refused_with t.refusal.number t.refusal.line
+unfolding provided◌then◌else◌
+counted_by t = provided eqb t.refusal.number 0 then accepted_with t else refused_with t.refusal.number t.refusal.line
 
 -- A table that is too short for a song of these counts.
 unfoldable pub is_short : Answer → Room → Bool
@@ -25,6 +25,6 @@ is_short a r =
     ltb r.keys 8 || ltb r.sections a.sections || ltb r.measures a.measures || ltb r.beats a.beats || ltb r.items a.items
 
 unfoldable pub answered_by : Totals → Room → Answer
-unfolding if◌then◌else◌ counted_by is_short
+unfolding provided◌then◌else◌ counted_by is_short
 answered_by t r =
-    if eqb (counted_by t).refusal 0 then (if is_short (counted_by t) r then refused_with 18 0 else counted_by t) else counted_by t
+    provided eqb (counted_by t).refusal 0 then (provided is_short (counted_by t) r then refused_with 18 0 else counted_by t) else counted_by t

@@ -8,7 +8,7 @@ use mathlib.Core.Option as option
 use native.Mathlib.Omega.{arith}
 use borrow.Author.Tests.{ltb-true, ltb-false, leb-true, leb-false, eqb-true, eqb-false, lt-ltb}
 use lib.Dec.{eqb, leb, ltb}
-use Rattle.songcode.specs.Lists.{if◌then◌else◌, is_empty, when}
+use Rattle.songcode.specs.Lists.{provided◌then◌else◌, is_empty, when}
 use Rattle.songcode.specs.Answer.Lines.{Block}
 use Rattle.songcode.specs.Complaints.{Complaint, complain_if, goes_first, earlier, earliest}
 use Rattle.songcode.specs.Answer.SongText.{or_no_section}
@@ -27,7 +27,7 @@ least_append [] ys = let h = least_le ys in omega arith
 least_append (x ∷ xs) ys = let h = least_append xs ys in omega arith
 
 pub least_if : (t : Bool) (number line : ℕ) → least (complain_if t number line) ≡ min none (only_if t (ranked number line))
-unfolding least complain_if when only_if if◌then◌else◌
+unfolding least complain_if when only_if provided◌then◌else◌
 least_if true number line = omega arith
 least_if false number line = refl
 
@@ -83,7 +83,7 @@ Says r option.none = r ≡ none
 Says r (option.some c) = (r ≡ rank c) × Small c
 
 says_earlier : (c : Complaint) (o : Option Complaint) (r : ℕ) → Small c → Says r o → Says (min (rank c) r) (option.some (earlier c o))
-unfolding Says earlier ranked if◌then◌else◌
+unfolding Says earlier ranked provided◌then◌else◌
 says_earlier c option.none r s h = (omega arith, s)
 says_earlier c (option.some d) r s h =
     by_cases (goes_first c d)
@@ -96,7 +96,7 @@ least_says [] h = refl
 least_says (c ∷ cs) h = says_earlier c (earliest cs) (least cs) h.0 (least_says cs h.1)
 
 refusal_said : (r : ℕ) (o : Option Complaint) → Says r o → refusal_at r ≡ refusal_of o
-unfolding Says refusal_at refusal_of ranked if◌then◌else◌
+unfolding Says refusal_at refusal_of ranked provided◌then◌else◌
 refusal_said r option.none h = rw h refl
 refusal_said r (option.some c) h =
     let l : ltb r no_section ≡ true = lt-ltb r no_section (omega arith) in
@@ -112,12 +112,12 @@ unfolding least Each ranked
 least_low c cs h = omega arith
 
 low_stays : (t : Bool) (r : ℕ) → r ≤ no_section → min r (only_if t no_section) ≡ r
-unfolding only_if if◌then◌else◌
+unfolding only_if provided◌then◌else◌
 low_stays true r h = omega arith
 low_stays false r h = omega arith
 
 nothing_else : (t : Bool) → refusal_at (min (least []) (only_if t no_section)) ≡ refusal_of (earliest (complain_if t 9 0))
-unfolding least only_if if◌then◌else◌ refusal_at refusal_of earliest earlier complain_if when
+unfolding least only_if provided◌then◌else◌ refusal_at refusal_of earliest earlier complain_if when
 nothing_else true = refl
 nothing_else false = refl
 
@@ -136,7 +136,7 @@ least_named c [] h = (omega arith, omega arith)
 least_named c (d ∷ cs) h = let k = least_named d cs h.1 in (omega arith, omega arith)
 
 pub least_clear : (cs : List Complaint) → Each Ranked cs → (refusal_at (least cs)).number ≡ 0 → cs ≡ []
-unfolding refusal_at if◌then◌else◌
+unfolding refusal_at provided◌then◌else◌
 least_clear [] h e = refl
 least_clear (c ∷ cs) h e =
     let k = least_named c cs h in

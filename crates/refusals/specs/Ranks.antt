@@ -1,6 +1,6 @@
 -- A complaint as one number, so that the one that goes first is the least: by its line, on one line by its number.
 use Rattle.std.specs.Prelude.{ℕ, ◌+◌, ◌*◌, ◌/◌, ◌%◌, ◌<◌, ◌≤◌, min, List, [], ◌∷◌, Bool, eqb, ltb}
-use Rattle.songcode.specs.Lists.{if◌then◌else◌}
+use Rattle.songcode.specs.Lists.{provided◌then◌else◌}
 use Rattle.songcode.specs.Complaints.{Complaint}
 use Rattle.refusals.specs.declared.Refusal.{Refusal}
 
@@ -28,13 +28,13 @@ least (c ∷ cs) = min (rank c) (least cs)
 
 -- Only if the test passes.
 unfoldable pub only_if : Bool → ℕ → ℕ
-unfolding if◌then◌else◌
-only_if t r = if t then r else none
+unfolding provided◌then◌else◌
+only_if t r = provided t then r else none
 
 -- The refusal that a number says.
 unfoldable pub refusal_at : ℕ → Refusal
-unfolding if◌then◌else◌
+unfolding provided◌then◌else◌
 refusal_at r =
-    if ltb r no_section then record { number = r % 32; line = r / 32 }
-    else if eqb r no_section then record { number = 9; line = 0 }
+    provided ltb r no_section then record { number = r % 32; line = r / 32 }
+    else provided eqb r no_section then record { number = 9; line = 0 }
     else record { number = 0; line = 0 }

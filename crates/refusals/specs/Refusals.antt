@@ -1,7 +1,7 @@
 -- A refusal as the calls give it: number and line of the complaint, both 0 where there is none; and which of two stages' is given.
 use Rattle.std.specs.Prelude.{eqb}
 use Rattle.std.proofs.Math.Option.{Option, none, some}
-use Rattle.songcode.specs.Lists.{if◌then◌else◌}
+use Rattle.songcode.specs.Lists.{provided◌then◌else◌}
 use Rattle.songcode.specs.Complaints.{Complaint}
 use Rattle.refusals.specs.declared.Refusal.{Refusal}
 
@@ -14,5 +14,5 @@ nothing_refused = record { number = 0; line = 0 }
 
 -- Of two stages: the refusal of the first, else that of the second.
 unfoldable pub first_given : Refusal → Refusal → Refusal
-unfolding if◌then◌else◌
-first_given a b = if eqb a.number 0 then b else a
+unfolding provided◌then◌else◌
+first_given a b = provided eqb a.number 0 then b else a

@@ -6,7 +6,7 @@ use native.Mathlib.Omega.{arith}
 use lib.ListN.{take, drop, get_or}
 use lib.Seq.{get_or-drop}
 use borrow.Author.Tests.{eq-eqb, ne_eqb}
-use Rattle.songcode.specs.Lists.{if◌then◌else◌}
+use Rattle.songcode.specs.Lists.{provided◌then◌else◌}
 use Rattle.songcode.specs.Song.{chord, again, silence, Sounds, only, also, Item, measure, loop, refer, Items, one, next}
 use Rattle.songcode.specs.Answer.Tokens.{Token, sound, reference, closes}
 use Rattle.songcode.specs.Answer.PatternText.{references_i, references}
@@ -57,11 +57,11 @@ module _ (ws : List ℕ) (t : Stretch) where
 
   -- By the kind of its first word.
   pub by_name : (w : ℕ) → word_of ws t.to t.from ≡ w → kind_of w ≡ 55 → played_text ws t ≡ stretch_of ws (number_of w)
-  unfolding played_text if◌then◌else◌
+  unfolding played_text provided◌then◌else◌
   by_name w e k = rw (e, eq-eqb (kind_of w) 55 k)
 
   pub by_itself : (w : ℕ) → word_of ws t.to t.from ≡ w → (kind_of w ≡ 55 → ⊥) → played_text ws t ≡ t
-  unfolding played_text if◌then◌else◌
+  unfolding played_text provided◌then◌else◌
   by_itself w e k = rw (e, ne_eqb (kind_of w) 55 k)
 
   -- Items without a reference, and a name.

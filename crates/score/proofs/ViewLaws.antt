@@ -10,7 +10,7 @@ use lib.Dec.{eqb, leb}
 use lib.ListN.{length, drop, get_or, length-append}
 use lib.Seq.{get_or-drop, drop-drop, take-append_seam, drop-append_seam}
 use Rattle.songcode.proofs.ListLaws.{drop_take, both_pass}
-use Rattle.songcode.specs.Lists.{if◌then◌else◌, is_some}
+use Rattle.songcode.specs.Lists.{provided◌then◌else◌, is_some}
 use Rattle.songcode.specs.Song as song
 use Rattle.songcode.specs.Song.{Items, LyricLine, Modifiers, Section, Song}
 use Rattle.songcode.specs.Answer.References.{pattern_items}
@@ -90,8 +90,8 @@ cut_again (some c) h =
     rw (x, y)
 
 -- A song may have 65,535 measures, which is a field of 16 bits.
-counted_small : (b : Bool) (k : ℕ) → (b ≡ true → k ≤ 65535) → (if b then k else 0) < 65536
-unfolding if◌then◌else◌
+counted_small : (b : Bool) (k : ℕ) → (b ≡ true → k ≤ 65535) → (provided b then k else 0) < 65536
+unfolding provided◌then◌else◌
 counted_small true k h = let g = h refl in omega arith
 counted_small false k h = omega arith
 

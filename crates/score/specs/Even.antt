@@ -1,7 +1,7 @@
 -- Patterns whose measures all have N beats: for these cuts and counts need no walk.
 use Rattle.std.specs.Prelude.{ℕ, Bool, true, ◌&&◌, eqb, leb}
 use Rattle.std.proofs.Math.Option.{Option, none, some}
-use Rattle.songcode.specs.Lists.{if◌then◌else◌}
+use Rattle.songcode.specs.Lists.{provided◌then◌else◌}
 use Rattle.songcode.specs.Song.{Item, measure, loop, refer, Items, one, next, Section, Song}
 use Rattle.songcode.specs.Answer.References.{pattern_items}
 use Rattle.songcode.specs.Answer.Playing.{time_of}
@@ -20,9 +20,9 @@ unfoldable mutual
 
 -- How many measures there are, if each has N beats and a song may have so many; else 0.
 unfoldable pub even_measures : ℕ → Option Items → ℕ
-unfolding if◌then◌else◌ is_whole all_fit count most_measures
+unfolding provided◌then◌else◌ is_whole all_fit count most_measures
 even_measures n none = 0
-even_measures n (some r) = if is_whole r && all_fit n r && leb (count r) most_measures then count r else 0
+even_measures n (some r) = provided is_whole r && all_fit n r && leb (count r) most_measures then count r else 0
 
 -- Those of a section's pattern, its reference put in.
 unfoldable pub even_pattern : Song → Section → ℕ

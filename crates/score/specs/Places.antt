@@ -1,6 +1,6 @@
 -- Where things stand in the row of words: the words of a text, and the definitions, one behind the other from place 0 on.
 use Rattle.std.specs.Prelude.{ℕ, zero, suc, ◌+◌, ◌*◌, ◌/◌, ◌%◌, List, eqb, take, get_or}
-use Rattle.songcode.specs.Lists.{if◌then◌else◌}
+use Rattle.songcode.specs.Lists.{provided◌then◌else◌}
 use Rattle.tokens.specs.Signs.{kind_of, number_of, is_reference, wrong_word}
 use Rattle.score.specs.declared.stretches.Stretch.{Stretch}
 
@@ -21,10 +21,10 @@ id_at ws at = get_or ws at 0 % 32768 / 2
 
 -- The place of the definition of that number, of k from a place on; the mark's where there is none.
 unfoldable pub place_by : ℕ → List ℕ → ℕ → ℕ → ℕ
-unfolding if◌then◌else◌
+unfolding provided◌then◌else◌
 place_by zero ws at x = at
 place_by (suc k) ws at x =
-    if eqb (length_at ws at) 0 then at else (if eqb (id_at ws at) x then at else place_by k ws (at + length_at ws at) x)
+    provided eqb (length_at ws at) 0 then at else (provided eqb (id_at ws at) x then at else place_by k ws (at + length_at ws at) x)
 
 -- Of 26 from the first place on: a chart has no more.
 unfoldable pub place_of : List ℕ → ℕ → ℕ
@@ -36,5 +36,5 @@ stretch_of ws x = record { from = place_of ws x + 2; to = place_of ws x + length
 
 -- What is played of a text: where it begins with `$n`, the definition's words.
 unfoldable pub played_text : List ℕ → Stretch → Stretch
-unfolding if◌then◌else◌ word_of stretch_of
-played_text ws t = if is_reference (kind_of (word_of ws t.to t.from)) then stretch_of ws (number_of (word_of ws t.to t.from)) else t
+unfolding provided◌then◌else◌ word_of stretch_of
+played_text ws t = provided is_reference (kind_of (word_of ws t.to t.from)) then stretch_of ws (number_of (word_of ws t.to t.from)) else t

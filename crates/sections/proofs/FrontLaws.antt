@@ -7,7 +7,7 @@ use native.Mathlib.Omega.{arith}
 use borrow.Author.Tests.{ltb-true, ltb-false, eqb-true, eqb-false}
 use lib.Dec.{eqb, ltb}
 use lib.ListN.{length, get_or, drop}
-use Rattle.songcode.specs.Lists.{if◌then◌else◌, is_empty}
+use Rattle.songcode.specs.Lists.{provided◌then◌else◌, is_empty}
 use Rattle.songcode.specs.Bytes.{placed, is_letter}
 use Rattle.songcode.specs.Answer.Sections.{key_line, modifier_line, pattern_line, kind_of}
 use Rattle.songcode.proofs.ListLaws.{by_cases}
@@ -29,7 +29,7 @@ full_told s at h {r} e =
 -- Its kind is seen at its first two bytes.
 kind_front : (s : List ℕ) (n at a : ℕ) → a ≡ at + front_blanks (drop at s)
     → kind_of (placed 0 (part a (length s) s)) ≡ kind_of (line_text s (line_at s n at)).text
-unfolding kind_by if◌then◌else◌ is_letter
+unfolding kind_by provided◌then◌else◌ is_letter
 kind_front s n at a e =
     let l = line_at s n at in
     let t = part l.start l.stop s in
@@ -39,7 +39,7 @@ kind_front s n at a e =
     let second : kind_by (get_or t 0 0) c ≡ kind_by (get_or t 0 0) (get_or t 1 0)
     = by_cases
     (ltb l.start l.stop)
-    (λ u. ap (λ (x : Bool). if eqb (get_or t 0 0) 64 then key_line else if eqb (get_or t 0 0) 95 && x then modifier_line else pattern_line)
+    (λ u. ap (λ (x : Bool). provided eqb (get_or t 0 0) 64 then key_line else provided eqb (get_or t 0 0) 95 && x then modifier_line else pattern_line)
     (second_byte letter refl refl refl refl s n at a e (ltb-true _ _ u)))
     (λ u. let k : l.stop - l.start ≡ 0 = omega (arith, ltb-false l.start l.stop u) in rw k refl) in
     here ∙ first ∙ second ∙ sym (kind_by_lem l.start t)

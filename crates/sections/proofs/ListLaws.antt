@@ -5,7 +5,7 @@ use mathlib.Core.List.{List, [], ◌∷◌, ◌++◌}
 use mathlib.Core.Bool.{Bool, ◌&&◌}
 use lib.ListN.{take, drop}
 use lib.Seq.{take-add, drop-drop}
-use Rattle.songcode.specs.Lists.{if◌then◌else◌, taken, left}
+use Rattle.songcode.specs.Lists.{provided◌then◌else◌, taken, left}
 use Rattle.songcode.proofs.ListLaws.{Each, by_cases}
 
 module _ {A : Type 0} where
@@ -15,18 +15,18 @@ module _ {A : Type 0} where
     both x = q x && p x
 
     pub taken_taken : (xs : List A) → taken p (taken q xs) ≡ taken both xs
-    unfolding taken if◌then◌else◌
+    unfolding taken provided◌then◌else◌
     taken_taken [] = refl
     taken_taken (x ∷ xs) = by_cases (q x) (λ e. by_cases (p x) (λ f. rw (e, f, taken_taken xs)) (λ f. rw (e, f))) (λ e. rw e)
 
     pub left_taken : (xs : List A) → left p (taken q xs) ≡ taken q (left both xs)
-    unfolding taken left if◌then◌else◌
+    unfolding taken left provided◌then◌else◌
     left_taken [] = refl
     left_taken (x ∷ xs) = by_cases (q x) (λ e. by_cases (p x) (λ f. rw (e, f) (left_taken xs)) (λ f. rw (e, f, e))) (λ e. rw (e, e))
 
     -- What both pass over, one passes over.
     pub left_left : (xs : List A) → left q (left both xs) ≡ left q xs
-    unfolding left if◌then◌else◌
+    unfolding left provided◌then◌else◌
     left_left [] = refl
     left_left (x ∷ xs) = by_cases (q x) (λ e. by_cases (p x) (λ f. rw (e, f) (left_left xs)) (λ f. rw (e, f, e))) (λ e. rw (e, e))
 
@@ -47,11 +47,11 @@ module _ {A : Type 0} where
     each_take (suc k) (x ∷ xs) e = (e.0, each_take k xs e.1)
 
     pub each_taken : (p : A → Bool) (xs : List A) → Each P xs → Each P (taken p xs)
-    unfolding Each taken if◌then◌else◌
+    unfolding Each taken provided◌then◌else◌
     each_taken p [] e = tt
     each_taken p (x ∷ xs) e = by_cases (p x) (λ t. rw t (e.0, each_taken p xs e.1)) (λ t. rw t tt)
 
     pub each_left : (p : A → Bool) (xs : List A) → Each P xs → Each P (left p xs)
-    unfolding Each left if◌then◌else◌
+    unfolding Each left provided◌then◌else◌
     each_left p [] e = tt
     each_left p (x ∷ xs) e = by_cases (p x) (λ t. rw t (each_left p xs e.1)) (λ t. rw t e)

@@ -5,7 +5,7 @@ use mathlib.Core.List.{List, [], ◌∷◌, ◌++◌}
 use mathlib.Core.Bool.{false}
 use native.Mathlib.Omega.{arith}
 use lib.ListN.{length, drop}
-use Rattle.songcode.specs.Lists.{if◌then◌else◌, is_empty, taken, left}
+use Rattle.songcode.specs.Lists.{provided◌then◌else◌, is_empty, taken, left}
 use Rattle.songcode.specs.Answer.Lines.{Line, shut, join, runs, blocks}
 use Rattle.songcode.specs.Answer.Answer.{blocks_of}
 use Rattle.songcode.specs.Answer.SongText.{kind_of_text, block_kind}
@@ -26,18 +26,18 @@ use Rattle.sections.proofs.RunLaws.{lines_next, lines_over, Walked, Stopped, wal
 
 -- The first run of lines that are not blank, and the blocks behind it.
 runs_front : (ls : List Line) → (runs ls).front ≡ taken (passing Full) ls
-unfolding runs join taken passing passes if◌then◌else◌
+unfolding runs join taken passing passes provided◌then◌else◌
 runs_front [] = refl
 runs_front (l ∷ ls) = by_cases (is_empty l.text) (λ e. rw e) (λ e. rw (e, runs_front ls))
 
 runs_rest : (ls : List Line) → (runs ls).rest ≡ blocks (left (passing Full) ls)
-unfolding runs join blocks shut left passing passes if◌then◌else◌
+unfolding runs join blocks shut left passing passes provided◌then◌else◌
 runs_rest [] = refl
 runs_rest (l ∷ ls) = by_cases (is_empty l.text) (λ e. rw e (rw e)) (λ e. rw e (runs_rest ls))
 
 -- Blank lines in front are in no block.
 blocks_skip : (ls : List Line) → blocks (left blank_line ls) ≡ blocks ls
-unfolding runs join blocks shut left blank_line if◌then◌else◌
+unfolding runs join blocks shut left blank_line provided◌then◌else◌
 blocks_skip [] = refl
 blocks_skip (l ∷ ls) = by_cases (is_empty l.text) (λ e. rw e (blocks_skip ls)) (λ e. rw e (rw e))
 
@@ -99,7 +99,7 @@ module _ (s : List ℕ) (n at k i : ℕ) {r : ℕ} (found : r ≡ past_blank s i
 -- The kind of a block is seen at its first byte that is no blank.
 pub kind_is_lem : (s : List ℕ) (n at a : ℕ) {k : BlockKind} → a ≡ at + front_blanks (drop at s)
     → k ≡ block_kind_is (kind_of_text (placed 0 (part a (length s) s))) → k ≡ block_kind_is (block_kind (block_at s n at))
-unfolding block_kind block_at block_kind_by if◌then◌else◌
+unfolding block_kind block_at block_kind_by provided◌then◌else◌
 kind_is_lem s n at a e h =
     let l = line_at s n at in
     let t = part l.start l.stop s in

@@ -6,7 +6,7 @@ use mathlib.Core.Bool.{Bool, true, false}
 use mathlib.Core.Option.{none}
 use native.Mathlib.Omega.{arith}
 use borrow.Author.Tests.{ne_eqb}
-use Rattle.songcode.specs.Lists.{if◌then◌else◌, taken, left}
+use Rattle.songcode.specs.Lists.{provided◌then◌else◌, taken, left}
 use Rattle.songcode.specs.Answer.Lines.{Line}
 use Rattle.songcode.specs.Song.{KeyName}
 use Rattle.songcode.specs.Answer.Keys.{key_place}
@@ -31,7 +31,7 @@ module _ (l : Line) where
 
 -- A line that does not say a setting is passed over.
 passed : (slot : ℕ) (l : Line) (ls : List Line) → (slot_of l ≡ slot → ⊥) → setting_among slot (l ∷ ls) ≡ setting_among slot ls
-unfolding setting_among if◌then◌else◌
+unfolding setting_among provided◌then◌else◌
 passed slot l ls h = rw (ne_eqb (slot_of l) slot h)
 
 module _ (k : KeyName) where
@@ -55,7 +55,7 @@ module _ (k : KeyName) where
 
   keys_in_order : {before : List Line} (ls : List Line) → Stands before false false false → order before ls ≡ []
       → setting_among (key_place k) (early_lines ls) ≡ setting_among (key_place k) ls
-  unfolding early_lines taken setting_among if◌then◌else◌
+  unfolding early_lines taken setting_among provided◌then◌else◌
   keys_in_order [] s h = refl
   keys_in_order (l ∷ ls) s h =
       by_kind
@@ -78,7 +78,7 @@ module _ (m : ModifierName) where
       passed (8 + modifier_place m) l ls (λ z. omega arith)
 
   behind_pattern_lem : (ls : List Line) → setting_among (8 + modifier_place m) (left is_pattern_line ls) ≡ setting_among (8 + modifier_place m) ls
-  unfolding left if◌then◌else◌
+  unfolding left provided◌then◌else◌
   behind_pattern_lem [] = refl
   behind_pattern_lem (l ∷ ls) =
       by_kind
@@ -89,7 +89,7 @@ module _ (m : ModifierName) where
 
   modifiers_in_order : {before : List Line} (ls : List Line) → Stands before false false false → order before ls ≡ []
       → setting_among (8 + modifier_place m) (late_lines ls) ≡ setting_among (8 + modifier_place m) ls
-  unfolding late_lines left if◌then◌else◌
+  unfolding late_lines left provided◌then◌else◌
   modifiers_in_order [] s h = refl
   modifiers_in_order (l ∷ ls) s h =
       by_kind

@@ -6,7 +6,7 @@ use mathlib.Core.Bool.{Bool, true, false}
 use native.Mathlib.Omega.{arith}
 use native.Mathlib.Nat.{add-zero}
 use lib.ListN.{length, take, drop}
-use Rattle.songcode.specs.Lists.{if◌then◌else◌, taken, left}
+use Rattle.songcode.specs.Lists.{provided◌then◌else◌, taken, left}
 use Rattle.songcode.specs.Bytes.{placed}
 use Rattle.songcode.specs.Answer.Lines as songcode
 use Rattle.text.specs.declared.lines.Line.{Line}
@@ -84,7 +84,7 @@ module _ (s : List ℕ) (test : songcode.Line → Bool) (n at : ℕ) where
     here = let e : n + k + 1 ≡ n + (k + 1) = omega arith in rw f (lines_next s (n + k) i h ∙ rw e refl)
 
     pub walked_more : test (line_text s l) ≡ true → Walked s test n at (k + 1) l.next
-    unfolding taken left if◌then◌else◌
+    unfolding taken left provided◌then◌else◌
     walked_more p =
         let rest = text_lines s (n + (k + 1)) l.next in
         record {
@@ -95,7 +95,7 @@ module _ (s : List ℕ) (test : songcode.Line → Bool) (n at : ℕ) where
         }
 
     pub walked_stop : test (line_text s l) ≡ false → Stopped s test (n + k) i
-    unfolding taken left if◌then◌else◌
+    unfolding taken left provided◌then◌else◌
     walked_stop p = record { lines = rw (here, p); behind = rw (here, p) }
 
   pub walked_over : (k i : ℕ) → length s ≤ i → Stopped s test (n + k) i

@@ -7,7 +7,7 @@ use mathlib.Core.Option.{Option, none, some, or_else, bind}
 use native.Mathlib.Omega.{arith}
 use lib.Dec.{eqb}
 use borrow.Author.Tests.{eq-eqb, ne_eqb, eqb-true, eqb-false, not-false}
-use Rattle.songcode.specs.Lists.{if◌then◌else◌, prepend, is_some}
+use Rattle.songcode.specs.Lists.{provided◌then◌else◌, prepend, is_some}
 use Rattle.songcode.specs.Bytes.{Byte}
 use Rattle.songcode.specs.Answer.Lines.{Line}
 use Rattle.songcode.specs.Song as song
@@ -119,7 +119,7 @@ module _ (l : Line) where
 -- The first setting of a key.
 pub key_among : {B : Type 0} (f : List Byte → Option B) (k : song.KeyName) (ls : List Line)
     → bind (playing.setting_named k (filter_map key_in ls)) f ≡ bind (setting_among (key_place k) ls) (λ x. f x.text)
-unfolding bind playing.setting_named filter_map prepend setting_among if◌then◌else◌
+unfolding bind playing.setting_named filter_map prepend setting_among provided◌then◌else◌
 key_among f k [] = refl
 key_among f k (l ∷ ls) =
     by_key
@@ -141,16 +141,16 @@ module _ {B : Type 0} (m : ModifierName) (g : Modifier → Option B) (said : Set
   module _ (l : Line) (ls : List Line) {y : Modifier} {k : ℕ} (e : modifier_on l ≡ some y) (h : slot_of l ≡ k) where
     said_here : {z : B} → k ≡ 8 + modifier_place m → g y ≡ some z → said (record { line = l.number; text = setting_of l }) ≡ some z
         → said_by g (filter_map modifier_on (l ∷ ls)) ≡ bind (setting_among (8 + modifier_place m) (l ∷ ls)) said
-    unfolding bind said_by filter_map prepend or_else setting_among if◌then◌else◌
+    unfolding bind said_by filter_map prepend or_else setting_among provided◌then◌else◌
     said_here i p q = rw (e, h, eq-eqb k (8 + modifier_place m) i, p) (sym q)
 
     not_here : (k ≡ 8 + modifier_place m → ⊥) → g y ≡ none → said_by g (filter_map modifier_on ls) ≡ bind (setting_among (8 + modifier_place m) ls) said
         → said_by g (filter_map modifier_on (l ∷ ls)) ≡ bind (setting_among (8 + modifier_place m) (l ∷ ls)) said
-    unfolding bind said_by filter_map prepend or_else setting_among if◌then◌else◌
+    unfolding bind said_by filter_map prepend or_else setting_among provided◌then◌else◌
     not_here i p rest = rw (e, h, ne_eqb k (8 + modifier_place m) i, p) rest
 
   pub modifier_among : (ls : List Line) → flat_map faults ls ≡ [] → said_by g (filter_map modifier_on ls) ≡ bind (setting_among (8 + modifier_place m) ls) said
-  unfolding flat_map bind said_by filter_map prepend setting_among if◌then◌else◌ Told
+  unfolding flat_map bind said_by filter_map prepend setting_among provided◌then◌else◌ Told
   modifier_among [] clean = refl
   modifier_among (l ∷ ls) clean =
       let split = append_is_nil (faults l) (flat_map faults ls) clean in

@@ -6,7 +6,7 @@ use mathlib.Core.Option.{Option, none, some}
 use native.Mathlib.Omega.{arith}
 use borrow.Author.Tests.{eq-eqb, ne_eqb}
 use lib.ListN.{length, take}
-use Rattle.songcode.specs.Lists.{if◌then◌else◌}
+use Rattle.songcode.specs.Lists.{provided◌then◌else◌}
 use Rattle.songcode.specs.Bytes.{placed}
 use Rattle.songcode.specs.Song as song
 use Rattle.songcode.specs.Answer.Keys.{name_in, setting_in, key_named, key_place}
@@ -80,12 +80,12 @@ module _ (n : ℕ) (s : List ℕ) (a e : ℕ) where
 -- The setting at its places; at no line there is none.
 module _ (s : List ℕ) (said : Said) where
   pub setting_none : said.line ≡ 0 → setting_at s said ≡ none
-  unfolding setting_at if◌then◌else◌
+  unfolding setting_at provided◌then◌else◌
   setting_none h = rw (eq-eqb _ _ h)
 
   pub setting_some : (said.line ≡ 0 → ⊥) → setting_at s said ≡ some (record
       { line = said.line; text = placed said.start (part said.start said.stop s) })
-  unfolding setting_at if◌then◌else◌
+  unfolding setting_at provided◌then◌else◌
   setting_some h = rw (ne_eqb _ _ h)
 
 -- The setting at the places of a line's setting.
@@ -98,11 +98,11 @@ says_line s n a e q one setting =
 -- The first setting of a number, where the first line says it, and where it does not.
 module _ (slot : ℕ) {l : Line} {ls rest : List Line} (here : ls ≡ l ∷ rest) where
   pub among_here : slot_of l ≡ slot → setting_among slot ls ≡ some (record { line = l.number; text = setting_of l })
-  unfolding setting_among if◌then◌else◌
+  unfolding setting_among provided◌then◌else◌
   among_here e = rw (here, eq-eqb _ _ e)
 
   pub among_later : (slot_of l ≡ slot → ⊥) → setting_among slot ls ≡ setting_among slot rest
-  unfolding setting_among if◌then◌else◌
+  unfolding setting_among provided◌then◌else◌
   among_later e = rw (here, ne_eqb _ _ e)
 
 pub among_none : (slot : ℕ) {ls : List Line} → ls ≡ [] → setting_among slot ls ≡ none

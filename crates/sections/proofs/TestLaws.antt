@@ -6,7 +6,7 @@ use mathlib.Core.Bool.{Bool, true, false, not, ◌&&◌}
 use native.Mathlib.Omega.{arith}
 use lib.Dec.{eqb}
 use borrow.Author.Tests.{eqb-true}
-use Rattle.songcode.specs.Lists.{if◌then◌else◌, is_empty}
+use Rattle.songcode.specs.Lists.{provided◌then◌else◌, is_empty}
 use Rattle.songcode.specs.Bytes.{Byte, is_byte, values, ascii, same, is}
 use Rattle.songcode.specs.Answer.Sections.{kind_of}
 use Rattle.songcode.specs.Answer.Sections as sections
@@ -60,7 +60,7 @@ module _ (bs : List Byte) {f : Bool} (e : f ≡ not (is_empty bs)) where
 
 -- A line that is none of a pattern is neither blank nor a `--`.
 no_pattern : (bs : List Byte) → is_pattern_text bs ≡ false → in_body bs ≡ true
-unfolding is_pattern_text is_pattern_kind kind_of in_body is_empty is same ascii values is_byte if◌then◌else◌
+unfolding is_pattern_text is_pattern_kind kind_of in_body is_empty is same ascii values is_byte provided◌then◌else◌
 no_pattern [] e = true_is_not_false refl e
 no_pattern (b ∷ []) e = by_cases (eqb 45 b.value) (λ t. rw t) (λ t. rw t)
 no_pattern (b ∷ c ∷ bs) e =

@@ -6,7 +6,7 @@ use mathlib.Core.Bool.{not}
 use mathlib.Core.Option.{Option, none, some, get_or, bind}
 use native.Mathlib.Omega.{arith}
 use Prim.Native.Char.{code}
-use Rattle.songcode.specs.Lists.{if◌then◌else◌, taken, left}
+use Rattle.songcode.specs.Lists.{provided◌then◌else◌, taken, left}
 use Rattle.songcode.specs.Bytes.{Byte, placed, is, is_byte}
 use Rattle.songcode.specs.Answer.Keys.{time_in, bpm_in}
 use Rattle.songcode.specs.Answer.Numbers.{repeat_in}
@@ -64,7 +64,7 @@ module _ (s : List ℕ) (said : Said) where
 
 -- The ranges of what is read.
 pub time_range : (bs : List Byte) (n : ℕ) → time_in bs ≡ some n → n ≤ 32
-unfolding time_in if◌then◌else◌
+unfolding time_in provided◌then◌else◌
 time_range bs n e =
     by_cases
     (is "/4" (left (λ b. not (is_byte (code "/") b)) bs))

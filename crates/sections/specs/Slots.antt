@@ -1,7 +1,7 @@
 -- The settings of key and modifier lines: which line says one, and its text.
 use Rattle.std.specs.Prelude.{ℕ, ◌+◌, ◌<◌, ◌≤◌, ◌≡◌, List, [], ◌∷◌, eqb, length}
 use Rattle.std.proofs.Math.Option.{Option, none, some}
-use Rattle.songcode.specs.Lists.{if◌then◌else◌}
+use Rattle.songcode.specs.Lists.{provided◌then◌else◌}
 use Rattle.songcode.specs.Bytes.{Byte, placed}
 use Rattle.songcode.specs.Answer.Lines.{Line}
 use Rattle.songcode.specs.Song as song
@@ -62,14 +62,14 @@ pub record Setting : Type 0 where
 
 -- The first setting of that number among the lines.
 unfoldable pub setting_among : ℕ → List Line → Option Setting
-unfolding if◌then◌else◌ slot_of setting_of
+unfolding provided◌then◌else◌ slot_of setting_of
 setting_among k [] = none
-setting_among k (l ∷ ls) = if eqb (slot_of l) k then some (record { line = l.number; text = setting_of l }) else setting_among k ls
+setting_among k (l ∷ ls) = provided eqb (slot_of l) k then some (record { line = l.number; text = setting_of l }) else setting_among k ls
 
 -- The setting at the places that the code answers; line 0 says that there is none.
 unfoldable pub setting_at : List ℕ → Said → Option Setting
-unfolding if◌then◌else◌
-setting_at s r = if eqb r.line 0 then none else some (record { line = r.line; text = placed r.start (part r.start r.stop s) })
+unfolding provided◌then◌else◌
+setting_at s r = provided eqb r.line 0 then none else some (record { line = r.line; text = placed r.start (part r.start r.stop s) })
 
 -- The setting that a line of this number says; 13 and above say none.
 pub record SaysLine (s : List ℕ) (slot : ℕ) (l : Line) (r : Said) : Type 0 where

@@ -10,7 +10,7 @@ use settings::{Kind, is_dashes, kind_of};
 use text::{line_at, line_start, past_blank};
 
 // A line that is not blank; of those, one that is no `--`; of those, one of no pattern and one of a pattern.
-#[derive(Drop)]
+#[derive(Clone, Copy)]
 pub enum Test {
     Full,
     Body,
@@ -19,7 +19,7 @@ pub enum Test {
 }
 
 // The number and the place of the first line, how many lines there are, and the place of the line behind them.
-#[derive(Drop)]
+#[derive(Clone, Copy)]
 pub struct Run {
     pub number: usize,
     pub at: usize,

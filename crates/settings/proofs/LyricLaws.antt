@@ -8,7 +8,7 @@ use borrow.Author.Tests.{leb-true, leb-false}
 use lib.Dec.{leb}
 use lib.ListN.{length, get_or, drop, length-drop, length-reverse, get_or-append}
 use lib.Seq.{take-suc, get_or-drop, get_or_at, length-take-le}
-use Rattle.songcode.specs.Lists.{if◌then◌else◌, left}
+use Rattle.songcode.specs.Lists.{provided◌then◌else◌, left}
 use Rattle.songcode.specs.Bytes.{placed, begins, not_blank, is_blank}
 use Rattle.songcode.specs.Answer.Lyrics.{bracketed}
 use Rattle.songcode.proofs.ByteLaws.{values_placed, length_placed, placed_append}
@@ -36,12 +36,12 @@ reverse_part s a z h k =
 
 pub word_stop : (s : List ℕ) (a z : ℕ) → a < z → z ≤ length s → blank (get_or s (z - 1) 0) ≡ true
     → left not_blank (reverse (placed a (part a z s))) ≡ reverse (placed a (part a z s))
-unfolding left not_blank is_blank if◌then◌else◌
+unfolding left not_blank is_blank provided◌then◌else◌
 word_stop s a z h k e = rw (reverse_part s a z h k, e)
 
 pub word_more : (s : List ℕ) (a z : ℕ) → a < z → z ≤ length s → blank (get_or s (z - 1) 0) ≡ false
     → left not_blank (reverse (placed a (part a z s))) ≡ left not_blank (reverse (placed a (part a (z - 1) s)))
-unfolding left not_blank is_blank if◌then◌else◌
+unfolding left not_blank is_blank provided◌then◌else◌
 word_more s a z h k e = rw (reverse_part s a z h k, e)
 
 pub word_over : (s : List ℕ) (a z : ℕ) → z ≡ a → left not_blank (reverse (placed a (part a z s))) ≡ reverse (placed a (part a z s))

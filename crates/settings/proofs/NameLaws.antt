@@ -7,7 +7,7 @@ use mathlib.Core.Bool.{Bool, true, false}
 use mathlib.Core.Option.{Option, none, some}
 use lib.Dec.{eqb}
 use lib.ListN.{get_or}
-use Rattle.songcode.specs.Lists.{if◌then◌else◌}
+use Rattle.songcode.specs.Lists.{provided◌then◌else◌}
 use Rattle.songcode.specs.Bytes.{Byte, placed, values, ascii, same, is}
 use Rattle.songcode.specs.Song.{KeyName, name, artist, original, capo, bpm, time, warning, end}
 use Rattle.songcode.specs.Answer.Keys.{key_named}
@@ -29,16 +29,16 @@ unfolding is
 is_by word a w e h = rw (values_placed a w) (sym e ∙ h)
 
 unfoldable pub key_by : Bool → Bool → Bool → Bool → Bool → Bool → Bool → Bool → Option KeyName
-unfolding if◌then◌else◌
+unfolding provided◌then◌else◌
 key_by a b c d e f g h =
-    if a then some name
-    else if b then some artist
-    else if c then some original
-    else if d then some capo
-    else if e then some bpm
-    else if f then some time
-    else if g then some warning
-    else if h then some end
+    provided a then some name
+    else provided b then some artist
+    else provided c then some original
+    else provided d then some capo
+    else provided e then some bpm
+    else provided f then some time
+    else provided g then some warning
+    else provided h then some end
     else none
 
 pub key_by_lem : (w : List Byte) → key_named w ≡ key_by (is "name" w) (is "artist" w) (is "original" w) (is "capo" w) (is "bpm" w) (is "time" w)
@@ -47,32 +47,32 @@ unfolding key_named key_by
 key_by_lem w = refl
 
 unfoldable pub modifier_by : Bool → Bool → Bool → Bool → Bool → Option ModifierName
-unfolding if◌then◌else◌
+unfolding provided◌then◌else◌
 modifier_by a b c d e =
-    if a then some of_repeat
-    else if b then some of_cut_start
-    else if c then some of_cut_end
-    else if d then some of_before
-    else if e then some of_after
+    provided a then some of_repeat
+    else provided b then some of_cut_start
+    else provided c then some of_cut_end
+    else provided d then some of_before
+    else provided e then some of_after
     else none
 
 pub modifier_by_lem : (w : List Byte) → modifier_named w ≡ modifier_by (is "repeat" w) (is "cutStart" w) (is "cutEnd" w) (is "before" w) (is "after" w)
 unfolding modifier_named modifier_by
 modifier_by_lem w = refl
 
-either : {A : Type 0} (t : Bool) (x : A) → (if t then x else x) ≡ x
-unfolding if◌then◌else◌
+either : {A : Type 0} (t : Bool) (x : A) → (provided t then x else x) ≡ x
+unfolding provided◌then◌else◌
 either true x = refl
 either false x = refl
 
 -- The name that a text is, looked for by its first byte.
 unfoldable pub key_lettered : ℕ → List ℕ → code.KeyName
-unfolding if◌then◌else◌ later_key
+unfolding provided◌then◌else◌ later_key
 key_lettered b w =
-    if eqb b 110 then key_if (same (ascii "name") w) Name
-    else if eqb b 97 then key_if (same (ascii "artist") w) Artist
-    else if eqb b 111 then key_if (same (ascii "original") w) Original
-    else if eqb b 99 then key_if (same (ascii "capo") w) Capo
+    provided eqb b 110 then key_if (same (ascii "name") w) Name
+    else provided eqb b 97 then key_if (same (ascii "artist") w) Artist
+    else provided eqb b 111 then key_if (same (ascii "original") w) Original
+    else provided eqb b 99 then key_if (same (ascii "capo") w) Capo
     else later_key b w
 
 module _ (w : List ℕ) where
@@ -86,7 +86,7 @@ module _ (w : List ℕ) where
   no_key : (b : ℕ) → same (ascii "name") w ≡ false → same (ascii "artist") w ≡ false → same (ascii "original") w ≡ false → same (ascii "capo") w ≡ false
       → same (ascii "bpm") w ≡ false → same (ascii "time") w ≡ false → same (ascii "warning") w ≡ false → same (ascii "end") w ≡ false
       → key_lettered b w ≡ key_is (key_named (placed 0 w))
-  unfolding key_lettered key_by key_is if◌then◌else◌
+  unfolding key_lettered key_by key_is provided◌then◌else◌
   no_key b p q r s t u v x =
       rw (
         key_by_lem (placed 0 w),
@@ -117,7 +117,7 @@ module _ (w : List ℕ) where
       ) refl
 
   key_lettered_lem : KeyFound w
-  unfolding key_lettered key_named key_is is same ascii placed values if◌then◌else◌
+  unfolding key_lettered key_named key_is is same ascii placed values provided◌then◌else◌
   key_lettered_lem =
       by_cases (same (ascii "name") w) (λ e. key_found "name" e refl) (λ p.
       by_cases (same (ascii "artist") w) (λ e. key_found "artist" e refl) (λ q.
@@ -133,12 +133,12 @@ module _ (w : List ℕ) where
 
 -- By its sixth.
 unfoldable pub modifier_lettered : ℕ → List ℕ → codes.ModifierName
-unfolding if◌then◌else◌
+unfolding provided◌then◌else◌
 modifier_lettered b w =
-    if eqb b 116 then modifier_if (same (ascii "repeat") w) Repeat
-    else if eqb b 97 then modifier_if (same (ascii "cutStart") w) CutStart
-    else if eqb b 100 then modifier_if (same (ascii "cutEnd") w) CutEnd
-    else if eqb b 101 then modifier_if (same (ascii "before") w) Before
+    provided eqb b 116 then modifier_if (same (ascii "repeat") w) Repeat
+    else provided eqb b 97 then modifier_if (same (ascii "cutStart") w) CutStart
+    else provided eqb b 100 then modifier_if (same (ascii "cutEnd") w) CutEnd
+    else provided eqb b 101 then modifier_if (same (ascii "before") w) Before
     else modifier_if (same (ascii "after") w) After
 
 module _ (w : List ℕ) where
@@ -150,7 +150,7 @@ module _ (w : List ℕ) where
 
   no_modifier : (b : ℕ) → same (ascii "repeat") w ≡ false → same (ascii "cutStart") w ≡ false → same (ascii "cutEnd") w ≡ false
       → same (ascii "before") w ≡ false → same (ascii "after") w ≡ false → modifier_lettered b w ≡ modifier_is (modifier_named (placed 0 w))
-  unfolding modifier_lettered modifier_by modifier_is if◌then◌else◌
+  unfolding modifier_lettered modifier_by modifier_is provided◌then◌else◌
   no_modifier b p q r s t =
       rw (
         modifier_by_lem (placed 0 w),
@@ -171,7 +171,7 @@ module _ (w : List ℕ) where
       ) refl
 
   modifier_lettered_lem : ModifierFound w
-  unfolding modifier_lettered modifier_named modifier_is is same ascii placed values if◌then◌else◌
+  unfolding modifier_lettered modifier_named modifier_is is same ascii placed values provided◌then◌else◌
   modifier_lettered_lem =
       by_cases (same (ascii "repeat") w) (λ e. modifier_found "repeat" e refl) (λ p.
       by_cases (same (ascii "cutStart") w) (λ e. modifier_found "cutStart" e refl) (λ q.

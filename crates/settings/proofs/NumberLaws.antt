@@ -9,7 +9,7 @@ use native.Mathlib.Omega.{arith}
 use borrow.Author.Tests.{leb-true}
 use lib.Dec.{leb}
 use lib.ListN.{length, drop}
-use Rattle.songcode.specs.Lists.{if◌then◌else◌}
+use Rattle.songcode.specs.Lists.{provided◌then◌else◌}
 use Rattle.songcode.specs.Bytes.{Byte, placed, is_byte}
 use Rattle.songcode.specs.Answer.Numbers.{is_decimal, value_from, number_in, count_in, repeat_in}
 use Rattle.songcode.specs.Answer.Sections.{behind_first}
@@ -37,7 +37,7 @@ repeat_in_placeless a w = number_in_placeless 2 9999 a w
 
 -- A number that is read is in its range.
 pub number_in_range : (low high : ℕ) (bs : List Byte) {n : ℕ} → number_in low high bs ≡ some n → (low ≤ n) × (n ≤ high)
-unfolding number_in if◌then◌else◌
+unfolding number_in provided◌then◌else◌
 number_in_range low high bs {n} h =
     by_cases
     (is_decimal bs && leb low (value_from 0 bs) && leb (value_from 0 bs) high)
@@ -67,7 +67,7 @@ count_behind_first a [] = refl
 count_behind_first a (x ∷ w) = count_in_placeless (suc a) w
 
 pub count_nothing : (a : ℕ) (w : List ℕ) → length w ≡ 0 → count_in (behind_first (placed a w)) ≡ none
-unfolding behind_first placed count_in number_in is_decimal if◌then◌else◌
+unfolding behind_first placed count_in number_in is_decimal provided◌then◌else◌
 count_nothing a [] h = refl
 count_nothing a (x ∷ w) h = let z : ⊥ = omega arith in absurd z
 

@@ -10,7 +10,7 @@ use borrow.Author.Tests.{eq-eqb, ne_eqb}
 use lib.Dec.{eqb}
 use lib.ListN.{length, get_or, take, drop, drop_of_length-le}
 use lib.Seq.{drop-cons, take-take, drop-drop}
-use Rattle.songcode.specs.Lists.{if◌then◌else◌, taken, left}
+use Rattle.songcode.specs.Lists.{provided◌then◌else◌, taken, left}
 use Rattle.songcode.specs.Bytes.{Byte, placed, same, is_blank, not_blank}
 use Rattle.songcode.specs.Answer.Keys.{name_in, setting_in}
 use Rattle.text.specs.Spans.{blank, part, front_blanks}
@@ -19,11 +19,11 @@ use Rattle.settings.specs.Parts.{passing, word_length}
 
 module _ (p : ℕ → Bool) where
   pub passing_stop : (w : List ℕ) (i : ℕ) → i < length w → p (get_or w i 0) ≡ false → passing p (drop i w) ≡ 0
-  unfolding passing if◌then◌else◌
+  unfolding passing provided◌then◌else◌
   passing_stop w i h e = rw (drop-cons w i 0 h, e)
 
   pub passing_more : (w : List ℕ) (i : ℕ) → i < length w → p (get_or w i 0) ≡ true → passing p (drop i w) ≡ 1 + passing p (drop (i + 1) w)
-  unfolding passing if◌then◌else◌
+  unfolding passing provided◌then◌else◌
   passing_more w i h e = rw (add-one i, drop-cons w i 0 h, e) (omega arith)
 
   pub passing_over : (w : List ℕ) (i : ℕ) → length w ≤ i → passing p (drop i w) ≡ 0
@@ -36,12 +36,12 @@ OfValues q p = (a b : ℕ) → q (record { place = a; value = b }) ≡ p b
 
 module _ (q : Byte → Bool) (p : ℕ → Bool) (same : OfValues q p) where
   pub taken_placed : (a : ℕ) (w : List ℕ) → taken q (placed a w) ≡ placed a (take (passing p w) w)
-  unfolding taken placed passing if◌then◌else◌
+  unfolding taken placed passing provided◌then◌else◌
   taken_placed a [] = refl
   taken_placed a (b ∷ w) = by_cases (p b) (λ e. rw (same a b, e, taken_placed (suc a) w)) (λ e. rw (same a b, e))
 
   pub left_placed : (a : ℕ) (w : List ℕ) → left q (placed a w) ≡ placed (a + passing p w) (drop (passing p w) w)
-  unfolding left placed passing if◌then◌else◌
+  unfolding left placed passing provided◌then◌else◌
   left_placed a [] = refl
   left_placed a (b ∷ w) =
       let k : a + suc (passing p w) ≡ suc a + passing p w = omega arith in
@@ -56,7 +56,7 @@ unfolding not_blank is_blank
 not_blank_values a b = refl
 
 pub front_blanks_passing : (w : List ℕ) → front_blanks w ≡ passing blank w
-unfolding front_blanks passing if◌then◌else◌
+unfolding front_blanks passing provided◌then◌else◌
 front_blanks_passing [] = refl
 front_blanks_passing (b ∷ w) = by_cases (blank b) (λ e. rw (e, front_blanks_passing w)) (λ e. rw e)
 

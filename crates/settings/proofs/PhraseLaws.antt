@@ -9,7 +9,7 @@ use borrow.Author.Tests.{le-leb}
 use lib.Dec.{leb}
 use lib.ListN.{length, get_or, take, drop, drop_of_length-le}
 use lib.Seq.{drop-cons}
-use Rattle.songcode.specs.Lists.{if◌then◌else◌}
+use Rattle.songcode.specs.Lists.{provided◌then◌else◌}
 use Rattle.songcode.specs.Bytes.{placed}
 use Rattle.songcode.specs.Answer.Characters.{is_tail, characters}
 use Rattle.settings.specs.Parts.{length_before}
@@ -18,18 +18,18 @@ use Rattle.settings.proofs.PartLaws.{taken_placed}
 use Rattle.settings.proofs.PlaceLaws.{not_byte_values, characters_placeless}
 
 pub characters_cons : (w : List ℕ) (i : ℕ) → i < length w → characters (placed 0 (drop i w))
-    ≡ (if is_tail (get_or w i 0) then characters (placed 0 (drop (i + 1) w)) else suc (characters (placed 0 (drop (i + 1) w))))
+    ≡ (provided is_tail (get_or w i 0) then characters (placed 0 (drop (i + 1) w)) else suc (characters (placed 0 (drop (i + 1) w))))
 unfolding characters placed
 characters_cons w i h = rw (add-one i, drop-cons w i 0 h, characters_placeless 1 (drop (suc i) w))
 
 pub characters_tail : (w : List ℕ) (i : ℕ) → i < length w → is_tail (get_or w i 0) ≡ true
     → characters (placed 0 (drop i w)) ≡ characters (placed 0 (drop (i + 1) w))
-unfolding if◌then◌else◌
+unfolding provided◌then◌else◌
 characters_tail w i h e = characters_cons w i h ∙ rw e
 
 pub characters_first : (w : List ℕ) (i : ℕ) → i < length w → is_tail (get_or w i 0) ≡ false
     → characters (placed 0 (drop i w)) ≡ 1 + characters (placed 0 (drop (i + 1) w))
-unfolding if◌then◌else◌
+unfolding provided◌then◌else◌
 characters_first w i h e = characters_cons w i h ∙ rw e (omega arith)
 
 pub characters_over : (w : List ℕ) (i : ℕ) → length w ≤ i → characters (placed 0 (drop i w)) ≡ 0

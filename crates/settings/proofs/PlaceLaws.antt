@@ -7,7 +7,7 @@ use native.Mathlib.Omega.{arith}
 use native.Mathlib.Nat.{add-zero}
 use lib.Dec.{eqb}
 use lib.ListN.{take, drop}
-use Rattle.songcode.specs.Lists.{if◌then◌else◌, taken, left}
+use Rattle.songcode.specs.Lists.{provided◌then◌else◌, taken, left}
 use Rattle.songcode.specs.Bytes.{Byte, placed, is_byte}
 use Rattle.songcode.specs.Answer.Characters.{is_tail, characters}
 use Rattle.songcode.specs.Answer.Keys.{is_phrase}
@@ -50,7 +50,7 @@ drop_placed (suc k) a [] = refl
 drop_placed (suc k) a (b ∷ w) = let e : a + suc k ≡ suc a + k = omega arith in rw e (drop_placed k (suc a) w)
 
 characters_anywhere : (a b : ℕ) (w : List ℕ) → characters (placed a w) ≡ characters (placed b w)
-unfolding characters placed if◌then◌else◌
+unfolding characters placed provided◌then◌else◌
 characters_anywhere a b [] = refl
 characters_anywhere a b (x ∷ w) =
     by_cases (is_tail x) (λ e. rw e (characters_anywhere (suc a) (suc b) w)) (λ e. rw e (ap suc (characters_anywhere (suc a) (suc b) w)))

@@ -7,7 +7,7 @@ use mathlib.Core.Option.{Option, none, some, bind}
 use native.Mathlib.Omega.{arith}
 use borrow.Author.Tests.{eq-eqb, ne_eqb}
 use lib.ListN.{get_or, take, drop}
-use Rattle.songcode.specs.Lists.{if◌then◌else◌, is_some}
+use Rattle.songcode.specs.Lists.{provided◌then◌else◌, is_some}
 use Rattle.songcode.specs.Bytes.{Byte, placed, ascii, same, is_byte}
 use Rattle.songcode.specs.Answer.Keys.{time_in}
 use Rattle.songcode.specs.Answer.Modifiers.{cut, cut_in}
@@ -46,11 +46,11 @@ number_there (some n) e h = e ∙ rw h
 -- A time by the place of its slash.
 module _ (w : List ℕ) (q : ℕ) (e : q ≡ length_before 47 w) where
   pub time_none : {r : Bool} → r ≡ same (ascii "/4") (drop q w) → r ≡ false → time_in (placed 0 w) ≡ none
-  unfolding time_in if◌then◌else◌
+  unfolding time_in provided◌then◌else◌
   time_none f h = rw (left_placed _ _ (not_byte_values 47) 0 w, sym e, is_by "/4" (0 + q) (drop q w) f h)
 
   pub time_some : {r : Bool} → r ≡ same (ascii "/4") (drop q w) → r ≡ true → time_in (placed 0 w) ≡ number_in 1 32 (placed 0 (take q w))
-  unfolding time_in if◌then◌else◌
+  unfolding time_in provided◌then◌else◌
   time_some f h = rw (left_placed _ _ (not_byte_values 47) 0 w, taken_placed _ _ (not_byte_values 47) 0 w, sym e, is_by "/4" (0 + q) (drop q w) f h)
 
 -- A cut from two numbers that were read.
@@ -68,17 +68,17 @@ cut_read_lem bs o p {m} {b} {r} h x y e =
 
 -- The count behind `_`.
 pub count_behind_none : (w : List ℕ) → (get_or w 0 0 ≡ 95 → ⊥) → count_behind (placed 0 w) ≡ none
-unfolding count_behind placed is_byte if◌then◌else◌
+unfolding count_behind placed is_byte provided◌then◌else◌
 count_behind_none [] h = refl
 count_behind_none (b ∷ w) h = rw (ne_eqb b 95 h)
 
 pub count_behind_some : (w : List ℕ) → get_or w 0 0 ≡ 95 → count_behind (placed 0 w) ≡ count_in (placed 0 (drop 1 w))
-unfolding count_behind placed is_byte if◌then◌else◌
+unfolding count_behind placed is_byte provided◌then◌else◌
 count_behind_some [] h = let z : ⊥ = omega arith in absurd z
 count_behind_some (b ∷ w) h = rw (eq-eqb b 95 h) (count_in_placeless 1 w)
 
 pub count_behind_range : (bs : List Byte) {n : ℕ} → count_behind bs ≡ some n → (1 ≤ n) × (n ≤ 9999)
-unfolding count_behind if◌then◌else◌
+unfolding count_behind provided◌then◌else◌
 count_behind_range [] e = let z : ◌≡◌ {A = ℕ} 0 1 = cc in absurd (omega arith)
 count_behind_range (b ∷ bs) {n} e =
     by_cases

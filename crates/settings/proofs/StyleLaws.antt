@@ -8,7 +8,7 @@ use borrow.Author.Tests.{le-leb, lt-leb, leb-true}
 use lib.Dec.{leb}
 use lib.ListN.{length, get_or, drop, length-drop, length-reverse}
 use lib.Seq.{length-take-le}
-use Rattle.songcode.specs.Lists.{if◌then◌else◌}
+use Rattle.songcode.specs.Lists.{provided◌then◌else◌}
 use Rattle.songcode.specs.Bytes.{Byte, placed, ascii, begins}
 use Rattle.songcode.specs.Answer.Lyrics.{bracketed, between, styled}
 use Rattle.songcode.proofs.ByteLaws.{length_placed}
@@ -75,13 +75,13 @@ between_part s a e h k =
     )
 
 pub style_one : (bs : List Byte) → bracketed (ascii "***") bs ≡ true → styled bs ≡ record { style = 1; text = between bs }
-unfolding styled if◌then◌else◌
+unfolding styled provided◌then◌else◌
 style_one bs e = rw e
 
 pub style_two : (bs : List Byte) → bracketed (ascii "***") bs ≡ false → bracketed (ascii ":::") bs ≡ true → styled bs ≡ record { style = 2; text = between bs }
-unfolding styled if◌then◌else◌
+unfolding styled provided◌then◌else◌
 style_two bs e f = rw (e, f)
 
 pub style_none : (bs : List Byte) → bracketed (ascii "***") bs ≡ false → bracketed (ascii ":::") bs ≡ false → styled bs ≡ record { style = 0; text = bs }
-unfolding styled if◌then◌else◌
+unfolding styled provided◌then◌else◌
 style_none bs e f = rw (e, f)

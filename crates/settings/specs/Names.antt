@@ -1,7 +1,7 @@
 -- The names that the code answers, case by case as songcode has them.
 use Rattle.std.specs.Prelude.{ℕ, Bool, true, false, List, eqb}
 use Rattle.std.proofs.Math.Option.{Option, none, some}
-use Rattle.songcode.specs.Lists.{if◌then◌else◌}
+use Rattle.songcode.specs.Lists.{provided◌then◌else◌}
 use Rattle.songcode.specs.Bytes.{ascii, same}
 use Rattle.songcode.specs.Song as song
 use Rattle.songcode.specs.Answer.Modifiers as modifiers
@@ -38,12 +38,12 @@ key_if false k = key.Unknown
 
 -- The names that begin with `b`, `t`, `w` or `e`, by that letter.
 unfoldable pub later_key : ℕ → List ℕ → KeyName
-unfolding if◌then◌else◌ ascii same
+unfolding provided◌then◌else◌ ascii same
 later_key b w =
-    if eqb b 98 then key_if (same (ascii "bpm") w) Bpm
-    else if eqb b 116 then key_if (same (ascii "time") w) Time
-    else if eqb b 119 then key_if (same (ascii "warning") w) Warning
-    else if eqb b 101 then key_if (same (ascii "end") w) End
+    provided eqb b 98 then key_if (same (ascii "bpm") w) Bpm
+    else provided eqb b 116 then key_if (same (ascii "time") w) Time
+    else provided eqb b 119 then key_if (same (ascii "warning") w) Warning
+    else provided eqb b 101 then key_if (same (ascii "end") w) End
     else key.Unknown
 
 abbrev pub modifier_if : Bool → ModifierName → ModifierName

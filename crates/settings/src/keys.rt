@@ -11,7 +11,7 @@ use super::phrases::is_phrase;
 use text::byte_at;
 use tokens::{Number, is_base, number_in};
 
-#[derive(Drop)]
+#[derive(Clone, Copy)]
 pub enum KeyName {
     Name,
     Artist,

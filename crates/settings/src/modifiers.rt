@@ -10,7 +10,7 @@ use super::parts::same_text;
 use text::byte_at;
 use tokens::{Number, number_in};
 
-#[derive(Drop)]
+#[derive(Clone, Copy)]
 pub enum ModifierName {
     Repeat,
     CutStart,

@@ -11,7 +11,7 @@ use borrow.Author.Tests.{eqb-true, eqb-false}
 use lib.Dec.{eqb}
 use lib.ListN.{length, get_or, take, drop}
 use lib.Seq.{drop-cons}
-use Rattle.songcode.specs.Lists.{if◌then◌else◌}
+use Rattle.songcode.specs.Lists.{provided◌then◌else◌}
 use Rattle.songcode.specs.Bytes.{Byte, placed, values, ascii, same, is, is_byte}
 use Rattle.songcode.specs.Answer.Numbers.{count_in}
 use Rattle.songcode.specs.Answer.Chords.{Chord, chord_in}
@@ -28,8 +28,8 @@ use Rattle.slips.specs.Strays.{StrayAt}
 abbrev NotAgain : Token → Type 0
 NotAgain t = t ≡ sound again → ⊥
 
-if_not : (b : Bool) (x y : Token) → NotAgain x → NotAgain y → NotAgain (if b then x else y)
-unfolding if◌then◌else◌
+if_not : (b : Bool) (x y : Token) → NotAgain x → NotAgain y → NotAgain (provided b then x else y)
+unfolding provided◌then◌else◌
 if_not true x y f g = f
 if_not false x y f g = g
 
@@ -76,12 +76,12 @@ dollar_not (b ∷ bs) e =
     if_not (is_byte 36 b) (reference_token (count_in bs)) (chord_token (chord_in (b ∷ bs))) (reference_not (count_in bs)) (chord_not (chord_in (b ∷ bs))) e
 
 word_again : (w : List Byte) → word_token w ≡ sound again → is "%" w ≡ true
-unfolding word_token if◌then◌else◌
+unfolding word_token provided◌then◌else◌
 word_again w e =
     by_cases (is "%" w)
     (λ h. h)
     (λ h.
-    let g : (if is "_" w then sound silence else if is "=" w then remover else dollar_or w) ≡ sound again = rw h at e in
+    let g : (provided is "_" w then sound silence else provided is "=" w then remover else dollar_or w) ≡ sound again = rw h at e in
     absurd (if_not (is "_" w) (sound silence) _ (λ k. let z : ◌≡◌ {A = ℕ} 0 1 = cc in
     let y : ⊥ = omega arith in y)
     (if_not (is "=" w) remover (dollar_or w) (λ k. let z : ◌≡◌ {A = ℕ} 0 1 = cc in

@@ -8,7 +8,7 @@ use borrow.Author.Tests.{ltb-true, ltb-false}
 use lib.Dec.{ltb}
 use lib.ListN.{length, take}
 use mathlib.Core.Bool.{Bool}
-use Rattle.songcode.specs.Lists.{if◌then◌else◌, taken}
+use Rattle.songcode.specs.Lists.{provided◌then◌else◌, taken}
 use Rattle.songcode.specs.Answer.Lines.{Line, Block, blocks}
 use Rattle.songcode.specs.Description.WrittenText.{WrittenBlocks, no_block, a_blank, a_block}
 use Rattle.songcode.proofs.ListLaws.{by_cases}
@@ -48,14 +48,14 @@ take_all [] = refl
 take_all (x ∷ xs) = ap (λ ys. x ∷ ys) (take_all xs)
 
 of_taken : {A : Type 0} (p : A → Bool) (xs : List A) {y : A} → Memᴰ y (taken p xs) → Memᴰ y xs
-unfolding taken if◌then◌else◌
+unfolding taken provided◌then◌else◌
 of_taken p [] i = i
 of_taken p (x ∷ xs) {y} i =
     by_cases (p x)
     (λ e.
     ⊎_elim (λ z. mathlib.Core.List.Memᴰ.head z) (λ t. mathlib.Core.List.Memᴰ.tail (of_taken p xs t))
-    (mathlib.Core.List.Memᴰ.cases_cons (subst (λ b. Memᴰ y (if b then x ∷ taken p xs else [])) e i)))
-    (λ e. absurd (mathlib.Core.List.Memᴰ.not-nil (subst (λ b. Memᴰ y (if b then x ∷ taken p xs else [])) e i)))
+    (mathlib.Core.List.Memᴰ.cases_cons (subst (λ b. Memᴰ y (provided b then x ∷ taken p xs else [])) e i)))
+    (λ e. absurd (mathlib.Core.List.Memᴰ.not-nil (subst (λ b. Memᴰ y (provided b then x ∷ taken p xs else [])) e i)))
 
 module _ (s : List ℕ) where
   -- Of so many lines from a line on, each has a number from its own up to so many behind.

@@ -7,7 +7,7 @@ use mathlib.Core.Option.{get_or}
 use native.Mathlib.Omega.{arith}
 use lib.Dec.{eqb}
 use lib.ListN.{length}
-use Rattle.songcode.specs.Lists.{if◌then◌else◌}
+use Rattle.songcode.specs.Lists.{provided◌then◌else◌}
 use Rattle.songcode.specs.Answer.Lines.{Line, Block, blocks}
 use Rattle.songcode.specs.Answer.SongText as songtext
 use Rattle.songcode.specs.Answer.SongText.{block_kind, head_in}
@@ -62,12 +62,12 @@ module _ (s : List ℕ) (n : ℕ) (p : Place) where
   lines_from = definition_lines n (blocks (text_lines s p.number p.at))
 
   pub lines_here : OpensAt s p → p.at < length s → defines n (block_at s p.number p.at) ≡ true → lines_from ≡ (block_at s p.number p.at).others
-  unfolding definition_lines if◌then◌else◌
+  unfolding definition_lines provided◌then◌else◌
   lines_here o h d = ap (definition_lines n) (o h) ∙ rw d
 
   pub lines_later : OpensAt s p → p.at < length s → defines n (block_at s p.number p.at) ≡ false → (q : Place) → Behind s p q
       → lines_from ≡ definition_lines n (blocks (text_lines s q.number q.at))
-  unfolding definition_lines if◌then◌else◌
+  unfolding definition_lines provided◌then◌else◌
   lines_later o h d q b = ap (definition_lines n) (o h) ∙ rw d (ap (definition_lines n) b.same)
 
   pub lines_nowhere : length s ≤ p.at → lines_from ≡ []

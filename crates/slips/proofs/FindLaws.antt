@@ -6,7 +6,7 @@ use native.Mathlib.Omega.{arith}
 use borrow.Author.Tests.{ltb-true, ltb-false}
 use lib.Dec.{ltb}
 use lib.ListN.{get_or}
-use Rattle.songcode.specs.Lists.{if◌then◌else◌}
+use Rattle.songcode.specs.Lists.{provided◌then◌else◌}
 use Rattle.songcode.specs.Answer.Lines.{lf, cr, inside, ending}
 use Rattle.songcode.proofs.ListLaws.{by_cases}
 use Rattle.text.specs.declared.lines.Line.{Line}
@@ -24,14 +24,14 @@ without_more b s from i w n k p q e =
 
 -- A byte that ends no line is neither of the two that do.
 pub no_lf : (b : ℕ) → end b ≡ inside → b ≡ 10 → ⊥
-unfolding ending if◌then◌else◌
+unfolding ending provided◌then◌else◌
 no_lf b h e =
     let f : lf ≡ inside = rw e at h in
     let z : ◌≡◌ {A = ℕ} 0 1 = cc in
     absurd (omega arith)
 
 pub no_cr : (b : ℕ) → end b ≡ inside → b ≡ 13 → ⊥
-unfolding ending if◌then◌else◌
+unfolding ending provided◌then◌else◌
 no_cr b h e =
     let f : cr ≡ inside = rw e at h in
     let z : ◌≡◌ {A = ℕ} 0 1 = cc in

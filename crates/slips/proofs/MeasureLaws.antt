@@ -4,7 +4,7 @@ use mathlib.Core.Path.{◌≡◌, refl, sym, subst}
 use mathlib.Core.List.{List, [], ◌∷◌, ◌++◌}
 use native.Mathlib.Omega.{arith}
 use lib.ListN.{length}
-use Rattle.songcode.specs.Lists.{if◌then◌else◌}
+use Rattle.songcode.specs.Lists.{provided◌then◌else◌}
 use Rattle.songcode.proofs.ListLaws.{Each, each_append, by_cases, nil_is_not_cons}
 use Rattle.text.specs.declared.lines.Line.{Line}
 use Rattle.slips.specs.declared.readings.Misfit.{Misfit}
@@ -55,7 +55,7 @@ met_over a at stop (m ∷ met) rows h l e =
 -- So do all measures of a line.
 rows_spanned : (s : List ℕ) (a at stop : ℕ) (met ms : List Mark) → a ≤ at → at ≤ stop → MetIn a at met → MarksFrom s at stop ms
     → Each (Spanned a stop) (measures_from met ms)
-unfolding MarksFrom measures_from if◌then◌else◌ Each
+unfolding MarksFrom measures_from provided◌then◌else◌ Each
 rows_spanned s a at stop met [] i j h m = met_over a at stop met [] h j tt
 rows_spanned s a at stop met (k ∷ ms) i j h m =
     let x = m.0 in
@@ -96,7 +96,7 @@ line_rows s l a (k ∷ ms) b w m =
 
 -- What is fitted of a line, and of lines one behind the other.
 end_shuts : (n : ℕ) (x : Misfit) (ms rest : List Mark) (stop : ℕ) → fitted n x (ms ++ (end_mark stop ∷ rest)) ≡ fitted n (line_ended n (fitted n x ms)) rest
-unfolding fitted fitting_if if◌then◌else◌ is_position
+unfolding fitted fitting_if provided◌then◌else◌ is_position
 end_shuts n x ms rest stop = fitted_behind n x ms (end_mark stop ∷ rest)
 
 pub end_parts : (ms rest : List Mark) (stop : ℕ) → measures_in (ms ++ (end_mark stop ∷ rest)) ≡ measures_in ms ++ measures_in rest

@@ -7,7 +7,7 @@ use native.Mathlib.Omega.{arith}
 use lib.Dec.{eqb}
 use lib.ListN.{length, length-append}
 use borrow.Author.Tests.{lt-ltb, eqb-true, eqb-false, eq-eqb, ne_eqb}
-use Rattle.songcode.specs.Lists.{if◌then◌else◌}
+use Rattle.songcode.specs.Lists.{provided◌then◌else◌}
 use Rattle.songcode.specs.Song.{chord, again, silence}
 use Rattle.songcode.specs.Answer.Tokens.{Token, sound, remover, reference, semicolon, colon, line_end, opens, closes, wrong}
 use Rattle.songcode.proofs.ListLaws.{by_cases, true_is_not_false}
@@ -20,40 +20,40 @@ use Rattle.slips.specs.Misfits.{closing, beginning, fitting_if, fitting, is_posi
 -- Case by case, as the code tells them apart.
 module _ (n : ℕ) (x : Misfit) where
   pub closing_none : x.positions ≡ 0 → x ≡ closing n x
-  unfolding closing if◌then◌else◌
+  unfolding closing provided◌then◌else◌
   closing_none e = rw (eq-eqb x.positions 0 e) refl
 
   module _ (some : x.positions ≡ 0 → ⊥) where
     pub closing_fits : n % x.positions ≡ 0 → no_measure ≡ closing n x
-    unfolding closing if◌then◌else◌
+    unfolding closing provided◌then◌else◌
     closing_fits e = rw (ne_eqb x.positions 0 some, eq-eqb (n % x.positions) 0 e) refl
 
     pub closing_misfit : (n % x.positions ≡ 0 → ⊥) → record { positions = x.positions; from = x.from; to = x.to; found = true } ≡ closing n x
-    unfolding closing if◌then◌else◌
+    unfolding closing provided◌then◌else◌
     closing_misfit e = rw (ne_eqb x.positions 0 some, ne_eqb (n % x.positions) 0 e) refl
 
   module _ (from to : ℕ) where
     pub begun_first : {k : ℕ} → k ≡ one_more x.positions → x.positions ≡ 0
         → record { positions = k; from = from; to = to; found = false } ≡ beginning x from to
-    unfolding beginning if◌then◌else◌
+    unfolding beginning provided◌then◌else◌
     begun_first e z = rw (e, eq-eqb x.positions 0 z) refl
 
     pub begun_more : {k : ℕ} → k ≡ one_more x.positions → (x.positions ≡ 0 → ⊥)
         → record { positions = k; from = x.from; to = to; found = false } ≡ beginning x from to
-    unfolding beginning if◌then◌else◌
+    unfolding beginning provided◌then◌else◌
     begun_more e z = rw (e, ne_eqb x.positions 0 z) refl
 
     module _ (b : Bool) where
       pub fit_found : x.found ≡ true → x ≡ fitting_if b n x from to
-      unfolding fitting_if if◌then◌else◌
+      unfolding fitting_if provided◌then◌else◌
       fit_found h = rw h refl
 
       pub fit_position : x.found ≡ false → b ≡ true → beginning x from to ≡ fitting_if b n x from to
-      unfolding fitting_if if◌then◌else◌
+      unfolding fitting_if provided◌then◌else◌
       fit_position h p = rw (h, p) refl
 
       pub fit_other : x.found ≡ false → b ≡ false → closing n x ≡ fitting_if b n x from to
-      unfolding fitting_if if◌then◌else◌
+      unfolding fitting_if provided◌then◌else◌
       fit_other h p = rw (h, p) refl
 
 -- A token's kind says as much as the token.
@@ -96,7 +96,7 @@ last_one (k ∷ []) m = refl
 last_one (k ∷ j ∷ met) m = last_one (j ∷ met) m
 
 one_more_lem : (k : ℕ) → k < 65536 → one_more k ≡ k + 1
-unfolding one_more if◌then◌else◌
+unfolding one_more provided◌then◌else◌
 one_more_lem k h = rw (lt-ltb k 65536 h)
 
 pub longer : (met : List Mark) (m : Mark) → length (met ++ (m ∷ [])) ≡ length met + 1
@@ -226,20 +226,20 @@ abbrev pub line_ended : ℕ → Misfit → Misfit
 line_ended n y = fitting_if false n y 0 0
 
 shut_found : (n : ℕ) (y : Misfit) → y.found ≡ true → line_ended n y ≡ y
-unfolding fitting_if if◌then◌else◌
+unfolding fitting_if provided◌then◌else◌
 shut_found n y h = rw h
 
 by_sign : (n : ℕ) (met : List Mark) (m : Mark) → is_position m.token ≡ false
     → fitting n (state met) m.token m.from m.to ≡ closing n (state met)
-unfolding fitting_if if◌then◌else◌
+unfolding fitting_if provided◌then◌else◌
 by_sign n met m p = rw p
 
 pub rows_more : (met : List Mark) (m : Mark) (ms : List Mark) → is_position m.token ≡ true → measures_from met (m ∷ ms) ≡ measures_from (met ++ (m ∷ [])) ms
-unfolding measures_from if◌then◌else◌
+unfolding measures_from provided◌then◌else◌
 rows_more met m ms p = rw p
 
 pub rows_over : (met : List Mark) (m : Mark) (ms : List Mark) → is_position m.token ≡ false → measures_from met (m ∷ ms) ≡ over met [] ++ measures_in ms
-unfolding measures_from if◌then◌else◌
+unfolding measures_from provided◌then◌else◌
 rows_over met m ms p = rw p (over_both met (measures_from [] ms))
 
 -- What is found in some tokens behind those of a measure that was begun, if a line ends there.
@@ -298,7 +298,7 @@ of_fresh n ms h = fresh n ms (of_line n [] ms (omega arith))
 -- The measures of two texts with a line's end between them.
 pub parted : (met ms ns : List Mark) (m : Mark) → is_position m.token ≡ false
     → measures_from met (ms ++ (m ∷ ns)) ≡ measures_from met ms ++ measures_in ns
-unfolding measures_from if◌then◌else◌
+unfolding measures_from provided◌then◌else◌
 parted met [] ns m p = rw p (over_both met (measures_from [] ns))
 parted met (k ∷ ms) ns m p =
     by_cases (is_position k.token)

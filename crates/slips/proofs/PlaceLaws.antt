@@ -6,7 +6,7 @@ use native.Mathlib.Numerals.{add-one}
 use borrow.Author.Tests.{ne_eqb}
 use lib.ListN.{length, take, get_or}
 use lib.Seq.{take-suc}
-use Rattle.songcode.specs.Lists.{if◌then◌else◌}
+use Rattle.songcode.specs.Lists.{provided◌then◌else◌}
 use Rattle.songcode.specs.Bytes.{Byte, placed}
 use Rattle.songcode.specs.Answer.Lines.{Ending, lf, cr, inside, ending, ending_of, LineCut, put, cut_lines}
 use Rattle.songcode.specs.Answer.Answer.{line_of_place}
@@ -49,7 +49,7 @@ module _ (b : ℕ) (h : (at : ℕ) → ending (record { place = at; value = b })
   line_on s i k e = ap (λ (xs : List ℕ). suc (ends 0 xs)) (one_more_lem s i k e) ∙ ap suc (ends_behind 0 (take i s))
 
 within : (b : ℕ) → (b ≡ 10 → ⊥) → (b ≡ 13 → ⊥) → (at : ℕ) → ending (record { place = at; value = b }) ≡ inside
-unfolding ending if◌then◌else◌
+unfolding ending provided◌then◌else◌
 within b n m at = simp (ne_eqb b 10 n, ne_eqb b 13 m)
 
 pub same_line : (s : List ℕ) (i : ℕ) → i < length s → (get_or s i 0 ≡ 10 → ⊥) → (get_or s i 0 ≡ 13 → ⊥) → line_of_place (i + 1) s ≡ line_of_place i s

@@ -9,7 +9,7 @@ use lib.Dec.{eqb, ltb}
 use lib.ListN.{length, get_or, set, replicate, length-set}
 use lib.Seq.{get_or-set_same, get_or-set_other}
 use borrow.Author.Tests.{eqb-true, eqb-false, ltb-true, ltb-false}
-use Rattle.songcode.specs.Lists.{if◌then◌else◌}
+use Rattle.songcode.specs.Lists.{provided◌then◌else◌}
 use Rattle.songcode.specs.Answer.Answer.{blocks_of}
 use Rattle.songcode.proofs.ListLaws.{by_cases}
 use Rattle.text.specs.declared.lines.Line.{Line}
@@ -30,7 +30,7 @@ abbrev Fresh : Misfit → Type 0
 Fresh x = x.positions ≡ 0 → x ≡ no_measure
 
 some_more : (k : ℕ) → one_more k ≡ 0 → ⊥
-unfolding one_more if◌then◌else◌
+unfolding one_more provided◌then◌else◌
 some_more k e =
     by_cases (ltb k 65536)
     (λ h. let z : k + 1 ≡ 0 = rw h at e in omega arith)

@@ -9,7 +9,7 @@ use mathlib.Core.Option.{bind}
 use native.Mathlib.Omega.{arith}
 use borrow.Author.Tests.{ne_eqb}
 use lib.Dec.{eqb}
-use Rattle.songcode.specs.Lists.{if◌then◌else◌, any, every}
+use Rattle.songcode.specs.Lists.{provided◌then◌else◌, any, every}
 use Rattle.songcode.specs.Bytes.{Byte, values, ascii, is_byte, is_blank}
 use Rattle.songcode.specs.Song.{Items}
 use Rattle.songcode.specs.Answer.Chords.{bases, Chord}
@@ -35,11 +35,11 @@ use Rattle.slips.specs.Rules.{is_colon, Right}
 
 -- The two signs are of classes of their own.
 colon_double : (b : Byte) → b.value ≡ code ":" → class b ≡ double
-unfolding class is_blank is_byte if◌then◌else◌
+unfolding class is_blank is_byte provided◌then◌else◌
 colon_double b e = rw e refl
 
 dollar_plain : (b : Byte) → b.value ≡ code "$" → class b ≡ plain
-unfolding class is_blank is_byte if◌then◌else◌
+unfolding class is_blank is_byte provided◌then◌else◌
 dollar_plain b e = rw e refl
 
 unbarred_by : (b : Byte) → (b.value ≡ code ":" → ⊥) → (b.value ≡ code "$" → ⊥) → barred b ≡ false

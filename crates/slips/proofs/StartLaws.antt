@@ -8,7 +8,7 @@ use native.Mathlib.Numerals.{add-one}
 use native.Mathlib.Nat.{suc-add, add-zero}
 use lib.ListN.{length, get_or, take, drop, length-take, length-drop}
 use lib.Seq.{drop-drop, get_or-drop}
-use Rattle.songcode.specs.Lists.{if◌then◌else◌}
+use Rattle.songcode.specs.Lists.{provided◌then◌else◌}
 use Rattle.songcode.specs.Bytes.{placed}
 use Rattle.songcode.specs.Answer.Lines.{cr, inside, ending_of, put, cut_lines}
 use Rattle.songcode.specs.Answer.Answer.{line_of_place}
@@ -26,7 +26,7 @@ use Rattle.sections.proofs.LineLaws.{each_line}
 
 -- As many blanks as there are bytes, at most.
 front_among : (n : ℕ) (bs : List ℕ) → front_blanks (take n bs) ≤ n
-unfolding front_blanks if◌then◌else◌
+unfolding front_blanks provided◌then◌else◌
 front_among zero bs = omega arith
 front_among (suc n) [] = omega arith
 front_among (suc n) (b ∷ bs) = let h = front_among n bs in by_cases (blank b) (λ t. rw t (omega arith)) (λ t. rw t (omega arith))

@@ -7,7 +7,7 @@ use mathlib.Core.Bool.{true, false, ◌||◌}
 use native.Mathlib.Omega.{arith}
 use lib.Dec.{ltb, eqb}
 use borrow.Author.Tests.{lt-ltb, le-ltb, ne_eqb}
-use Rattle.songcode.specs.Lists.{if◌then◌else◌}
+use Rattle.songcode.specs.Lists.{provided◌then◌else◌}
 use Rattle.songcode.specs.Answer.Chords.{Chord}
 use Rattle.songcode.specs.Song.{chord, again, silence}
 use Rattle.songcode.specs.Answer.Tokens.{Token, sound, remover, reference, semicolon, colon, line_end, opens, closes, wrong}
@@ -19,7 +19,7 @@ use Rattle.slips.specs.Strays.{Silent, AllSilent, StrayAt, unheard, settling, he
 
 -- A token's kind says as much as the token.
 settling_sign : (x : Stray) (t : Token) (from : ℕ) → Fit t → (x.chord || x.found) ≡ false → hearing_sign x (kind t) from ≡ settling x t from
-unfolding hearing_sign settling kind if◌then◌else◌ Fit
+unfolding hearing_sign settling kind provided◌then◌else◌ Fit
 settling_sign x (sound (chord c)) from f h = rw (h, lt-ltb c.base 34 (omega (arith, f.0)))
 settling_sign x (sound again) from f h = rw h
 settling_sign x (sound silence) from f h = rw h
@@ -33,14 +33,14 @@ settling_sign x (closes n) from f h = rw h
 settling_sign x wrong from f h = rw h
 
 pub hearing_sign_lem : (x : Stray) (t : Token) (from : ℕ) → Fit t → hearing_sign x (kind t) from ≡ hearing x t from
-unfolding hearing hearing_sign if◌then◌else◌
+unfolding hearing hearing_sign provided◌then◌else◌
 hearing_sign_lem x t from f =
     by_cases (x.chord || x.found)
     (λ h. rw h)
     (λ h. settling_sign x t from f h ∙ rw h)
 
 pub sign_within : (x : Stray) (k from : ℕ) → from ≤ 65536 → x.from ≤ 65536 → (hearing_sign x k from).from ≤ 65536
-unfolding hearing_sign if◌then◌else◌
+unfolding hearing_sign provided◌then◌else◌
 sign_within x k from a b =
     by_cases (x.chord || x.found)
     (λ h. rw h b)
@@ -49,25 +49,25 @@ sign_within x k from a b =
 -- The same case by case, as the code tells them apart.
 module _ (x : Stray) (k from : ℕ) where
   pub sign_chord : x.chord ≡ true → x ≡ hearing_sign x k from
-  unfolding hearing_sign if◌then◌else◌
+  unfolding hearing_sign provided◌then◌else◌
   sign_chord c = rw c refl
 
   module _ (c : x.chord ≡ false) where
     pub sign_found : x.found ≡ true → x ≡ hearing_sign x k from
-    unfolding hearing_sign if◌then◌else◌
+    unfolding hearing_sign provided◌then◌else◌
     sign_found f = rw (c, f) refl
 
     module _ (f : x.found ≡ false) where
       pub sign_heard : k < 34 → record { chord = true; found = false; from = 0 } ≡ hearing_sign x k from
-      unfolding hearing_sign if◌then◌else◌
+      unfolding hearing_sign provided◌then◌else◌
       sign_heard l = rw (c, f, lt-ltb k 34 l) refl
 
       pub sign_again : (k < 34 → ⊥) → k ≡ 62 → record { chord = false; found = true; from = from } ≡ hearing_sign x k from
-      unfolding hearing_sign if◌then◌else◌
+      unfolding hearing_sign provided◌then◌else◌
       sign_again l e = rw (c, f, e) refl
 
       pub sign_other : 34 ≤ k → (k ≡ 62 → ⊥) → x ≡ hearing_sign x k from
-      unfolding hearing_sign if◌then◌else◌
+      unfolding hearing_sign provided◌then◌else◌
       sign_other l e = rw (c, f, le-ltb k 34 l, ne_eqb k 62 e) refl
 
 pub heard_behind : (x : Stray) (ms ns : List Mark) → heard x (ms ++ ns) ≡ heard (heard x ms) ns
@@ -77,7 +77,7 @@ heard_behind x (m ∷ ms) ns = heard_behind (hearing x m.token m.from) ms ns
 
 -- Once it is settled nothing changes.
 pub settled : (x : Stray) (ms : List Mark) → (x.chord || x.found) ≡ true → heard x ms ≡ x
-unfolding heard hearing if◌then◌else◌
+unfolding heard hearing provided◌then◌else◌
 settled x [] h = refl
 settled x (m ∷ ms) h = rw h (settled x ms h)
 
@@ -96,7 +96,7 @@ quiet x (closes n) from h = refl
 quiet x wrong from h = refl
 
 still : (x : Stray) (t : Token) (from : ℕ) → Silent t → hearing x t from ≡ x
-unfolding hearing if◌then◌else◌
+unfolding hearing provided◌then◌else◌
 still x t from h = by_cases (x.chord || x.found) (λ e. rw e) (λ e. rw e (quiet x t from h))
 
 pub all_still : (x : Stray) (ms : List Mark) → AllSilent ms → heard x ms ≡ x
@@ -126,7 +126,7 @@ abbrev pub Settled : Stray → Type 0
 Settled x = (x.chord || x.found) ≡ true
 
 settles : (x : Stray) (t : Token) (from : ℕ) → Settled (settling x t from) → Settled (hearing x t from)
-unfolding hearing if◌then◌else◌
+unfolding hearing provided◌then◌else◌
 settles x t from h = by_cases (x.chord || x.found) (λ e. rw e e) (λ e. rw e h)
 
 pub settled_or_silent : (x : Stray) (ms : List Mark) → Settled (heard x ms) ⊎ AllSilent ms

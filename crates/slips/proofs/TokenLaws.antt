@@ -7,7 +7,7 @@ use borrow.Author.Tests.{ltb-true, ltb-false}
 use lib.Dec.{ltb}
 use lib.ListN.{length, take, drop}
 use lib.Seq.{take-take}
-use Rattle.songcode.specs.Lists.{if◌then◌else◌}
+use Rattle.songcode.specs.Lists.{provided◌then◌else◌}
 use Rattle.songcode.specs.Answer.Tokens as songcode
 use Rattle.songcode.proofs.ListLaws.{by_cases}
 use Rattle.text.specs.Spans.{part, front_blanks, blank}
@@ -26,7 +26,7 @@ token_ends s at to {l} {w} {n} h e = let t : Reads s at to (Token w n) = rw e at
 
 -- Blanks that end before a part does are all there are in a longer one.
 blanks_longer : (m : ℕ) (bs : List ℕ) → front_blanks (take m bs) < m → front_blanks (take m bs) ≡ front_blanks bs
-unfolding front_blanks if◌then◌else◌
+unfolding front_blanks provided◌then◌else◌
 blanks_longer zero bs h = absurd (omega arith)
 blanks_longer (suc m) [] h = refl
 blanks_longer (suc m) (b ∷ bs) h =

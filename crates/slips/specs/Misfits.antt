@@ -1,6 +1,6 @@
 -- Refusal 12: the first measure whose positions do not divide N.
 use Rattle.std.specs.Prelude.{ℕ, ◌+◌, ◌%◌, ◌≤◌, ◌≡◌, List, [], ◌∷◌, ◌++◌, Bool, true, false, ◌||◌, eqb, leb, ltb, length}
-use Rattle.songcode.specs.Lists.{if◌then◌else◌}
+use Rattle.songcode.specs.Lists.{provided◌then◌else◌}
 use Rattle.songcode.specs.Answer.Tokens.{Token, sound, remover, reference, semicolon, colon, line_end, opens, closes, wrong}
 use Rattle.slips.specs.declared.readings.Misfit.{Misfit}
 use Rattle.slips.specs.Marks.{Mark}
@@ -25,9 +25,9 @@ over [] rows = rows
 over (m ∷ ms) rows = (m ∷ ms) ∷ rows
 
 unfoldable pub measures_from : List Mark → List Mark → List (List Mark)
-unfolding if◌then◌else◌ is_position over
+unfolding provided◌then◌else◌ is_position over
 measures_from met [] = over met []
-measures_from met (m ∷ ms) = if is_position m.token then measures_from (met ++ (m ∷ [])) ms else over met (measures_from [] ms)
+measures_from met (m ∷ ms) = provided is_position m.token then measures_from (met ++ (m ∷ [])) ms else over met (measures_from [] ms)
 
 abbrev pub measures_in : List Mark → List (List Mark)
 measures_in ms = measures_from [] ms
@@ -73,26 +73,26 @@ no_measure = record { positions = 0; from = 0; to = 0; found = false }
 
 -- A line has at most 65,536 bytes.
 unfoldable pub one_more : ℕ → ℕ
-unfolding if◌then◌else◌
-one_more positions = if ltb positions 65536 then positions + 1 else positions
+unfolding provided◌then◌else◌
+one_more positions = provided ltb positions 65536 then positions + 1 else positions
 
 -- The measure is over, if one was begun.
 unfoldable pub closing : ℕ → Misfit → Misfit
-unfolding if◌then◌else◌
+unfolding provided◌then◌else◌
 closing n x =
-    if eqb x.positions 0 then x
-    else if eqb (n % x.positions) 0 then no_measure
+    provided eqb x.positions 0 then x
+    else provided eqb (n % x.positions) 0 then no_measure
     else record { positions = x.positions; from = x.from; to = x.to; found = true }
 
 -- One more position.
 unfoldable pub beginning : Misfit → ℕ → ℕ → Misfit
-unfolding if◌then◌else◌ one_more
+unfolding provided◌then◌else◌ one_more
 beginning x from to =
-    record { positions = one_more x.positions; from = if eqb x.positions 0 then from else x.from; to = to; found = false }
+    record { positions = one_more x.positions; from = provided eqb x.positions 0 then from else x.from; to = to; found = false }
 
 unfoldable pub fitting_if : Bool → ℕ → Misfit → ℕ → ℕ → Misfit
-unfolding if◌then◌else◌ beginning closing
-fitting_if position n x from to = if x.found then x else if position then beginning x from to else closing n x
+unfolding provided◌then◌else◌ beginning closing
+fitting_if position n x from to = provided x.found then x else provided position then beginning x from to else closing n x
 
 -- One more token; the same by the kind of its word.
 abbrev pub fitting : ℕ → Misfit → Token → ℕ → ℕ → Misfit

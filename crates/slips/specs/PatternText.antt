@@ -1,7 +1,7 @@
 -- The text that a section's pattern says: its own lines, or a definition's. "`$n` means an earlier definition's items, put in its place."
 use Rattle.std.specs.Prelude.{ℕ, ◌≡◌, List, [], ◌∷◌, ◌++◌, Bool, false, eqb}
 use Rattle.std.proofs.Math.Option.{get_or}
-use Rattle.songcode.specs.Lists.{if◌then◌else◌}
+use Rattle.songcode.specs.Lists.{provided◌then◌else◌}
 use Rattle.songcode.specs.Answer.Lines.{Line, Block}
 use Rattle.songcode.specs.Answer.SongText.{BlockKind, metadata, definition, section, block_kind, head_in}
 use Rattle.songcode.specs.Answer.Tokens.{Token, sound, remover, reference, semicolon, colon, line_end, opens, closes, wrong}
@@ -21,9 +21,9 @@ defines n b = defines_by (block_kind b) n b
 
 -- Its lines: none where it is empty, or where there is none.
 unfoldable pub definition_lines : ℕ → List Block → List Line
-unfolding if◌then◌else◌ defines
+unfolding provided◌then◌else◌ defines
 definition_lines n [] = []
-definition_lines n (b ∷ bs) = if defines n b then b.others else definition_lines n bs
+definition_lines n (b ∷ bs) = provided defines n b then b.others else definition_lines n bs
 
 -- What a token means beside itself: a reference the tokens of the definition's lines.
 unfoldable pub Means : List ℕ → Token → List Mark → Type 0

@@ -1,6 +1,6 @@
 -- Refusal 13: the first `%` before every chord.
 use Rattle.std.specs.Prelude.{ℕ, ◌+◌, ◌<◌, ◌≤◌, ◌≡◌, List, [], ◌∷◌, ◌++◌, true, false, ◌||◌, length, get_or}
-use Rattle.songcode.specs.Lists.{if◌then◌else◌}
+use Rattle.songcode.specs.Lists.{provided◌then◌else◌}
 use Rattle.songcode.specs.Song.{chord, again, silence}
 use Rattle.songcode.specs.Answer.Tokens.{Token, sound, remover, reference, semicolon, colon, line_end, opens, closes, wrong}
 use Rattle.slips.specs.declared.readings.Stray.{Stray}
@@ -67,8 +67,8 @@ settling x (closes n) from = x
 settling x wrong from = x
 
 unfoldable pub hearing : Stray → Token → ℕ → Stray
-unfolding if◌then◌else◌ settling
-hearing x t from = if x.chord || x.found then x else settling x t from
+unfolding provided◌then◌else◌ settling
+hearing x t from = provided x.chord || x.found then x else settling x t from
 
 unfoldable pub heard : Stray → List Mark → Stray
 unfolding hearing
@@ -77,9 +77,9 @@ heard x (m ∷ ms) = heard (hearing x m.token m.from) ms
 
 -- The same by the kind of a token's word.
 unfoldable pub hearing_sign : Stray → ℕ → ℕ → Stray
-unfolding if◌then◌else◌
+unfolding provided◌then◌else◌
 hearing_sign x k from =
-    if x.chord || x.found then x
-    else if is_chord k then record { chord = true; found = false; from = 0 }
-    else if is_again k then record { chord = false; found = true; from = from }
+    provided x.chord || x.found then x
+    else provided is_chord k then record { chord = true; found = false; from = 0 }
+    else provided is_again k then record { chord = false; found = true; from = from }
     else x

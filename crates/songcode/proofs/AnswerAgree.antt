@@ -8,7 +8,7 @@ use native.Mathlib.Omega.{arith}
 use lib.Dec.{ltb}
 use lib.ListN.{length}
 use borrow.Author.Tests.{ltb-false, le-ltb}
-use Rattle.songcode.specs.Lists.{if◌then◌else◌}
+use Rattle.songcode.specs.Lists.{provided◌then◌else◌}
 use Rattle.songcode.specs.Bytes.{placed}
 use Rattle.songcode.specs.Answer.Characters.{good_bytes}
 use Rattle.songcode.specs.Answer.Lines.{lines, blocks}
@@ -39,7 +39,7 @@ use Rattle.songcode.proofs.VerdictAgree.{verdict_given, given_verdict, Silent, v
 
 -- Stage 1.
 input_exact : (bs : List ℕ) → (input_faults bs ≡ []) ↔ ((length bs ≤ 65536) × Characters bs)
-unfolding input_faults most_bytes if◌then◌else◌
+unfolding input_faults most_bytes provided◌then◌else◌
 input_exact bs = (
   (λ h.
       by_cases (ltb 65536 (length bs))

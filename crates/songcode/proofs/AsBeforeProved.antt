@@ -5,7 +5,7 @@ use mathlib.Core.List.{List, [], ◌∷◌, ◌++◌, append_assoc, reverse, rev
 use mathlib.Core.Bool.{Bool, true, false, ◌&&◌, ◌||◌, not}
 use mathlib.Core.Option.{Option, none, some}
 use lib.ListN.{get_elem?}
-use Rattle.songcode.specs.Lists.{if◌then◌else◌, any, every}
+use Rattle.songcode.specs.Lists.{provided◌then◌else◌, any, every}
 use Rattle.songcode.specs.Bytes.{Byte, placed, values, ascii, same, begins}
 use Rattle.songcode.specs.Answer.Chords.{bases, Base, ends_in_m, is_passed_over, is_taken, longest_from, longest_base, Chord, Reading, chord_by, is_slip}
 use Rattle.songcode.specs.Answer.Chords.{without_slip}
@@ -75,7 +75,7 @@ answered read bs h =
 
 -- Request 4: a chord without slips is the chord that was read.
 slips_alike : (text : List Byte) → NoSlips text → (w : List Byte) → WordOf text w → chord_in w ≡ unchecked w
-unfolding chord_in unchecked without_slip if◌then◌else◌
+unfolding chord_in unchecked without_slip provided◌then◌else◌
 slips_alike text h w o = go (unchecked w) (h w o)
   where
     go : (o : Option Chord) → ((c : Chord) → o ≡ some c → any is_slip c.extension ≡ false) → without_slip o ≡ o

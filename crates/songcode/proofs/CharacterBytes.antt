@@ -7,9 +7,9 @@ use native.Mathlib.Omega.{arith}
 use lib.Dec.{leb}
 use lib.ListN.{length}
 use borrow.Author.Tests.{leb-true}
-use Rattle.songcode.specs.Lists.{if◌then◌else◌, every}
+use Rattle.songcode.specs.Lists.{provided◌then◌else◌, every}
 use Rattle.songcode.specs.Bytes.{placed}
-use Rattle.songcode.specs.Answer.Characters.{Form, form, forms, is_tail, width_by, good_bytes, characters}
+use Rattle.songcode.specs.Answer.Characters.{Form, forms, is_tail, width_by, good_bytes, characters}
 use Rattle.songcode.specs.Description.WrittenText.{Character}
 use Rattle.songcode.proofs.ListLaws.{by_cases, true_is_not_false, every_all, all_member}
 use Rattle.songcode.proofs.FormLaws.{first_is_no_tail}
@@ -54,7 +54,7 @@ leaves (suc k) b bs h e = record { more = k; few = omega arith; whole = omega ar
 
 -- Bytes in front of whole characters, of which some still belong to the character before.
 front_short : (k : ℕ) (w ys : List ℕ) (a : ℕ) → k ≤ 3 → good_bytes k (w ++ ys) ≡ length (w ++ ys) → length w ≤ k + 4 * characters (placed a w)
-unfolding placed characters if◌then◌else◌
+unfolding placed characters provided◌then◌else◌
 front_short k [] ys a h e = omega arith
 front_short k (b ∷ w) ys a h e =
     let l = leaves k b (w ++ ys) h e in

@@ -7,7 +7,7 @@ use mathlib.Core.Bool.{Bool, true, false, not}
 use mathlib.Core.Option.{some}
 use borrow.Author.Tests.{not-true}
 use lib.ListN.{length, get_or}
-use Rattle.songcode.specs.Lists.{if◌then◌else◌, any}
+use Rattle.songcode.specs.Lists.{provided◌then◌else◌, any}
 use Rattle.songcode.specs.Bytes.{same}
 use Rattle.songcode.specs.Answer.Chords.{bases, spelling_of, number_from, number_of}
 use Rattle.songcode.proofs.ListLaws.{by_cases, both_pass, none_passes}
@@ -15,7 +15,7 @@ use Rattle.songcode.proofs.Spellings.{same_true, same_refl, distinct}
 
 -- A number that is found in a list that begins with the number n: its spelling stands there.
 found_there : (n : ℕ) (ss : List (List ℕ)) (s : List ℕ) (k : ℕ) → number_from n ss s ≡ some k → (i : ℕ) × (i < length ss) × (k ≡ n + i) × (get_or ss i [] ≡ s)
-unfolding number_from if◌then◌else◌
+unfolding number_from provided◌then◌else◌
 found_there n [] s k h = let z : ◌≡◌ {A = ℕ} 0 1 = cc in absurd (omega arith)
 found_there n (t ∷ ss) s k h =
     by_cases (same t s)
@@ -41,7 +41,7 @@ none_at p (s ∷ ss) zero e h = (none_passes (p s) (any p ss) e).0
 none_at p (s ∷ ss) (suc i) e h = none_at p ss i (none_passes (p s) (any p ss) e).1 (omega arith)
 
 spelling_found : (n : ℕ) (ss : List (List ℕ)) (i : ℕ) → distinct ss ≡ true → i < length ss → number_from n ss (get_or ss i []) ≡ some (n + i)
-unfolding number_from if◌then◌else◌ distinct
+unfolding number_from provided◌then◌else◌ distinct
 spelling_found n [] i d h = absurd (omega arith)
 spelling_found n (t ∷ ss) zero d h = rw (same_refl t) (ap (λ k. some k) (omega arith))
 spelling_found n (t ∷ ss) (suc i) d h =

@@ -7,7 +7,7 @@ use mathlib.Core.Bool.{true, false}
 use mathlib.Core.Option.{Option, none, some}
 use native.Mathlib.Omega.{arith}
 use Rattle.songcode.specs.Lists.{taken, any}
-use Rattle.songcode.specs.Answer.Lines.{Line, Block, lines, blocks}
+use Rattle.songcode.specs.Answer.Lines.{Line, Block, blocks}
 use Rattle.songcode.specs.Complaints.{Complaint, verdict}
 use Rattle.songcode.specs.Song.{Key, Section, Song, Beat}
 use Rattle.songcode.specs.Answer.Sections.{is_key_line, key_line, pattern_line, kind_of_line, body}

@@ -3,7 +3,6 @@ use Prim.Native.Nat.{ℕ, suc, ◌≤◌}
 use mathlib.Core.Path.{◌≡◌, refl, ap, sym, subst, ◌∙◌}
 use mathlib.Core.List.{List, [], ◌∷◌, map}
 use lib.ListN.{length}
-use Rattle.songcode.specs.Answer.Lines.{lines, blocks}
 use Rattle.songcode.specs.Song.{Section, Song}
 use Rattle.songcode.specs.Answer.Tables.{Tables}
 use Rattle.songcode.specs.Answer.Answer.{most_bytes, Room, answer, accepted}

@@ -8,7 +8,7 @@ use mathlib.Core.Logic.{inl, inr}
 use native.Mathlib.Omega.{arith}
 use lib.Dec.{eqb}
 use lib.ListN.{length, length-append}
-use Rattle.songcode.specs.Lists.{if◌then◌else◌, is_empty, any, when, times}
+use Rattle.songcode.specs.Lists.{provided◌then◌else◌, is_empty, any, when, times}
 use Rattle.songcode.specs.Bytes.{Byte, values}
 use Rattle.songcode.specs.Song.{KeyName, bpm, time, Key, Items, items, named, Cut, LyricLine, Definition, Section, Song, Modifiers, unmodified, Beat}
 use Rattle.songcode.specs.Answer.Keys.{key_place}
@@ -52,7 +52,7 @@ OptAlike (some a) none = ⊥
 OptAlike (some a) (some b) = values a ≡ values b
 
 pub setting_of_lem : (k : KeyName) {js ks : List Key} → Each AlikeKey js ks → OptAlike (setting_named k js) (setting_named k ks)
-unfolding setting_named OptAlike if◌then◌else◌
+unfolding setting_named OptAlike provided◌then◌else◌
 setting_of_lem k none_each = tt
 setting_of_lem k (and_each {x = j} {y = i} a more) =
     by_cases (eqb (key_place i.key) (key_place k)) (λ e. rw (a.key, e) a.setting) (λ e. rw (a.key, e) (setting_of_lem k more))
@@ -86,7 +86,7 @@ module _ (k : KeyName) (meaning : List Byte → ℕ → Type 0) (moves : (a b : 
       }
 
 pub empty_named : (head : ℕ) → pattern_items (empty_definition true head) (named 1) ≡ none
-unfolding pattern_items empty_definition when items_of definition_of bind if◌then◌else◌
+unfolding pattern_items empty_definition when items_of definition_of bind provided◌then◌else◌
 empty_named head = refl
 
 some_beat : (k at : ℕ) (b : Beat) (m : List Beat) (ms : List (List Beat)) → 1 ≤ total (row_heads k at ((b ∷ m) ∷ ms))
@@ -154,7 +154,7 @@ definitions_refer_lem false head = tt
 
 pattern_refers : (k at : ℕ) (row : List (List Beat)) (needed : Bool) (head : ℕ) → Within k row → (is_empty row ≡ true → needed ≡ true)
     → PatternRefers (empty_definition needed head) (pattern_at k at row)
-unfolding PatternRefers pattern_at is_empty Within empty_definition when definition_of if◌then◌else◌
+unfolding PatternRefers pattern_at is_empty Within empty_definition when definition_of provided◌then◌else◌
 pattern_refers k at [] needed head w h = rw (h refl) (record { head = head; id = 1; items = none }, refl)
 pattern_refers k at ([] ∷ ms) needed head w h = absurd (let l = w.0 in omega arith)
 pattern_refers k at ((b ∷ m) ∷ ms) needed head w h = tt

@@ -13,7 +13,6 @@ use Rattle.songcode.specs.Description.WrittenSection.{none_each, and_each}
 use Rattle.songcode.specs.Description.WrittenSection as Written
 use Rattle.songcode.specs.Description.WrittenLyrics.{CountedLine, Marked, StyledText, informs, for_crew, is_plain}
 use Rattle.songcode.specs.Description.Fits.{Counted, none_counted, and_counted}
-use Rattle.songcode.specs.Description.Performance.{joined}
 use Rattle.songcode.specs.Description.WrittenTables.{ItemsFrom}
 use Rattle.songcode.specs.Description.Layout.{without}
 use Rattle.songcode.specs.Description.WrittenFlat.{stretch_at}

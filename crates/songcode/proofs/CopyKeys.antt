@@ -8,7 +8,7 @@ use native.Mathlib.Omega.{arith}
 use lib.Dec.{eqb, leb}
 use lib.ListN.{length, length-append}
 use borrow.Author.Tests.{leb-true}
-use Rattle.songcode.specs.Lists.{if◌then◌else◌, every}
+use Rattle.songcode.specs.Lists.{provided◌then◌else◌, every}
 use Rattle.songcode.specs.Bytes.{Byte, placed, values, ascii}
 use Rattle.songcode.specs.Answer.Characters.{good_bytes, characters}
 use Rattle.songcode.specs.Answer.Chords.{bases}
@@ -108,7 +108,7 @@ SaidStands bs none = Unit {0}
 SaidStands bs (some text) = Stands (placed 0 bs) text × (length text < 512)
 
 pub said_stands : (bs : List ℕ) (k : KeyName) (ks : List Key) → Each (KeyStands bs) ks → SaidStands bs (setting_named k ks)
-unfolding setting_named Each SaidStands if◌then◌else◌
+unfolding setting_named Each SaidStands provided◌then◌else◌
 said_stands bs k [] f = tt
 said_stands bs k (j ∷ ks) f =
     by_cases (eqb (key_place j.key) (key_place k)) (λ e. rw e (f.0.stands, f.0.short)) (λ e. rw e (said_stands bs k ks f.1))

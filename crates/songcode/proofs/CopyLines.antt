@@ -5,7 +5,7 @@ use mathlib.Core.List.{List, [], ◌∷◌, ◌++◌, append_assoc, append-nil, 
 use mathlib.Core.Bool.{false}
 use native.Mathlib.Omega.{arith}
 use lib.ListN.{length}
-use Rattle.songcode.specs.Lists.{if◌then◌else◌, is_empty}
+use Rattle.songcode.specs.Lists.{provided◌then◌else◌, is_empty}
 use Rattle.songcode.specs.Bytes.{Byte, placed}
 use Rattle.songcode.specs.Answer.Lines.{Line, Block, ending, lines, blocks}
 use Rattle.songcode.specs.Answer.Answer.{blocks_of}
@@ -79,7 +79,7 @@ raws at [] = [] ∷ []
 raws at (r ∷ rs) = placed at r ∷ raws (behind at r) rs
 
 cuts_rows : (at : ℕ) (rs : List (List ℕ)) → AllClean rs → Cuts (placed at (flat_map end_line rs)) (raws at rs)
-unfolding flat_map end_line raws placed AllClean Inside behind ending if◌then◌else◌
+unfolding flat_map end_line raws placed AllClean Inside behind ending provided◌then◌else◌
 cuts_rows at [] c = last_line tt
 cuts_rows at (r ∷ rs) c =
     let e : placed at ((r ++ (10 ∷ [])) ++ flat_map end_line rs)

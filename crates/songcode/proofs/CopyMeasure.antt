@@ -6,7 +6,7 @@ use mathlib.Core.Bool.{true}
 use mathlib.Core.Option.{Option, none, some}
 use native.Mathlib.Omega.{arith}
 use lib.ListN.{length, get_or, get_elem?, replicate}
-use Rattle.songcode.specs.Lists.{if◌then◌else◌}
+use Rattle.songcode.specs.Lists.{provided◌then◌else◌}
 use Rattle.songcode.specs.Bytes.{Byte, placed, values, ascii, is_blank, is_byte}
 use Rattle.songcode.specs.Answer.Chords.{Chord, bases}
 use Rattle.songcode.specs.Song.{Sound, chord, silence, Sounds, only, also, Measure, Beat, beat}
@@ -91,7 +91,7 @@ said_tokens at [] = []
 said_tokens at (x ∷ xs) = x.token (suc at) ∷ said_tokens (suc at + length x.word) xs
 
 no_plain : (at : ℕ) (ws : List (List ℕ)) → NoPlain (placed at (parted ws))
-unfolding parted placed NoPlain class if◌then◌else◌ is_blank
+unfolding parted placed NoPlain class provided◌then◌else◌ is_blank
 no_plain at [] = tt
 no_plain at (w ∷ ws) = λ e. let z : ◌≡◌ {A = ℕ} 0 1 = cc in absurd (omega arith)
 
@@ -111,7 +111,7 @@ word_text at x xs k =
     (no_plain (at + length x.word) (map word_of xs)) k
 
 parted_text : (at : ℕ) (xs : List Said) → Text (placed at (parted (map word_of xs))) (said_tokens at xs)
-unfolding parted placed said_tokens class if◌then◌else◌ is_blank word_of
+unfolding parted placed said_tokens class provided◌then◌else◌ is_blank word_of
 parted_text at [] = t_end
 parted_text at (x ∷ xs) = t_blank refl (word_text (suc at) x xs (parted_text (suc at + length x.word) xs))
 
@@ -142,7 +142,7 @@ letters_spelt c s =
     rw (g, w.joined, values_append w.base c.extension) refl
 
 said_sound : (h : Option Chord) → SpeltIf h → Said
-unfolding SpeltIf sound_at letters ascii Plain class if◌then◌else◌ is_blank placed
+unfolding SpeltIf sound_at letters ascii Plain class provided◌then◌else◌ is_blank placed
 said_sound none s =
     record { word = letters none; filled = omega arith; token = λ at. sound silence; plainly = λ at. (refl, tt); spells = λ at. spells_silence refl }
 said_sound (some c) s =
@@ -155,7 +155,7 @@ said_sound (some c) s =
     }
 
 remover_said : Said
-unfolding ascii Plain class if◌then◌else◌ is_blank is_byte placed values
+unfolding ascii Plain class provided◌then◌else◌ is_blank is_byte placed values
 remover_said =
     record { word = ascii "="; filled = omega arith; token = λ at. remover; plainly = λ at. (refl, tt); spells = λ at. spells_remover refl }
 

@@ -10,7 +10,7 @@ use native.Mathlib.Nat.{div-add-mod', mul-le-mul}
 use lib.Dec.{eqb}
 use lib.ListN.{length, length-append}
 use borrow.Author.Tests.{eqb-true}
-use Rattle.songcode.specs.Lists.{if◌then◌else◌, times}
+use Rattle.songcode.specs.Lists.{provided◌then◌else◌, times}
 use Rattle.songcode.specs.Bytes.{Byte, placed, values, is_blank}
 use Rattle.songcode.specs.Answer.Chords.{Chord}
 use Rattle.songcode.specs.Answer.Lines.{Line, Block}
@@ -185,7 +185,7 @@ module _ (file : List Byte) where
   definitions_spelt (and_each {x = b} {y = d} w ws) f = (definition_spelt b d f.0 w, definitions_spelt ws f.1)
 
   found_spelt : (n : ℕ) (ds : List Definition) → Each SpeltDefinition ds → (q : Items) → items_of ds n ≡ some q → OfItems (Known file) q
-  unfolding items_of definition_of bind Each if◌then◌else◌ SpeltDefinition
+  unfolding items_of definition_of bind Each provided◌then◌else◌ SpeltDefinition
   found_spelt n [] f q e = none_some refl e
   found_spelt n (d ∷ ds) f q e = by_cases (eqb d.id n) (λ h. f.0 q (rw h at e)) (λ h. found_spelt n ds f.1 q (rw h at e))
 

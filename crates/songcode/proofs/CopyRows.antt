@@ -7,7 +7,7 @@ use mathlib.Core.Bool.{Bool, true, false}
 use mathlib.Core.Option.{Option, none, some}
 use native.Mathlib.Omega.{arith}
 use lib.ListN.{length, replicate}
-use Rattle.songcode.specs.Lists.{if◌then◌else◌, is_empty, when, any}
+use Rattle.songcode.specs.Lists.{provided◌then◌else◌, is_empty, when, any}
 use Rattle.songcode.specs.Bytes.{Byte, placed, values, ascii, is_blank}
 use Rattle.songcode.specs.Answer.Chords.{Chord}
 use Rattle.songcode.specs.Answer.Characters.{forms, form, within}
@@ -60,7 +60,7 @@ pub record RowFine (r : List ℕ) : Type 0 where
   pub whole : Characters r
 
 in_placed : (at : ℕ) (r : List ℕ) → InV r → Inside (placed at r)
-unfolding InV Inside placed ending if◌then◌else◌
+unfolding InV Inside placed ending provided◌then◌else◌
 in_placed at [] i = tt
 in_placed at (v ∷ r) i = (i.0, in_placed (suc at) r i.1)
 
@@ -84,7 +84,7 @@ row_filled (v ∷ r) f = filled
 
 -- Lines of blocks.
 in_values : (bs : List Byte) → Inside bs → InV (values bs)
-unfolding InV Inside values ending if◌then◌else◌
+unfolding InV Inside values ending provided◌then◌else◌
 in_values [] i = tt
 in_values (b ∷ bs) i = (i.0, in_values bs i.1)
 
@@ -154,7 +154,7 @@ record Behind (ws : List (List ℕ)) : Type 0 where
   whole : Characters (parted ws)
 
 behind_words : (ws : List (List ℕ)) → Each WordFine ws → Behind ws
-unfolding Each parted InV ending if◌then◌else◌ within
+unfolding Each parted InV ending provided◌then◌else◌ within
 behind_words [] f = record { ins = tt; whole = no_character }
 behind_words (w ∷ ws) f =
     let b = behind_words ws f.1 in
@@ -190,7 +190,7 @@ spaced_row w ws f fs =
 
 -- The words of a beat and of a missing one.
 plain_solid : (b : Byte) → class b ≡ plain → is_blank b ≡ false
-unfolding class if◌then◌else◌
+unfolding class provided◌then◌else◌
 plain_solid b e = by_cases (is_blank b) (λ h. let f : blank ≡ plain = rw h at e in
     let z : ◌≡◌ {A = ℕ} 0 1 = cc in absurd (omega arith)) (λ h. h)
 
@@ -200,7 +200,7 @@ solids_plain [] p = tt
 solids_plain (b ∷ bs) p = (plain_solid b p.0, solids_plain bs p.1)
 
 sound_word : (h : Option Chord) → SpeltIf h → WordFine (letters h)
-unfolding SpeltIf letters ascii InV Solids blank_v is_blank ending if◌then◌else◌ within
+unfolding SpeltIf letters ascii InV Solids blank_v is_blank ending provided◌then◌else◌ within
 sound_word none s = record { ins = (refl, tt); solids = (refl, tt); some_byte = omega arith; whole = lone 95 refl }
 sound_word (some c) s =
     let e = letters_spelt c s in
@@ -208,7 +208,7 @@ sound_word (some c) s =
     (record { ins = in_values s.word s.within; solids = solids_plain s.word s.plainly; some_byte = rw length_values s.filled; whole = s.whole })
 
 remover_word : WordFine (ascii "=")
-unfolding ascii InV Solids blank_v is_blank ending if◌then◌else◌ within
+unfolding ascii InV Solids blank_v is_blank ending provided◌then◌else◌ within
 remover_word = record { ins = (refl, tt); solids = (refl, tt); some_byte = omega arith; whole = lone 61 refl }
 
 removers_fine : (k : ℕ) → Each WordFine (replicate k (ascii "="))
@@ -228,7 +228,7 @@ measure_row k b m s =
     (each_append WordFine (map letters_of m) (replicate (k - length (b ∷ m)) (ascii "=")) (beats_fine m s.1) (removers_fine (k - length (b ∷ m))))
 
 dollar_row : RowFine (ascii "$1")
-unfolding ascii InV StartV EndV blank_v is_blank ending if◌then◌else◌ within
+unfolding ascii InV StartV EndV blank_v is_blank ending provided◌then◌else◌ within
 dollar_row = record { ins = (refl, (refl, tt)); start = refl; stop = refl; whole = characters_append (lone 36 refl) (lone 49 refl) }
 
 measures_rows : (k : ℕ) (ms : List (List Beat)) → Within k ms → SpeltRow ms → Each RowFine (map (flat_measure k) ms)

@@ -8,7 +8,7 @@ use native.Mathlib.Omega.{arith}
 use lib.Dec.{eqb}
 use borrow.Author.Tests.{not-true, eq-eqb}
 use lib.ListN.{length, get_elem?, replicate}
-use Rattle.songcode.specs.Lists.{if◌then◌else◌, every}
+use Rattle.songcode.specs.Lists.{provided◌then◌else◌, every}
 use Rattle.songcode.specs.Bytes.{placed, values, ascii, is_byte, is_letter, is_blank}
 use Rattle.songcode.specs.Answer.Chords.{Chord, bases}
 use Rattle.songcode.specs.Answer.Numbers.{is_digit, digits, is_decimal, value_from}
@@ -81,7 +81,7 @@ lyrics_alike (m ∷ k ∷ ms) ls ys e (with_lyrics {dashes} {l} {ls = more} d) =
 
 -- `$1` as a whole pattern.
 empty_text : (at : ℕ) → Text (placed at (ascii "$1")) (reference 1 ∷ [])
-unfolding ascii placed class if◌then◌else◌ is_blank is_byte Plain NoPlain is_decimal is_digit digits value_from
+unfolding ascii placed class provided◌then◌else◌ is_blank is_byte Plain NoPlain is_decimal is_digit digits value_from
 empty_text at =
     let n : Number 1 9999 (record { place = suc at; value = 49 } ∷ []) 1 =
     record { decimal = refl; says = refl; at_least = omega arith; at_most = omega arith } in

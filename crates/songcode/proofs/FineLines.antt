@@ -7,7 +7,7 @@ use mathlib.Core.Bool.{true, false}
 use native.Mathlib.Omega.{arith}
 use lib.Dec.{eqb}
 use borrow.Author.Tests.{eqb-true}
-use Rattle.songcode.specs.Lists.{if◌then◌else◌}
+use Rattle.songcode.specs.Lists.{provided◌then◌else◌}
 use Rattle.songcode.specs.Bytes.{Byte, values, is_blank}
 use Rattle.songcode.specs.Answer.Lines.{lf, cr, inside, ending, Line, Block}
 use Rattle.songcode.specs.Description.WrittenText.{All, Solid, Inside, Characters, Cuts, last_line, ends_lf, ends_cr, ends_crlf, Trims}
@@ -19,7 +19,7 @@ use Rattle.songcode.proofs.Stretches.{Stands, stands_itself, stands_parts, stand
 use Rattle.songcode.proofs.CharacterPieces.{characters_at, characters_behind}
 
 ending_ascii : (b : Byte) → (ending b ≡ inside → ⊥) → b.value < 128
-unfolding ending if◌then◌else◌
+unfolding ending provided◌then◌else◌
 ending_ascii b h =
     by_cases (eqb b.value 10)
     (λ e. let v = eqb-true b.value 10 e in omega arith)

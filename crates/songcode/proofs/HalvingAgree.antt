@@ -8,7 +8,7 @@ use native.Mathlib.Omega.{arith}
 use lib.Dec.{leb, ltb}
 use lib.ListN.{get_or}
 use borrow.Author.Tests.{leb-true, leb-false, ltb-true, ltb-false, le-leb, lt-leb, lt-ltb, le-ltb}
-use Rattle.songcode.specs.Lists.{if◌then◌else◌}
+use Rattle.songcode.specs.Lists.{provided◌then◌else◌}
 use Rattle.songcode.specs.Description.Joined.{first_beat, end_beat}
 use Rattle.songcode.specs.Answer.Finding.{Jump, nowhere, probed, is_before, is_past, half, halving}
 use Rattle.songcode.specs.Jumps.{Holds, Halves, empty, held, before, past}
@@ -26,9 +26,9 @@ module _ (beat : ℕ) (table : List ℕ) where
 
   -- A record is read: what the rest of the search gives, before it or past it, is given with one probe more.
   step : (start end : ℕ) (low high : Jump) → start < end → Right start (half start end) low → Right (suc (half start end)) end high
-      → Right start end (probed (if is_before beat (get_or table (half start end) 0) then low
-      else (if is_past beat (get_or table (half start end) 0) then high else record { place = some (half start end); probes = 0 })))
-  unfolding probed is_before is_past if◌then◌else◌ Holds
+      → Right start end (probed (provided is_before beat (get_or table (half start end) 0) then low
+      else (provided is_past beat (get_or table (half start end) 0) then high else record { place = some (half start end); probes = 0 })))
+  unfolding probed is_before is_past provided◌then◌else◌ Holds
   step start end low high m l h =
       by_cases (ltb beat (first_beat (get_or table (half start end) 0)))
       (λ e. rw e (before m refl (ltb-true beat (first_beat (get_or table (half start end) 0)) e) l))
@@ -37,7 +37,7 @@ module _ (beat : ℕ) (table : List ℕ) where
       (λ f. rw (e, f) (held m refl (ltb-false beat (first_beat (get_or table (half start end) 0)) e, leb-false (end_beat (get_or table (half start end) 0)) beat f))))
 
   pub halving_sound : (turns start end : ℕ) → end ≤ start + turns → Right start end (halving turns beat table start end)
-  unfolding halving nowhere if◌then◌else◌
+  unfolding halving nowhere provided◌then◌else◌
   halving_sound zero start end l = empty {start = start} {end = end} (omega arith)
   halving_sound (suc turns) start end l =
       by_cases (leb end start)
@@ -52,7 +52,7 @@ module _ (beat : ℕ) (table : List ℕ) where
 
   pub halving_complete : {start end probes : ℕ} {found : Option ℕ} → Halves beat table start end found probes → (turns : ℕ) → end ≤ start + turns
       → halving turns beat table start end ≡ record { place = found; probes = probes }
-  unfolding halving nowhere probed is_before is_past if◌then◌else◌ Holds
+  unfolding halving nowhere probed is_before is_past provided◌then◌else◌ Holds
   halving_complete (empty l) zero t = refl
   halving_complete {start} {end} (empty l) (suc turns) t = rw (le-leb end start l)
   halving_complete (held l e h) zero t = absurd (omega arith)

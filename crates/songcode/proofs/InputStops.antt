@@ -7,7 +7,7 @@ use lib.Dec.{ltb}
 use lib.ListN.{length, take}
 use lib.Seq.{take-append_seam}
 use borrow.Author.Tests.{ltb-true, ltb-false, lt-ltb, le-ltb}
-use Rattle.songcode.specs.Lists.{if◌then◌else◌}
+use Rattle.songcode.specs.Lists.{provided◌then◌else◌}
 use Rattle.songcode.specs.Bytes.{placed}
 use Rattle.songcode.specs.Answer.Characters.{good_bytes}
 use Rattle.songcode.specs.Answer.Lines.{cut_lines}
@@ -29,7 +29,7 @@ unfolding line_of_place pieces
 line_counted bs place w = rw (front_taken bs place w)
 
 input_stated : (bs : List ℕ) {c : Complaint} → Memᴰ c (input_faults bs) → Stops1 bs c
-unfolding input_faults most_bytes if◌then◌else◌
+unfolding input_faults most_bytes provided◌then◌else◌
 input_stated bs {c} m =
     by_cases (ltb 65536 (length bs))
     (λ t. let e : c ≡ complaint 1 0 = only_one (rw t at m) in subst (λ x. Stops1 bs x) (sym e) (over_long (ltb-true 65536 (length bs) t)))
@@ -42,7 +42,7 @@ input_stated bs {c} m =
     (cuts_sound (placed 0 w.front))))
 
 stated_input : (bs : List ℕ) {c : Complaint} → Stops1 bs c → Memᴰ c (input_faults bs)
-unfolding input_faults most_bytes if◌then◌else◌
+unfolding input_faults most_bytes provided◌then◌else◌
 stated_input bs (over_long h) = rw (lt-ltb 65536 (length bs) h) (mathlib.Core.List.Memᴰ.head refl)
 stated_input bs (bad_bytes place w lines h k cuts) =
     let at : good_bytes 0 bs ≡ place = (first_bad bs place).1 w in

@@ -11,7 +11,7 @@ use lib.Pow.{pow_pos}
 use lib.Dec.{leb, ltb}
 use lib.ListN.{length, get_or, replicate, length-replicate}
 use borrow.Author.Tests.{lt-ltb, le-ltb, leb-true, leb-false, ltb-true, ltb-false}
-use Rattle.songcode.specs.Lists.{if◌then◌else◌}
+use Rattle.songcode.specs.Lists.{provided◌then◌else◌}
 use Rattle.songcode.specs.Description.Joined.{first_beat, beat_count, end_beat, follows}
 use Rattle.songcode.specs.Answer.Finding.{Jump, half, nowhere, halving, most_records, jump_to}
 use Rattle.songcode.specs.Jumps.{Holds, Halves, empty, held, before, past, FirstHolding, trials, Jumps}
@@ -62,11 +62,11 @@ module _ (first beat : ℕ) (table : List ℕ) (f : follows first table ≡ true
 
 module _ (beat : ℕ) (table : List ℕ) where
   jump_short : length table ≤ 65535 → jump_to beat table ≡ halving (length table) beat table 0 (length table)
-  unfolding jump_to most_records if◌then◌else◌
+  unfolding jump_to most_records provided◌then◌else◌
   jump_short l = rw (le-ltb 65535 (length table) l)
 
   too_long : 65535 < length table → jump_to beat table ≡ record { place = none; probes = 0 }
-  unfolding jump_to most_records nowhere if◌then◌else◌
+  unfolding jump_to most_records nowhere provided◌then◌else◌
   too_long l = rw (lt-ltb 65535 (length table) l)
 
   jump_sound : length table ≤ 65535 → Halves beat table 0 (length table) (jump_to beat table).place (jump_to beat table).probes

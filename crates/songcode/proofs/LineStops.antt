@@ -8,7 +8,7 @@ use mathlib.Core.List.{List, [], ◌∷◌, ◌++◌, Memᴰ}
 use mathlib.Core.Bool.{Bool, true, false, ◌&&◌, not}
 use mathlib.Core.Option.{Option, none, some, bind}
 use borrow.Author.Tests.{eqb-true, not-true}
-use Rattle.songcode.specs.Lists.{if◌then◌else◌, taken, left, is_some}
+use Rattle.songcode.specs.Lists.{provided◌then◌else◌, taken, left, is_some}
 use Rattle.songcode.specs.Bytes.{Byte, is_byte, is_blank, not_blank, is_letter}
 use Rattle.songcode.specs.Answer.Lines.{Line}
 use Rattle.songcode.specs.Answer.Numbers.{repeat_in}
@@ -37,13 +37,13 @@ use Rattle.songcode.proofs.ModifierAgree.{spelling, modifier_spelled, spelled_mo
 
 -- Kinds of lines.
 under_letter : (bs : List Byte) → UnderLetter bs → kind_of bs ≡ modifier_line
-unfolding kind_of UnderLetter is_byte if◌then◌else◌
+unfolding kind_of UnderLetter is_byte provided◌then◌else◌
 under_letter [] w = absurd w
 under_letter (b ∷ []) w = absurd w
 under_letter (b ∷ c ∷ bs) w = rw (w.0, w.1)
 
 letter_under : (bs : List Byte) → kind_of bs ≡ modifier_line → UnderLetter bs
-unfolding kind_of UnderLetter is_byte if◌then◌else◌
+unfolding kind_of UnderLetter is_byte provided◌then◌else◌
 letter_under [] e = zero_is_not_one (cc)
 letter_under (b ∷ []) e = true_is_not_false (second_chosen kinds_differ (is_byte (code "@") b) false e) refl
 letter_under (b ∷ c ∷ bs) e =

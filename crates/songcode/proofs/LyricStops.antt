@@ -7,7 +7,7 @@ use mathlib.Core.Bool.{true, ◌&&◌, not}
 use lib.Dec.{eqb}
 use lib.ListN.{length}
 use borrow.Author.Tests.{eqb-true, eq-eqb, not-true, not-false}
-use Rattle.songcode.specs.Lists.{if◌then◌else◌, is_empty, is_some}
+use Rattle.songcode.specs.Lists.{provided◌then◌else◌, is_empty, is_some}
 use Rattle.songcode.specs.Complaints.{Complaint, complain_if}
 use Rattle.songcode.specs.Song.{LyricLine, Section, Song}
 use Rattle.songcode.specs.Answer.References.{pattern_items}
@@ -31,10 +31,10 @@ count_exact l = (
 
 module _ (s : Song) where
   abbrev taken_of : Section → List LyricLine
-  taken_of x = if is_played s x then x.lyrics else []
+  taken_of x = provided is_played s x then x.lyrics else []
 
   taken_here : (x : Section) (l : LyricLine) → Memᴰ x s.sections → Memᴰ l (taken_of x) → Taken s l
-  unfolding if◌then◌else◌ is_played
+  unfolding provided◌then◌else◌ is_played
   taken_here x l i m =
       by_cases (is_played s x)
       (λ t. let r = is_some_some (pattern_items s.definitions x.pattern) t in record
@@ -43,13 +43,13 @@ module _ (s : Song) where
 
   line_taken : (l : LyricLine) → Memᴰ l (lines_taken s) → Taken s l
   unfolding lines_taken
-  line_taken l m = let g = in_gather (λ x. if is_played s x then x.lyrics else []) s.sections m in taken_here g.0 l g.1 g.2
+  line_taken l m = let g = in_gather (λ x. provided is_played s x then x.lyrics else []) s.sections m in taken_here g.0 l g.1 g.2
 
   taken_line : (l : LyricLine) → Taken s l → Memᴰ l (lines_taken s)
-  unfolding lines_taken is_played if◌then◌else◌
+  unfolding lines_taken is_played provided◌then◌else◌
   taken_line l w =
       let t : is_played s w.section ≡ true = some_is_some w.filled in
-      gather_in (λ x. if is_played s x then x.lyrics else []) w.listed (rw t w.sung)
+      gather_in (λ x. provided is_played s x then x.lyrics else []) w.listed (rw t w.sung)
 
   counts_found : has_counts s ≡ true → (l : LyricLine) × Taken s l × HasCount l
   unfolding has_counts
@@ -61,7 +61,7 @@ module _ (s : Song) where
 
   -- Stage 6.
   count_stated : {c : Complaint} → Memᴰ c (count_faults s) → Stops6 s c
-  unfolding count_faults if◌then◌else◌
+  unfolding count_faults provided◌then◌else◌
   count_stated {c} m =
       by_cases (has_counts s)
       (λ t.
@@ -73,7 +73,7 @@ module _ (s : Song) where
       (λ f. absurd (Memᴰ.not-nil {a = c} (rw f at m)))
 
   stated_count : {c : Complaint} → Stops6 s c → Memᴰ c (count_faults s)
-  unfolding count_faults if◌then◌else◌
+  unfolding count_faults provided◌then◌else◌
   stated_count (uncounted l o w n v k) =
       let bare_line_lem : not (is_counted l) ≡ true = by_cases (is_counted l) (λ t. absurd (n ((count_exact l).0 t))) (λ f. rw f) in
       rw (found_counts o v k) (gather_in (λ z. complain_if (not (is_counted z)) 16 z.number) (taken_line l w) (complaint_in 16 l.number bare_line_lem))
@@ -89,7 +89,7 @@ gather_none f (x ∷ xs) h = rw (h x (Memᴰ.head refl), gather_none f xs (λ y 
 
 module _ (s : Song) (quiet : count_faults s ≡ []) (plays : (x : Section) → Memᴰ x s.sections → PlaysSection s x (parts_of_lem s x)) where
   bare_none : has_counts s ≡ true → (l : LyricLine) → Taken s l → bare l ≡ []
-  unfolding count_faults if◌then◌else◌ bare
+  unfolding count_faults provided◌then◌else◌ bare
   bare_none t l w = gather_silent (λ z. complain_if (not (is_counted z)) 16 z.number) (rw t at quiet) (taken_line s l w)
 
   first_line_lem : (ls : List LyricLine) → not (is_empty ls) ≡ true → (l : LyricLine) × Memᴰ l ls
@@ -120,14 +120,14 @@ module _ (s : Song) (quiet : count_faults s ≡ []) (plays : (x : Section) → M
       (λ e. true_is_not_false (eq-eqb (counted x.lyrics) (length (played s x)) (e ∙ ap length (joined_played s x))) (not-true _ a.1)))
 
   sum_stated : {c : Complaint} → Memᴰ c (sum_faults s) → Stops7 s c
-  unfolding sum_faults if◌then◌else◌
+  unfolding sum_faults provided◌then◌else◌
   sum_stated {c} m =
       by_cases (has_counts s)
       (λ t. let g = in_gather (sum_fault s) s.sections {c = c} (rw t at m) in section_stated g.0 g.1 t g.2)
       (λ f. absurd (Memᴰ.not-nil {a = c} (rw f at m)))
 
   stated_sum : {c : Complaint} → Stops7 s c → Memᴰ c (sum_faults s)
-  unfolding sum_faults sum_fault is_played if◌then◌else◌
+  unfolding sum_faults sum_fault is_played provided◌then◌else◌
   stated_sum (sums_not l w total p has sums pl differ) =
       let x = w.section in
       let t = found_counts s l w has in

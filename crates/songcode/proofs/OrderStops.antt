@@ -8,7 +8,7 @@ use mathlib.Core.Bool.{true, false, not}
 use mathlib.Core.Option.{Option, none, some}
 use lib.Dec.{eqb}
 use borrow.Author.Tests.{eqb-true, eq-eqb}
-use Rattle.songcode.specs.Lists.{if◌then◌else◌, left, is_empty, any, prepend}
+use Rattle.songcode.specs.Lists.{provided◌then◌else◌, left, is_empty, any, prepend}
 use Rattle.songcode.specs.Answer.Lines.{Line}
 use Rattle.songcode.specs.Complaints.{Complaint, complaint}
 use Rattle.songcode.specs.Answer.Sections.{Kind, key_line, modifier_line, pattern_line, kind_of_line, is_pattern_line, not_key_line, twice_by}
@@ -39,13 +39,13 @@ other_test l = (
 
 -- The first run has ended: some line behind it is no pattern line.
 ends_run : (ls : List Line) → is_empty (left is_pattern_line ls) ≡ false → (q : Line) × Memᴰ q ls × (is_pattern_line q ≡ false)
-unfolding left if◌then◌else◌ is_empty
+unfolding left provided◌then◌else◌ is_empty
 ends_run [] e = true_is_not_false refl e
 ends_run (l ∷ ls) e =
     by_cases (is_pattern_line l) (λ t. let r = ends_run ls (rw t at e) in (r.0, Memᴰ.tail r.1, r.2)) (λ f. (l, Memᴰ.head refl, f))
 
 run_ends : {q : Line} {ls : List Line} → Memᴰ q ls → is_pattern_line q ≡ false → is_empty (left is_pattern_line ls) ≡ false
-unfolding left if◌then◌else◌ is_empty
+unfolding left provided◌then◌else◌ is_empty
 run_ends {ls = []} m f = elim m [ ]
 run_ends {ls = l ∷ ls} (Memᴰ.head e) f = rw (sym (ap is_pattern_line e) ∙ f)
 run_ends {ls = l ∷ ls} (Memᴰ.tail m) f = by_cases (is_pattern_line l) (λ t. rw t (run_ends m f)) (λ g. rw g)

@@ -8,7 +8,7 @@ use mathlib.Core.Option.{Option, none, some, get_or, bind}
 use native.Mathlib.Omega.{arith}
 use lib.Dec.{eqb, leb}
 use borrow.Author.Tests.{eqb-true, eq-eqb, not-true, leb-true, leb-false, lt-leb}
-use Rattle.songcode.specs.Lists.{if◌then◌else◌}
+use Rattle.songcode.specs.Lists.{provided◌then◌else◌}
 use Rattle.songcode.specs.Complaints.{Complaint, complaint}
 use Rattle.songcode.specs.Song.{Separator, Item, measure, loop, refer, Items, one, next, Pattern, items, named, Definition, Section, Song}
 use Rattle.songcode.specs.Answer.PatternText.{depth_i, depth, loops_deep, references_i, references, no_reference}
@@ -26,7 +26,7 @@ use Rattle.songcode.proofs.MemberLaws.{either, only_one, in_gather, gather_in, i
 
 -- Definitions looked up by their number.
 no_definition : (n : ℕ) (ds : List Definition) → definition_of n ds ≡ none → (e : Definition) → Memᴰ e ds → e.id ≡ n → ⊥
-unfolding definition_of if◌then◌else◌
+unfolding definition_of provided◌then◌else◌
 no_definition n [] h e m i = mathlib.Core.List.Memᴰ.not-nil m
 no_definition n (d ∷ ds) h e m i =
     by_cases (eqb d.id n)
@@ -35,7 +35,7 @@ no_definition n (d ∷ ds) h e m i =
     (mathlib.Core.List.Memᴰ.cases_cons m))
 
 pub a_definition : (n : ℕ) (ds : List Definition) (d : Definition) → definition_of n ds ≡ some d → Memᴰ d ds × (d.id ≡ n)
-unfolding definition_of if◌then◌else◌
+unfolding definition_of provided◌then◌else◌
 a_definition n [] d h = none_some refl h
 a_definition n (x ∷ ds) d h =
     by_cases (eqb x.id n)

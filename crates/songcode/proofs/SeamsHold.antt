@@ -9,7 +9,7 @@ use native.Mathlib.Omega.{arith}
 use lib.Dec.{ltb}
 use lib.ListN.{length, length-append}
 use borrow.Author.Tests.{ltb-true, ltb-false}
-use Rattle.songcode.specs.Lists.{if◌then◌else◌}
+use Rattle.songcode.specs.Lists.{provided◌then◌else◌}
 use Rattle.songcode.specs.Bytes.{Byte, placed}
 use Rattle.songcode.specs.Answer.Chords.{Chord}
 use Rattle.songcode.specs.Song.{Separator, Item, measure, loop, refer, Items, one, next}
@@ -26,7 +26,7 @@ placed_next at (y ∷ xs) x =
     (placed_next (suc at) xs x ∙ ap (λ p. placed (suc at) xs ++ (record { place = p; value = x } ∷ [])) (omega arith))
 
 digits_written : (turns n at : ℕ) → n ≤ turns + 9 → Decimal (placed at (digits_in turns n)) n
-unfolding digits_in if◌then◌else◌ placed
+unfolding digits_in provided◌then◌else◌ placed
 digits_written zero n at h = digit (record { place = at; value = 48 + n }) n (omega arith) refl
 digits_written (suc turns) n at h =
     by_cases
@@ -47,7 +47,7 @@ last_length mark (b ∷ []) = refl
 last_length mark (b ∷ c ∷ row) = ap suc (last_length mark (c ∷ row))
 
 marked_length : (s : Separator) (row : List Bool) → length (marked_by s row) ≡ length row
-unfolding marked_by if◌then◌else◌
+unfolding marked_by provided◌then◌else◌
 marked_length s row = by_cases (breaks s) (λ t. rw t (last_length true row)) (λ f. rw f refl)
 
 mutual

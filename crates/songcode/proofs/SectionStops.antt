@@ -9,7 +9,7 @@ use mathlib.Core.Bool.{Bool, true, false, ◌&&◌, not}
 use mathlib.Core.Option.{some, bind}
 use lib.Dec.{leb}
 use lib.ListN.{get_elem?}
-use Rattle.songcode.specs.Lists.{if◌then◌else◌, taken, left, is_empty, is_some}
+use Rattle.songcode.specs.Lists.{provided◌then◌else◌, taken, left, is_empty, is_some}
 use Rattle.songcode.specs.Bytes.{Byte, is_byte}
 use Rattle.songcode.specs.Answer.Characters.{characters}
 use Rattle.songcode.specs.Answer.Lines.{Line, Block}
@@ -140,7 +140,7 @@ none_left [] h = refl
 none_left (l ∷ ls) h = rw ((none_exact l).1 h.0, left) (none_left ls h.1)
 
 left_none : (ls : List Line) → pattern_run ls ≡ [] → NoPattern ls
-unfolding pattern_run left taken NoPattern not_pattern_line if◌then◌else◌
+unfolding pattern_run left taken NoPattern not_pattern_line provided◌then◌else◌
 left_none [] e = tt
 left_none (l ∷ ls) e =
     by_cases (is_pattern_line l)

@@ -11,7 +11,7 @@ use Rattle.songcode.specs.Answer.Lines.{Block}
 use Rattle.songcode.specs.Complaints.{Complaint, complain_if}
 use Rattle.songcode.specs.Song.{Key, Definition, Section, Song}
 use Rattle.songcode.specs.Answer.Sections.{section_faults, section_in}
-use Rattle.songcode.specs.Answer.SongText.{metadata, section, block_kind, block_order, metadata_lines, metadata_faults, definition_blocks, section_blocks}
+use Rattle.songcode.specs.Answer.SongText.{section, block_kind, block_order, metadata_lines, metadata_faults, definition_blocks, section_blocks}
 use Rattle.songcode.specs.Answer.SongText.{definitions_faults, definition_in, or_no_section, text_faults, song_in}
 use Rattle.songcode.specs.Description.WrittenSection.{Each, KeyLine}
 use Rattle.songcode.specs.Description.WrittenSong.{lines_of, SectionBlock, WrittenSong}

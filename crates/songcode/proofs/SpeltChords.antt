@@ -9,7 +9,7 @@ use native.Mathlib.Omega.{arith}
 use lib.ListN.{length}
 use lib.Dec.{eqb}
 use borrow.Author.Tests.{eqb-true}
-use Rattle.songcode.specs.Lists.{if◌then◌else◌}
+use Rattle.songcode.specs.Lists.{provided◌then◌else◌}
 use Rattle.songcode.specs.Bytes.{Byte, values, is_blank, is_byte}
 use Rattle.songcode.specs.Answer.Chords.{Chord}
 use Rattle.songcode.specs.Answer.Lines.{Line}
@@ -30,7 +30,7 @@ use Rattle.songcode.proofs.ChordsPlayed.{OfIf, OfAll, OfRow, OfSound, OfToken, O
 
 -- What is no plain byte is ASCII.
 class_ascii : (b : Byte) → (class b ≡ plain → ⊥) → b.value < 128
-unfolding class if◌then◌else◌ is_byte
+unfolding class provided◌then◌else◌ is_byte
 class_ascii b h =
     by_cases (is_blank b) (λ e. blank_ascii b e)
     (λ e. by_cases (eqb b.value (code ";")) (λ f. let v = eqb-true b.value (code ";") f in omega arith)

@@ -2,7 +2,7 @@
 use mathlib.Core.Path.{◌≡◌, refl, ap, sym, ◌∙◌}
 use mathlib.Core.List.{List, [], ◌∷◌, ◌++◌}
 use mathlib.Core.Bool.{Bool, true, false, ◌||◌, ◌&&◌, not}
-use Rattle.songcode.specs.Lists.{if◌then◌else◌, left, is_empty, any}
+use Rattle.songcode.specs.Lists.{provided◌then◌else◌, left, is_empty, any}
 use Rattle.songcode.specs.Answer.Lines.{Line}
 use Rattle.songcode.specs.Answer.Sections.{key_line, modifier_line, pattern_line, kind_of_line, is_pattern_line, not_pattern_line, is_key_line, not_key_line}
 use Rattle.songcode.specs.Answer.Sections.{past_run, misplaced, order}
@@ -40,17 +40,17 @@ unfolding any
 any_next p before l = any_append p before (l ∷ []) ∙ ap (λ b. any p before || b) (by_cases (p l) (λ t. rw t refl) (λ f. rw f refl))
 
 left_next : (p : Line → Bool) (xs : List Line) (l : Line) → not (is_empty (left p (xs ++ (l ∷ [])))) ≡ not (is_empty (left p xs)) || not (p l)
-unfolding left if◌then◌else◌ is_empty
+unfolding left provided◌then◌else◌ is_empty
 left_next p [] l = by_cases (p l) (λ t. rw t refl) (λ f. rw f refl)
 left_next p (x ∷ xs) l = by_cases (p x) (λ t. rw t (left_next p xs l)) (λ f. rw f refl)
 
 -- What is past the run, from its first line on.
 pub past_from : (l : Line) (ls : List Line) → is_pattern_line l ≡ true → past_run (l ∷ ls) ≡ left is_pattern_line ls
-unfolding past_run left not_pattern_line if◌then◌else◌
+unfolding past_run left not_pattern_line provided◌then◌else◌
 past_from l ls t = rw t (rw t refl)
 
 pub past_before : (l : Line) (ls : List Line) → is_pattern_line l ≡ false → past_run (l ∷ ls) ≡ past_run ls
-unfolding past_run left not_pattern_line if◌then◌else◌
+unfolding past_run left not_pattern_line provided◌then◌else◌
 past_before l ls f = rw f refl
 
 past_next : (before : List Line) (l : Line)

@@ -5,7 +5,7 @@ use mathlib.Core.Path.{◌≡◌, refl, ap, sym, ◌∙◌}
 use mathlib.Core.List.{List, [], ◌∷◌, ◌++◌, append_assoc, Memᴰ}
 use mathlib.Core.Bool.{true, false, not}
 use borrow.Author.Tests.{eqb-true, eq-eqb, not-true}
-use Rattle.songcode.specs.Lists.{if◌then◌else◌, is_empty, any}
+use Rattle.songcode.specs.Lists.{provided◌then◌else◌, is_empty, any}
 use Rattle.songcode.specs.Bytes.{Byte, values, ascii, begins, is_byte}
 use Rattle.songcode.specs.Answer.Chords.{ends_in_m, is_passed_over, is_taken, is_slip}
 use Rattle.songcode.specs.Description.WrittenPattern.{PassedOver}
@@ -14,13 +14,13 @@ use Rattle.songcode.proofs.Spellings.{begins_true, begins_append}
 
 -- A spelling that ends in `m`.
 ends_in_m_lem : (s : List ℕ) → ends_in_m s ≡ true → (front : List ℕ) × (s ≡ front ++ ascii "m")
-unfolding ends_in_m if◌then◌else◌ is_empty ascii
+unfolding ends_in_m provided◌then◌else◌ is_empty ascii
 ends_in_m_lem [] h = true_is_not_false h refl
 ends_in_m_lem (b ∷ []) h = ([], ap (λ x. x ∷ []) (eqb-true b (code "m") h))
 ends_in_m_lem (b ∷ c ∷ bs) h = let r = ends_in_m_lem (c ∷ bs) h in (b ∷ r.0, ap (λ xs. b ∷ xs) r.1)
 
 m_ends : (front : List ℕ) → ends_in_m (front ++ ascii "m") ≡ true
-unfolding ends_in_m if◌then◌else◌ is_empty ascii
+unfolding ends_in_m provided◌then◌else◌ is_empty ascii
 m_ends [] = refl
 m_ends (b ∷ []) = refl
 m_ends (b ∷ c ∷ bs) = m_ends (c ∷ bs)

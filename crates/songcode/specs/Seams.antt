@@ -4,7 +4,7 @@ use Rattle.std.specs.Prelude.{ℕ, zero, suc, ◌+◌, ◌/◌, ◌%◌, ◌≡�
 use Prim.Native.Char.{code}
 use Prim.Native.String.{String}
 use Rattle.std.proofs.Math.Option.{Option, some, bind}
-use Rattle.songcode.specs.Lists.{if◌then◌else◌, times}
+use Rattle.songcode.specs.Lists.{provided◌then◌else◌, times}
 use Rattle.songcode.specs.Bytes.{placed, ascii}
 use Rattle.songcode.specs.Answer.Chords.{Chord}
 use Rattle.songcode.specs.Song.{Separator, by_semicolon, by_line_end, by_colon, Item, measure, loop, refer, Items, one, next}
@@ -15,9 +15,9 @@ use Rattle.songcode.specs.Apart.{Decimal}
 
 -- The digits of a number: "decimals without leading zero". The first number only counts down; the number itself is enough.
 unfoldable pub digits_in : ℕ → ℕ → List ℕ
-unfolding if◌then◌else◌
+unfolding provided◌then◌else◌
 digits_in zero n = (code "0" + n) ∷ []
-digits_in (suc turns) n = if ltb n 10 then (code "0" + n) ∷ [] else digits_in turns (n / 10) ++ ((code "0" + n % 10) ∷ [])
+digits_in (suc turns) n = provided ltb n 10 then (code "0" + n) ∷ [] else digits_in turns (n / 10) ++ ((code "0" + n % 10) ∷ [])
 
 unfoldable pub number_written : ℕ → List ℕ
 unfolding digits_in
@@ -36,8 +36,8 @@ with_last mark (b ∷ []) = mark ∷ []
 with_last mark (b ∷ c ∷ row) = b ∷ with_last mark (c ∷ row)
 
 unfoldable pub marked_by : Separator → List Bool → List Bool
-unfolding if◌then◌else◌ breaks with_last
-marked_by s row = if breaks s then with_last true row else row
+unfolding provided◌then◌else◌ breaks with_last
+marked_by s row = provided breaks s then with_last true row else row
 
 -- A mark for each measure of a text, loops written out and references put in: "For a loop before the `:` it is the last measure of its last pass, and for a
 -- `:` inside a loop it is set on every pass."

@@ -5,7 +5,7 @@ use mathlib.Core.List.{List}
 use mathlib.Core.Bool.{Bool, not}
 use borrow.Author.Tests.{lt-ltb, le-ltb, leb-true, leb-false}
 use lib.Dec.{leb, ltb}
-use Rattle.songcode.specs.Lists.{if◌then◌else◌}
+use Rattle.songcode.specs.Lists.{provided◌then◌else◌}
 use Rattle.songcode.specs.Bytes.{placed}
 use Rattle.songcode.specs.Answer.Lines.{Line}
 use Rattle.songcode.specs.Complaints.{complain_if}
@@ -40,7 +40,7 @@ unfolding closing
 block_closed c fine seven x r a b d e = rw (← a, ← b, ← d) e
 
 unless_late : (t : ℕ) (x : ℕ) → unless (leb 2 t) x ≡ only_if (ltb t 2) x
-unfolding unless only_if if◌then◌else◌
+unfolding unless only_if provided◌then◌else◌
 unless_late t x =
     by_cases (leb 2 t)
     (λ e. rw (e, le-ltb t 2 (leb-true 2 t e)) refl)

@@ -5,7 +5,7 @@ use mathlib.Core.List.{List, [], ◌∷◌}
 use mathlib.Core.Bool.{Bool, true, false}
 use native.Mathlib.Omega.{arith}
 use lib.Dec.{ltb}
-use Rattle.songcode.specs.Lists.{if◌then◌else◌, is_empty}
+use Rattle.songcode.specs.Lists.{provided◌then◌else◌, is_empty}
 use Rattle.songcode.specs.Answer.Lines.{Line, Block, Runs, shut, join, runs, blocks}
 use Rattle.grammar.specs.Checks.{first}
 use Rattle.grammar.specs.Verdicts.{section_fine}
@@ -32,7 +32,7 @@ by_blocks k [] = only_if (ltb k.turn 2) no_section
 by_blocks k (b ∷ bs) = min (block_note k b) (by_blocks (block_after k b) bs)
 
 no_section_le : (t : Bool) → only_if t no_section ≤ none
-unfolding only_if if◌then◌else◌
+unfolding only_if provided◌then◌else◌
 no_section_le true = omega arith
 no_section_le false = omega arith
 
@@ -42,7 +42,7 @@ by_blocks_le k [] = no_section_le (ltb k.turn 2)
 by_blocks_le k (b ∷ bs) = let h = by_blocks_le (block_after k b) bs in omega arith
 
 pub unless_none : (t : Bool) → unless t none ≡ none
-unfolding unless if◌then◌else◌
+unfolding unless provided◌then◌else◌
 unless_none true = refl
 unless_none false = refl
 
@@ -67,10 +67,10 @@ regroup : (x a b : ℕ) → min x (min a b) ≡ min (min x a) b
 regroup x a b = omega arith
 
 one_line : (w : Walk) (l : Line) (r : Runs) (f : Walk → ℕ) (t : Bool) → ((v : Walk) → f v ≡ adds v r)
-    → min (if t then step (closed w.place w.pending) (gap w.known) else full w l).note
-    (f (if t then step (closed w.place w.pending) (gap w.known) else full w l).walk)
+    → min (provided t then step (closed w.place w.pending) (gap w.known) else full w l).note
+    (f (provided t then step (closed w.place w.pending) (gap w.known) else full w l).walk)
     ≡ adds w (join t l r)
-unfolding if◌then◌else◌ join in_block after_block
+unfolding provided◌then◌else◌ join in_block after_block
 one_line w l r f true h =
     ap (min (closed w.place w.pending)) (h (gap w.known) ∙ sym (shut_adds w.known r.front r.rest))
 one_line w l r f false h =

@@ -4,7 +4,7 @@ use mathlib.Core.Path.{◌≡◌, refl, ◌∙◌}
 use mathlib.Core.List.{List}
 use mathlib.Core.Bool.{Bool}
 use native.Mathlib.Omega.{arith}
-use Rattle.songcode.specs.Lists.{if◌then◌else◌}
+use Rattle.songcode.specs.Lists.{provided◌then◌else◌}
 use Rattle.songcode.specs.Answer.Lines.{Line}
 use Rattle.songcode.specs.Complaints.{Complaint, complain_if}
 use Rattle.songcode.specs.Answer.Sections.{Kind, key_line, modifier_line, pattern_line, kind_of_line, key_name_of, modifier_name_of}
@@ -30,11 +30,11 @@ module _ (l : Line) where
 
 -- What is numbered 8 is nothing.
 nothing_again : (number : ℕ) (marks : List Bool) (line : ℕ) → again number 8 marks line ≡ none
-unfolding again if◌then◌else◌
+unfolding again provided◌then◌else◌
 nothing_again number marks line = refl
 
 nothing_marked : (marks : List Bool) → marked 8 marks ≡ marks
-unfolding marked if◌then◌else◌
+unfolding marked provided◌then◌else◌
 nothing_marked marks = refl
 
 second_none : (cs : List Complaint) (a : ℕ) → min (min (least cs) a) none ≡ min (least cs) a

@@ -4,7 +4,7 @@ use mathlib.Core.Path.{◌≡◌, refl, sym, ap, ◌∙◌}
 use mathlib.Core.List.{List, [], ◌∷◌}
 use mathlib.Core.Bool.{Bool, true, false, not}
 use native.Mathlib.Omega.{arith}
-use Rattle.songcode.specs.Lists.{if◌then◌else◌, is_some, prepend}
+use Rattle.songcode.specs.Lists.{provided◌then◌else◌, is_some, prepend}
 use Rattle.songcode.specs.Answer.Lines.{Line, Block}
 use Rattle.songcode.specs.Answer.PatternText.{definition_text}
 use Rattle.songcode.specs.Answer.SongText.{definition, block_kind, head_in, definition_faults}
@@ -21,7 +21,7 @@ use Rattle.stage2.proofs.BlockWalk.{in_block, after_block, block_note, block_aft
 use Rattle.stage2.proofs.SeenLaws.{check_on, check_lines_on}
 
 pub only_unless : (t : Bool) (r : ℕ) → only_if (not t) r ≡ unless t r
-unfolding only_if unless if◌then◌else◌
+unfolding only_if unless provided◌then◌else◌
 only_unless true r = refl
 only_unless false r = refl
 

@@ -10,7 +10,7 @@ use borrow.Author.Tests.{ne_eqb, le-leb, leb-true, leb-false}
 use lib.Dec.{eqb, leb}
 use lib.ListN.{length, set, take, length-set, replicate}
 use lib.Seq.{take-suc, take-set-le, get_or-set_same}
-use Rattle.songcode.specs.Lists.{if◌then◌else◌, any, prepend, is_some, when}
+use Rattle.songcode.specs.Lists.{provided◌then◌else◌, any, prepend, is_some, when}
 use Rattle.songcode.specs.Answer.Lines.{Line}
 use Rattle.songcode.specs.Answer.Numbers.{is_decimal, value_from, number_in, count_in}
 use Rattle.songcode.specs.Complaints.{complain_if}
@@ -27,8 +27,8 @@ unfoldable pub Counts : Option ℕ → Type 0
 Counts none = Unit {0}
 Counts (some x) = 1 ≤ x
 
-in_range : (b : Bool) (x : ℕ) → (b ≡ true → 1 ≤ x) → Counts (if b then some x else none)
-unfolding if◌then◌else◌ Counts
+in_range : (b : Bool) (x : ℕ) → (b ≡ true → 1 ≤ x) → Counts (provided b then some x else none)
+unfolding provided◌then◌else◌ Counts
 in_range true x h = h refl
 in_range false x h = tt
 
@@ -98,7 +98,7 @@ module _ (m : ℕ) (ids : List ℕ) (n : ℕ) (seen : List ℕ) (a : HeadsAgree 
       or_swap false false = refl
 
   pub with_head_agrees : (o : Option ℕ) → Counts o → HeadsAgree (min m 25 + 1) (with_head (number_of o) m ids) (suc n) (prepend o seen)
-  unfolding with_head if◌then◌else◌
+  unfolding with_head provided◌then◌else◌
   with_head_agrees o c =
       by_cases
       (leb 26 m)

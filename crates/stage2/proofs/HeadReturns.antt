@@ -9,7 +9,7 @@ use borrow.Author.Tests.{le-leb, lt-leb, eq-eqb, ne_eqb}
 use lib.Dec.{leb}
 use lib.ListN.{length, get_or, set, take, drop, drop_of_length-le, length-take}
 use lib.Seq.{drop-cons, get_or-take}
-use Rattle.songcode.specs.Lists.{if◌then◌else◌, any}
+use Rattle.songcode.specs.Lists.{provided◌then◌else◌, any}
 use Rattle.songcode.specs.Bytes.{placed}
 use Rattle.songcode.specs.Complaints.{complain_if}
 use Rattle.songcode.specs.Answer.Numbers.{count_in}
@@ -60,11 +60,11 @@ module _ (head : Number) (n : ℕ) (ids : List ℕ) where
   head_formed line x a b r many has e m s p q z = rw (e, ← m, ← s, ← p, ← q) z
 
   pub heads_full : 26 ≤ n → ids ≡ with_head head n ids
-  unfolding with_head if◌then◌else◌
+  unfolding with_head provided◌then◌else◌
   heads_full e = rw (le-leb 26 n e) refl
 
   pub head_added : (x : ℕ) → n < 26 → x ≡ or_zero head → set ids n x ≡ with_head head n ids
-  unfolding with_head if◌then◌else◌
+  unfolding with_head provided◌then◌else◌
   head_added x e p = rw (lt-leb 26 n e, p) refl
 
 -- The head that a line has.

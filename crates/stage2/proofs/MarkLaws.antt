@@ -10,7 +10,7 @@ use borrow.Author.Tests.{lt-ltb, eqb-true, eqb-false}
 use lib.Dec.{eqb}
 use lib.ListN.{length, get_or, set, length-set, get_or-replicate}
 use lib.Seq.{get_or-set_same, get_or-set_other}
-use Rattle.songcode.specs.Lists.{if◌then◌else◌, any, prepend}
+use Rattle.songcode.specs.Lists.{provided◌then◌else◌, any, prepend}
 use Rattle.songcode.specs.Answer.Lines.{Line}
 use Rattle.songcode.specs.Song.{KeyName, name, artist, original, capo, bpm, time, warning, end}
 use Rattle.songcode.specs.Answer.Keys.{key_place}
@@ -70,7 +70,7 @@ none_agrees = (refl, λ k h. get_or-replicate 8 k false false h)
 
 pub again_agrees : (number : ℕ) (o : Option ℕ) (marks : List Bool) (seen : List ℕ) (l : Line) → Below o → Agrees marks seen
     → again number (option.get_or o 8) marks l.number ≡ least (twice_by number o seen l)
-unfolding again twice_by Below least if◌then◌else◌
+unfolding again twice_by Below least provided◌then◌else◌
 again_agrees number option.none marks seen l b h = refl
 again_agrees number (option.some k) marks seen l b h = rw (lt-ltb k 8 b, h.1 k b) refl
 
@@ -83,6 +83,6 @@ put_agrees marks seen j b h k c =
     (λ e. let n = eqb-false j k e in rw (e, get_or-set_other marks j k true false (λ z. n (sym z))) (h.1 k c))
 
 pub marked_agrees : (o : Option ℕ) (marks : List Bool) (seen : List ℕ) → Below o → Agrees marks seen → Agrees (marked (option.get_or o 8) marks) (prepend o seen)
-unfolding marked prepend Below if◌then◌else◌
+unfolding marked prepend Below provided◌then◌else◌
 marked_agrees option.none marks seen b h = h
 marked_agrees (option.some j) marks seen b h = rw (lt-ltb j 8 b) (length-set marks j true ∙ h.0, put_agrees marks seen j b h)

@@ -4,7 +4,7 @@ use mathlib.Core.Path.{◌≡◌, refl, ◌∙◌}
 use mathlib.Core.List.{List}
 use mathlib.Core.Bool.{Bool, true, false}
 use native.Mathlib.Omega.{arith}
-use Rattle.songcode.specs.Lists.{if◌then◌else◌}
+use Rattle.songcode.specs.Lists.{provided◌then◌else◌}
 use Rattle.songcode.specs.Answer.Lines.{Line}
 use Rattle.songcode.specs.Complaints.{complain_if}
 use Rattle.songcode.specs.Answer.Sections.{key_line, modifier_line, pattern_line, kind_of_line, key_name_of, modifier_name_of, setting_of}
@@ -42,7 +42,7 @@ module _ (l : Line) (marks : List Bool) where
 
   other : (note : ℕ) → key_of l ≡ 8 → least (metadata_fault l) ≡ least (complain_if true 8 l.number) → note ≡ least (complain_if true 8 l.number)
       → Noted note marks
-  unfolding key_judged again marked if◌then◌else◌
+  unfolding key_judged again marked provided◌then◌else◌
   other note e f p = let h = least_le (complain_if true 8 l.number) in (rw (e, f) (p ∙ omega arith), rw e refl)
 
   pub metadata_modifier : (note : ℕ) → kind_of_line l ≡ modifier_line → note ≡ least (complain_if true 8 l.number) → Noted note marks

@@ -4,7 +4,7 @@ use mathlib.Core.Path.{◌≡◌, refl, sym, ap, ◌∙◌}
 use mathlib.Core.List.{List, [], ◌∷◌}
 use mathlib.Core.Bool.{true, false, not}
 use native.Mathlib.Omega.{arith}
-use Rattle.songcode.specs.Lists.{if◌then◌else◌, taken, left, is_some}
+use Rattle.songcode.specs.Lists.{provided◌then◌else◌, taken, left, is_some}
 use Rattle.songcode.specs.Answer.Lines.{Line}
 use Rattle.songcode.specs.Answer.PatternText.{section_text}
 use Rattle.songcode.specs.Answer.Sections.{Kind, key_line, modifier_line, pattern_line, kind_of_line, is_pattern_line, not_pattern_line, pattern_run}
@@ -67,19 +67,19 @@ module _ (l : Line) where
 
   module _ (ls : List Line) where
     other_run : is_pattern_line l ≡ false → pattern_run (l ∷ ls) ≡ pattern_run ls
-    unfolding pattern_run left not_pattern_line if◌then◌else◌
+    unfolding pattern_run left not_pattern_line provided◌then◌else◌
     other_run e = rw e
 
     first_run : is_pattern_line l ≡ true → pattern_run (l ∷ ls) ≡ l ∷ taken is_pattern_line ls
-    unfolding pattern_run taken left not_pattern_line if◌then◌else◌
+    unfolding pattern_run taken left not_pattern_line provided◌then◌else◌
     first_run e = rw (e, e)
 
     one_more_lem : is_pattern_line l ≡ true → taken is_pattern_line (l ∷ ls) ≡ l ∷ taken is_pattern_line ls
-    unfolding taken if◌then◌else◌
+    unfolding taken provided◌then◌else◌
     one_more_lem e = rw e
 
     no_more : is_pattern_line l ≡ false → taken is_pattern_line (l ∷ ls) ≡ []
-    unfolding taken if◌then◌else◌
+    unfolding taken provided◌then◌else◌
     no_more e = rw e
 
     -- One line more, by its kind.

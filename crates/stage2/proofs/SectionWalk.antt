@@ -4,7 +4,7 @@ use mathlib.Core.Path.{◌≡◌, refl, sym, ap, ◌∙◌}
 use mathlib.Core.List.{List, [], ◌∷◌, ◌++◌, flat_map}
 use mathlib.Core.Bool.{true, false}
 use native.Mathlib.Omega.{arith}
-use Rattle.songcode.specs.Lists.{if◌then◌else◌, taken, left, is_empty, prepend}
+use Rattle.songcode.specs.Lists.{provided◌then◌else◌, taken, left, is_empty, prepend}
 use Rattle.songcode.specs.Answer.Lines.{Line, Block}
 use Rattle.songcode.specs.Complaints.{Complaint, complain_if}
 use Rattle.songcode.specs.Answer.Sections.{Kind, key_line, modifier_line, pattern_line, kind_of_line, twice, twice_by, key_said, modifier_said, faults, pattern_run}
@@ -58,7 +58,7 @@ module _ (k : Known) (ks ms : List ℕ) where
   dashes : (q : Pending) (n : ℕ) (ls : List Line)
       → min none (in_block (walk_at in_lyrics k ks ms (pending q.want (ranked 8 n) q.bad q.check)) ls) ≡ min
       (least (complain_if (is_empty ls) 8 n)) (min q.want (unless (section_fine q.check) q.bad))
-  unfolding in_block closed fine_at step_at is_empty only_if if◌then◌else◌
+  unfolding in_block closed fine_at step_at is_empty only_if provided◌then◌else◌
   dashes q n [] = let h = least_if true 8 n in omega arith
   dashes q n (l ∷ ls) =
       let h = least_if false 8 n in
@@ -89,7 +89,7 @@ at_dashes x y z w p q = omega arith
 module _ (k : Known) where
   section_lines : (p : Part) (ks ms : List ℕ) (q : Pending) (ls : List Line) → q.bare ≡ none → Fits p q
       → in_block (walk_at (in_body p) k ks ms q) ls ≡ section_left p ks ms q ls
-  unfolding in_block closed fine_at step_at taken left lyric_faults if◌then◌else◌ body_step least
+  unfolding in_block closed fine_at step_at taken left lyric_faults provided◌then◌else◌ body_step least
   section_lines p ks ms q [] b f =
       let h = at_end p q f in
       let j = no_body p ks ms in
@@ -119,7 +119,7 @@ module _ (k : Known) where
   sung_after ks ms q (l ∷ ls) = sung_after ks ms (pending q.want none q.bad q.check) ls
 
   section_after : (p : Part) (ks ms : List ℕ) (q : Pending) (ls : List Line) → after_block (walk_at (in_body p) k ks ms q) ls ≡ k
-  unfolding after_block step_at if◌then◌else◌ body_step
+  unfolding after_block step_at provided◌then◌else◌ body_step
   section_after p ks ms q [] = refl
   section_after p ks ms q (l ∷ ls) =
       by_cases

@@ -5,7 +5,7 @@ use mathlib.Core.Bool.{Bool, true, false, not}
 use mathlib.Core.Option.{Option, none, some}
 use native.Mathlib.Omega.{arith}
 use lib.Dec.{eqb}
-use Rattle.songcode.specs.Lists.{if◌then◌else◌, taken, left, is_empty, is_some, any, prepend, when}
+use Rattle.songcode.specs.Lists.{provided◌then◌else◌, taken, left, is_empty, is_some, any, prepend, when}
 use Rattle.songcode.specs.Answer.Lines.{Line, Block}
 use Rattle.songcode.specs.Song.{KeyName}
 use Rattle.songcode.specs.Answer.Keys.{is_setting, of_section, of_metadata}
@@ -54,12 +54,12 @@ each_gather Q f h (x ∷ xs) p = each_append Q (f x) (flat_map f xs) (h x p.0) (
 -- A part of a list.
 module _ {A : Type 0} (P : A → Type 0) (t : A → Bool) where
   pub each_taken : (xs : List A) → Each P xs → Each P (taken t xs)
-  unfolding Each taken if◌then◌else◌
+  unfolding Each taken provided◌then◌else◌
   each_taken [] p = tt
   each_taken (x ∷ xs) p = by_cases (t x) (λ e. rw e (p.0, each_taken xs p.1)) (λ e. rw e tt)
 
   pub each_left : (xs : List A) → Each P xs → Each P (left t xs)
-  unfolding Each left if◌then◌else◌
+  unfolding Each left provided◌then◌else◌
   each_left [] p = tt
   each_left (x ∷ xs) p = by_cases (t x) (λ e. rw e (each_left xs p.1)) (λ e. rw e p)
 

@@ -5,7 +5,7 @@ use mathlib.Core.List.{List, []}
 use mathlib.Core.Bool.{false}
 use native.Mathlib.Omega.{arith}
 use lib.ListN.{replicate}
-use Rattle.songcode.specs.Lists.{if◌then◌else◌, is_empty, prepend}
+use Rattle.songcode.specs.Lists.{provided◌then◌else◌, is_empty, prepend}
 use Rattle.songcode.specs.Answer.Lines.{Line}
 use Rattle.songcode.specs.Answer.Sections.{key_said, modifier_said, not_dashes}
 use Rattle.songcode.specs.Answer.SongText.{BlockKind, metadata, definition, section, kind_of_text, head_in}
@@ -85,7 +85,7 @@ Follows n ids l t j =
 -- Where the line is no head.
 no_head_lem : (n : ℕ) (ids : List ℕ) (l : Line) (t : Step) (j : Judged) → is_head j.state.place ≡ false → j.note ≡ t.note → Stands t.walk j.state ids
     → Follows n ids l t j
-unfolding head_noted heads_after if◌then◌else◌
+unfolding head_noted heads_after provided◌then◌else◌
 no_head_lem n ids l t j e p h = rw e (rw p (omega arith), h)
 
 module _ (k : Known) (c : Carried) (ids : List ℕ) (h : Knows k c ids) (l : Line) where
@@ -101,7 +101,7 @@ module _ (k : Known) (c : Carried) (ids : List ℕ) (h : Knows k c ids) (l : Lin
   head_same = head_agrees c.count ids k.sofar k.heads h.heads (head_in l) l (head_counts l)
 
   opening_by : (b : BlockKind) → Follows c.count ids l (opens b k l) (opening b c l)
-  unfolding opens opening place_is head_noted heads_after if◌then◌else◌
+  unfolding opens opening place_is head_noted heads_after provided◌then◌else◌
   opening_by metadata = no_head_lem c.count ids l (opens metadata k l) (opening metadata c l) refl
       (rw h.turn (ap (min (late 0 k.turn l)) key_same))
       (let z : max k.turn 0 ≡ k.turn = omega arith in rw (z, h.turn) (opened in_metadata _ _ nothing_pending ids (key_known k.turn)))
@@ -147,7 +147,7 @@ module _ (w : Walk) (c : State) (ids : List ℕ) (h : Stands w c ids) (l : Line)
       })
 
   by_place : (p : Where) → After (step_at p w l) (judged_at (place_is p) c l)
-  unfolding step_at judged_at place_is pattern_pending if◌then◌else◌
+  unfolding step_at judged_at place_is pattern_pending provided◌then◌else◌
   by_place between = opening_by w.known c.carried ids h.carried l (kind_of_text l.text)
   by_place in_metadata = rw h.carried.turn (after _ _ refl
       (key_same w.known c.carried ids h.carried l)
@@ -164,7 +164,7 @@ module _ (w : Walk) (c : State) (ids : List ℕ) (h : Stands w c ids) (l : Line)
 
   -- One line more.
   pub keeps_step : After (stepped w l) (judge c l)
-  unfolding judge stepped if◌then◌else◌ place_is
+  unfolding judge stepped provided◌then◌else◌ place_is
   keeps_step =
       by_cases
       (is_empty l.text)

@@ -6,7 +6,7 @@ use mathlib.Core.Bool.{Bool, true, false, ◌||◌, not}
 use native.Mathlib.Omega.{arith}
 use borrow.Author.Tests.{lt-ltb, le-ltb, ltb-true, ltb-false}
 use lib.Dec.{leb, ltb}
-use Rattle.songcode.specs.Lists.{if◌then◌else◌, is_empty, is_some, prepend}
+use Rattle.songcode.specs.Lists.{provided◌then◌else◌, is_empty, is_some, prepend}
 use Rattle.songcode.specs.Answer.Lines.{Line, Block, blocks}
 use Rattle.songcode.specs.Complaints.{Complaint, complain_if}
 use Rattle.songcode.specs.Answer.Sections.{twice, twice_by, key_said, section_faults}
@@ -169,17 +169,17 @@ lacking_definition t n =
     (λ e. let h = ltb-false t 2 e in rw (e, le-ltb (max t 1) 2 (omega arith)) refl)
 
 only_none : (t : Bool) → only_if t none ≡ none
-unfolding only_if if◌then◌else◌
+unfolding only_if provided◌then◌else◌
 only_none true = refl
 only_none false = refl
 
 lacking_section : (t : ℕ) (n : ℕ) → only_if (ltb t 2) none ≡ only_if (ltb (max t 2) 2) n
-unfolding only_if if◌then◌else◌
+unfolding only_if provided◌then◌else◌
 lacking_section t n = rw (le-ltb (max t 2) 2 (omega arith)) (only_none (ltb t 2))
 
 module _ (k : Known) (b : Block) (bs : List Block) where
   lacking_next : lacking k.turn (b ∷ bs) ≡ lacking (block_after k b).turn bs
-  unfolding section_if is_empty only_if if◌then◌else◌
+  unfolding section_if is_empty only_if provided◌then◌else◌
   lacking_next =
       by_kind
       (block_kind b)
@@ -193,13 +193,13 @@ unfolding block_order metadata_lines definition_blocks section_blocks flat_map t
 all_none k = refl
 
 lacking_le : (a b : Bool) → only_if a (only_if b no_section) ≤ none
-unfolding only_if if◌then◌else◌
+unfolding only_if provided◌then◌else◌
 lacking_le true true = omega arith
 lacking_le true false = omega arith
 lacking_le false b = omega arith
 
 no_blocks : (k : Known) → only_if (ltb k.turn 2) no_section ≡ min (all k []) (lacking k.turn [])
-unfolding section_blocks flat_map is_empty only_if if◌then◌else◌
+unfolding section_blocks flat_map is_empty only_if provided◌then◌else◌
 no_blocks k = let l = lacking_le (ltb k.turn 2) true in rw (all_none k) (omega arith)
 
 by_blocks_all : (k : Known) (bs : List Block) → by_blocks k bs ≡ min (all k bs) (lacking k.turn bs)
@@ -237,6 +237,6 @@ faults_all bs =
 
 -- The walk over the lines of a text.
 pub walked_least : (ls : List Line) → walked at_first ls ≡ min (least (block_faults (blocks ls))) (only_if (is_empty (section_blocks (blocks ls))) no_section)
-unfolding only_if if◌then◌else◌
+unfolding only_if provided◌then◌else◌
 walked_least ls =
     walked_by_blocks (known 0 [] 0 []) ls ∙ (by_blocks_all (known 0 [] 0 []) (blocks ls) ∙ rw (faults_all (blocks ls)) refl)

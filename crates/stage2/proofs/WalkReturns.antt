@@ -6,7 +6,7 @@ use mathlib.Core.Bool.{Bool, true, false, not}
 use native.Mathlib.Omega.{arith}
 use borrow.Author.Tests.{eq-eqb, ne_eqb}
 use lib.ListN.{length, drop}
-use Rattle.songcode.specs.Lists.{if◌then◌else◌}
+use Rattle.songcode.specs.Lists.{provided◌then◌else◌}
 use Rattle.songcode.specs.Bytes.{placed, is}
 use Rattle.songcode.specs.Answer.Lines as songcode
 use Rattle.songcode.specs.Answer.Lines.{blocks}
@@ -44,12 +44,12 @@ module _ (c : State) (p : Part) (n : ℕ) (s : List ℕ) (a e : ℕ) (t : Bool) 
   not_dashes_lem = ap not (is_placeless "--" a (part a e s) ∙ sym h)
 
   pub at_dashes : (bare : ℕ) (j : Judged) → t ≡ true → bare ≡ ranked 8 n → j ≡ judged none (lyrics_state c bare) → j ≡ judged_at (Body p) c (line_from n s a e)
-  unfolding judged_at if◌then◌else◌
+  unfolding judged_at provided◌then◌else◌
   at_dashes bare j y b g = rw (not_dashes_lem, y, g, b) refl
 
   pub at_body : (j : Judged) → t ≡ false → j ≡ judged (body_judged p c.keys c.modifiers (line_from n s a e))
       (body_state p c (line_from n s a e)) → j ≡ judged_at (Body p) c (line_from n s a e)
-  unfolding judged_at if◌then◌else◌
+  unfolding judged_at provided◌then◌else◌
   at_body j y g = rw (not_dashes_lem, y) g
 
 module _ (c : State) (l : songcode.Line) where
@@ -64,12 +64,12 @@ module _ (c : State) (l : songcode.Line) where
 -- Blank or not.
 module _ (c : State) (s : List ℕ) (l : Line) (long : l.stop ≤ length s) where
   pub line_full : (j : Judged) → l.start < l.stop → j ≡ judged_at c.place c (line_text s l) → j ≡ judge c (line_text s l)
-  unfolding judge if◌then◌else◌
+  unfolding judge provided◌then◌else◌
   line_full j h g = rw (empty_line s l.start l.stop (omega arith) long, ne_eqb l.start l.stop (λ z. omega arith)) g
 
   pub line_blank : (note : ℕ) (q : Pending) (d : State) → l.start ≤ l.stop → l.stop ≤ l.start → note ≡ closing c → q ≡ nothing_pending
       → d ≡ block_state Between c.carried q → judged note d ≡ judge c (line_text s l)
-  unfolding judge if◌then◌else◌
+  unfolding judge provided◌then◌else◌
   line_blank note q d h g x y z = rw (empty_line s l.start l.stop h long, eq-eqb l.start l.stop (omega arith), x, z, y) refl
 
 -- The loop: what is still to come of the walk.

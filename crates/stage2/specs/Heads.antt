@@ -1,6 +1,6 @@
 -- The heads of definitions: how many there are, up to 26, and their numbers, in a row of 26.
 use Rattle.std.specs.Prelude.{ℕ, min, List, Bool, true, false, ◌||◌, not, eqb, leb, set, take}
-use Rattle.songcode.specs.Lists.{if◌then◌else◌, any}
+use Rattle.songcode.specs.Lists.{provided◌then◌else◌, any}
 use Rattle.songcode.specs.Answer.Lines.{Line}
 use Rattle.songcode.specs.Answer.SongText.{head_in}
 use Rattle.songcode.specs.Complaints.{complain_if}
@@ -28,8 +28,8 @@ or_zero Not = 0
 or_zero (Is x) = x
 
 unfoldable pub with_head : Number → ℕ → List ℕ → List ℕ
-unfolding if◌then◌else◌ or_zero
-with_head o n ids = if leb 26 n then ids else set ids n (or_zero o)
+unfolding provided◌then◌else◌ or_zero
+with_head o n ids = provided leb 26 n then ids else set ids n (or_zero o)
 
 -- A line behind which the walk stands at a place is a head there.
 abbrev pub is_head : Place → Bool
@@ -41,9 +41,9 @@ is_head (Body p) = false
 is_head Lyrics = false
 
 unfoldable pub head_noted : Place → ℕ → List ℕ → Line → ℕ
-unfolding if◌then◌else◌
-head_noted p n ids l = if is_head p then head_judged (number_of (head_in l)) n ids l.number else none
+unfolding provided◌then◌else◌
+head_noted p n ids l = provided is_head p then head_judged (number_of (head_in l)) n ids l.number else none
 
 unfoldable pub heads_after : Place → ℕ → List ℕ → Line → List ℕ
-unfolding if◌then◌else◌
-heads_after p n ids l = if is_head p then with_head (number_of (head_in l)) n ids else ids
+unfolding provided◌then◌else◌
+heads_after p n ids l = provided is_head p then with_head (number_of (head_in l)) n ids else ids

@@ -1,7 +1,7 @@
 -- The walk by value: what the code keeps in place of lists, and how it judges a line.
 use Rattle.std.proofs.Math.Option
 use Rattle.std.specs.Prelude.{ℕ, ◌+◌, min, max, List, [], ◌∷◌, Bool, true, false, ltb, get_or, set}
-use Rattle.songcode.specs.Lists.{if◌then◌else◌, is_empty}
+use Rattle.songcode.specs.Lists.{provided◌then◌else◌, is_empty}
 use Rattle.songcode.specs.Answer.Lines.{Line}
 use Rattle.songcode.specs.Complaints.{complain_if}
 use Rattle.songcode.specs.Answer.Sections.{kind_of_line, key_said, modifier_said, faults, header_faults, not_dashes}
@@ -27,12 +27,12 @@ no_marks = false ∷ false ∷ false ∷ false ∷ false ∷ false ∷ false ∷
 
 -- Complained of where the mark is there already; the mark is put.
 unfoldable pub again : ℕ → ℕ → List Bool → ℕ → ℕ
-unfolding if◌then◌else◌
-again number k marks line = if ltb k 8 then least (complain_if (get_or marks k false) number line) else none
+unfolding provided◌then◌else◌
+again number k marks line = provided ltb k 8 then least (complain_if (get_or marks k false) number line) else none
 
 unfoldable pub marked : ℕ → List Bool → List Bool
-unfolding if◌then◌else◌
-marked k marks = if ltb k 8 then set marks k true else marks
+unfolding provided◌then◌else◌
+marked k marks = provided ltb k 8 then set marks k true else marks
 
 -- What a line says, 8 for nothing.
 abbrev pub key_of : Line → ℕ
@@ -64,8 +64,8 @@ in_definition Lyrics = false
 
 -- At the end of a block.
 unfoldable pub fine_for : Place → Check → Bool
-unfolding if◌then◌else◌
-fine_for p c = if in_definition p then definition_fine c else section_fine c
+unfolding provided◌then◌else◌
+fine_for p c = provided in_definition p then definition_fine c else section_fine c
 
 unfoldable pub closing : State → ℕ
 closing c = min c.pending.want (min c.pending.bare (unless (fine_for c.place c.pending.check) c.pending.bad))
@@ -114,12 +114,12 @@ definition_state p c l = block_state Definition c.carried (pattern_pending p l c
 
 -- A line that is not blank, where it stands.
 unfoldable pub judged_at : Place → State → Line → Judged
-unfolding if◌then◌else◌
+unfolding provided◌then◌else◌
 judged_at Between c l = opening (kind_of_text l.text) c.carried l
 judged_at Metadata c l = judged (key_judged c.carried.metadata l) (metadata_state c.carried l)
 judged_at Head c l = judged none (definition_state Keys c l)
 judged_at Definition c l = judged none (definition_state Pattern c l)
-judged_at (Body p) c l = if not_dashes l then judged (body_judged p c.keys c.modifiers l) (body_state p c l) else judged none
+judged_at (Body p) c l = provided not_dashes l then judged (body_judged p c.keys c.modifiers l) (body_state p c l) else judged none
     (lyrics_state c (ranked 8 l.number))
 judged_at Lyrics c l = judged none (lyrics_state c none)
 
@@ -129,8 +129,8 @@ first_state = block_state Between (carried 0 no_marks 0) nothing_pending
 
 -- A blank line ends the block.
 unfoldable pub judge : State → Line → Judged
-unfolding if◌then◌else◌
-judge c l = if is_empty l.text then judged (closing c) (block_state Between c.carried nothing_pending) else judged_at c.place c l
+unfolding provided◌then◌else◌
+judge c l = provided is_empty l.text then judged (closing c) (block_state Between c.carried nothing_pending) else judged_at c.place c l
 
 -- So does the end of the text; then a section is there, or 9.
 unfoldable pub ends : State → ℕ

@@ -1,6 +1,6 @@
 -- Stage 2 as one walk over the lines, in songcode's words: what a line is complained of where it stands, and what is kept of it.
 use Rattle.std.specs.Prelude.{ℕ, suc, min, max, List, [], ◌∷◌, Bool, ◌||◌, not, leb, ltb}
-use Rattle.songcode.specs.Lists.{if◌then◌else◌, is_empty, is_some, prepend}
+use Rattle.songcode.specs.Lists.{provided◌then◌else◌, is_empty, is_some, prepend}
 use Rattle.songcode.specs.Answer.Lines.{Line}
 use Rattle.songcode.specs.Complaints.{complain_if}
 use Rattle.songcode.specs.Answer.Sections.{Kind, key_line, modifier_line, pattern_line, kind_of_line, twice_by, key_said, modifier_said, faults, header_faults}
@@ -65,8 +65,8 @@ gap k = block_at between k nothing_pending
 
 -- Unless the test passes, this complaint.
 unfoldable pub unless : Bool → ℕ → ℕ
-unfolding if◌then◌else◌
-unless t r = if t then none else r
+unfolding provided◌then◌else◌
+unless t r = provided t then none else r
 
 -- At the end of a block.
 unfoldable pub fine_at : Where → Check → Bool
@@ -149,12 +149,12 @@ lyrics_with w bare = walk_at in_lyrics w.known w.keys w.modifiers (pending w.pen
 
 -- A line that is not blank, where it stands.
 unfoldable pub step_at : Where → Walk → Line → Step
-unfolding if◌then◌else◌
+unfolding provided◌then◌else◌
 step_at between w l = opens (kind_of_text l.text) w.known l
 step_at in_metadata w l = step (metadata_note w.known.keys l) (metadata_after w.known.turn w.known l)
 step_at behind_head w l = step none (block_at in_definition w.known (pattern_begun l w.pending))
 step_at in_definition w l = step none (block_at in_definition w.known (pattern_more l w.pending))
-step_at (in_body p) w l = if not_dashes l then body_step p w l else step none (lyrics_with w (ranked 8 l.number))
+step_at (in_body p) w l = provided not_dashes l then body_step p w l else step none (lyrics_with w (ranked 8 l.number))
 step_at in_lyrics w l = step none (lyrics_with w none)
 
 abbrev pub full : Walk → Line → Step
@@ -162,8 +162,8 @@ full w l = step_at w.place w l
 
 -- A blank line ends the block.
 unfoldable pub stepped : Walk → Line → Step
-unfolding if◌then◌else◌
-stepped w l = if is_empty l.text then step (closed w.place w.pending) (gap w.known) else full w l
+unfolding provided◌then◌else◌
+stepped w l = provided is_empty l.text then step (closed w.place w.pending) (gap w.known) else full w l
 
 -- The end of the text ends it too; then a section is there, or 9.
 unfoldable pub finished : Walk → ℕ

@@ -3,7 +3,7 @@ use grammar::Check;
 
 // Where a section's line stands between its header and the `--`: only keys came before it; a modifier came before the pattern;
 // in the pattern's run; past it.
-#[derive(Drop)]
+#[derive(Clone, Copy)]
 pub enum Part {
     Keys,
     Early,
@@ -12,7 +12,7 @@ pub enum Part {
 }
 
 // Where a line stands: between blocks, in metadata, behind a definition's head, among its pattern lines, in a section, among its lyrics.
-#[derive(Drop)]
+#[derive(Clone, Copy)]
 pub enum Place {
     Between,
     Metadata,
@@ -23,7 +23,7 @@ pub enum Place {
 }
 
 // What goes from block to block: the latest kind, the keys of all metadata, how many definitions there are, counted up to 26.
-#[derive(Drop)]
+#[derive(Clone, Copy)]
 pub struct Carried {
     pub turn: usize,
     pub metadata: [bool; 8],
@@ -39,7 +39,7 @@ pub struct Pending {
     pub check: Check,
 }
 
-#[derive(Drop)]
+#[derive(Clone, Copy)]
 pub struct State {
     pub place: Place,
     pub carried: Carried,

@@ -9,7 +9,7 @@ use native.Mathlib.Nat.{suc-add}
 use borrow.Author.Tests.{ltb-false}
 use lib.Dec.{ltb}
 use lib.ListN.{get_or, take, drop}
-use Rattle.songcode.specs.Lists.{if◌then◌else◌}
+use Rattle.songcode.specs.Lists.{provided◌then◌else◌}
 use Rattle.songcode.specs.Bytes.{Byte, placed}
 use Rattle.songcode.specs.Answer.Lines.{cr, ending_of, LineCut, put, cut_lines}
 use Rattle.text.specs.Spans.{end, longer, line_length, break_width, break_length, is_end, ends_open}
@@ -36,7 +36,7 @@ Cuts at bs =
     }
 
 cut_cr : (at b : ℕ) (bs : List ℕ) → end b ≡ cr → Cuts at (b ∷ bs)
-unfolding cut_lines ending_of placed put line_length longer break_length break_width behind if◌then◌else◌
+unfolding cut_lines ending_of placed put line_length longer break_length break_width behind provided◌then◌else◌
 cut_cr at b [] e = rw (e, e)
 cut_cr at b (c ∷ bs) e =
     let two : at + 2 ≡ suc (suc at) = omega arith in
@@ -51,7 +51,7 @@ cut_line at (b ∷ bs) =
 
 -- A text ends open if what stands behind its first line does.
 open_cr : (t : Bool) (b : ℕ) (bs : List ℕ) → end b ≡ cr → ends_open t (b ∷ bs) ≡ ends_open (ended (b ∷ bs)) (drop (whole (b ∷ bs)) (b ∷ bs))
-unfolding ends_open is_end line_length longer break_length break_width if◌then◌else◌
+unfolding ends_open is_end line_length longer break_length break_width provided◌then◌else◌
 open_cr t b [] e = rw (e, e)
 open_cr t b (c ∷ bs) e = by_ending c (λ f. rw (e, e, f, f)) (λ f. rw (e, e, f)) (λ f. rw (e, e, f, f))
 

@@ -9,7 +9,7 @@ use native.Mathlib.Numerals.{add-one}
 use lib.Dec.{eqb}
 use lib.ListN.{length, get_or, take, drop, drop_of_length-le}
 use lib.Seq.{drop-cons, get_or-drop, take_all}
-use Rattle.songcode.specs.Lists.{if◌then◌else◌}
+use Rattle.songcode.specs.Lists.{provided◌then◌else◌}
 use Rattle.songcode.specs.Bytes.{Byte, placed}
 use Rattle.songcode.specs.Answer.Lines.{ending, ending_of, LineCut, put, cut_lines}
 use Rattle.songcode.specs.Answer.Answer.{line_of_place}
@@ -22,7 +22,7 @@ one_if true = 1
 one_if false = 0
 
 put_ends : (b next : Byte) (c : LineCut) → length (put (ending b) (ending next) b c).others ≡ one_if (ends_line b.value next.value) + length c.others
-unfolding put ending ends_line one_if if◌then◌else◌
+unfolding put ending ends_line one_if provided◌then◌else◌
 put_ends b next c =
     by_cases
     (eqb b.value 10)
@@ -37,7 +37,7 @@ put_ends b next c =
 
 -- Behind the end of the text no line end stands, nor is a zero one.
 ending_next : (at : ℕ) (bs : List ℕ) → ending_of (placed at bs) ≡ ending (record { place = at; value = get_or bs 0 0 })
-unfolding ending_of placed ending if◌then◌else◌
+unfolding ending_of placed ending provided◌then◌else◌
 ending_next at [] = refl
 ending_next at (b ∷ bs) = refl
 

@@ -10,7 +10,7 @@ use borrow.Author.Tests.{leb-true, leb-false}
 use lib.Dec.{leb}
 use lib.ListN.{length, get_or, drop, drop_of_length-le, length-drop}
 use lib.Seq.{drop-cons, drop-drop}
-use Rattle.songcode.specs.Lists.{if◌then◌else◌}
+use Rattle.songcode.specs.Lists.{provided◌then◌else◌}
 use Rattle.songcode.specs.Answer.Characters.{Form, forms, within, is_tail, tails, tails_follow, width_by, good_bytes}
 use Rattle.songcode.proofs.CharactersAgree.{good_some, good_none}
 use Rattle.songcode.proofs.ListLaws.{by_cases}
@@ -39,7 +39,7 @@ follows_fit f (suc n) (b ∷ bs) h =
     (λ e. absurd (false_not_true (rw e at h)))
 
 width_fits : (fs : List Form) (b : ℕ) (bs : List ℕ) → width_by fs b bs ≤ suc (length bs)
-unfolding width_by if◌then◌else◌
+unfolding width_by provided◌then◌else◌
 width_fits [] b bs = omega arith
 width_fits (f ∷ fs) b bs =
     by_cases
@@ -76,20 +76,20 @@ module _ (t : List ℕ) (i : ℕ) where
 
   module _ (h : i < length t) where
     pub ascii_stop : within 0x01 0x7F (get_or t i 0) ≡ false → ascii_length (drop i t) ≡ 0
-    unfolding ascii_length if◌then◌else◌
+    unfolding ascii_length provided◌then◌else◌
     ascii_stop e = rw (drop-cons t i 0 h, e)
 
     pub ascii_more : within 0x01 0x7F (get_or t i 0) ≡ true → ascii_length (drop i t) ≡ 1 + ascii_length (drop (i + 1) t)
-    unfolding ascii_length if◌then◌else◌
+    unfolding ascii_length provided◌then◌else◌
     ascii_more e = rw (drop-cons t i 0 h, e, add-one i) (omega arith)
 
 -- All of them are good.
 ascii_wide : (b : ℕ) (bs : List ℕ) → within 0x01 0x7F b ≡ true → width_by forms b bs ≡ 1
-unfolding width_by forms tails_follow if◌then◌else◌
+unfolding width_by forms tails_follow provided◌then◌else◌
 ascii_wide b bs e = rw e
 
 good_ascii : (t : List ℕ) → good_bytes 0 t ≡ ascii_length t + good_bytes 0 (drop (ascii_length t) t)
-unfolding ascii_length if◌then◌else◌
+unfolding ascii_length provided◌then◌else◌
 good_ascii [] = omega arith
 good_ascii (b ∷ t) =
     by_cases

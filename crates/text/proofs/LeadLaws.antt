@@ -7,7 +7,7 @@ use native.Mathlib.Omega.{arith}
 use native.Mathlib.Numerals.{add-one}
 use lib.ListN.{length, get_or, take, drop, get_or-eq_default}
 use lib.Seq.{drop-cons}
-use Rattle.songcode.specs.Lists.{if◌then◌else◌}
+use Rattle.songcode.specs.Lists.{provided◌then◌else◌}
 use Rattle.songcode.specs.Answer.Characters.{Form, form, forms, within, is_tail, tails, tails_follow, width_by}
 use Rattle.songcode.proofs.ListLaws.{by_cases}
 use Rattle.text.specs.declared.characters.Lead.{Lead}
@@ -23,7 +23,7 @@ follows_range f (suc n) (b ∷ bs) = refl
 
 -- The width by the forms is the width from the lead.
 pub width_by_lead : (fs : List Form) (b : ℕ) (bs : List ℕ) → width_by fs b bs ≡ width_from (lead_by fs b) bs
-unfolding width_by lead_by width_from if◌then◌else◌
+unfolding width_by lead_by width_from provided◌then◌else◌
 width_by_lead [] b bs = refl
 width_by_lead (f ∷ fs) b bs =
     by_cases (within f.first_low f.first_high b) (λ e. let k : suc f.more - 1 ≡ f.more = omega arith in rw
@@ -31,7 +31,7 @@ width_by_lead (f ∷ fs) b bs =
 
 -- A lead of width 0 or 1 wants nothing behind it.
 pub width_short : (l : Lead) (bs : List ℕ) → l.width < 2 → l.width ≡ width_from l bs
-unfolding width_from tails_follow if◌then◌else◌
+unfolding width_from tails_follow provided◌then◌else◌
 width_short l bs h = let k : l.width - 1 ≡ 0 = omega arith in rw k
 
 -- A longer one wants a second byte in its range, and tails behind that.
@@ -40,27 +40,27 @@ module _ (l : Lead) (h : 2 ≤ l.width) where
   wants = omega arith
 
   pub width_ended : (bs : List ℕ) → length bs ≡ 0 → 0 ≡ width_from l bs
-  unfolding width_from tails_follow if◌then◌else◌
+  unfolding width_from tails_follow provided◌then◌else◌
   width_ended [] e = rw wants
   width_ended (b ∷ bs) e = absurd (omega arith)
 
   pub width_second : (bs : List ℕ) → 0 < length bs → within l.low l.high (get_or bs 0 0) ≡ false → 0 ≡ width_from l bs
-  unfolding width_from tails_follow if◌then◌else◌
+  unfolding width_from tails_follow provided◌then◌else◌
   width_second [] g e = absurd (omega arith)
   width_second (b ∷ bs) g e = rw (wants, e)
 
   module _ (bs : List ℕ) (g : 0 < length bs) (e : within l.low l.high (get_or bs 0 0) ≡ true) {test : Bool}
       (t : test ≡ tails (l.width - 2) (take (length bs - 1) (drop 1 bs))) where
-    width_tails : width_from l bs ≡ (if test then l.width else 0)
+    width_tails : width_from l bs ≡ (provided test then l.width else 0)
     unfolding width_from tails_follow
     width_tails = rw (t, rest_part bs 1, wants, drop-cons bs 0 0) (rw e)
 
     pub width_whole : test ≡ true → l.width ≡ width_from l bs
-    unfolding if◌then◌else◌
+    unfolding provided◌then◌else◌
     width_whole h = sym (width_tails ∙ rw h)
 
     pub width_broken : test ≡ false → 0 ≡ width_from l bs
-    unfolding if◌then◌else◌
+    unfolding provided◌then◌else◌
     width_broken h = sym (width_tails ∙ rw h)
 
 -- Tails, one at a time.
@@ -87,7 +87,7 @@ tails_none n i bs h = let k : n - i ≡ 0 = omega arith in rw k
 
 -- The width at a place: of no byte, of a zero, of an ASCII byte, and of any by its lead.
 pub width_past : (s : List ℕ) (i : ℕ) → length s ≤ i → 0 ≡ width_at s i
-unfolding width_by forms within if◌then◌else◌
+unfolding width_by forms within provided◌then◌else◌
 width_past s i h = rw (get_or-eq_default s 0 h)
 
 pub width_lead : (s : List ℕ) (i : ℕ) {l : Lead} {w : ℕ} → l ≡ lead_of (get_or s i 0) → w ≡ width_from l (take (length s - (i + 1)) (drop (i + 1) s))

@@ -10,7 +10,7 @@ use borrow.Author.Tests.{ne_eqb, eqb-true, eqb-false, leb-true, leb-false}
 use lib.Dec.{eqb, leb}
 use lib.ListN.{length, take, get_or, drop, drop_of_length-le, get_or-eq_default}
 use lib.Seq.{drop-cons, get_or-drop, take-suc, length-take-le}
-use Rattle.songcode.specs.Lists.{if◌then◌else◌}
+use Rattle.songcode.specs.Lists.{provided◌then◌else◌}
 use Rattle.songcode.specs.Bytes.{is_blank}
 use Rattle.songcode.specs.Answer.Lines.{Ending, lf, cr, inside, ending}
 use Rattle.songcode.proofs.ListLaws.{by_cases}
@@ -19,15 +19,15 @@ use Rattle.text.specs.Spans.{blank, end, ends, longer, line_length, break_width,
 
 -- What a byte is to lines.
 pub end_inside : (b : ℕ) → (b ≡ 10 → ⊥) → (b ≡ 13 → ⊥) → end b ≡ inside
-unfolding ending if◌then◌else◌
+unfolding ending provided◌then◌else◌
 end_inside b p q = rw (ne_eqb _ _ p, ne_eqb _ _ q)
 
 end_lf : (b : ℕ) → b ≡ 10 → end b ≡ lf
-unfolding ending if◌then◌else◌
+unfolding ending provided◌then◌else◌
 end_lf b e = rw e
 
 end_cr : (b : ℕ) → b ≡ 13 → end b ≡ cr
-unfolding ending if◌then◌else◌
+unfolding ending provided◌then◌else◌
 end_cr b e = rw e
 
 -- A blank ends no line.
@@ -74,11 +74,11 @@ module _ (s : List ℕ) (i : ℕ) (h : i < length s) where
       (by_ending (get_or s i 0) (λ k. rw k (omega arith)) (λ k. absurd (false_not_true (sym (rw k at e)))) (λ k. absurd (false_not_true (sym (rw k at e)))))
 
   pub front_stop : blank (get_or s i 0) ≡ false → front_blanks (drop i s) ≡ 0
-  unfolding front_blanks if◌then◌else◌
+  unfolding front_blanks provided◌then◌else◌
   front_stop e = rw (drop-cons s i 0) (rw e)
 
   pub front_more : blank (get_or s i 0) ≡ true → front_blanks (drop i s) ≡ 1 + front_blanks (drop (i + 1) s)
-  unfolding front_blanks if◌then◌else◌
+  unfolding front_blanks provided◌then◌else◌
   front_more e = rw (add-one i, drop-cons s i 0) (rw e (omega arith))
 
 module _ (s : List ℕ) (i : ℕ) (h : length s ≤ i) where
@@ -95,7 +95,7 @@ module _ (s : List ℕ) (i : ℕ) (h : length s ≤ i) where
   break_past = rw (drop_of_length-le s h)
 
   break_over : break_length (drop i s) ≡ break_width (end (get_or s i 0)) (end (get_or s (i + 1) 0))
-  unfolding break_length break_width ending if◌then◌else◌
+  unfolding break_length break_width ending provided◌then◌else◌
   break_over = rw (drop_of_length-le s h, get_or-eq_default s 0 h)
 
 -- The line end at a place, by the byte there and the next, which past the end are zeros.

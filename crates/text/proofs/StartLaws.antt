@@ -8,7 +8,7 @@ use borrow.Author.Tests.{eqb-true, eqb-false}
 use lib.Dec.{eqb}
 use lib.ListN.{length, get_or, take, drop}
 use lib.Seq.{drop-drop}
-use Rattle.songcode.specs.Lists.{if◌then◌else◌, is_empty}
+use Rattle.songcode.specs.Lists.{provided◌then◌else◌, is_empty}
 use Rattle.songcode.specs.Bytes.{placed, is_blank}
 use Rattle.songcode.proofs.ListLaws.{by_cases}
 use Rattle.text.specs.declared.lines.Line.{Line}
@@ -19,7 +19,7 @@ use Rattle.text.proofs.WalkLaws.{line_is, next_further}
 
 -- The blanks in front of a text stand in its first line.
 front_line : (bs : List ℕ) → front_blanks (take (line_length bs) bs) ≡ front_blanks bs
-unfolding front_blanks line_length longer if◌then◌else◌
+unfolding front_blanks line_length longer provided◌then◌else◌
 front_line [] = refl
 front_line (b ∷ bs) =
     by_cases
@@ -29,12 +29,12 @@ front_line (b ∷ bs) =
 
 -- The line goes on behind them, with no blank.
 line_behind_lem : (bs : List ℕ) → line_length bs ≡ front_blanks bs + line_length (drop (front_blanks bs) bs)
-unfolding front_blanks line_length longer if◌then◌else◌
+unfolding front_blanks line_length longer provided◌then◌else◌
 line_behind_lem [] = refl
 line_behind_lem (b ∷ bs) = by_cases (blank b) (λ e. rw (blank_inside b e, e) (omega (arith, line_behind_lem bs))) (λ e. rw e (omega arith))
 
 front_behind : (bs : List ℕ) → front_blanks (drop (front_blanks bs) bs) ≡ 0
-unfolding front_blanks if◌then◌else◌
+unfolding front_blanks provided◌then◌else◌
 front_behind [] = refl
 front_behind (b ∷ bs) = by_cases (blank b) (λ e. rw e (front_behind bs)) (λ e. rw e (rw e))
 
@@ -44,7 +44,7 @@ grown_full zero = omega arith
 grown_full (suc n) = omega arith
 
 solid_some : (bs : List ℕ) → front_blanks bs ≡ 0 → 0 < line_length bs → 0 < solid_length (take (line_length bs) bs)
-unfolding front_blanks line_length longer solid_length if◌then◌else◌
+unfolding front_blanks line_length longer solid_length provided◌then◌else◌
 solid_some [] f h = absurd (omega arith)
 solid_some (b ∷ bs) f h =
     by_ending
@@ -200,7 +200,7 @@ some_part at (suc k) (b ∷ bs) p h = refl
 module _ (s : List ℕ) (at : ℕ) where
   module _ (a : ℕ) (e : a ≡ at + front_blanks (drop at s)) where
     pub past_blank_lem : {w : ℕ} → line_length (drop a s) ≡ 0 → w ≡ break_length (drop a s) → a + w ≡ past_blank s at
-    unfolding past_blank is_empty placed if◌then◌else◌
+    unfolding past_blank is_empty placed provided◌then◌else◌
     past_blank_lem h p =
         let l = line_at s 0 at in
         let g : line_length (drop (at + front_blanks (drop at s)) s) ≡ 0 = rw (← e) h in
@@ -208,7 +208,7 @@ module _ (s : List ℕ) (at : ℕ) where
         rw (k, p, e) (sym (blank_next s 0 at g))
 
     pub past_full : 0 < line_length (drop a s) → at ≡ past_blank s at
-    unfolding past_blank if◌then◌else◌
+    unfolding past_blank provided◌then◌else◌
     past_full h =
         let l = line_at s 0 at in
         let b : l.start ≡ a = start_is s 0 at ∙ sym e in
@@ -218,7 +218,7 @@ module _ (s : List ℕ) (at : ℕ) where
 
   -- What that place says of the line.
   pub past_same : (n : ℕ) → at < length s → past_blank s at ≡ at → is_empty (line_text s (line_at s n at)).text ≡ false
-  unfolding past_blank line_of if◌then◌else◌
+  unfolding past_blank line_of provided◌then◌else◌
   past_same n h e =
       by_cases
       (is_empty (line_text s (line_at s n at)).text)
@@ -227,7 +227,7 @@ module _ (s : List ℕ) (at : ℕ) where
 
   pub past_other : (n : ℕ) → (past_blank s at ≡ at → ⊥)
       → (is_empty (line_text s (line_at s n at)).text ≡ true) × ((line_at s n at).next ≡ past_blank s at)
-  unfolding past_blank line_of if◌then◌else◌
+  unfolding past_blank line_of provided◌then◌else◌
   past_other n e =
       by_cases
       (is_empty (line_text s (line_at s n at)).text)

@@ -6,14 +6,14 @@ use mathlib.Core.Bool.{Bool, true, false}
 use native.Mathlib.Omega.{arith}
 use native.Mathlib.Nat.{add-zero}
 use lib.ListN.{length, take, drop}
-use Rattle.songcode.specs.Lists.{if◌then◌else◌, left}
+use Rattle.songcode.specs.Lists.{provided◌then◌else◌, left}
 use Rattle.songcode.specs.Bytes.{Byte, placed, is_blank}
 use Rattle.songcode.specs.Answer.Lines.{drop_last, trimmed}
 use Rattle.songcode.proofs.ListLaws.{by_cases}
 use Rattle.text.specs.Spans.{blank, front_blanks, grown, solid_length}
 
 left_placed : (at : ℕ) (bs : List ℕ) → left is_blank (placed at bs) ≡ placed (at + front_blanks bs) (drop (front_blanks bs) bs)
-unfolding left placed front_blanks if◌then◌else◌
+unfolding left placed front_blanks provided◌then◌else◌
 left_placed at [] = refl
 left_placed at (b ∷ bs) =
     let k : at + suc (front_blanks bs) ≡ suc at + front_blanks bs = omega arith in
@@ -31,7 +31,7 @@ last_kept true x [] = []
 last_kept false x [] = x ∷ []
 
 left_last : (p : Byte → Bool) (x : Byte) (ys : List Byte) → left p (ys ++ (x ∷ [])) ≡ last_kept (p x) x (left p ys)
-unfolding left last_kept if◌then◌else◌
+unfolding left last_kept provided◌then◌else◌
 left_last p x [] = by_cases (p x) (λ e. rw e) (λ e. rw e)
 left_last p x (y ∷ ys) = by_cases (p y) (λ e. rw e (left_last p x ys)) (λ e. rw e)
 

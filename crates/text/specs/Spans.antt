@@ -1,6 +1,6 @@
 -- The lines of a text as places in it: what the code finds line by line.
 use Rattle.std.specs.Prelude.{ℕ, zero, suc, ◌+◌, ◌-◌, ◌≤◌, min, max, ◌≡◌, List, [], ◌∷◌, Bool, true, false, length, take, drop, get_or}
-use Rattle.songcode.specs.Lists.{if◌then◌else◌, is_empty}
+use Rattle.songcode.specs.Lists.{provided◌then◌else◌, is_empty}
 use Rattle.songcode.specs.Bytes.{Byte, placed, is_blank}
 use Rattle.songcode.specs.Answer.Lines.{Ending, lf, cr, inside, ending}
 use Rattle.songcode.specs.Answer.Lines as songcode
@@ -51,9 +51,9 @@ break_length (b ∷ bs) = break_width (end b) (end (get_or bs 0 0))
 
 -- How many blanks stand in front.
 unfoldable pub front_blanks : List ℕ → ℕ
-unfolding if◌then◌else◌ is_blank
+unfolding provided◌then◌else◌ is_blank
 front_blanks [] = 0
-front_blanks (b ∷ bs) = if blank b then suc (front_blanks bs) else 0
+front_blanks (b ∷ bs) = provided blank b then suc (front_blanks bs) else 0
 
 -- The length up to the last byte that is no blank.
 unfoldable pub grown : Bool → ℕ → ℕ
@@ -103,8 +103,8 @@ line_text s l = record { number = l.number; text = placed l.start (part l.start 
 
 -- The place behind a blank line; where the line there is not blank, the place itself.
 unfoldable pub past_blank : List ℕ → ℕ → ℕ
-unfolding if◌then◌else◌ is_empty
-past_blank s at = if is_empty (line_text s (line_at s 0 at)).text then (line_at s 0 at).next else at
+unfolding provided◌then◌else◌ is_empty
+past_blank s at = provided is_empty (line_text s (line_at s 0 at)).text then (line_at s 0 at).next else at
 
 -- The text is empty, or its last byte ends a line: one more line stands behind, an empty one. The first test says so of what stands before.
 unfoldable pub is_end : Ending → Bool

@@ -5,7 +5,7 @@ ghost use Rattle.text.specs.Spans.{blank, end, ends, line_length, front_blanks, 
 use super::byte_at;
 
 // A line's number, the places of its first byte and behind its last one that is no blank, and the place of the next line.
-#[derive(Drop)]
+#[derive(Clone, Copy)]
 pub struct Line {
     pub number: usize,
     pub start: usize,

@@ -10,7 +10,7 @@ use borrow.Author.Tests.{le-leb, lt-leb, eq-eqb, ne_eqb}
 use lib.Dec.{leb}
 use lib.ListN.{length, get_or, drop, drop_of_length-le}
 use lib.Seq.{drop-cons}
-use Rattle.songcode.specs.Lists.{if◌then◌else◌}
+use Rattle.songcode.specs.Lists.{provided◌then◌else◌}
 use Rattle.songcode.specs.Bytes.{Byte, placed}
 use Rattle.songcode.specs.Answer.Numbers.{is_digit, digits, is_decimal, value_from, number_in}
 use Rattle.songcode.proofs.NumbersAgree.{number_exact}
@@ -24,20 +24,20 @@ value_grows v (b ∷ bs) = let h = value_grows (v * 10 + (b.value - 48)) bs in o
 
 module _ (w : List ℕ) (i v : ℕ) where
   pub digits_over : length w ≤ i → v ≤ 9999 → digits_from v (placed i (drop i w)) ≡ Is v
-  unfolding digits_from placed digits value_from if◌then◌else◌
+  unfolding digits_from placed digits value_from provided◌then◌else◌
   digits_over h l = rw (drop_of_length-le w h, le-leb v 9999 l)
 
   module _ (h : i < length w) where
     pub digits_low : get_or w i 0 < 48 → digits_from v (placed i (drop i w)) ≡ Not
-    unfolding digits_from placed digits is_digit if◌then◌else◌
+    unfolding digits_from placed digits is_digit provided◌then◌else◌
     digits_low l = rw (drop-cons w i 0 h, lt-leb 48 (get_or w i 0) l)
 
     pub digits_high : 57 < get_or w i 0 → digits_from v (placed i (drop i w)) ≡ Not
-    unfolding digits_from placed digits is_digit if◌then◌else◌
+    unfolding digits_from placed digits is_digit provided◌then◌else◌
     digits_high l = rw (drop-cons w i 0 h, lt-leb (get_or w i 0) 57 l, and-false)
 
     pub digits_past : 999 < v → digits_from v (placed i (drop i w)) ≡ Not
-    unfolding digits_from placed value_from if◌then◌else◌
+    unfolding digits_from placed value_from provided◌then◌else◌
     digits_past l =
         let d = v * 10 + (get_or w i 0 - 48) in
         let g = value_grows d (placed (suc i) (drop (suc i) w)) in
@@ -50,18 +50,18 @@ module _ (w : List ℕ) (i v : ℕ) where
 
 -- A text that is a decimal where it is digits.
 decimal_is : (bs : List Byte) → is_decimal bs ≡ digits bs → digits_from 0 bs ≡ number_of (number_in 0 9999 bs)
-unfolding digits_from number_in number_of if◌then◌else◌
+unfolding digits_from number_in number_of provided◌then◌else◌
 decimal_is bs e =
     let v = value_from 0 bs in
     rw (e, le-leb 0 v (omega arith)) (choice (digits bs) (leb v 9999) v)
   where
-    choice : (s t : Bool) (v : ℕ) → (if s && t then Is v else Not) ≡ number_of (if s && true && t then some v else none)
+    choice : (s t : Bool) (v : ℕ) → (provided s && t then Is v else Not) ≡ number_of (provided s && true && t then some v else none)
     choice true true v = refl
     choice true false v = refl
     choice false t v = refl
 
 pub decimal_empty : (w : List ℕ) → length w ≡ 0 → Not ≡ number_of (number_in 0 9999 (placed 0 w))
-unfolding number_in is_decimal placed if◌then◌else◌ number_of
+unfolding number_in is_decimal placed provided◌then◌else◌ number_of
 decimal_empty [] h = refl
 decimal_empty (b ∷ w) h = absurd (omega arith)
 
@@ -76,7 +76,7 @@ decimal_single (b ∷ []) h = decimal_is (placed 0 (b ∷ [])) (and_true (is_dig
 decimal_single (b ∷ c ∷ w) h = absurd (omega arith)
 
 pub decimal_zero : (w : List ℕ) → (length w ≡ 0 → ⊥) → (length w ≡ 1 → ⊥) → get_or w 0 0 ≡ 48 → Not ≡ number_of (number_in 0 9999 (placed 0 w))
-unfolding number_in is_decimal placed if◌then◌else◌ number_of
+unfolding number_in is_decimal placed provided◌then◌else◌ number_of
 decimal_zero [] h g e = absurd (h refl)
 decimal_zero (b ∷ []) h g e = absurd (g refl)
 decimal_zero (b ∷ c ∷ w) h g e = rw (eq-eqb b 48 e)
@@ -101,15 +101,15 @@ module _ (low high : ℕ) (bs : List Byte) where
           let g = (number_exact 0 9999 bs n).1 (record { decimal = d.decimal; says = d.says; at_least = omega arith; at_most = omega arith }) in
           rw g at e
 
-  pub number_is : (n : ℕ) → Is n ≡ number_of (number_in 0 9999 bs) → number_of (number_in low high bs) ≡ (if leb low n && leb n high then Is n else Not)
-  unfolding number_of number_in if◌then◌else◌
+  pub number_is : (n : ℕ) → Is n ≡ number_of (number_in 0 9999 bs) → number_of (number_in low high bs) ≡ (provided leb low n && leb n high then Is n else Not)
+  unfolding number_of number_in provided◌then◌else◌
   number_is n e = go (number_in 0 9999 bs) refl e
     where
-      choice : (t : Bool) → number_of (if t then some n else none) ≡ (if t then Is n else Not)
+      choice : (t : Bool) → number_of (provided t then some n else none) ≡ (provided t then Is n else Not)
       choice true = refl
       choice false = refl
 
-      go : (o : Option ℕ) → number_in 0 9999 bs ≡ o → Is n ≡ number_of o → number_of (number_in low high bs) ≡ (if leb low n && leb n high then Is n else Not)
+      go : (o : Option ℕ) → number_in 0 9999 bs ≡ o → Is n ≡ number_of o → number_of (number_in low high bs) ≡ (provided leb low n && leb n high then Is n else Not)
       go none f e = let z : ◌≡◌ {A = ℕ} 0 1 = cc in absurd (omega arith)
       go (some m) f e =
           let k : m ≡ n = cc in

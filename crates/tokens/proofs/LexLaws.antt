@@ -10,7 +10,7 @@ use borrow.Author.Tests.{ne_eqb, eqb-true, eqb-false, lt-ltb}
 use lib.Dec.{eqb, ltb}
 use lib.ListN.{length, get_or, take, drop, take-append-drop}
 use lib.Seq.{take-take, get_or-drop, get_or-take, length-take-le}
-use Rattle.songcode.specs.Lists.{if◌then◌else◌}
+use Rattle.songcode.specs.Lists.{provided◌then◌else◌}
 use Rattle.songcode.specs.Bytes.{Byte, placed, is_blank, is_byte}
 use Rattle.songcode.specs.Answer.Numbers.{repeat_in}
 use Rattle.songcode.specs.Description.WrittenPattern.{Plain, NoPlain}
@@ -36,11 +36,11 @@ module _ (s : List ℕ) (i stop : ℕ) where
 
   module _ (h : i < stop) (l : stop ≤ length s) where
     pub plain_stop : is_plain (get_or s i 0) ≡ false → plain_length (part i stop s) ≡ 0
-    unfolding plain_length if◌then◌else◌
+    unfolding plain_length provided◌then◌else◌
     plain_stop e = rw (part_cons s i stop h l, e)
 
     pub plain_more : is_plain (get_or s i 0) ≡ true → plain_length (part i stop s) ≡ 1 + plain_length (part (i + 1) stop s)
-    unfolding plain_length if◌then◌else◌
+    unfolding plain_length provided◌then◌else◌
     plain_more e = rw (part_cons s i stop h l, e) (omega arith)
 
     pub plain_first : is_plain (get_or s i 0) ≡ ltb 0 (plain_length (part i stop s))
@@ -68,17 +68,17 @@ unfolding is_plain class is_blank is_byte
 class_other at b e p = true_is_not_false (ap plain_class p) e
 
 plains : (at : ℕ) (bs : List ℕ) → Plain (placed at (take (plain_length bs) bs))
-unfolding Plain placed plain_length if◌then◌else◌
+unfolding Plain placed plain_length provided◌then◌else◌
 plains at [] = tt
 plains at (b ∷ bs) = by_cases (is_plain b) (λ e. rw e (class_plain at b e, plains (suc at) bs)) (λ e. rw e tt)
 
 stops : (at : ℕ) (bs : List ℕ) → NoPlain (placed at (drop (plain_length bs) bs))
-unfolding NoPlain placed plain_length if◌then◌else◌
+unfolding NoPlain placed plain_length provided◌then◌else◌
 stops at [] = tt
 stops at (b ∷ bs) = by_cases (is_plain b) (λ e. rw e (stops at bs)) (λ e. rw e (class_other at b e))
 
 pub plain_le : (bs : List ℕ) → plain_length bs ≤ length bs
-unfolding plain_length if◌then◌else◌
+unfolding plain_length provided◌then◌else◌
 plain_le [] = omega arith
 plain_le (b ∷ bs) = let h = plain_le bs in by_cases (is_plain b) (λ e. rw e (omega arith)) (λ e. rw e (omega arith))
 
@@ -90,7 +90,7 @@ split at bs =
 
 -- A shorter text has as many in front, if they all stand in it.
 plain_within : (m : ℕ) (bs : List ℕ) → plain_length bs ≤ m → plain_length (take m bs) ≡ plain_length bs
-unfolding plain_length if◌then◌else◌
+unfolding plain_length provided◌then◌else◌
 plain_within zero [] h = refl
 plain_within (suc m) [] h = refl
 plain_within zero (b ∷ bs) h = omega arith
@@ -101,7 +101,7 @@ plain_within (suc m) (b ∷ bs) h =
     (λ e. rw e refl)
 
 blanks_within : (m : ℕ) (bs : List ℕ) → front_blanks bs ≤ m → front_blanks (take m bs) ≡ front_blanks bs
-unfolding front_blanks if◌then◌else◌
+unfolding front_blanks provided◌then◌else◌
 blanks_within zero [] h = refl
 blanks_within (suc m) [] h = refl
 blanks_within zero (b ∷ bs) h = omega arith
@@ -168,12 +168,12 @@ module _ (x : Byte) (at : ℕ) (bs : List ℕ) where
   first_plain e = ap (λ l. word l.front l.rest) (lexed_first e)
 
 class_blank : (at b : ℕ) → text.blank b ≡ true → class (record { place = at; value = b }) ≡ blank
-unfolding class is_blank if◌then◌else◌
+unfolding class is_blank provided◌then◌else◌
 class_blank at b e = rw e
 
 -- Blanks in front are passed over.
 tokens_blanks : (at : ℕ) (bs : List ℕ) → tokens (placed at bs) ≡ tokens (placed (at + front_blanks bs) (drop (front_blanks bs) bs))
-unfolding placed front_blanks if◌then◌else◌
+unfolding placed front_blanks provided◌then◌else◌
 tokens_blanks at [] = refl
 tokens_blanks at (b ∷ bs) =
     by_cases
@@ -182,7 +182,7 @@ tokens_blanks at (b ∷ bs) =
     (λ e. rw (e, add-zero))
 
 blanks_end : (bs : List ℕ) → front_blanks bs < length bs → text.blank (get_or bs (front_blanks bs) 0) ≡ false
-unfolding front_blanks if◌then◌else◌
+unfolding front_blanks provided◌then◌else◌
 blanks_end [] h = absurd (omega arith)
 blanks_end (b ∷ bs) h = by_cases (text.blank b) (λ e. rw e (blanks_end bs (later e))) (λ e. rw e e)
   where
@@ -219,15 +219,15 @@ module _ (s : List ℕ) (a stop : ℕ) where
     at_blank e = opened _ (first_blank _ _ (class_blank a (get_or s a 0) e))
 
     pub at_semicolon : get_or s a 0 ≡ 59 → tokens_from a stop s ≡ semicolon ∷ tokens_from (a + 1) stop s
-    unfolding class is_blank is_byte if◌then◌else◌
+    unfolding class is_blank is_byte provided◌then◌else◌
     at_semicolon e = opened _ (first_semi _ _ (rw e))
 
     pub at_colon : get_or s a 0 ≡ 58 → tokens_from a stop s ≡ colon ∷ tokens_from (a + 1) stop s
-    unfolding class is_blank is_byte if◌then◌else◌
+    unfolding class is_blank is_byte provided◌then◌else◌
     at_colon e = opened _ (first_double _ _ (rw e))
 
     pub at_bracket : get_or s a 0 ≡ 91 → tokens_from a stop s ≡ opens ∷ tokens_from (a + 1) stop s
-    unfolding class is_blank is_byte if◌then◌else◌
+    unfolding class is_blank is_byte provided◌then◌else◌
     at_bracket e = opened _ (first_bracket _ _ (rw e))
 
     module _ (k : ℕ) (p : k ≡ plain_length (part (a + 1) stop s)) where
@@ -242,7 +242,7 @@ module _ (s : List ℕ) (a stop : ℕ) where
       behind = rw (part_drop s (a + 1) stop k)
 
       pub at_closing : get_or s a 0 ≡ 93 → tokens_from a stop s ≡ closing_token (repeat_in (placed 0 (part (a + 1) (a + 1 + k) s))) ∷ tokens_from (a + 1 + k) stop s
-      unfolding class is_blank is_byte if◌then◌else◌ repeat_in
+      unfolding class is_blank is_byte provided◌then◌else◌ repeat_in
       at_closing e =
           opened
           _
@@ -260,7 +260,7 @@ module _ (s : List ℕ) (a stop : ℕ) where
 
 -- A byte that is no blank and none of the four signs is plain.
 pub plain_byte : (b : ℕ) → text.blank b ≡ false → (b ≡ 59 → ⊥) → (b ≡ 58 → ⊥) → (b ≡ 91 → ⊥) → (b ≡ 93 → ⊥) → is_plain b ≡ true
-unfolding is_plain class is_byte if◌then◌else◌ plain_class
+unfolding is_plain class is_byte provided◌then◌else◌ plain_class
 plain_byte b e p q r t = rw (e, ne_eqb b 59 p, ne_eqb b 58 q, ne_eqb b 91 r, ne_eqb b 93 t)
 
 pub letter_plain : (b : ℕ) → is_letter b ≡ true → is_plain b ≡ true
@@ -271,7 +271,7 @@ letter_plain b l =
     (λ z. omega arith) (λ z. omega arith) (λ z. omega arith) (λ z. omega arith)
 
 pub blank_not_plain : (b : ℕ) → text.blank b ≡ true → is_plain b ≡ false
-unfolding is_plain class if◌then◌else◌ plain_class
+unfolding is_plain class provided◌then◌else◌ plain_class
 blank_not_plain b e = rw e
 
 pub sign_not_plain : (b sign : ℕ) → is_plain sign ≡ false → b ≡ sign → is_plain b ≡ false

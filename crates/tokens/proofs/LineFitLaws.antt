@@ -7,7 +7,7 @@ use native.Mathlib.Nat.{sub-zero}
 use borrow.Author.Tests.{ltb-true, ltb-false}
 use lib.Dec.{ltb}
 use lib.ListN.{length, take, drop, get_or, length-take, length-drop}
-use Rattle.songcode.specs.Lists.{if◌then◌else◌}
+use Rattle.songcode.specs.Lists.{provided◌then◌else◌}
 use Rattle.songcode.specs.Bytes.{is_blank}
 use Rattle.songcode.specs.Answer.Lines.{cr, ending}
 use Rattle.songcode.proofs.ListLaws.{by_cases}
@@ -19,7 +19,7 @@ use Rattle.text.proofs.WalkLaws.{whole, cr_breaks}
 
 -- The first line of a text and its line end lie in the text; a line without line end is the last.
 cr_width : (bs : List ℕ) → break_width cr (end (get_or bs 0 0)) ≤ suc (length bs)
-unfolding break_width ending if◌then◌else◌
+unfolding break_width ending provided◌then◌else◌
 cr_width [] = omega arith
 cr_width (b ∷ bs) = by_ending b (λ e. rw e (omega arith)) (λ e. rw e (omega arith)) (λ e. rw e (omega arith))
 
@@ -51,7 +51,7 @@ line_fits (b ∷ bs) =
     })
 
 pub front_le : (bs : List ℕ) → front_blanks bs ≤ length bs
-unfolding front_blanks if◌then◌else◌
+unfolding front_blanks provided◌then◌else◌
 front_le [] = omega arith
 front_le (b ∷ bs) = let h = front_le bs in by_cases (is_blank (record { place = 0; value = b })) (λ e. rw e (omega arith)) (λ e. rw e (omega arith))
 

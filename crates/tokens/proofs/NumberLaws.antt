@@ -6,7 +6,7 @@ use mathlib.Core.Bool.{Bool, true, ◌&&◌}
 use borrow.Author.Tests.{leb-true}
 use lib.Dec.{leb}
 use lib.ListN.{get_or}
-use Rattle.songcode.specs.Lists.{if◌then◌else◌}
+use Rattle.songcode.specs.Lists.{provided◌then◌else◌}
 use Rattle.songcode.specs.Bytes.{same, ascii}
 use Rattle.songcode.specs.Answer.Chords.{rows, spellings, spelling_of}
 use Rattle.songcode.proofs.ListLaws.{both_pass}
@@ -34,7 +34,7 @@ stands n =
     && same (unpadded (get_or (get_or table (row_of_number n) []) (n - first_of (row_of_number n)) [])) (spelling_of n)))
 
 each_stands : (n : ℕ) → n < 34 → stands n ≡ true
-unfolding stands all_below row_of_number first_of unpadded same spelling_of if◌then◌else◌ rows spellings ascii
+unfolding stands all_below row_of_number first_of unpadded same spelling_of provided◌then◌else◌ rows spellings ascii
 each_stands = each_below stands 34 refl
 
 -- What the test says.

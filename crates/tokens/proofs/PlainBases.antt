@@ -9,7 +9,7 @@ use borrow.Author.Tests.{ne_eqb, eqb-true, eqb-false}
 use lib.Dec.{eqb}
 use lib.ListN.{length, get_or, take, drop}
 use lib.Seq.{take-take}
-use Rattle.songcode.specs.Lists.{if◌then◌else◌, every}
+use Rattle.songcode.specs.Lists.{provided◌then◌else◌, every}
 use Rattle.songcode.specs.Bytes.{ascii, begins, is_blank, is_byte}
 use Rattle.songcode.specs.Answer.Chords.{bases, is_passed_over, is_taken, longest_from}
 use Rattle.songcode.specs.Answer.Chords as songcode
@@ -25,7 +25,7 @@ use Rattle.tokens.proofs.WordLaws.{base_inside}
 use Rattle.tokens.proofs.LexLaws.{letter_plain, plain_le}
 
 begins_plain : (s w : List ℕ) → every is_plain s ≡ true → begins s (take (plain_length w) w) ≡ begins s w
-unfolding begins plain_length every if◌then◌else◌
+unfolding begins plain_length every provided◌then◌else◌
 begins_plain [] w e = refl
 begins_plain (x ∷ s) [] e = refl
 begins_plain (x ∷ s) (b ∷ w) e =
@@ -47,19 +47,19 @@ taken_plain s w e =
 
 longest_plain : (n : ℕ) (ss : List (List ℕ)) (w : List ℕ) (o : Option songcode.Base) → every spelled_plain ss ≡ true
     → longest_from is_taken n ss (take (plain_length w) w) o ≡ longest_from is_taken n ss w o
-unfolding longest_from every if◌then◌else◌
+unfolding longest_from every provided◌then◌else◌
 longest_plain n [] w o e = refl
 longest_plain n (s ∷ ss) w o e =
     let p = both_pass (spelled_plain s) (every spelled_plain ss) e in
     rw (taken_plain s w p.0) (longest_plain (suc n) ss w _ p.1)
 
 base_of_word : (w : List ℕ) → longest_from is_taken 0 bases (take (plain_length w) w) none ≡ longest_from is_taken 0 bases w none
-unfolding bases every is_plain plain_class class is_blank is_byte if◌then◌else◌ ascii
+unfolding bases every is_plain plain_class class is_blank is_byte provided◌then◌else◌ ascii
 base_of_word w = longest_plain 0 bases w none refl
 
 -- The plain bytes behind some of them.
 plain_behind : (l : ℕ) (w : List ℕ) → l ≤ plain_length w → plain_length w ≡ l + plain_length (drop l w)
-unfolding plain_length if◌then◌else◌
+unfolding plain_length provided◌then◌else◌
 plain_behind zero w h = omega arith
 plain_behind (suc l) [] h = let z : ⊥ = omega arith in absurd z
 plain_behind (suc l) (b ∷ w) h =
@@ -82,7 +82,7 @@ module _ (s : List ℕ) (a stop : ℕ) (h : a < stop) (l : stop ≤ length s) wh
       omega arith
 
   run_first : is_letter (get_or s a 0) ≡ true → run ≡ 1 + plain_length (part (a + 1) stop s)
-  unfolding plain_length if◌then◌else◌
+  unfolding plain_length provided◌then◌else◌
   run_first e = rw (part_cons s a stop h l, letter_plain (get_or s a 0) e) (omega arith)
 
   run_part : take run (part a stop s) ≡ part a (a + run) s

@@ -9,7 +9,7 @@ use native.Mathlib.Nat.{add-zero}
 use borrow.Author.Tests.{leb-true, le-leb, eqb-true, eqb-false, ne_eqb}
 use lib.Dec.{eqb, leb}
 use lib.ListN.{get_or}
-use Rattle.songcode.specs.Lists.{if◌then◌else◌, every}
+use Rattle.songcode.specs.Lists.{provided◌then◌else◌, every}
 use Rattle.songcode.specs.Bytes.{begins, ascii}
 use Rattle.songcode.specs.Answer.Chords.{bases, ends_in_m, is_passed_over, is_taken, longer, longest_from}
 use Rattle.songcode.specs.Answer.Chords as songcode
@@ -56,7 +56,7 @@ minor_maj (x ∷ y ∷ z ∷ t) m a j = rw (m, a, j)
 -- The row of a letter is enough: no spelling of another row fits.
 row_enough : (r : ℕ) → r < 7 → (bs : List ℕ) → longest_from is_taken 0 bases ((65 + r) ∷ bs) none
     ≡ longest_from is_taken (first_of r) (row_of r) ((65 + r) ∷ bs) none
-unfolding longest_from bases row_of first_of is_taken begins if◌then◌else◌
+unfolding longest_from bases row_of first_of is_taken begins provided◌then◌else◌
 row_enough =
     seven
     (λ r. (bs : List ℕ) → longest_from is_taken 0 bases ((65 + r) ∷ bs) none ≡ longest_from is_taken (first_of r) (row_of r) ((65 + r) ∷ bs) none)
@@ -84,7 +84,7 @@ other_letter (x ∷ s) (b ∷ w) h e =
 
 none_fits : (n : ℕ) (ss : List (List ℕ)) (w : List ℕ) (o : Option songcode.Base) → (65 ≤ get_or w 0 0 → get_or w 0 0 ≤ 71 → ⊥) → every letter ss ≡ true
     → longest_from is_taken n ss w o ≡ o
-unfolding longest_from every if◌then◌else◌
+unfolding longest_from every provided◌then◌else◌
 none_fits n [] w o h e = refl
 none_fits n (s ∷ ss) w o h e =
     let l = both_pass (letter s) (every letter ss) e in
@@ -102,29 +102,29 @@ abbrev Held : ℕ → List ℕ → Type 0
 Held r bs = in_row r ((65 + r) ∷ bs) ≡ base_of (longest_from is_taken (first_of r) (row_of r) ((65 + r) ∷ bs) none)
 
 held_none : (r : ℕ) → r < 7 → Held r []
-unfolding sign_of major_length with_minor has_minor base_of longest_from is_taken is_passed_over ends_in_m begins longer if◌then◌else◌ row_of first_of ascii
+unfolding sign_of major_length with_minor has_minor base_of longest_from is_taken is_passed_over ends_in_m begins longer provided◌then◌else◌ row_of first_of ascii
 held_none = seven (λ r. Held r []) refl refl refl refl refl refl refl
 
 held_sharp : (t : List ℕ) (m maj : Bool) → begins (ascii "m") t ≡ m → begins (ascii "maj") t ≡ maj → (r : ℕ) → r < 7 → Held r (35 ∷ t)
-unfolding sign_of major_length with_minor has_minor base_of longest_from is_taken is_passed_over ends_in_m begins longer if◌then◌else◌ row_of first_of ascii
+unfolding sign_of major_length with_minor has_minor base_of longest_from is_taken is_passed_over ends_in_m begins longer provided◌then◌else◌ row_of first_of ascii
 held_sharp t false maj e f = seven (λ r. Held r (35 ∷ t)) (simp e) refl (simp e) (simp e) refl (simp e) (simp e)
 held_sharp t true false e f = seven (λ r. Held r (35 ∷ t)) (simp (e, f)) refl (simp (e, f)) (simp (e, f)) refl (simp (e, f)) (simp (e, f))
 held_sharp t true true e f = seven (λ r. Held r (35 ∷ t)) (simp (e, f)) refl (simp (e, f)) (simp (e, f)) refl (simp (e, f)) (simp (e, f))
 
 held_flat : (t : List ℕ) (m maj : Bool) → begins (ascii "m") t ≡ m → begins (ascii "maj") t ≡ maj → (r : ℕ) → r < 7 → Held r (98 ∷ t)
-unfolding sign_of major_length with_minor has_minor base_of longest_from is_taken is_passed_over ends_in_m begins longer if◌then◌else◌ row_of first_of ascii
+unfolding sign_of major_length with_minor has_minor base_of longest_from is_taken is_passed_over ends_in_m begins longer provided◌then◌else◌ row_of first_of ascii
 held_flat t false maj e f = seven (λ r. Held r (98 ∷ t)) (simp e) (simp e) refl (simp e) (simp e) refl (simp e)
 held_flat t true false e f = seven (λ r. Held r (98 ∷ t)) (simp (e, f)) (simp (e, f)) refl (simp (e, f)) (simp (e, f)) refl (simp (e, f))
 held_flat t true true e f = seven (λ r. Held r (98 ∷ t)) (simp (e, f)) (simp (e, f)) refl (simp (e, f)) (simp (e, f)) refl (simp (e, f))
 
 held_minor : (t : List ℕ) (aj : Bool) → begins (ascii "aj") t ≡ aj → (r : ℕ) → r < 7 → Held r (109 ∷ t)
-unfolding sign_of major_length with_minor has_minor base_of longest_from is_taken is_passed_over ends_in_m begins longer if◌then◌else◌ row_of first_of ascii
+unfolding sign_of major_length with_minor has_minor base_of longest_from is_taken is_passed_over ends_in_m begins longer provided◌then◌else◌ row_of first_of ascii
 held_minor t false e = seven (λ r. Held r (109 ∷ t)) (simp e) (simp e) (simp e) (simp e) (simp e) (simp e) (simp e)
 held_minor t true e = seven (λ r. Held r (109 ∷ t)) (simp e) (simp e) (simp e) (simp e) (simp e) (simp e) (simp e)
 
 module _ (c : ℕ) (t : List ℕ) (sharp : eqb c 35 ≡ false) (flat : eqb c 98 ≡ false) (minor : eqb c 109 ≡ false) where
   held_other : (r : ℕ) → r < 7 → Held r (c ∷ t)
-  unfolding sign_of major_length with_minor has_minor base_of longest_from is_taken is_passed_over ends_in_m begins longer if◌then◌else◌ row_of first_of ascii
+  unfolding sign_of major_length with_minor has_minor base_of longest_from is_taken is_passed_over ends_in_m begins longer provided◌then◌else◌ row_of first_of ascii
   held_other =
       let s : eqb 35 c ≡ false = ne_eqb 35 c (λ z. eqb-false c 35 sharp (sym z)) in
       let f : eqb 98 c ≡ false = ne_eqb 98 c (λ z. eqb-false c 98 flat (sym z)) in
@@ -170,7 +170,7 @@ unfolding first_of
 first_most = seven (λ r. first_of r ≤ 28) (omega arith) (omega arith) (omega arith) (omega arith) (omega arith) (omega arith) (omega arith)
 
 pub sign_most : (r b : ℕ) → r < 7 → sign_of r b ≤ 2
-unfolding sign_of if◌then◌else◌
+unfolding sign_of provided◌then◌else◌
 sign_most r b =
     by_cases
     (eqb b 35)
@@ -193,7 +193,7 @@ row_found r (b ∷ bs) h e = rw e (held bs r h ∙ ap base_of (sym (row_enough r
 
 -- A letter alone is a base.
 pub letter_alone : (b : ℕ) → is_letter b ≡ true → record { number = first_of (b - 65); length = 1 } ≡ base_of (longest_from is_taken 0 bases (b ∷ []) none)
-unfolding sign_of major_length with_minor has_minor begins ascii if◌then◌else◌
+unfolding sign_of major_length with_minor has_minor begins ascii provided◌then◌else◌
 letter_alone b l =
     let p = letter_range b l in
     rw (← (add-zero (first_of (b - 65)))) (row_found (b - 65) (b ∷ []) (letter_row b l) (omega arith))

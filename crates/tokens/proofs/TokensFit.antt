@@ -8,7 +8,7 @@ use native.Mathlib.Omega.{arith}
 use borrow.Author.Tests.{leb-true}
 use lib.Dec.{leb}
 use lib.ListN.{length, drop}
-use Rattle.songcode.specs.Lists.{if◌then◌else◌, any}
+use Rattle.songcode.specs.Lists.{provided◌then◌else◌, any}
 use Rattle.songcode.specs.Bytes.{Byte, placed, values, is, is_byte}
 use Rattle.songcode.specs.Answer.Numbers.{number_in, count_in, repeat_in}
 use Rattle.songcode.specs.Answer.Chords.{bases, is_taken, longest_from, longest_base, Chord, chord_by, is_slip, without_slip, chord_in}
@@ -44,7 +44,7 @@ offset_below [] h = omega arith
 offset_below (b ∷ bs) h = h.0
 
 chord_by_fit : (o : Option songcode.Base) (w : List Byte) → longest_from is_taken 0 bases (values w) none ≡ o → Below w → Fit (chord_token (chord_by o w))
-unfolding chord_by chord_token Fit if◌then◌else◌
+unfolding chord_by chord_token Fit provided◌then◌else◌
 chord_by_fit none w e h = tt
 chord_by_fit (some b) w e h =
     by_cases
@@ -57,7 +57,7 @@ chord_by_fit (some b) w e h =
     (λ t. rw t tt)
 
 slip_fit : (o : Option Chord) → Fit (chord_token o) → Fit (chord_token (without_slip o))
-unfolding without_slip chord_token Fit if◌then◌else◌
+unfolding without_slip chord_token Fit provided◌then◌else◌
 slip_fit none h = tt
 slip_fit (some c) h = by_cases (any is_slip c.extension) (λ t. rw t tt) (λ t. rw t h)
 
@@ -82,8 +82,8 @@ closing_fit bs = go (number_in 2 9999 bs) refl
     go none e = tt
     go (some n) e = number_high 2 9999 bs n e
 
-if_fit : (t : Bool) (x y : Token) → Fit x → Fit y → Fit (if t then x else y)
-unfolding if◌then◌else◌
+if_fit : (t : Bool) (x y : Token) → Fit x → Fit y → Fit (provided t then x else y)
+unfolding provided◌then◌else◌
 if_fit true x y f g = f
 if_fit false x y f g = g
 

@@ -8,7 +8,7 @@ use native.Mathlib.Omega.{arith}
 use borrow.Author.Tests.{le-leb, lt-leb, eq-eqb, ne_eqb, eqb-true, eqb-false}
 use lib.Dec.{eqb}
 use lib.ListN.{length, get_or, drop, length-drop}
-use Rattle.songcode.specs.Lists.{if◌then◌else◌, any}
+use Rattle.songcode.specs.Lists.{provided◌then◌else◌, any}
 use Rattle.songcode.specs.Bytes.{Byte, placed, ascii, same, is, is_byte}
 use Rattle.songcode.specs.Answer.Numbers.{is_digit, digits, is_decimal, value_from, number_in, count_in, repeat_in}
 use Rattle.songcode.specs.Answer.Chords.{bases, is_taken, longest_from, longest_base, chord_by, without_slip, chord_in}
@@ -134,24 +134,24 @@ module _ (a : ℕ) (w : List ℕ) (b : Base) (e : b ≡ base_of (longest_from is
 
   module _ (h : b.length ≡ 0 → ⊥) where
     pub chord_long : 31 < length w - b.length → 54 * 2 ^ 26 ≡ token_word (chord_token (chord_in (placed a w)))
-    unfolding token_word chord_token chord_by without_slip if◌then◌else◌
+    unfolding token_word chord_token chord_by without_slip provided◌then◌else◌
     chord_long l =
         rw (chord_of_lem, base_there h, length-drop b.length (placed a w), length_placed a w, lt-leb (length w - b.length) 31 l)
 
     chord_by_lem : length w - b.length ≤ 31
         → chord_in (placed a w) ≡ without_slip (some (record { base = b.number; extension = placed (a + b.length) (drop b.length w) }))
-    unfolding chord_by if◌then◌else◌
+    unfolding chord_by provided◌then◌else◌
     chord_by_lem l =
         rw (chord_of_lem, base_there h, length-drop b.length (placed a w), length_placed a w, le-leb (length w - b.length) 31 l, placed_drop a b.length w)
 
     pub chord_slip : length w - b.length ≤ 31 → any is_slip_byte (drop b.length w) ≡ true → 54 * 2 ^ 26 ≡ token_word (chord_token (chord_in (placed a w)))
-    unfolding token_word chord_token without_slip if◌then◌else◌
+    unfolding token_word chord_token without_slip provided◌then◌else◌
     chord_slip l t = rw (chord_by_lem l, slips_placed (a + b.length) (drop b.length w), t)
 
     chord_word_lem : length w - b.length ≤ 31 → any is_slip_byte (drop b.length w) ≡ false
         → token_word (chord_token (chord_in (placed a w)))
         ≡ b.number * 2 ^ 26 + offset (placed (a + b.length) (drop b.length w)) * 2 ^ 10 + (length w - b.length) * 2 ^ 5
-    unfolding token_word chord_word chord_token without_slip if◌then◌else◌
+    unfolding token_word chord_word chord_token without_slip provided◌then◌else◌
     chord_word_lem l t =
         rw (chord_by_lem l, slips_placed (a + b.length) (drop b.length w), t, length_placed (a + b.length) (drop b.length w), length-drop b.length w)
 
@@ -172,32 +172,32 @@ module _ (a : ℕ) (w : List ℕ) (b : Base) (e : b ≡ base_of (longest_from is
         omega (arith, chord_word_lem l t)
 
 dollar_chord : (b : Byte) (bs : List Byte) → is_byte 36 b ≡ false → dollar_or (b ∷ bs) ≡ chord_token (chord_in (b ∷ bs))
-unfolding dollar_or if◌then◌else◌
-dollar_chord b bs e = ap (λ t. if t then reference_token (count_in bs) else chord_token (chord_in (b ∷ bs))) e
+unfolding dollar_or provided◌then◌else◌
+dollar_chord b bs e = ap (λ t. provided t then reference_token (count_in bs) else chord_token (chord_in (b ∷ bs))) e
 
 -- The token of a word: one of three signs, or what its first byte says.
 module _ (a : ℕ) (w : List ℕ) where
   pub word_again : true ≡ same (37 ∷ []) w → 62 * 2 ^ 26 ≡ token_word (word_token (placed a w))
-  unfolding token_word word_token is ascii if◌then◌else◌
+  unfolding token_word word_token is ascii provided◌then◌else◌
   word_again e = rw (values_placed a w, ← e)
 
   module _ (p : false ≡ same (37 ∷ []) w) where
     pub word_silence : true ≡ same (95 ∷ []) w → 63 * 2 ^ 26 ≡ token_word (word_token (placed a w))
-    unfolding token_word word_token is ascii if◌then◌else◌
+    unfolding token_word word_token is ascii provided◌then◌else◌
     word_silence e = rw (values_placed a w, ← p, ← e)
 
     module _ (q : false ≡ same (95 ∷ []) w) where
       pub word_remover : true ≡ same (61 ∷ []) w → 61 * 2 ^ 26 ≡ token_word (word_token (placed a w))
-      unfolding token_word word_token is ascii if◌then◌else◌
+      unfolding token_word word_token is ascii provided◌then◌else◌
       word_remover e = rw (values_placed a w, ← p, ← q, ← e)
 
       module _ (r : false ≡ same (61 ∷ []) w) where
         word_other : word_token (placed a w) ≡ dollar_or (placed a w)
-        unfolding word_token is ascii if◌then◌else◌
+        unfolding word_token is ascii provided◌then◌else◌
         word_other = rw (values_placed a w, ← p, ← q, ← r)
 
         pub word_reference : (v : List ℕ) → w ≡ 36 ∷ v → token_word (reference_token (count_in (placed 0 v))) ≡ token_word (word_token (placed a w))
-        unfolding dollar_or placed is_byte if◌then◌else◌ count_in
+        unfolding dollar_or placed is_byte provided◌then◌else◌ count_in
         word_reference v e = rw (word_other, e, number_placed 1 9999 (suc a) 0 v)
 
         pub word_chord : (b : ℕ) (v : List ℕ) → w ≡ b ∷ v → (b ≡ 36 → ⊥) → token_word (chord_token (chord_in (placed a w))) ≡ token_word (word_token (placed a w))

@@ -2,7 +2,7 @@
 use Rattle.std.specs.Prelude.{ℕ, ◌+◌, List, [], ◌∷◌, Bool, ◌&&◌, not, eqb, leb, ltb, get_or, drop}
 use Prim.Native.Char.{code}
 use Rattle.std.proofs.Math.Option.{Option, none, some}
-use Rattle.songcode.specs.Lists.{if◌then◌else◌}
+use Rattle.songcode.specs.Lists.{provided◌then◌else◌}
 use Rattle.songcode.specs.Bytes.{begins, ascii}
 use Rattle.songcode.specs.Answer.Chords.{spellings, rows}
 use Rattle.songcode.specs.Answer.Chords as songcode
@@ -19,9 +19,9 @@ is_letter b = leb (code "A") b && leb b (code "G")
 
 -- A spelling without the zeros that pad it.
 unfoldable pub unpadded : List ℕ → List ℕ
-unfolding if◌then◌else◌
+unfolding provided◌then◌else◌
 unpadded [] = []
-unpadded (b ∷ bs) = if eqb b 0 then [] else b ∷ unpadded bs
+unpadded (b ∷ bs) = provided eqb b 0 then [] else b ∷ unpadded bs
 
 -- A row of spellings, and the number of its first.
 unfoldable pub row_of : ℕ → List (List ℕ)
@@ -38,26 +38,26 @@ has_minor t = begins (ascii "m") t && not (begins (ascii "maj") t)
 
 -- How far behind its letter a row has the chord with this sign; 0 where it has none.
 unfoldable pub sign_of : ℕ → ℕ → ℕ
-unfolding if◌then◌else◌
+unfolding provided◌then◌else◌
 sign_of r b =
-    if eqb b (code "#") then get_or (1 ∷ 0 ∷ 1 ∷ 2 ∷ 0 ∷ 1 ∷ 2 ∷ []) r 0
-    else if eqb b (code "b") then get_or (2 ∷ 1 ∷ 0 ∷ 1 ∷ 1 ∷ 0 ∷ 1 ∷ []) r 0
+    provided eqb b (code "#") then get_or (1 ∷ 0 ∷ 1 ∷ 2 ∷ 0 ∷ 1 ∷ 2 ∷ []) r 0
+    else provided eqb b (code "b") then get_or (2 ∷ 1 ∷ 0 ∷ 1 ∷ 1 ∷ 0 ∷ 1 ∷ []) r 0
     else 0
 
 -- How many bytes spell a letter with its sign.
 unfoldable pub major_length : ℕ → ℕ
-unfolding if◌then◌else◌
-major_length sign = if eqb sign 0 then 1 else 2
+unfolding provided◌then◌else◌
+major_length sign = provided eqb sign 0 then 1 else 2
 
 -- A major chord of a row, or its minor one where an `m` stands behind it.
 unfoldable pub with_minor : ℕ → ℕ → ℕ → List ℕ → Base
-unfolding if◌then◌else◌ has_minor
+unfolding provided◌then◌else◌ has_minor
 with_minor r number length w =
-    if has_minor (drop length w) then record { number = number + get_or (3 ∷ 2 ∷ 2 ∷ 3 ∷ 2 ∷ 2 ∷ 3 ∷ []) r 0; length = length + 1 }
+    provided has_minor (drop length w) then record { number = number + get_or (3 ∷ 2 ∷ 2 ∷ 3 ∷ 2 ∷ 2 ∷ 3 ∷ []) r 0; length = length + 1 }
     else record { number = number; length = length }
 
 -- The row in which a number stands.
 unfoldable pub row_of_number : ℕ → ℕ
-unfolding if◌then◌else◌
+unfolding provided◌then◌else◌
 row_of_number n =
-    if ltb n 6 then 0 else if ltb n 10 then 1 else if ltb n 14 then 2 else if ltb n 20 then 3 else if ltb n 24 then 4 else if ltb n 28 then 5 else 6
+    provided ltb n 6 then 0 else provided ltb n 10 then 1 else provided ltb n 14 then 2 else provided ltb n 20 then 3 else provided ltb n 24 then 4 else provided ltb n 28 then 5 else 6

@@ -1,7 +1,7 @@
 -- Decimals as the code answers them.
 use Rattle.std.specs.Prelude.{ℕ, List, ◌&&◌, leb}
 use Rattle.std.proofs.Math.Option.{Option, none, some}
-use Rattle.songcode.specs.Lists.{if◌then◌else◌}
+use Rattle.songcode.specs.Lists.{provided◌then◌else◌}
 use Rattle.songcode.specs.Bytes.{Byte}
 use Rattle.songcode.specs.Answer.Numbers.{digits, value_from}
 use Rattle.tokens.specs.declared.numbers.Number.{Number}
@@ -13,5 +13,5 @@ number_of (some n) = Is n
 
 -- The number that a text of digits says behind the number before it, up to 9,999.
 unfoldable pub digits_from : ℕ → List Byte → Number
-unfolding if◌then◌else◌ digits value_from
-digits_from v bs = if digits bs && leb (value_from v bs) 9999 then Is (value_from v bs) else Not
+unfolding provided◌then◌else◌ digits value_from
+digits_from v bs = provided digits bs && leb (value_from v bs) 9999 then Is (value_from v bs) else Not

@@ -1,6 +1,6 @@
 -- What the code finds of a line's tokens: plain bytes, and the token at a place.
 use Rattle.std.specs.Prelude.{ℕ, suc, ◌/◌, ◌%◌, ◌<◌, ◌≤◌, ◌≡◌, List, [], ◌∷◌, Bool, true, false}
-use Rattle.songcode.specs.Lists.{if◌then◌else◌}
+use Rattle.songcode.specs.Lists.{provided◌then◌else◌}
 use Rattle.songcode.specs.Bytes.{placed}
 use Rattle.songcode.specs.Answer.Chords.{is_slip}
 use Rattle.songcode.specs.Answer.Tokens.{Class, blank, semi, double, bracket, closing, plain, class, tokens}
@@ -30,9 +30,9 @@ is_slip_byte b = is_slip (record { place = 0; value = b })
 
 -- How many plain bytes stand in front.
 unfoldable pub plain_length : List ℕ → ℕ
-unfolding if◌then◌else◌ is_plain
+unfolding provided◌then◌else◌ is_plain
 plain_length [] = 0
-plain_length (b ∷ bs) = if is_plain b then suc (plain_length bs) else 0
+plain_length (b ∷ bs) = provided is_plain b then suc (plain_length bs) else 0
 
 -- The tokens of the part of a text from one place up to another.
 abbrev pub tokens_from : ℕ → ℕ → List ℕ → List songcode.Token

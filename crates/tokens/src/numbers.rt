@@ -5,7 +5,7 @@ ghost use Rattle.songcode.specs.Answer.Numbers.{number_in};
 ghost use Rattle.tokens.specs.Decimals.{number_of, digits_from};
 
 // A number that a text spells, or none.
-#[derive(Drop)]
+#[derive(Clone, Copy)]
 pub enum Number {
     Is(usize),
     Not,

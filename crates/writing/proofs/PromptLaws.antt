@@ -8,7 +8,7 @@ use native.Mathlib.Omega.{arith}
 use lib.Dec.{eqb}
 use lib.ListN.{length, take, drop, length-take, length-drop}
 use borrow.Author.Tests.{eqb-true, not-false}
-use Rattle.songcode.specs.Lists.{if◌then◌else◌, any, every, is_empty}
+use Rattle.songcode.specs.Lists.{provided◌then◌else◌, any, every, is_empty}
 use Rattle.songcode.specs.Song.{LyricLine, Section, Song}
 use Rattle.songcode.specs.Answer.Playing.{played}
 use Rattle.songcode.specs.Answer.Lyrics.{count_of, is_counted, is_played, lines_taken, has_counts, counted, sum_fault, sum_faults, has_items, prompts_from}
@@ -91,11 +91,11 @@ SummedLeft s k xs = (k ≡ 0 → ⊥) → Each (Summed s) xs
 -- A song with an item has items of all sections.
 module _ (s : Song) (some : length (tables s).items ≡ 0 → ⊥) where
   has_items_lem : has_items s ≡ true
-  unfolding tables prompts if◌then◌else◌
+  unfolding tables prompts provided◌then◌else◌
   has_items_lem = by_cases (has_items s) (λ e. e) (λ e. absurd (some (rw e)))
 
   items_all : (tables s).items ≡ items_from 0 s.sections
-  unfolding tables prompts lines_taken if◌then◌else◌
+  unfolding tables prompts lines_taken provided◌then◌else◌
   items_all = rw (has_items_lem, all_taken s s.sections (all_prompted s has_items_lem))
 
   counts_there : has_counts s ≡ true
@@ -106,7 +106,7 @@ module _ (s : Song) (some : length (tables s).items ≡ 0 → ⊥) where
       (λ z. some (ap (λ (ws : List ℕ). length ws) items_all ∙ prompts_length 0 (flat_map lyrics_of s.sections) ∙ z))
 
   pub sums_start : sum_faults s ≡ [] → Each (Summed s) s.sections
-  unfolding sum_faults if◌then◌else◌
+  unfolding sum_faults provided◌then◌else◌
   sums_start e =
       let none : flat_map (sum_fault s) s.sections ≡ [] = rw counts_there at e in
       all_summed s s.sections (all_prompted s has_items_lem) (gather_nil (sum_fault s) s.sections none)

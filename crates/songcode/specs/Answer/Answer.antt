@@ -1,7 +1,7 @@
 -- The answer to a chart: the one refusal with its line, or the words of all five tables. Stages run one after another.
 use Rattle.std.specs.Prelude.{ℕ, suc, List, [], ◌∷◌, ◌++◌, ◌||◌, ltb, length, take}
 use Rattle.std.proofs.Math.Option.{Option, none, some}
-use Rattle.songcode.specs.Lists.{if◌then◌else◌}
+use Rattle.songcode.specs.Lists.{provided◌then◌else◌}
 use Rattle.songcode.specs.Bytes.{placed}
 use Rattle.songcode.specs.Answer.Characters.{good_bytes}
 use Rattle.songcode.specs.Answer.Chords.{Reading, chord_in}
@@ -24,9 +24,9 @@ line_of_place at bs = suc (length (cut_lines (placed 0 (take at bs))).others)
 
 -- 1: "over 65,536 bytes", line 0. 2: "bad UTF-8 or zero byte (after 1)", on the line of the first such place.
 unfoldable pub input_faults : List ℕ → List Complaint
-unfolding if◌then◌else◌ complain_if most_bytes good_bytes line_of_place
+unfolding provided◌then◌else◌ complain_if most_bytes good_bytes line_of_place
 input_faults bs =
-    if ltb most_bytes (length bs) then complaint 1 0 ∷ []
+    provided ltb most_bytes (length bs) then complaint 1 0 ∷ []
     else complain_if (ltb (good_bytes 0 bs) (length bs)) 2 (line_of_place (good_bytes 0 bs) bs)
 
 unfoldable pub blocks_of : List ℕ → List Block

@@ -1,6 +1,6 @@
 -- "0 to 65,536 bytes of UTF-8, no zero byte": characters by RFC 3629, and stage 1.
 use Rattle.std.specs.Prelude.{ℕ, zero, suc, List, [], ◌∷◌, Bool, true, false, ◌&&◌, leb}
-use Rattle.songcode.specs.Lists.{if◌then◌else◌}
+use Rattle.songcode.specs.Lists.{provided◌then◌else◌}
 use Rattle.songcode.specs.Bytes.{Byte}
 
 unfoldable pub within : ℕ → ℕ → ℕ → Bool
@@ -51,10 +51,10 @@ tails_follow f (suc n) (b ∷ bs) = within f.second_low f.second_high b && tails
 
 -- How many bytes the whole character at the front has: 0 where none stands there.
 unfoldable pub width_by : List Form → ℕ → List ℕ → ℕ
-unfolding if◌then◌else◌ within tails_follow
+unfolding provided◌then◌else◌ within tails_follow
 width_by [] b bs = 0
 width_by (f ∷ fs) b bs =
-    if within f.first_low f.first_high b then (if tails_follow f f.more bs then suc f.more else 0) else width_by fs b bs
+    provided within f.first_low f.first_high b then (provided tails_follow f f.more bs then suc f.more else 0) else width_by fs b bs
 
 -- How many bytes stand before the first place, read character by character, with a zero or no whole character.
 -- The first number counts the bytes that still belong to the character before.
@@ -66,6 +66,6 @@ good_bytes zero (b ∷ bs) = elim (width_by forms b bs) [ zero ↦ 0 | suc k ↦
 
 -- "A character is a code point": every byte that is no tail begins one.
 unfoldable pub characters : List Byte → ℕ
-unfolding if◌then◌else◌ is_tail
+unfolding provided◌then◌else◌ is_tail
 characters [] = 0
-characters (b ∷ bs) = if is_tail b.value then characters bs else suc (characters bs)
+characters (b ∷ bs) = provided is_tail b.value then characters bs else suc (characters bs)

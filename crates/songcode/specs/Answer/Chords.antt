@@ -4,7 +4,7 @@ use Prim.Native.Char.{code}
 use Prim.Native.String.{String}
 use mathlib.Core.List.{List, [], ◌∷◌, ◌++◌, flat_map}
 use Rattle.std.proofs.Math.Option.{Option, none, some}
-use Rattle.songcode.specs.Lists.{if◌then◌else◌, is_empty, any}
+use Rattle.songcode.specs.Lists.{provided◌then◌else◌, is_empty, any}
 use Rattle.songcode.specs.Bytes.{Byte, values, ascii, same, begins, is_byte}
 
 -- "seven rows by letter, numbered 0 to 33 as they stand"
@@ -35,9 +35,9 @@ unfolding bases
 spelling_of number = get_or bases number []
 
 unfoldable pub number_from : ℕ → List (List ℕ) → List ℕ → Option ℕ
-unfolding if◌then◌else◌ same
+unfolding provided◌then◌else◌ same
 number_from n [] spelling = none
-number_from n (s ∷ ss) spelling = if same s spelling then some n else number_from (suc n) ss spelling
+number_from n (s ∷ ss) spelling = provided same s spelling then some n else number_from (suc n) ss spelling
 
 unfoldable pub number_of : List ℕ → Option ℕ
 unfolding number_from bases
@@ -48,10 +48,10 @@ unfoldable pub letter_root : ℕ → ℕ
 letter_root letter = get_or (9 ∷ 11 ∷ 0 ∷ 2 ∷ 4 ∷ 5 ∷ 7 ∷ []) (letter - code "A") 0
 
 unfoldable pub root_of : List ℕ → ℕ
-unfolding if◌then◌else◌ begins ascii letter_root
+unfolding provided◌then◌else◌ begins ascii letter_root
 root_of [] = 0
 root_of (letter ∷ rest) =
-    (letter_root letter + (if begins (ascii "#") rest then 1 else if begins (ascii "b") rest then 11 else 0)) % 12
+    (letter_root letter + (provided begins (ascii "#") rest then 1 else provided begins (ascii "b") rest then 11 else 0)) % 12
 
 -- A spelling with an `m` names a minor chord, any other a major one.
 unfoldable pub is_minor : List ℕ → Bool
@@ -64,9 +64,9 @@ pub record Base : Type 0 where
 
 -- Request 2: "A base ending in `m` isn't taken where `aj` follows the `m`; the next longest is."
 unfoldable pub ends_in_m : List ℕ → Bool
-unfolding if◌then◌else◌ is_empty
+unfolding provided◌then◌else◌ is_empty
 ends_in_m [] = false
-ends_in_m (b ∷ bs) = if is_empty bs then eqb b (code "m") else ends_in_m bs
+ends_in_m (b ∷ bs) = provided is_empty bs then eqb b (code "m") else ends_in_m bs
 
 unfoldable pub is_passed_over : List ℕ → List ℕ → Bool
 unfolding ends_in_m begins ascii
@@ -79,15 +79,15 @@ is_taken spelling word = begins spelling word && not (is_passed_over spelling wo
 
 -- "the base is the longest that fits": the later of two that fit, where it is longer.
 unfoldable pub longer : Option Base → Base → Option Base
-unfolding if◌then◌else◌
+unfolding provided◌then◌else◌
 longer none b = some b
-longer (some a) b = if ltb a.length b.length then some b else some a
+longer (some a) b = provided ltb a.length b.length then some b else some a
 
 unfoldable pub longest_from : (List ℕ → List ℕ → Bool) → ℕ → List (List ℕ) → List ℕ → Option Base → Option Base
-unfolding if◌then◌else◌ longer
+unfolding provided◌then◌else◌ longer
 longest_from fits n [] word best = best
 longest_from fits n (s ∷ ss) word best =
-    longest_from fits (suc n) ss word (if fits s word then longer best (record { number = n; length = length s }) else best)
+    longest_from fits (suc n) ss word (provided fits s word then longer best (record { number = n; length = length s }) else best)
 
 unfoldable pub longest_base : List Byte → Option Base
 unfolding longest_from is_taken bases values
@@ -108,10 +108,10 @@ abbrev pub Reading : Type 0
 Reading = List Byte → Option Chord
 
 unfoldable pub chord_by : Option Base → List Byte → Option Chord
-unfolding if◌then◌else◌
+unfolding provided◌then◌else◌
 chord_by none word = none
 chord_by (some b) word =
-    if leb (length (drop b.length word)) 31 then some (record { base = b.number; extension = drop b.length word }) else none
+    provided leb (length (drop b.length word)) 31 then some (record { base = b.number; extension = drop b.length word }) else none
 
 -- Request 4: "An extension that holds `%`, `_`, `=` or `$` is to be refused."
 unfoldable pub is_slip : Byte → Bool
@@ -119,9 +119,9 @@ unfolding any is_byte ascii
 is_slip b = any (λ sign. is_byte sign b) (ascii "%_=$")
 
 unfoldable pub without_slip : Option Chord → Option Chord
-unfolding if◌then◌else◌ any is_slip
+unfolding provided◌then◌else◌ any is_slip
 without_slip none = none
-without_slip (some c) = if any is_slip c.extension then none else some c
+without_slip (some c) = provided any is_slip c.extension then none else some c
 
 unfoldable pub chord_in : List Byte → Option Chord
 unfolding without_slip chord_by longest_base

@@ -1,7 +1,7 @@
 -- The second call, for any measure table and any beat number: "Search by halving instead".
 use Rattle.std.specs.Prelude.{ℕ, zero, suc, ◌+◌, ◌/◌, List, Bool, leb, ltb, length, get_or}
 use Rattle.std.proofs.Math.Option.{Option, none, some}
-use Rattle.songcode.specs.Lists.{if◌then◌else◌}
+use Rattle.songcode.specs.Lists.{provided◌then◌else◌}
 use Rattle.songcode.specs.Description.Joined.{first_beat, end_beat}
 
 -- What a search gives: "the probes with the record", or no place where no record was found.
@@ -32,15 +32,15 @@ half start end = (start + end) / 2
 -- "if the beat is before it, that place becomes the range's end; if past it, the place after becomes its start; stop if it holds the beat
 -- or the range is empty". The first number only counts down: every turn takes a record or more out of the range, so the range's length is enough.
 unfoldable pub halving : ℕ → ℕ → List ℕ → ℕ → ℕ → Jump
-unfolding nowhere probed is_before is_past half if◌then◌else◌
+unfolding nowhere probed is_before is_past half provided◌then◌else◌
 halving zero beat table start end = nowhere
 halving (suc turns) beat table start end =
-    if leb end start
+    provided leb end start
     then nowhere
     else (probed
-    (if is_before beat (get_or table (half start end) 0)
+    (provided is_before beat (get_or table (half start end) 0)
     then halving turns beat table start (half start end)
-    else (if is_past beat (get_or table (half start end) 0)
+    else (provided is_past beat (get_or table (half start end) 0)
     then halving turns beat table (suc (half start end)) end
     else record { place = some (half start end); probes = 0 })))
 
@@ -49,8 +49,8 @@ unfoldable pub most_records : ℕ
 most_records = 65535
 
 unfoldable pub jump_to : ℕ → List ℕ → Jump
-unfolding most_records nowhere halving if◌then◌else◌
+unfolding most_records nowhere halving provided◌then◌else◌
 jump_to beat table =
-    if ltb most_records (length table)
+    provided ltb most_records (length table)
     then nowhere
     else halving (length table) beat table 0 (length table)

@@ -2,7 +2,7 @@
 use Rattle.std.specs.Prelude.{ℕ, List, Bool, true, false, ◌&&◌, not, leb}
 use Prim.Native.Char.{code}
 use Rattle.std.proofs.Math.Option.{Option, none, some}
-use Rattle.songcode.specs.Lists.{if◌then◌else◌, taken, left, is_some}
+use Rattle.songcode.specs.Lists.{provided◌then◌else◌, taken, left, is_some}
 use Rattle.songcode.specs.Bytes.{Byte, is, is_byte, is_blank, not_blank}
 use Rattle.songcode.specs.Answer.Characters.{characters}
 use Rattle.songcode.specs.Answer.Numbers.{number_in}
@@ -19,16 +19,16 @@ unfolding left not_blank is_blank
 setting_in bs = left is_blank (left not_blank bs)
 
 unfoldable pub key_named : List Byte → Option KeyName
-unfolding if◌then◌else◌ is
+unfolding provided◌then◌else◌ is
 key_named w =
-    if is "name" w then some name
-    else if is "artist" w then some artist
-    else if is "original" w then some original
-    else if is "capo" w then some capo
-    else if is "bpm" w then some bpm
-    else if is "time" w then some time
-    else if is "warning" w then some warning
-    else if is "end" w then some end
+    provided is "name" w then some name
+    else provided is "artist" w then some artist
+    else provided is "original" w then some original
+    else provided is "capo" w then some capo
+    else provided is "bpm" w then some bpm
+    else provided is "time" w then some time
+    else provided is "warning" w then some warning
+    else provided is "end" w then some end
     else none
 
 -- "1 to 100 characters"
@@ -43,9 +43,9 @@ bpm_in bs = number_in 0 400 bs
 
 -- "time (`n/4`, n from 1 to 32)"
 unfoldable pub time_in : List Byte → Option ℕ
-unfolding if◌then◌else◌ is is_byte taken left number_in
+unfolding provided◌then◌else◌ is is_byte taken left number_in
 time_in bs =
-    if is "/4" (left (λ b. not (is_byte (code "/") b)) bs) then number_in 1 32 (taken (λ b. not (is_byte (code "/") b)) bs) else none
+    provided is "/4" (left (λ b. not (is_byte (code "/") b)) bs) then number_in 1 32 (taken (λ b. not (is_byte (code "/") b)) bs) else none
 
 unfoldable pub is_setting : KeyName → List Byte → Bool
 unfolding is_phrase is_base is_some number_in bpm_in time_in

@@ -1,6 +1,6 @@
 -- "CR LF, lone CR and LF each end a line; lines count from 1." Lines without the blanks at their ends, and blocks.
 use Rattle.std.specs.Prelude.{ℕ, suc, List, [], ◌∷◌, reverse, Bool, true, false, eqb}
-use Rattle.songcode.specs.Lists.{if◌then◌else◌, left, is_empty}
+use Rattle.songcode.specs.Lists.{provided◌then◌else◌, left, is_empty}
 use Rattle.songcode.specs.Bytes.{Byte, is_blank}
 
 -- What a byte is to lines.
@@ -8,8 +8,8 @@ pub data Ending : Type 0 where
   lf cr inside : Ending
 
 unfoldable pub ending : Byte → Ending
-unfolding if◌then◌else◌
-ending b = if eqb b.value 10 then lf else if eqb b.value 13 then cr else inside
+unfolding provided◌then◌else◌
+ending b = provided eqb b.value 10 then lf else provided eqb b.value 13 then cr else inside
 
 -- What stands first; the end of the text ends no line.
 unfoldable pub ending_of : List Byte → Ending

@@ -3,7 +3,7 @@ use Rattle.std.specs.Prelude.{ℕ, ◌+◌, ◌-◌, Bool, ◌&&◌, not, eqb, l
 use Prim.Native.Char.{code}
 use mathlib.Core.List.{List, [], ◌∷◌, reverse, flat_map}
 use Rattle.std.proofs.Math.Option.{Option, none, some, get_or}
-use Rattle.songcode.specs.Lists.{if◌then◌else◌, taken, left, is_empty, any, every, is_some}
+use Rattle.songcode.specs.Lists.{provided◌then◌else◌, taken, left, is_empty, any, every, is_some}
 use Rattle.songcode.specs.Bytes.{Byte, values, ascii, begins, is_byte, is_blank, not_blank}
 use Rattle.songcode.specs.Answer.Numbers.{count_in}
 use Rattle.songcode.specs.Complaints.{Complaint, complain_if}
@@ -18,9 +18,9 @@ pub record Words : Type 0 where
 
 -- The count behind `_`, in the line's last word.
 unfoldable pub count_behind : List Byte → Option ℕ
-unfolding if◌then◌else◌ is_byte count_in
+unfolding provided◌then◌else◌ is_byte count_in
 count_behind [] = none
-count_behind (b ∷ bs) = if is_byte (code "_") b then count_in bs else none
+count_behind (b ∷ bs) = provided is_byte (code "_") b then count_in bs else none
 
 -- What stands before the last word, from its end, and the last word: a count needs a blank before it.
 unfoldable pub words_by : List Byte → List Byte → Option ℕ → Words
@@ -47,10 +47,10 @@ unfoldable pub between : List Byte → List Byte
 between bs = take (length bs - 6) (drop 3 bs)
 
 unfoldable pub styled : List Byte → Styled
-unfolding if◌then◌else◌ bracketed ascii between
+unfolding provided◌then◌else◌ bracketed ascii between
 styled bs =
-    if bracketed (ascii "***") bs then record { style = 1; text = between bs }
-    else if bracketed (ascii ":::") bs then record { style = 2; text = between bs }
+    provided bracketed (ascii "***") bs then record { style = 1; text = between bs }
+    else provided bracketed (ascii ":::") bs then record { style = 2; text = between bs }
     else record { style = 0; text = bs }
 
 unfoldable pub count_of : LyricLine → Option ℕ
@@ -67,8 +67,8 @@ unfolding is_some pattern_items
 is_played s x = is_some (pattern_items s.definitions x.pattern)
 
 unfoldable pub lines_taken : Song → List LyricLine
-unfolding if◌then◌else◌ flat_map is_played
-lines_taken s = flat_map (λ x. if is_played s x then x.lyrics else []) s.sections
+unfolding provided◌then◌else◌ flat_map is_played
+lines_taken s = flat_map (λ x. provided is_played s x then x.lyrics else []) s.sections
 
 -- "if one has a count, all have": 16 on each that has none.
 unfoldable pub has_counts : Song → Bool
@@ -76,8 +76,8 @@ unfolding any is_counted lines_taken
 has_counts s = any is_counted (lines_taken s)
 
 unfoldable pub count_faults : Song → List Complaint
-unfolding if◌then◌else◌ flat_map complain_if is_counted lines_taken has_counts
-count_faults s = if has_counts s then flat_map (λ l. complain_if (not (is_counted l)) 16 l.number) (lines_taken s) else []
+unfolding provided◌then◌else◌ flat_map complain_if is_counted lines_taken has_counts
+count_faults s = provided has_counts s then flat_map (λ l. complain_if (not (is_counted l)) 16 l.number) (lines_taken s) else []
 
 -- "and each such section with lyrics sums to its measures": 17 on the header.
 unfoldable pub counted : List LyricLine → ℕ
@@ -91,8 +91,8 @@ sum_fault s x =
     complain_if (is_played s x && not (is_empty x.lyrics) && not (eqb (counted x.lyrics) (length (played s x)))) 17 x.header
 
 unfoldable pub sum_faults : Song → List Complaint
-unfolding if◌then◌else◌ flat_map sum_fault has_counts
-sum_faults s = if has_counts s then flat_map (sum_fault s) s.sections else []
+unfolding provided◌then◌else◌ flat_map sum_fault has_counts
+sum_faults s = provided has_counts s then flat_map (sum_fault s) s.sections else []
 
 -- "Items are written only if every section has lyrics and a pattern that isn't empty, and all have counts".
 unfoldable pub has_items : Song → Bool
@@ -113,5 +113,5 @@ prompts_from first (l ∷ ls) =
     ∷ prompts_from (first + get_or (count_of l) 0) ls
 
 unfoldable pub prompts : Song → List Prompt
-unfolding if◌then◌else◌ has_items prompts_from lines_taken
-prompts s = if has_items s then prompts_from 0 (lines_taken s) else []
+unfolding provided◌then◌else◌ has_items prompts_from lines_taken
+prompts s = provided has_items s then prompts_from 0 (lines_taken s) else []

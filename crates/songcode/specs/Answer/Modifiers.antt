@@ -2,7 +2,7 @@
 use Rattle.std.specs.Prelude.{ℕ, List, [], ◌∷◌, Bool, not}
 use Prim.Native.Char.{code}
 use Rattle.std.proofs.Math.Option.{Option, none, some, or_else, bind}
-use Rattle.songcode.specs.Lists.{if◌then◌else◌, taken, left}
+use Rattle.songcode.specs.Lists.{provided◌then◌else◌, taken, left}
 use Rattle.songcode.specs.Bytes.{Byte, is, is_byte}
 use Rattle.songcode.specs.Answer.Numbers.{count_in, repeat_in}
 use Rattle.songcode.specs.Answer.Chords.{Reading, chord_in}
@@ -13,13 +13,13 @@ pub data ModifierName : Type 0 where
   of_repeat of_cut_start of_cut_end of_before of_after : ModifierName
 
 unfoldable pub modifier_named : List Byte → Option ModifierName
-unfolding if◌then◌else◌ is
+unfolding provided◌then◌else◌ is
 modifier_named w =
-    if is "repeat" w then some of_repeat
-    else if is "cutStart" w then some of_cut_start
-    else if is "cutEnd" w then some of_cut_end
-    else if is "before" w then some of_before
-    else if is "after" w then some of_after
+    provided is "repeat" w then some of_repeat
+    else provided is "cutStart" w then some of_cut_start
+    else provided is "cutEnd" w then some of_cut_end
+    else provided is "before" w then some of_before
+    else provided is "after" w then some of_after
     else none
 
 unfoldable pub cut : ℕ → ℕ → Cut

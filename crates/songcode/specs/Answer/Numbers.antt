@@ -2,7 +2,7 @@
 use Rattle.std.specs.Prelude.{ℕ, ◌+◌, ◌*◌, ◌-◌, List, [], ◌∷◌, Bool, true, false, ◌&&◌, not, eqb, leb}
 use Prim.Native.Char.{code}
 use Rattle.std.proofs.Math.Option.{Option, none, some}
-use Rattle.songcode.specs.Lists.{if◌then◌else◌}
+use Rattle.songcode.specs.Lists.{provided◌then◌else◌}
 use Rattle.songcode.specs.Bytes.{Byte}
 
 unfoldable pub is_digit : Byte → Bool
@@ -27,9 +27,9 @@ value_from v (b ∷ bs) = value_from (v * 10 + (b.value - code "0")) bs
 
 -- The number, if it is one and in its range.
 unfoldable pub number_in : ℕ → ℕ → List Byte → Option ℕ
-unfolding if◌then◌else◌ is_decimal value_from
+unfolding provided◌then◌else◌ is_decimal value_from
 number_in low high bs =
-    if is_decimal bs && leb low (value_from 0 bs) && leb (value_from 0 bs) high then some (value_from 0 bs) else none
+    provided is_decimal bs && leb low (value_from 0 bs) && leb (value_from 0 bs) high then some (value_from 0 bs) else none
 
 -- "Every count, and n in `$n`, is 1 to 9,999; loop and repeat counts start at 2."
 unfoldable pub count_in : List Byte → Option ℕ

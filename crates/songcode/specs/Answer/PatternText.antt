@@ -2,7 +2,7 @@
 use Rattle.std.specs.Prelude.{ℕ, zero, suc, max, List, [], ◌∷◌, ◌++◌, Bool, true, false, ◌||◌, ◌&&◌, leb}
 use Prim.Native.Char.{code}
 use Rattle.std.proofs.Math.Option.{Option, none, some, bind}
-use Rattle.songcode.specs.Lists.{if◌then◌else◌, any}
+use Rattle.songcode.specs.Lists.{provided◌then◌else◌, any}
 use Rattle.songcode.specs.Bytes.{Byte, is_byte}
 use Rattle.songcode.specs.Answer.Chords.{Reading, chord_in}
 use Rattle.songcode.specs.Answer.Lines.{Line}
@@ -139,8 +139,8 @@ unfolding references
 no_reference r = elim (references r) [ [] ↦ true | n ∷ ns ↦ false ]
 
 unfoldable pub kept : (Items → Bool) → Items → Option Items
-unfolding if◌then◌else◌ depth loops_deep
-kept test r = if leb (depth r) loops_deep && test r then some r else none
+unfolding provided◌then◌else◌ depth loops_deep
+kept test r = provided leb (depth r) loops_deep && test r then some r else none
 
 -- A definition's text, of one line or more.
 unfoldable pub definition_text_as : Reading → Line → List Line → Option Items
@@ -176,8 +176,8 @@ unfolding is_byte
 barred b = is_byte (code ":") b || is_byte (code "$") b
 
 unfoldable pub side_text_as : Reading → List Byte → Option Items
-unfolding if◌then◌else◌ any barred items_in tokens_as kept bind no_reference
-side_text_as read bs = if any barred bs then none else bind (items_in (tokens_as read bs)) (kept no_reference)
+unfolding provided◌then◌else◌ any barred items_in tokens_as kept bind no_reference
+side_text_as read bs = provided any barred bs then none else bind (items_in (tokens_as read bs)) (kept no_reference)
 
 -- The same with chords as they are read today.
 unfoldable abbrev pub definition_text : Line → List Line → Option Items

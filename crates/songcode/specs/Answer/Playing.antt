@@ -2,7 +2,7 @@
 use Rattle.std.specs.Prelude.{ℕ, zero, suc, ◌+◌, ◌-◌, ◌/◌, true, false, eqb, length, drop, replicate}
 use mathlib.Core.List.{List, [], ◌∷◌, ◌++◌, map, reverse, flat_map}
 use Rattle.std.proofs.Math.Option.{Option, none, some, get_or, bind}
-use Rattle.songcode.specs.Lists.{if◌then◌else◌, times}
+use Rattle.songcode.specs.Lists.{provided◌then◌else◌, times}
 use Rattle.songcode.specs.Bytes.{Byte}
 use Rattle.songcode.specs.Answer.Chords.{Chord}
 use Rattle.songcode.specs.Song.{Sound, chord, again, silence, Sounds, only, also, Measure, Item, measure, loop, refer, Items, one, next}
@@ -13,9 +13,9 @@ use Rattle.songcode.specs.Answer.References.{pattern_items}
 
 -- The setting of a key, if it is there.
 unfoldable pub setting_named : KeyName → List Key → Option (List Byte)
-unfolding if◌then◌else◌ key_place
+unfolding provided◌then◌else◌ key_place
 setting_named k [] = none
-setting_named k (x ∷ xs) = if eqb (key_place x.key) (key_place k) then some x.setting else setting_named k xs
+setting_named k (x ∷ xs) = provided eqb (key_place x.key) (key_place k) then some x.setting else setting_named k xs
 
 -- "N is the section's time, else the song's"; "the default is 4/4".
 unfoldable pub time_among : List Key → Option ℕ

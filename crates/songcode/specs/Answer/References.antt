@@ -2,16 +2,16 @@
 use Rattle.std.specs.Prelude.{ℕ, not, eqb, leb}
 use mathlib.Core.List.{List, [], ◌∷◌, ◌++◌, flat_map}
 use Rattle.std.proofs.Math.Option.{Option, none, some, get_or, bind}
-use Rattle.songcode.specs.Lists.{if◌then◌else◌}
+use Rattle.songcode.specs.Lists.{provided◌then◌else◌}
 use Rattle.songcode.specs.Complaints.{Complaint, complaint, complain_if}
 use Rattle.songcode.specs.Song.{Separator, Item, measure, loop, refer, Items, one, next, Pattern, items, named, Definition, Song}
 use Rattle.songcode.specs.Answer.PatternText.{depth, loops_deep, references, no_reference}
 
 -- The definition of that number.
 unfoldable pub definition_of : ℕ → List Definition → Option Definition
-unfolding if◌then◌else◌
+unfolding provided◌then◌else◌
 definition_of n [] = none
-definition_of n (d ∷ ds) = if eqb d.id n then some d else definition_of n ds
+definition_of n (d ∷ ds) = provided eqb d.id n then some d else definition_of n ds
 
 -- The items of the definition of that number: none where it is empty or missing.
 unfoldable pub items_of : List Definition → ℕ → Option Items

@@ -3,7 +3,7 @@ use Rattle.std.specs.Prelude.{ℕ, Bool, true, false, ◌&&◌, not, eqb, leb}
 use Prim.Native.Char.{code}
 use mathlib.Core.List.{List, [], ◌∷◌, ◌++◌, map, flat_map, filter_map}
 use Rattle.std.proofs.Math.Option.{Option, none, some, get_or, bind}
-use Rattle.songcode.specs.Lists.{if◌then◌else◌, taken, left, is_empty, any, is_some, prepend}
+use Rattle.songcode.specs.Lists.{provided◌then◌else◌, taken, left, is_empty, any, is_some, prepend}
 use Rattle.songcode.specs.Bytes.{Byte, is, is_byte, is_letter}
 use Rattle.songcode.specs.Answer.Characters.{characters}
 use Rattle.songcode.specs.Answer.Chords.{Reading, chord_in}
@@ -19,11 +19,11 @@ pub data Kind : Type 0 where
   key_line modifier_line pattern_line : Kind
 
 unfoldable pub kind_of : List Byte → Kind
-unfolding if◌then◌else◌ is_byte is_letter
+unfolding provided◌then◌else◌ is_byte is_letter
 kind_of [] = pattern_line
-kind_of (b ∷ []) = if is_byte (code "@") b then key_line else pattern_line
+kind_of (b ∷ []) = provided is_byte (code "@") b then key_line else pattern_line
 kind_of (b ∷ c ∷ bs) =
-    if is_byte (code "@") b then key_line else if is_byte (code "_") b && is_letter c then modifier_line else pattern_line
+    provided is_byte (code "@") b then key_line else provided is_byte (code "_") b && is_letter c then modifier_line else pattern_line
 
 unfoldable pub kind_of_line : Line → Kind
 unfolding kind_of

@@ -3,7 +3,7 @@ use Rattle.std.specs.Prelude.{ℕ, suc, max, ◌||◌, not, leb, ltb}
 use Prim.Native.Char.{code}
 use mathlib.Core.List.{List, [], ◌∷◌, ◌++◌, map, flat_map, filter_map}
 use Rattle.std.proofs.Math.Option.{Option, none, get_or}
-use Rattle.songcode.specs.Lists.{if◌then◌else◌, is_empty, is_some}
+use Rattle.songcode.specs.Lists.{provided◌then◌else◌, is_empty, is_some}
 use Rattle.songcode.specs.Bytes.{Byte, is_byte}
 use Rattle.songcode.specs.Answer.Chords.{Reading, chord_in}
 use Rattle.songcode.specs.Answer.Lines.{Line, Block}
@@ -20,9 +20,9 @@ pub data BlockKind : Type 0 where
   metadata definition section : BlockKind
 
 unfoldable pub kind_of_text : List Byte → BlockKind
-unfolding if◌then◌else◌ is_byte
+unfolding provided◌then◌else◌ is_byte
 kind_of_text [] = section
-kind_of_text (b ∷ bs) = if is_byte (code "@") b then metadata else if is_byte (code "$") b then definition else section
+kind_of_text (b ∷ bs) = provided is_byte (code "@") b then metadata else provided is_byte (code "$") b then definition else section
 
 unfoldable pub block_kind : Block → BlockKind
 unfolding kind_of_text

@@ -2,7 +2,7 @@
 use Rattle.std.specs.Prelude.{ℕ, List, [], ◌∷◌, ◌++◌}
 use Prim.Native.Char.{code}
 use Rattle.std.proofs.Math.Option.{Option, none, some}
-use Rattle.songcode.specs.Lists.{if◌then◌else◌}
+use Rattle.songcode.specs.Lists.{provided◌then◌else◌}
 use Rattle.songcode.specs.Bytes.{Byte, is, is_blank, is_byte}
 use Rattle.songcode.specs.Answer.Numbers.{count_in, repeat_in}
 use Rattle.songcode.specs.Answer.Chords.{Chord, Reading, chord_in}
@@ -24,13 +24,13 @@ pub data Class : Type 0 where
   blank semi double bracket closing plain : Class
 
 unfoldable pub class : Byte → Class
-unfolding if◌then◌else◌ is_blank is_byte
+unfolding provided◌then◌else◌ is_blank is_byte
 class b =
-    if is_blank b then blank
-    else if is_byte (code ";") b then semi
-    else if is_byte (code ":") b then double
-    else if is_byte (code "[") b then bracket
-    else if is_byte (code "]") b then closing
+    provided is_blank b then blank
+    else provided is_byte (code ";") b then semi
+    else provided is_byte (code ":") b then double
+    else provided is_byte (code "[") b then bracket
+    else provided is_byte (code "]") b then closing
     else plain
 
 unfoldable pub chord_token : Option Chord → Token
@@ -48,16 +48,16 @@ closing_token (some n) = closes n
 
 -- A word behind `$` is a count; any other but the three signs is a chord, by any way to read one.
 unfoldable pub dollar_as : Reading → List Byte → Token
-unfolding if◌then◌else◌ is_byte reference_token count_in chord_token
+unfolding provided◌then◌else◌ is_byte reference_token count_in chord_token
 dollar_as read [] = wrong
-dollar_as read (b ∷ bs) = if is_byte (code "$") b then reference_token (count_in bs) else chord_token (read (b ∷ bs))
+dollar_as read (b ∷ bs) = provided is_byte (code "$") b then reference_token (count_in bs) else chord_token (read (b ∷ bs))
 
 unfoldable pub word_token_as : Reading → List Byte → Token
-unfolding if◌then◌else◌ is dollar_as
+unfolding provided◌then◌else◌ is dollar_as
 word_token_as read w =
-    if is "%" w then sound again
-    else if is "_" w then sound silence
-    else if is "=" w then remover
+    provided is "%" w then sound again
+    else provided is "_" w then sound silence
+    else provided is "=" w then remover
     else dollar_as read w
 
 -- A text read from its end: the plain bytes in front, and the tokens behind them.

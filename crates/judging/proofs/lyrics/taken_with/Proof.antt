@@ -2,18 +2,18 @@
 use mathlib.Core.Path.{◌≡◌, ◌∙◌}
 use mathlib.Core.Bool.{◌||◌}
 use mathlib.Core.Logic.{⊎_elim}
-use Rattle.songcode.specs.Lists.{if◌then◌else◌}
+use Rattle.songcode.specs.Lists.{provided◌then◌else◌}
 use Rattle.judging.specs.Lyrics.{taken_with}
 use borrow.Author.Rules.{rules}
 use Rattle.judging.proofs.lyrics.taken_with.Statement.{statement}
 use Rattle.judging.proofs.lyrics.taken_with.Tie as tie
 
 returns : tie.Need-returns
-unfolding taken_with if◌then◌else◌
+unfolding taken_with provided◌then◌else◌
 returns c = rw c.if1.true
 
 returns-2 : tie.Need-returns-2
-unfolding taken_with if◌then◌else◌
+unfolding taken_with provided◌then◌else◌
 returns-2 c =
     let a = c.before.before.before.args in
     let one : c.before.if2.t6 ≡ a.y.counted || a.t.counted = ⊎_elim (λ w. rw w.0.taken (w.1 ∙ w.0.taken))

@@ -2,19 +2,19 @@
 use mathlib.Core.Path.{sym, ◌∙◌}
 use borrow.Author.Tests.{eq-eqb, ne_eqb}
 use borrow.Author.Rules.{rules}
-use Rattle.songcode.specs.Lists.{if◌then◌else◌}
+use Rattle.songcode.specs.Lists.{provided◌then◌else◌}
 use Rattle.laying.specs.Laying.{named_at}
 use Rattle.laying.proofs.names.named_at.Statement.{statement}
 use Rattle.laying.proofs.names.named_at.Tie as tie
 
 returns : tie.Need-returns
-unfolding named_at if◌then◌else◌
+unfolding named_at provided◌then◌else◌
 returns c =
     let w = c.before.before.before.word_at.ensures in
     rw (← w, eq-eqb _ 55 (sym c.before.before.kind.ensures ∙ c.before.if1.true)) c.number.ensures.0
 
 returns-2 : tie.Need-returns-2
-unfolding named_at if◌then◌else◌
+unfolding named_at provided◌then◌else◌
 returns-2 c =
     let w = c.before.before.word_at.ensures in
     rw (← w, ne_eqb _ 55 (λ e. c.if1.false (c.before.kind.ensures ∙ e)))

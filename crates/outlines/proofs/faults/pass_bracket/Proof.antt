@@ -1,17 +1,17 @@
 -- An opening bracket moves the level in, a closing one out, and any other kind fails both tests of the definition.
 use Rattle.outlines.specs.Faults.{bracket_read}
-use Rattle.songcode.specs.Lists.{if◌then◌else◌}
+use Rattle.songcode.specs.Lists.{provided◌then◌else◌}
 use borrow.Author.Tests.{eq-eqb, ne_eqb}
 use borrow.Author.Rules.{rules}
 use Rattle.outlines.proofs.faults.pass_bracket.Statement.{statement}
 use Rattle.outlines.proofs.faults.pass_bracket.Tie as tie
 
 returns : tie.Need-returns
-unfolding bracket_read if◌then◌else◌
+unfolding bracket_read provided◌then◌else◌
 returns c = let e = eq-eqb c.before.before.args.k 57 c.before.if1.true in rw (e, c.inner-level.ensures)
 
 returns-2 : tie.Need-returns-2
-unfolding bracket_read if◌then◌else◌
+unfolding bracket_read provided◌then◌else◌
 returns-2 c =
     let k = c.before.before.before.args.k in
     let d = ne_eqb k 57 c.before.before.if1.false in
@@ -19,7 +19,7 @@ returns-2 c =
     rw (d, e, c.outer-level.ensures)
 
 returns-3 : tie.Need-returns-3
-unfolding bracket_read if◌then◌else◌
+unfolding bracket_read provided◌then◌else◌
 returns-3 c =
     let k = c.before.before.args.k in
     let d = ne_eqb k 57 c.before.if1.false in

@@ -2,7 +2,7 @@
 use Rattle.player.proofs.SignLaws.{word_inside}
 use Rattle.player.specs.Walks.{behind_of}
 use Rattle.std.proofs.Common.{arith, rules, eq-eqb, ne_eqb}
-use Rattle.songcode.specs.Lists.{if◌then◌else◌}
+use Rattle.songcode.specs.Lists.{provided◌then◌else◌}
 use Rattle.player.proofs.leaves.behind.Statement.{statement}
 use Rattle.player.proofs.leaves.behind.Tie as tie
 
@@ -13,11 +13,11 @@ add-result c =
     omega (arith, h.0)
 
 returns : tie.Need-returns
-unfolding behind_of if◌then◌else◌
+unfolding behind_of provided◌then◌else◌
 returns c = (simp (← c.before.before.word_at.ensures, ← c.before.kind.ensures, eq-eqb _ _ c.if1.true), omega arith)
 
 returns-2 : tie.Need-returns-2
-unfolding behind_of if◌then◌else◌
+unfolding behind_of provided◌then◌else◌
 returns-2 c = (simp (← c.before.before.word_at.ensures, ← c.before.kind.ensures, ne_eqb _ _ c.if1.false), omega arith)
 
 pub behind-spec : {M : Type 1} → statement M

@@ -1,5 +1,5 @@
 -- What is refused stays refused, a table that is too short makes it 18, else the counts stand: the same two tests as in the definition.
-use Rattle.songcode.specs.Lists.{if◌then◌else◌}
+use Rattle.songcode.specs.Lists.{provided◌then◌else◌}
 use Rattle.reader.specs.Room.{answered_by}
 use borrow.Author.Tests.{eq-eqb, ne_eqb}
 use borrow.Author.Rules.{rules}
@@ -8,11 +8,11 @@ use Rattle.reader.proofs.reading.answer_for.Statement.{statement}
 use Rattle.reader.proofs.reading.answer_for.Tie as tie
 
 returns : tie.Need-returns
-unfolding answered_by if◌then◌else◌
+unfolding answered_by provided◌then◌else◌
 returns c = let a = c.before.before.counted in rw (← a.ensures, ne_eqb _ 0 c.if1.true) refl
 
 returns-2 : tie.Need-returns-2
-unfolding answered_by if◌then◌else◌
+unfolding answered_by provided◌then◌else◌
 returns-2 c =
     let a = c.before.before.before.before.before.counted in
     rw (
@@ -22,7 +22,7 @@ returns-2 c =
     ) c.refused.ensures
 
 returns-3 : tie.Need-returns-3
-unfolding answered_by if◌then◌else◌
+unfolding answered_by provided◌then◌else◌
 returns-3 c =
     let a = c.before.before.before.before.counted in
     rw (← a.ensures, eq-eqb _ 0 c.before.before.if1.false, sym c.before.is-short.ensures ∙ c.if2.false) refl

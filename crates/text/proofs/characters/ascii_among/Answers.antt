@@ -1,5 +1,5 @@
 -- While each byte so far was counted, all of them are characters of one byte.
-use Prim.Native.Nat.{◌+◌, ◌-◌}
+use Prim.Native.Nat.{◌+◌}
 use mathlib.Core.Path.{◌≡◌}
 use native.Mathlib.Nat.{add-zero}
 use native.Mathlib.Omega.{arith}

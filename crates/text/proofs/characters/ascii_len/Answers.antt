@@ -1,5 +1,4 @@
 -- The characters passed, by blocks and then one by one, and those from here on, are those in front.
-use Prim.Native.Nat.{◌-◌}
 use mathlib.Core.Path.{sym, ◌∙◌}
 use native.Mathlib.Omega.{arith}
 use borrow.Author.Tests.{not-true, not-false}

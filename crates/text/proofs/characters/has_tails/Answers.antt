@@ -1,5 +1,4 @@
 -- The tails still to be seen are those of the bytes behind.
-use Prim.Native.Nat.{◌-◌}
 use mathlib.Core.Path.{refl, sym, ◌∙◌}
 use native.Mathlib.Nat.{sub-zero}
 use native.Mathlib.Omega.{arith}
@@ -19,12 +18,11 @@ returns-then-not-is_tail c =
     (sym c.is_tail.ensures ∙ not-true _ c.if-not-is_tail.true-raw)) ∙ c.loop-i.invariant.1
 
 pub loop-i-preserved : goal.loop-i-preserved
-loop-i-preserved c =
-    (
-      omega arith,
-      sym (tails_more _ c.loop-i.i _ c.loop-i-test.true (omega arith)
-          (sym c.is_tail.ensures ∙ not-false _ c.if-not-is_tail.false-raw)) ∙ c.loop-i.invariant.1,
-    )
+loop-i-preserved c = (
+  omega arith,
+  sym (tails_more _ c.loop-i.i _ c.loop-i-test.true (omega arith)
+      (sym c.is_tail.ensures ∙ not-false _ c.if-not-is_tail.false-raw)) ∙ c.loop-i.invariant.1,
+)
 
 pub returns : goal.returns
 returns c = sym (tails_none _ c.loop-i.i _ c.loop-i-test.false) ∙ c.loop-i.invariant.1

@@ -1,5 +1,4 @@
 -- The line ends seen, and those from here on, are those of the text.
-use Prim.Native.Nat.{◌-◌}
 use native.Mathlib.Omega.{arith}
 use Rattle.text.proofs.EndLaws.{ends_yes, ends_no, ends_over}
 use Rattle.text.proofs.ends.line_ends.Goals as goal

@@ -1,6 +1,5 @@
 -- The line ends seen, and those from here on, are those of the text.
 use Prim.Native.Nat.{◌≤◌, ◌+◌, ◌-◌}
-use mathlib.Core.Logic.{⊎_elim}
 use mathlib.Core.Path.{◌≡◌}
 use lib.ListN.{length, drop}
 use Rattle.text.specs.Ends.{line_ends}

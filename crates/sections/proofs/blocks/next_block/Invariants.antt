@@ -1,0 +1,12 @@
+-- The lines passed are blank.
+use Rattle.sections.specs.Runs.{blank_line}
+use Rattle.sections.proofs.RunLaws.{Walked}
+use lib.ListN.{length}
+use Prim.Native.Nat.{◌+◌, ◌-◌, ◌≤◌}
+use Rattle.sections.proofs.blocks.next_block.Given as goal
+
+abbrev pub invariant-loop-next : goal.invariant-loop-next
+invariant-loop-next l = (l.at ≤ l.next) × (l.next ≤ length l.s) × (l.at + l.lines ≤ l.next) × Walked l.s blank_line l.number l.at l.lines l.next
+
+abbrev pub decreases-loop-next : goal.decreases-loop-next
+decreases-loop-next l = length l.s - l.next

@@ -1,0 +1,20 @@
+-- Below 7 bytes the test of the length fails; else the text read from its end begins with its last three bytes.
+use mathlib.Core.Path.{sym, ◌∙◌}
+use native.Mathlib.Omega.{arith}
+use mathlib.Core.List.{[], ◌∷◌}
+use borrow.Author.Tests.{not-true, not-false}
+use Rattle.settings.proofs.StyleLaws.{marked_short, marked_by}
+use Rattle.settings.proofs.lyrics.is_marked.Goals as goal
+
+pub returns-then-n-lt7 : goal.returns-then-n-lt7
+returns-then-n-lt7 c = let a = c.args in sym (marked_short (a.m ∷ a.m ∷ a.m ∷ []) a.w.now c.if-n-lt7.true)
+
+pub returns-then-not-is_thrice : goal.returns-then-not-is_thrice
+returns-then-not-is_thrice c = let a = c.args in
+    let e = sym c.is_thrice.ensures ∙ not-true _ c.if-not-is_thrice.true-raw in
+    sym (marked_by a.m a.w.now (omega arith) ∙ rw e)
+
+pub returns : goal.returns
+returns c = let a = c.args in
+    let e = sym c.is_thrice.ensures ∙ not-false _ c.if-not-is_thrice.false-raw in
+    c.is_thrice-2.ensures ∙ sym (marked_by a.m a.w.now (omega arith) ∙ rw e)
