@@ -18,15 +18,12 @@ LARGEST_GENERATED_SONG = 200
 CHARTS_A_FILE = 100
 
 HEAD = """-- Charts and their answers, claimed of the definitions.
-use Prim.Native.Nat.{ℕ}
-use mathlib.Core.List.{List, [], _∷_}
-use mathlib.Core.Path.{_≡_, refl}
-use lib.ListN.{replicate}
-use Rattle·songcode.specs.Bytes.{ascii}
-use Rattle·songcode.specs.answer.Tables.{Tables}
-use Rattle·songcode.specs.answer.Answer.{Room, Answer, refused, accepted, answer}
-
+use Rattle.std.specs.Prelude.{◌≡◌, refl, [], ◌∷◌}
+use Rattle.songcode.specs.Bytes.{ascii}
+use Rattle.songcode.specs.Answer.Answer.{answer, refused, accepted}
 """
+# Only the text that is too long is written by it.
+REPLICATE = "use Rattle.std.proofs.Math.ListN.{replicate}\n"
 
 LARGE = {"keys": 8, "sections": 65536, "measures": 65535, "beats": 2097120, "items": 65536}
 TOO_LONG = 65537
@@ -117,14 +114,15 @@ def main():
         rows += generated(pathlib.Path(sys.argv[4]), pathlib.Path(sys.argv[5]))
     (crate / "src").mkdir(parents=True)
     (crate / "specs").mkdir()
-    (crate / "src" / "lib.rt").write_text("")
+    (crate / "src" / "lib.rt").write_text("// Charts and their answers, in specs/, and no code.\n#![tactic(auto)]\n")
     modules = []
     for start in range(0, len(rows), CHARTS_A_FILE):
-        lines = [HEAD]
-        for number, (name, lengths, data, answer) in enumerate(rows[start : start + CHARTS_A_FILE], start):
+        here = rows[start : start + CHARTS_A_FILE]
+        lines = [HEAD + REPLICATE * any(data.startswith("(replicate") for _, _, data, _ in here)]
+        for number, (name, lengths, data, answer) in enumerate(here, start):
             lines.append(f"-- {name}")
-            lines.append(f"chart-{number} : answer {room(lengths)} {data} ≡ {answer}")
-            lines.append(f"unfolding answer ascii\nchart-{number} = refl\n")
+            lines.append(f"chart_{number} : answer {room(lengths)} {data} ≡ {answer}")
+            lines.append(f"unfolding answer ascii\nchart_{number} = refl\n")
         modules.append(f"Charts{start // CHARTS_A_FILE}")
         (crate / "specs" / f"{modules[-1]}.antt").write_text("\n".join(lines))
     (crate / "specs" / "Lib.antt").write_text("".join(f"pub mod {m}\n" for m in modules))

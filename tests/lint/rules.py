@@ -3,14 +3,18 @@
 A tree is {path: text} with the .rt and .antt files of crates/, by paths such as 'crates/seek/src/lib.rt'.
 """
 import collections
+import pathlib
 import re
 
 LONG = 160
-IMPORT = re.compile(r"^(pub )?(?:ghost )?use ([^\s;{]+?)(?:\.\{([^}]*)\}|::\{([^}]*)\})?(?: as (\S+?))?;?$")
+IMPORT = re.compile(r"^(pub )?(?:ghost |unfoldable )?use ([^\s;{]+?)(?:\.\{([^}]*)\}|::\{([^}]*)\})?(?: as (\S+?))?;?$")
 PLACE = re.compile(r"^\s*-- src/\S+\.rt:\d+:\d+\s*$")
 EXPORT = re.compile(r"^pub (?:use (?:\w+::)*|fn |const )([a-z]\w*|[A-Z_]+)\b(?!::)", re.M)
-LAW = re.compile(r"^(?:pub )?([^\s:(){}]+) : ")
+EXPORTS = re.compile(r"^pub use (?:\w+::)+\{([^}]*)\}", re.M)
+LAW = re.compile(r"^(?:(?:pub|abbrev|unfoldable|opaque) )*([^\s:(){}]+) : ")
 RELATION = re.compile(r"(?:^|\s)(?:≡|≤|<|↔|¬)(?:\s|$)")
+# What the toolchain looks for in the proof of a function, by name; and what is pinned to the demands.
+UNCITED = {"Answers.antt", "Invariants.antt", "Proof.antt", "Demanded.antt", "Outcomes.antt"}
 BINDER = re.compile(r"[({]([^(){}:]+) : ")
 
 
@@ -46,15 +50,26 @@ def imported(match):
 
 
 def is_used(name, found):
-    """Whether a name stands among the words: of an operator such as `_≡_`, each of its parts or the whole, as behind `unfolding`."""
-    parts = [part for part in name.split("_") if part] if name.startswith("_") or name.endswith("_") else [name]
+    """Whether a name stands among the words: of an operator such as `◌≡◌`, each of its parts or the whole, as behind `unfolding`."""
+    parts = [part for part in name.split("◌") if part]
     return name in found or all(part in found for part in parts)
+
+
+def on_one_line(lines):
+    """The lines with each import that goes over several laid on its first, the others empty."""
+    lines = list(lines)
+    for number, line in enumerate(lines):
+        if re.match(r"(pub |ghost |unfoldable )*use [^}]*$", line) and "{" in line:
+            last = next((k for k in range(number, len(lines)) if "}" in lines[k]), number)
+            joined = " ".join(part.strip() for part in lines[number : last + 1])
+            lines[number : last + 1] = [re.sub(r"\{ | *,? \}", lambda found: found[0].strip(" ,"), joined), *[""] * (last - number)]
+    return lines
 
 
 def idle_imports(tree):
     """A name that is imported and used nowhere in the file."""
     for path, text in tree.items():
-        lines = bare(path, text)
+        lines = on_one_line(bare(path, text))
         matches = [IMPORT.match(line) for line in lines]
         found = words(path, [line for line, match in zip(lines, matches) if not match])
         for number, match in enumerate(matches, 1):
@@ -101,14 +116,17 @@ def idle_exports(tree):
         own = path.split("/")[1]
         for crate, name in re.findall(r"\b(\w+)::(\w+)", text):
             used[crate].add((own, name))
-        for crate, rest in re.findall(r"Rattle·(\w+)\.(\S+)", text):
+        for crate, listed in re.findall(r"\b(\w+)::\{([^}]*)\}", text):
+            used[crate] |= {(own, name.split(" as ")[0].strip()) for name in listed.split(",")}
+        for crate, rest in re.findall(r"Rattle\.(\w+)\.(\S+)", text):
             used[crate] |= {(own, name) for name in rest.split(".")}
     for path, text in tree.items():
         crate = path.split("/")[1]
         if not path.endswith("/src/lib.rt"):
             continue
         others = {name for own, name in used[crate] if own != crate}
-        for name in EXPORT.findall(text):
+        listed = [name.split(" as ")[-1].strip() for names in EXPORTS.findall(text) for name in names.split(",")]
+        for name in EXPORT.findall(text) + [name for name in listed if re.fullmatch(r"[a-z]\w*|[A-Z_]+", name)]:
             if name not in others:
                 yield f"{path}: {name} is exported, and no other crate uses it"
 
@@ -130,7 +148,7 @@ def equal_statements(tree):
             continue
         lines = bare(path, text)
         for number, line in enumerate(lines):
-            if not LAW.match(line) or "tie.Need" in line:
+            if not LAW.match(line):
                 continue
             more = [line]
             for follow in lines[number + 1:]:
@@ -159,11 +177,11 @@ def idle_laws(tree):
     files = {path: bare(path, text) for path, text in tree.items()}
     cited = collections.Counter()
     for path, lines in files.items():
-        for line in lines:
+        for line in on_one_line(lines):
             if not IMPORT.match(line):
                 cited.update(re.findall(r"[^\s(){}\[\],;.`\"⌜⌝λ]+", line))
     for path, lines in files.items():
-        if "/proofs/" not in path or not is_antt(path) or path.endswith(("/Proof.antt", "/Demanded.antt", "/Outcomes.antt")):
+        if "/proofs/" not in path or not is_antt(path) or pathlib.PurePath(path).name in UNCITED:
             continue
         for name, number, stop in laws(lines):
             own = sum(re.findall(r"[^\s(){}\[\],;.`\"⌜⌝λ]+", line).count(name) for line in lines[number:stop])

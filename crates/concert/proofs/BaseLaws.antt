@@ -91,7 +91,8 @@ minor_moved z b r h l e =
     let same : root_of (spelling_of b) ≡ root_at b - 12 = let q = k.root in
     let s = k.small in omega arith in
     let n = moved_root z (root_at b - 12) in
-    let t = both_pass (eqb (get_or majors n 0) (sharp_base n false)) (eqb (get_or minors n 0) (sharp_base n true)) (each_named n (moved_below z (root_at b - 12))) in
+    let t = both_pass (eqb (get_or majors n 0) (sharp_base n false)) (eqb (get_or minors n 0) (sharp_base n true))
+    (each_named n (moved_below z (root_at b - 12))) in
     rw (e, same, k.minor l) (eqb-true (get_or minors n 0) (sharp_base n true) t.1)
 
 -- What a sharp name is: a base chord of that root and quality, spelled without a flat.

@@ -136,7 +136,8 @@ module _ (sections measures : List ℕ) (joins : join_up sections measures ≡ t
   as_many = lengths_many 0 sections measures covered
 
   -- A beat of a measure lasts as its section has it.
-  found : (k beat : ℕ) → k < length measures → first_beat (get_or measures k 0) ≤ beat → beat < first_beat (get_or measures k 0) + beat_count (get_or measures k 0)
+  found : (k beat : ℕ) → k < length measures → first_beat (get_or measures k 0) ≤ beat
+      → beat < first_beat (get_or measures k 0) + beat_count (get_or measures k 0)
       → lasts sections measures beat ≡ beat_length (bpm_of sections (0 + k))
   unfolding lasts
   found k beat l a b = rw (measure_found 0 measures (joined_parts sections measures joins).1 k beat l a b, zero-add k)

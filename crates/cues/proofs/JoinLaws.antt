@@ -10,7 +10,8 @@ use lib.ListN.{length, drop, get_or, drop_of_length-le}
 use lib.Seq.{drop-cons}
 use borrow.Author.Tests.{eq-eqb, ne_eqb, le-leb, lt-leb}
 use Rattle.songcode.specs.Lists.{every}
-use Rattle.songcode.specs.Description.Joined.{first_beat, beat_count, end_beat, follows, is_short, measures_join, first_measure, measure_count, section_bpm, covers}
+use Rattle.songcode.specs.Description.Joined.{first_beat, beat_count, end_beat, follows, is_short, measures_join, first_measure, measure_count, section_bpm}
+use Rattle.songcode.specs.Description.Joined.{covers}
 use Rattle.cues.specs.Cues.{is_timed}
 
 module _ (beat i : ℕ) (table : List ℕ) (l : i < length table) where

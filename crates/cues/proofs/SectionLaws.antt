@@ -11,7 +11,8 @@ use lib.Seq.{sets, drop-cons, drop-drop, length-take-le}
 use borrow.Rule.Slice.PartMut.{put_mid}
 use borrow.Author.Tests.{eqb-true, leb-true, ne_eqb}
 use Rattle.songcode.specs.Lists.{sum, every}
-use Rattle.songcode.specs.Description.Joined.{first_beat, end_beat, follows, first_measure, measure_count, section_bpm, covers, is_short, measures_join, join_up}
+use Rattle.songcode.specs.Description.Joined.{first_beat, end_beat, follows, first_measure, measure_count, section_bpm, covers, is_short, measures_join}
+use Rattle.songcode.specs.Description.Joined.{join_up}
 use Rattle.songcode.proofs.ListLaws.{both_pass, sum_append}
 use Rattle.songcode.proofs.FollowLaws.{follow_parts, end_is}
 use Rattle.songcode.proofs.MemoryLaws.{Wrote, wrote_lent}
@@ -49,7 +50,8 @@ module _ (i : ℕ) (sections : List ℕ) (l : i < length sections) where
   unfolding covers
   cover_at first n c =
       let d : covers first n (get_or sections i 0 ∷ drop (suc i) sections) ≡ true = subst (λ xs. covers first n xs ≡ true) (drop-cons sections i 0 l) c in
-      let h = (both_pass (eqb (first_measure (get_or sections i 0)) first) (covers (first + measure_count (get_or sections i 0)) n (drop (suc i) sections)) d).1 in
+      let h = (both_pass (eqb (first_measure (get_or sections i 0)) first)
+      (covers (first + measure_count (get_or sections i 0)) n (drop (suc i) sections)) d).1 in
       (covers_le (first + measure_count (get_or sections i 0)) n (drop (suc i) sections) h, rw (add-one i) h)
 
   pub timed_at : every is_timed (drop i sections) ≡ true → (is_timed (get_or sections i 0) ≡ true) × (every is_timed (drop (i + 1) sections) ≡ true)

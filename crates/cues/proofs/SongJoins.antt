@@ -43,7 +43,8 @@ section_says : (header first measures n tempo : ℕ) → first < 65536 → measu
 unfolding laid sections_row first_measure measure_count
 section_says header first measures n tempo f m b t = (omega arith, omega arith)
 
-sections_cover : (s : Song) (first total : ℕ) {xs : List Section} {ps : List Parts} → Each (PlaysSection s) xs ps → first + all_length ps ≡ total → total ≤ 65535
+sections_cover : (s : Song) (first total : ℕ) {xs : List Section} {ps : List Parts} → Each (PlaysSection s) xs ps → first + all_length ps ≡ total
+    → total ≤ 65535
     → covers first total (parts_words first xs ps) ≡ true
 unfolding covers parts_words all_length
 sections_cover s first total none_each e l = eq-eqb first total (omega arith)

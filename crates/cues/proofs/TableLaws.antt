@@ -17,7 +17,8 @@ unfolding beat_length
 all_right bpm [] = true
 all_right bpm (entry ∷ entries) = eqb entry (beat_length bpm) && all_right (suc bpm) entries
 
-pub entry_right : (bpm : ℕ) (table : List ℕ) → all_right bpm table ≡ true → (place : ℕ) → place < length table → get_or table place 0 ≡ beat_length (bpm + place)
+pub entry_right : (bpm : ℕ) (table : List ℕ) → all_right bpm table ≡ true → (place : ℕ) → place < length table
+    → get_or table place 0 ≡ beat_length (bpm + place)
 unfolding all_right
 entry_right bpm [] t place l = absurd (omega arith)
 entry_right bpm (x ∷ xs) t zero l =

@@ -7,7 +7,7 @@ mod starts;
 
 ghost use Rattle.std.specs.Prelude.{◌≡◌, length};
 ghost use Rattle.cues.specs.Cues.{refusal_of};
-ghost use Rattle.cues.specs.Answers.{litBy, cuesBy};
+ghost use Rattle.cues.specs.Answers.{lit_by, cues_by};
 
 use refusals::{NOT_JOINED, NOT_TIMED, TABLE_TOO_SHORT};
 
@@ -20,9 +20,9 @@ pub struct Lit {
 
 // For any three tables. Lend a song's tables cut to its counts: words behind the song's own do not join up.
 pub fn light_cues(sections: &[u64], measures: &[u32], cues: &mut [u64]) -> Lit
-    ensures value { result ≡ litBy (refusal_of sections.now measures.now (length cues.old))
+    ensures value { result ≡ lit_by (refusal_of sections.now measures.now (length cues.old))
         sections.now measures.now }
-    ensures cues_after { cues.new ≡ cuesBy (refusal_of sections.now measures.now (length cues.old))
+    ensures cues_after { cues.new ≡ cues_by (refusal_of sections.now measures.now (length cues.old))
         sections.now measures.now cues.old }
 {
     if !joins::join_up(sections, measures) {

@@ -2,13 +2,13 @@
 #![tactic(auto)]
 
 // A count of measures; a count of beats. Neither stands for the other.
-#[derive(Drop)]
+#[derive(Clone, Copy)]
 pub struct Measures(pub usize);
 
-#[derive(Drop)]
+#[derive(Clone, Copy)]
 pub struct Beats(pub usize);
 
-#[derive(Drop)]
+#[derive(Clone, Copy)]
 pub struct Cut {
     pub measures: Measures,
     pub beats: Beats,

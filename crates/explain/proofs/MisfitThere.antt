@@ -97,7 +97,8 @@ misfit_about bs line e =
         let k = each_right w.each_says t.1 in
         let there : Memᴰ k.0 b.0.others =
         subst (λ (ls : List Line). Memᴰ k.0 ls) (sym w.written)
-        (mathlib.Core.List.Memᴰ.append_right w.key_lines (mathlib.Core.List.Memᴰ.append_right (w.first_pattern ∷ w.more_pattern) (mathlib.Core.List.Memᴰ.append_left w.last_lines k.1))) in
+        (mathlib.Core.List.Memᴰ.append_right w.key_lines
+        (mathlib.Core.List.Memᴰ.append_right (w.first_pattern ∷ w.more_pattern) (mathlib.Core.List.Memᴰ.append_left w.last_lines k.1))) in
         let q = side_line_lem k.0 t.0 line r k.2 t.2 in
         let l = line_of_block bs b.0 a k.0 (mathlib.Core.List.Memᴰ.tail there) in
         let same : line_text bs l.0 ≡ k.0 = sym l.2 in

@@ -24,8 +24,10 @@ use Rattle.songcode.specs.Description.StoppedText.{modifier_doubled, key_stops, 
 use Rattle.songcode.specs.Description.StoppedText.{of_keys_lem}
 use Rattle.songcode.specs.Description.StoppedText.{no_key, DefinitionStops, head_malformed, head_twice, head_27th, definition_text_lem, TextStops, kind_late}
 use Rattle.songcode.specs.Description.StoppedText.{in_metadata_lem, in_definition_lem, in_section, Stops2, stated, no_section_lem}
-use Rattle.songcode.specs.Description.StoppedSong.{Stops1, over_long, bad_bytes, Stops3, undefined, undefined_named, too_deep_lem, loop_in_loop, to_empty, RowStops}
-use Rattle.songcode.specs.Description.StoppedSong.{undivided, again_first, Stops4, of_pattern_lem, of_lead_in, of_tail, Stops5, too_long, no_beat, empty_modified}
+use Rattle.songcode.specs.Description.StoppedSong.{Stops1, over_long, bad_bytes, Stops3, undefined, undefined_named, too_deep_lem, loop_in_loop, to_empty}
+use Rattle.songcode.specs.Description.StoppedSong.{RowStops}
+use Rattle.songcode.specs.Description.StoppedSong.{undivided, again_first, Stops4, of_pattern_lem, of_lead_in, of_tail, Stops5, too_long, no_beat}
+use Rattle.songcode.specs.Description.StoppedSong.{empty_modified}
 use Rattle.songcode.specs.Description.StoppedSong.{MeasureIn, AgainFirst, Taken}
 use Rattle.songcode.specs.Description.StoppedSong.{Stops6, uncounted, Stops7, sums_not, Stops8, keys_short, sections_short, measures_short}
 use Rattle.songcode.specs.Description.StoppedSong.{beats_short}

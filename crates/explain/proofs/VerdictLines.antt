@@ -83,7 +83,8 @@ module _ (bs : List ℕ) where
         let m = lyric_line_lem w.lyrics t.sung in
         let there : Memᴰ m.0 b.0.others =
         rw w.written
-        (mathlib.Core.List.Memᴰ.append_right w.key_lines (mathlib.Core.List.Memᴰ.append_right (w.first_pattern ∷ w.more_pattern) (mathlib.Core.List.Memᴰ.append_right w.modifier_lines m.1))) in
+        (mathlib.Core.List.Memᴰ.append_right w.key_lines
+        (mathlib.Core.List.Memᴰ.append_right (w.first_pattern ∷ w.more_pattern) (mathlib.Core.List.Memᴰ.append_right w.modifier_lines m.1))) in
         (r.1.short, of_block b.0 b.1 m.0 (mathlib.Core.List.Memᴰ.tail there) line (m.2 ∙ r.2.2))
 
     pub header_listed : song_answer bs ≡ refused 17 line → Listed

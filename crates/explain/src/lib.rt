@@ -41,7 +41,8 @@ pub struct Explained {
 
 // A chart that is accepted, or refused on no line: nothing is to be pointed at.
 fn nowhere(refusal: usize, cause: usize, bytes: usize) -> Explained
-    ensures { (result.refusal ≡ refusal) × (result.line ≡ 0) × (result.cause ≡ cause) × (result.place.line ≡ 0) × (result.place.offset ≡ 0) × (result.place.length ≡ 0) }
+    ensures { (result.refusal ≡ refusal) × (result.line ≡ 0) × (result.cause ≡ cause) × (result.place.line ≡ 0) × (result.place.offset ≡ 0)
+        × (result.place.length ≡ 0) }
 {
     let place = Place {
         line: 0,
@@ -63,7 +64,8 @@ fn nowhere(refusal: usize, cause: usize, bytes: usize) -> Explained
 
 // A slip at its place.
 fn at_place(refusal: usize, line: usize, cause: usize, x: Slip, p: Place) -> Explained
-    ensures { (result.refusal ≡ refusal) × (result.line ≡ line) × (result.cause ≡ cause) × (result.place ≡ p) × (result.first ≡ x.first) × (result.second ≡ x.second) }
+    ensures { (result.refusal ≡ refusal) × (result.line ≡ line) × (result.cause ≡ cause) × (result.place ≡ p) × (result.first ≡ x.first)
+        × (result.second ≡ x.second) }
 {
     Explained {
         refusal,

@@ -58,7 +58,8 @@ block_further b n h = rw (parted_by n h)
 further_bytes : (b : List (List ℕ)) (bs : List (List (List ℕ)))
     → flat_map end_line (further_rows (b ∷ bs)) ≡ (end_line [] ++ flat_map end_line b) ++ flat_map end_line (further_rows bs)
 unfolding further_rows flat_map
-further_bytes b bs = ap (λ (z : List ℕ). end_line [] ++ z) (gather_append end_line b (further_rows bs)) ∙ sym (append_assoc (end_line []) (flat_map end_line b) _)
+further_bytes b bs = ap (λ (z : List ℕ). end_line [] ++ z) (gather_append end_line b (further_rows bs))
+    ∙ sym (append_assoc (end_line []) (flat_map end_line b) _)
 
 further : (bs : List (List (List ℕ))) (x : Sheet) → 1 ≤ x.at → put_blocks bs x ≡ puts (flat_map end_line (further_rows bs)) x
 unfolding put_blocks further_rows flat_map puts

@@ -214,7 +214,8 @@ measure_next s n bs ms i k m first end x y goal h f held p q d g =
     let a : k - i ≡ suc (k - (i + 1)) = omega arith in
     let c : drop i ms ≡ get_or ms i 0 ∷ drop (i + 1) ms = rw (add-one i) (drop-cons ms i 0 (omega arith)) in
     let r = measure_lines s n (map (beats_in bs) (take (k - (i + 1)) (drop (i + 1) ms))) in
-    rw (d, beats_part bs (get_or ms i 0) m first end held p q) (sym (puts_append (end_line (measure_line s n (beats_in bs (get_or ms i 0)))) r x) ∙ (rw (a, c) at g))
+    rw (d, beats_part bs (get_or ms i 0) m first end held p q)
+    (sym (puts_append (end_line (measure_line s n (beats_in bs (get_or ms i 0)))) r x) ∙ (rw (a, c) at g))
 
 pub measure_over : (s : List ℕ) (n : ℕ) (bs ms : List ℕ) (i k : ℕ) (x goal : Sheet) → k ≤ i
     → puts (measure_lines s n (map (beats_in bs) (take (k - i) (drop i ms)))) x ≡ goal → x ≡ goal

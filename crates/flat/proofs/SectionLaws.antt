@@ -59,7 +59,8 @@ module _ (s : List ℕ) (p : Place) {h : Line} (f : Found s p.number p.at h) (n 
   unfolding flat_section section_rows line_bytes section_at
   section_put at x =
       let b = block_at s p.number p.at in
-      rows_put (text_of b.first) (map text_of (taken is_key_line (body b))) (flat_pattern (time_of (song_of s) (section_in b)) (played (song_of s) (section_in b)))
+      rows_put (text_of b.first) (map text_of (taken is_key_line (body b)))
+      (flat_pattern (time_of (song_of s) (section_in b)) (played (song_of s) (section_in b)))
       (map text_of (from_dashes b)) at x
       ∙ same_puts (puts (parting at) x) (ap end_line (header_text s p.number p.at f))
       (ap (λ ls. flat_map end_line (map text_of ls)) (keys_taken s p.number p.at f)) pattern_put

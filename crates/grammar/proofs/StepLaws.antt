@@ -137,7 +137,8 @@ remover_behind r os (measure m) = item_leads Remover r os (measure m) Removed (p
 remover_behind r os (loop q n) = item_ruins Remover r os (loop q n) Full (λ n b. refl)
 remover_behind r os (refer n) = item_ruins Remover r os (refer n) _ (behind_reference (Ruins Remover) r os n (λ n b. refl) (λ n b. refl))
 
-closed_behind : (r : Begun) (os : List Begun) (i : Item) (n : ℕ) → check_of (close_loop (add r i) os n) ≡ check_step (check_item (place_behind r os i) r os i) Closes
+closed_behind : (r : Begun) (os : List Begun) (i : Item) (n : ℕ)
+    → check_of (close_loop (add r i) os n) ≡ check_step (check_item (place_behind r os i) r os i) Closes
 unfolding close_loop check_of check_step place_behind
 closed_behind r [] i n = none_closed _ r i (behind Closing r [] i (λ n b. refl) (λ n b. refl) (λ n b. refl) (λ n b. refl))
 closed_behind r (o ∷ os) i n = row_closed _ r i (behind Closing r (o ∷ os) i (λ n b. refl) (λ n b. refl) (λ n b. refl) (λ n b. refl)) o os n

@@ -19,7 +19,8 @@ use Rattle.grammar.specs.declared.checks.Place.{Place}
 use Rattle.grammar.specs.declared.checks.Check.{Check}
 use Rattle.grammar.specs.Kinds.{kinds_of}
 use Rattle.grammar.specs.Checks.{check, first, check_run, check_lines}
-use Rattle.grammar.specs.States.{place_before, place_behind, within, check_rows, check_item, check_of, depth_begun, depth_rows, references_begun, references_rows}
+use Rattle.grammar.specs.States.{place_before, place_behind, within, check_rows, check_item, check_of, depth_begun, depth_rows, references_begun}
+use Rattle.grammar.specs.States.{references_rows}
 use Rattle.grammar.specs.Verdicts.{is_behind, is_alone, definition_fine, unnamed_fine, section_fine}
 use Rattle.grammar.proofs.RowLaws.{within_limit, past_limit, by_limit, depth_added, references_added}
 use Rattle.grammar.proofs.StepLaws.{before, behind, check_run_lem}

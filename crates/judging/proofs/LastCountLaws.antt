@@ -39,7 +39,8 @@ use Rattle.sections.proofs.RunLaws.{lines_next}
 use Rattle.laying.proofs.LyricRowLaws.{lyrics_at, lyrics_over, offset_part, length_part}
 use Rattle.judging.specs.declared.counts.LastCount.{LastCount}
 use Rattle.judging.specs.Lyrics.{tally_in, Inside, tallied}
-use Rattle.judging.specs.Counts.{no_count, count_place, count_behind, last_count, no_lyric, later_of, later_words, later_in, count_ending, stop_in, Ends, Summable}
+use Rattle.judging.specs.Counts.{no_count, count_place, count_behind, last_count, no_lyric, later_of, later_words, later_in, count_ending, stop_in, Ends}
+use Rattle.judging.specs.Counts.{Summable}
 use Rattle.judging.proofs.TallyLaws.{tally_there}
 use Rattle.judging.proofs.DigitLaws.{digits_inside}
 use Rattle.judging.proofs.LineEndLaws.{stop_low, starts_plain, stop_inside}

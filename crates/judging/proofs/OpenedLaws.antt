@@ -12,7 +12,8 @@ use Rattle.songcode.specs.Complaints.{Complaint, complain_if, earliest}
 use Rattle.songcode.specs.Song.{Items, Section, Song}
 use Rattle.songcode.specs.Answer.References.{pattern_items}
 use Rattle.songcode.specs.Answer.Playing.{time_among, time_of}
-use Rattle.songcode.specs.Answer.Meter.{all_fit, stray, row_faults, played_faults, side_faults, section_meter, meter_faults, section_count, measures_in, cut_faults}
+use Rattle.songcode.specs.Answer.Meter.{all_fit, stray, row_faults, played_faults, side_faults, section_meter, meter_faults, section_count, measures_in}
+use Rattle.songcode.specs.Answer.Meter.{cut_faults}
 use Rattle.songcode.specs.Answer.Meter.{length_faults}
 use Rattle.songcode.specs.Answer.Answer.{song_of}
 use Rattle.songcode.proofs.ListLaws.{append_is_nil, complain_if_nil}

@@ -72,7 +72,8 @@ module _ (ds : List Definition) (header : ℕ) where
       → name_fault ws k header ≡ refusal_of (earliest (section_reference ds x header))
   unfolding name_fault provided◌then◌else◌
   name_fault_lem {s} {ws} told e x k names =
-      let there : is_missing ws k ≡ not (is_some (definition_of k ds)) = told.missing k ∙ ap (λ (d : List Definition). not (is_some (definition_of k d))) (sym e) in
+      let there : is_missing ws k ≡ not (is_some (definition_of k ds)) = told.missing k
+      ∙ ap (λ (d : List Definition). not (is_some (definition_of k d))) (sym e) in
       by_cases (eqb k 0)
       (λ t. rw t (own_pattern x k names (eqb-true k 0 t)))
       (λ t.

@@ -127,7 +127,7 @@ fn length_fault(
 }
 
 // What is refused of the sections so far, number 0 if nothing, and their measures.
-#[derive(Drop)]
+#[derive(Clone, Copy)]
 pub struct Lengths {
     pub refusal: Refusal,
     pub measures: usize,

@@ -6,7 +6,7 @@ use refusals::{COUNT_MISSING, NOTHING, Refusal};
 use score::{LYRIC, Stretch, lyric_at};
 
 // Of some lyric lines: how many they are, the sum of their counts, whether one has a count, and the least number of a line that has none, 0 if all have.
-#[derive(Drop)]
+#[derive(Clone, Copy)]
 pub struct Tally {
     pub lines: usize,
     pub sum: usize,
@@ -70,7 +70,7 @@ pub fn tally_lyrics(words: &[u32], lines: Stretch) -> Tally
 }
 
 // Of the lyric lines taken so far: whether one has a count, and the least number of a line that has none, 0 if all have.
-#[derive(Drop)]
+#[derive(Clone, Copy)]
 pub struct Taken {
     pub counted: bool,
     pub bare: usize,

@@ -9,7 +9,7 @@ use laying::Opened;
 use refusals::{Refusal, first_given, least_of, refusal_at};
 
 // What stage 4 complains of first in the sections so far, and what stage 5 found in them.
-#[derive(Drop)]
+#[derive(Clone, Copy)]
 pub struct Metered {
     pub meters: usize,
     pub lengths: Lengths,

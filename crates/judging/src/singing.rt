@@ -12,7 +12,7 @@ use refusals::{COUNT_SUM, NOTHING, Refusal, first_given};
 
 // Of the sections so far: the lyric lines taken, the header of the first whose counts do not sum to its measures, 0 if there is none,
 // and what they hold.
-#[derive(Drop)]
+#[derive(Clone, Copy)]
 pub struct Sung {
     pub taken: Taken,
     pub off: usize,

@@ -10,7 +10,7 @@ use refusals::{NOTHING, Refusal};
 use sections::Modifiers;
 
 // How many words the tables take, or the refusal of a stage.
-#[derive(Drop)]
+#[derive(Clone, Copy)]
 pub struct Totals {
     pub refusal: Refusal,
     pub sections: usize,
@@ -21,7 +21,7 @@ pub struct Totals {
 
 // What the sections so far hold: their words, their lyric lines, and whether every section has lyrics, all with counts, and a pattern
 // that is not empty.
-#[derive(Drop)]
+#[derive(Clone, Copy)]
 pub struct Sums {
     pub sections: usize,
     pub measures: usize,

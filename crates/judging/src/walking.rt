@@ -68,7 +68,7 @@ fn outcome_of(x: Metered, y: Sung) -> Totals
 }
 
 // What the stages give, and where the sections stand in the row.
-#[derive(Drop)]
+#[derive(Clone, Copy)]
 pub struct Outcome {
     pub totals: Totals,
     pub rows: Stretch,

@@ -130,7 +130,8 @@ module _ (all : List Definition) (ws : List ℕ) (n : ℕ) where
   found_held (some d) f = held_some (place_of ws n) refl d f.1 f.0 f.2
 
   -- All definitions of the front are held.
-  pub front_held : {ds : List Definition} {mark : ℕ} → Front all ds ws mark → Held all ws (definition_of n ds) (is_missing ws n) (stretch_of ws n) (look_up ws n)
+  pub front_held : {ds : List Definition} {mark : ℕ} → Front all ds ws mark
+      → Held all ws (definition_of n ds) (is_missing ws n) (stretch_of ws n) (look_up ws n)
   unfolding place_of
   front_held {ds} {mark} f =
       let row = definitions_row all ds in

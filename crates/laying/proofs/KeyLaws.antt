@@ -97,7 +97,8 @@ unfolding key_order
 words_over ls k e = rw e
 
 -- Where each key's word is that of its setting, the words of the keys table stand at the front.
-module _ (s ws : List ℕ) (long : 8 ≤ length ws) (words : (k : ℕ) → k < 8 → get_or ws k 0 ≡ word_of_setting (setting_among k (metadata_lines (blocks_of s)))) where
+module _ (s ws : List ℕ) (long : 8 ≤ length ws)
+    (words : (k : ℕ) → k < 8 → get_or ws k 0 ≡ word_of_setting (setting_among k (metadata_lines (blocks_of s)))) where
   abbrev lines : List Line
   lines = metadata_lines (blocks_of s)
 

@@ -33,7 +33,8 @@ says_song {s} is ends first =
     }
 
 -- A key's setting is short, where stage 2 complains of nothing.
-pub said_short : {s : List ℕ} {k : ℕ} {r : Said} → text_faults (blocks_of s) ≡ [] → FirstSaid s (metadata_lines (blocks_of s)) k r → ShortSetting (setting_at s r)
+pub said_short : {s : List ℕ} {k : ℕ} {r : Said} → text_faults (blocks_of s) ≡ [] → FirstSaid s (metadata_lines (blocks_of s)) k r
+    → ShortSetting (setting_at s r)
 said_short {s} {k} clean x = subst ShortSetting (sym x.setting) (metadata_short k (blocks_of s) clean)
 
 -- The words of the keys up to one of them.

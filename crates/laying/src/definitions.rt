@@ -16,7 +16,7 @@ use sections::{Place, kind_at, next_block, read_definition};
 use settings::BlockKind;
 
 // The place of the mark behind the last definition, where the first section begins, and the first refusal of stage 3 among the definitions.
-#[derive(Drop)]
+#[derive(Clone, Copy)]
 pub struct Loaded {
     pub mark: usize,
     pub sections: Place,

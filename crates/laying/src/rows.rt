@@ -163,7 +163,7 @@ fn lay_cuts(m: Modifiers, words: &mut [u32], n: usize) -> usize
 }
 
 // Where the lead-in, the pattern, the tail and the lyrics begin, and where they end.
-#[derive(Drop)]
+#[derive(Clone, Copy)]
 pub struct Places {
     pub from: usize,
     pub begun: usize,

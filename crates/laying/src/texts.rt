@@ -14,13 +14,13 @@ use score::{SECTION_HEADS, Stretch, played_text};
 use sections::{Keys, Place, SectionRead, meet};
 
 // A text in the buffer, and what it says.
-#[derive(Drop)]
+#[derive(Clone, Copy)]
 pub struct Text {
     pub at: Stretch,
     pub outline: Outline,
 }
 
-#[derive(Drop)]
+#[derive(Clone, Copy)]
 pub struct Texts {
     pub lead: Text,
     pub pattern: Text,
@@ -29,7 +29,7 @@ pub struct Texts {
 
 // A section, its N, the number of the definition that its pattern names (0 if none), its texts, where its lyric lines stand in the row, where its
 // words end there, and where the next begins.
-#[derive(Drop)]
+#[derive(Clone, Copy)]
 pub struct Opened {
     pub section: SectionRead,
     pub meter: usize,

@@ -178,7 +178,8 @@ module _ (find : ℕ → Outline) (f : ℕ → Option Items) where
         item_chord i (closed (after find r s)) h.1 g.1
         ∙ ap (λ b. b || is_some (last_items none (put_in_item f i))) (closed_chord (after find r s) ∙ items_chord r s h.0 g.0)
         ∙ or_assoc s.chord (is_some (last_items none (put_in f r))) (is_some (last_items none (put_in_item f i)))
-        ∙ ap (λ b. s.chord || b) (sym (ap is_some (last_glue none (put_in f r) u (put_in_item f i)) ∙ items_last (last_items none (put_in f r)) (put_in_item f i)))
+        ∙ ap (λ b. s.chord || b)
+        (sym (ap is_some (last_glue none (put_in f r) u (put_in_item f i)) ∙ items_last (last_items none (put_in f r)) (put_in_item f i)))
 
   mutual
     unfolding after after_item put_in put_in_item references_i references Each ItemFits ItemsFit stray stray_item loop_shut opened referred Told

@@ -75,7 +75,8 @@ module _ (missing : ℕ → Bool) (find : ℕ → Outline) where
   sounds_fault (also xs x) g k h = sounds_fault xs g (sound x ∷ k) h.0
       ∙ ap (λ (t : Faults). all_faults missing find t (token_words k)) (sound_fault x g h.1)
 
-  removers_fault : (n : ℕ) (g : Faults) (k : List Token) → all_faults missing find g (token_words (write_removers n k)) ≡ all_faults missing find g (token_words k)
+  removers_fault : (n : ℕ) (g : Faults) (k : List Token)
+      → all_faults missing find g (token_words (write_removers n k)) ≡ all_faults missing find g (token_words k)
   unfolding write_removers token_words token_word all_faults faults_read bracket_read provided◌then◌else◌
   removers_fault zero g k = refl
   removers_fault (suc n) g k = removers_fault n g (remover ∷ k)

@@ -24,7 +24,8 @@ divides_trans a b n h k =
 pub divides_rest : (a m n : ℕ) → divides a m ≡ true → divides a n ≡ true → divides a (n % m) ≡ true
 unfolding divides
 divides_rest a m n h k =
-    eq-eqb ((n % m) % a) 0 (mod-eq-zero_of_dvd a ((dvd-mod_iff a (dvd_of_mod-eq-zero a (eqb-true (m % a) 0 h))).1 (dvd_of_mod-eq-zero a (eqb-true (n % a) 0 k))))
+    eq-eqb ((n % m) % a) 0
+    (mod-eq-zero_of_dvd a ((dvd-mod_iff a (dvd_of_mod-eq-zero a (eqb-true (m % a) 0 h))).1 (dvd_of_mod-eq-zero a (eqb-true (n % a) 0 k))))
 
 -- The first number that passes a test.
 record First (test : ℕ → Bool) (k m c : ℕ) : Type 0 where

@@ -26,7 +26,8 @@ bracket_read k f =
 -- Each word, with what references find.
 unfoldable pub faults_read : (ℕ → Bool) → (ℕ → Outline) → Faults → ℕ → Faults
 unfolding provided◌then◌else◌ reference_read bracket_read
-faults_read missing find f w = provided is_reference (kind_of w) then reference_read (missing (number_of w)) (find (number_of w)) f else bracket_read (kind_of w) f
+faults_read missing find f w = provided is_reference (kind_of w) then reference_read (missing (number_of w)) (find (number_of w)) f else bracket_read
+    (kind_of w) f
 
 unfoldable pub all_faults : (ℕ → Bool) → (ℕ → Outline) → Faults → List ℕ → Faults
 unfolding faults_read

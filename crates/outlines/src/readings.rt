@@ -12,7 +12,7 @@ use tokens::{AGAIN, CHORDS, CLOSES, OPENS, REMOVER, is_position, kind, number};
 // What a text says: whether it is empty, whether it holds a reference; then with its references put in: whether a `%` stands before every chord, whether
 // it has a chord, whether it has no remover; how deep its own loops are; with its references put in the sizes of its measures, and how many measures it
 // plays, 65,536 where they are more.
-#[derive(Drop)]
+#[derive(Clone, Copy)]
 pub struct Outline {
     pub empty: bool,
     pub refers: bool,

@@ -12,7 +12,7 @@ use score::word_at;
 use tokens::{CHORDS, REMOVER, is_position, kind};
 
 // Where a walk has come: the place, the last chord, the pen.
-#[derive(Drop)]
+#[derive(Clone, Copy)]
 pub struct Walk {
     pub at: usize,
     pub last: u32,

@@ -7,7 +7,7 @@ use packing::{head_word, measure_word};
 
 // todo: measures still to be looked at; skip: beats still to be passed over; left: beats still to be written;
 // m, b: measures and beats written; base: the place of beat 0 in the song's table.
-#[derive(Drop)]
+#[derive(Clone, Copy)]
 pub struct Pen {
     pub base: usize,
     pub todo: usize,

@@ -14,7 +14,7 @@ use cuts::Cut;
 use score::{Stretch, least, minus};
 use tokens::SILENCE_WORD;
 
-#[derive(Drop)]
+#[derive(Clone, Copy)]
 pub struct Counts {
     pub measures: usize,
     pub beats: usize,
@@ -22,7 +22,7 @@ pub struct Counts {
 
 // What a section plays: in its N, the lead-in, the pattern as often as it is repeated less both cuts, the tail. Each text may be an empty stretch.
 // `even` is how many measures the pattern has where each of them has N beats, else 0.
-#[derive(Drop)]
+#[derive(Clone, Copy)]
 pub struct Arrangement {
     pub n: usize,
     pub lead: Stretch,
@@ -35,7 +35,7 @@ pub struct Arrangement {
 }
 
 // How many measures a row has, the beats to pass over, the beats to write.
-#[derive(Drop)]
+#[derive(Clone, Copy)]
 pub struct Plan {
     pub todo: usize,
     pub skip: usize,

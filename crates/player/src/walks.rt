@@ -13,7 +13,7 @@ use score::{stretch_of, word_at};
 use tokens::{OPENS, REFERENCE, is_separator, is_stop, kind, number};
 
 // Where a walk may read: in which N, up to which place of the row, and how many levels of loops and references deep.
-#[derive(Drop)]
+#[derive(Clone, Copy)]
 pub struct Scope {
     pub n: usize,
     pub to: usize,

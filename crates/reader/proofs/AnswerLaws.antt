@@ -24,7 +24,7 @@ use Rattle.judging.proofs.VerdictLaws.{late_refused, song_accepted}
 use Rattle.judging.specs.declared.sums.Totals.{Totals}
 use Rattle.reader.specs.declared.answers.Answer.{Answer}
 use Rattle.reader.specs.declared.answers.Room as code
-use Rattle.reader.specs.Answers.{answer_of, Lent, lent, roomOf, stored, Promised, Counted}
+use Rattle.reader.specs.Answers.{answer_of, Lent, lent, room_of, stored, Promised, Counted}
 use Rattle.reader.specs.Room.{is_short, room_is, refused_with, accepted_with, counted_by, answered_by}
 
 -- Stage 8, for a song that the others accept.
@@ -127,20 +127,20 @@ pub keys_room : (room : Room) (song : Song) → HasRoom room (tables song) → 8
 keys_room room song h = omega (arith, h.keys, keys_eight song)
 
 -- A refusal is promised where no table was written, and a song where all were.
-pub promised_refused : (text : List ℕ) (before : Lent) (r : Answer) → r ≡ answer_of (answer (roomOf before) text) → (r.refusal ≡ 0 → ⊥)
+pub promised_refused : (text : List ℕ) (before : Lent) (r : Answer) → r ≡ answer_of (answer (room_of before) text) → (r.refusal ≡ 0 → ⊥)
     → Promised text before r before
 unfolding answer_of stored
-promised_refused text before r e n = record { answer = e; tables = go (answer (roomOf before) text) refl }
+promised_refused text before r e n = record { answer = e; tables = go (answer (room_of before) text) refl }
   where
-    go : (y : songcode.Answer) → answer (roomOf before) text ≡ y → before ≡ stored (answer (roomOf before) text) before
+    go : (y : songcode.Answer) → answer (room_of before) text ≡ y → before ≡ stored (answer (room_of before) text) before
     go (refused k l) f = sym (ap (λ a. stored a before) f)
     go (accepted t) f = absurd (n (ap (λ (a : Answer). a.refusal) (e ∙ ap answer_of f)))
 
 same_lent : {k s m b i x y z u v : List ℕ} → k ≡ x → s ≡ y → m ≡ z → b ≡ u → i ≡ v → lent k s m b i ≡ lent x y z u v
 same_lent p q r e f = rw (p, q, r, e, f) refl
 
-pub promised_accepted : (text : List ℕ) (before after : Lent) (t : Tables) (r : Answer) → r ≡ answer_of (answer (roomOf before) text)
-    → answer (roomOf before) text ≡ accepted t
+pub promised_accepted : (text : List ℕ) (before after : Lent) (t : Tables) (r : Answer) → r ≡ answer_of (answer (room_of before) text)
+    → answer (room_of before) text ≡ accepted t
     → after.keys ≡ sets before.keys 0 t.keys → after.sections ≡ sets before.sections 0 t.sections
     → after.measures ≡ sets before.measures 0 t.measures → after.beats ≡ sets before.beats 0 t.beats
     → after.items ≡ sets before.items 0 t.items → Promised text before r after
@@ -163,19 +163,19 @@ pub one_count : (text : List ℕ) (r q : Answer) → Counted text r → Counted 
 one_count text r q x y = x.answer ∙ sym y.answer
 
 module _ (text : List ℕ) (before after : Lent) (r q : Answer) (read : Promised text before r after) (counted : Counted text q) where
-  pub counted_with_room : ((t : Tables) → song_answer text ≡ accepted t → HasRoom (roomOf before) t) → q ≡ r
+  pub counted_with_room : ((t : Tables) → song_answer text ≡ accepted t → HasRoom (room_of before) t) → q ≡ r
   counted_with_room has = counted.answer ∙ ap answer_of (sym (go (song_answer text) refl)) ∙ sym read.answer
     where
-      go : (a : songcode.Answer) → song_answer text ≡ a → answer (roomOf before) text ≡ song_answer text
-      go (refused n l) e = refused_with_tables (roomOf before) text n l e ∙ sym e
-      go (accepted t) e = (accepted_with_room (roomOf before) text t).1 (e, has t e) ∙ sym e
+      go : (a : songcode.Answer) → song_answer text ≡ a → answer (room_of before) text ≡ song_answer text
+      go (refused n l) e = refused_with_tables (room_of before) text n l e ∙ sym e
+      go (accepted t) e = (accepted_with_room (room_of before) text t).1 (e, has t e) ∙ sym e
 
   pub counted_when_refused : (r.refusal ≡ 0 → ⊥) → (r.refusal ≡ 18 → ⊥) → q ≡ r
   unfolding answer_of
-  counted_when_refused nonzero other = counted.answer ∙ ap answer_of (go (answer (roomOf before) text) refl) ∙ sym read.answer
+  counted_when_refused nonzero other = counted.answer ∙ ap answer_of (go (answer (room_of before) text) refl) ∙ sym read.answer
     where
-      go : (a : songcode.Answer) → answer (roomOf before) text ≡ a → song_answer text ≡ answer (roomOf before) text
+      go : (a : songcode.Answer) → answer (room_of before) text ≡ a → song_answer text ≡ answer (room_of before) text
       go (refused n l) e =
           let number : r.refusal ≡ n = ap (λ (x : Answer). x.refusal) (read.answer ∙ ap answer_of e) in
-          refused_without_tables (roomOf before) text n l e (λ z. other (number ∙ z)) ∙ sym e
+          refused_without_tables (room_of before) text n l e (λ z. other (number ∙ z)) ∙ sym e
       go (accepted t) e = absurd (nonzero (ap (λ (x : Answer). x.refusal) (read.answer ∙ ap answer_of e)))

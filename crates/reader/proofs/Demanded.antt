@@ -14,7 +14,7 @@ use Rattle.songcode.proofs.RefusalsAgree.{refused_as_stated}
 use Rattle.songcode.proofs.RefusalNumbers.{refusal_numbers}
 use Rattle.songcode.proofs.SongAlone.{song_refused_exactly, refused_with_tables, accepted_with_room}
 use Rattle.reader.specs.declared.answers.Answer.{Answer}
-use Rattle.reader.specs.Answers.{answer_of, Lent, roomOf, stored, Promised, Counted}
+use Rattle.reader.specs.Answers.{answer_of, Lent, room_of, stored, Promised, Counted}
 use Rattle.reader.specs.Demands.{Counts, Holds, CountsNothing, ReadDemands, CountDemands, Demands}
 use Rattle.reader.proofs.AnswerLaws.{one_outcome, one_count, counted_with_room, counted_when_refused}
 
@@ -83,48 +83,48 @@ module _ (r : Answer) where
 
 -- The reading.
 module _ (text : List ℕ) (before : Lent) (r : Answer) (after : Lent) (p : Promised text before r after) where
-  accepts : (a : songcode.Answer) → answer (roomOf before) text ≡ a → r.refusal ≡ 0 → (t : Tables) × Described (roomOf before) text t
+  accepts : (a : songcode.Answer) → answer (room_of before) text ≡ a → r.refusal ≡ 0 → (t : Tables) × Described (room_of before) text t
   accepts (refused n l) e zero =
-      let m = (refusal_numbers (roomOf before) text n l e).0 in
+      let m = (refusal_numbers (room_of before) text n l e).0 in
       let k = number_is r n l (p.answer ∙ ap answer_of e) in
       absurd (omega arith)
-  accepts (accepted t) e zero = (t, (accepted_exactly (roomOf before) text t).0 e)
+  accepts (accepted t) e zero = (t, (accepted_exactly (room_of before) text t).0 e)
 
-  words : (t : Tables) → Described (roomOf before) text t → Counts t r × Holds t before after
+  words : (t : Tables) → Described (room_of before) text t → Counts t r × Holds t before after
   words t d =
-      let e = (accepted_exactly (roomOf before) text t).1 d in
+      let e = (accepted_exactly (room_of before) text t).1 d in
       (counts_of r t (p.answer ∙ ap answer_of e), holds_of t before after (p.tables ∙ ap (λ a. stored a before) e))
 
-  unchanged : (a : songcode.Answer) → answer (roomOf before) text ≡ a → 1 ≤ r.refusal → after ≡ before
+  unchanged : (a : songcode.Answer) → answer (room_of before) text ≡ a → 1 ≤ r.refusal → after ≡ before
   unfolding stored
   unchanged (refused n l) e some = p.tables ∙ ap (λ a. stored a before) e
   unchanged (accepted t) e some = let z = (counts_of r t (p.answer ∙ ap answer_of e)).refusal in absurd (omega arith)
 
-  at_most_18 : (a : songcode.Answer) → answer (roomOf before) text ≡ a → r.refusal ≤ 18
+  at_most_18 : (a : songcode.Answer) → answer (room_of before) text ≡ a → r.refusal ≤ 18
   at_most_18 (refused n l) e =
-      let m = (refusal_numbers (roomOf before) text n l e).1 in
+      let m = (refusal_numbers (room_of before) text n l e).1 in
       let k = number_is r n l (p.answer ∙ ap answer_of e) in omega arith
   at_most_18 (accepted t) e = let z = (counts_of r t (p.answer ∙ ap answer_of e)).refusal in omega arith
 
-  by_answer : (number line : ℕ) → 1 ≤ number → (answer (roomOf before) text ≡ refused number line) ↔ ((r.refusal ≡ number) × (r.line ≡ line))
-  by_answer number line some = refused_by r (answer (roomOf before) text) p.answer number line some
+  by_answer : (number line : ℕ) → 1 ≤ number → (answer (room_of before) text ≡ refused number line) ↔ ((r.refusal ≡ number) × (r.line ≡ line))
+  by_answer number line some = refused_by r (answer (room_of before) text) p.answer number line some
 
   read_demanded : ReadDemands text before r after
   read_demanded =
       record {
-        accepted_exactly = (accepts (answer (roomOf before) text) refl, (λ d. (words d.0 d.1).0.refusal));
+        accepted_exactly = (accepts (answer (room_of before) text) refl, (λ d. (words d.0 d.1).0.refusal));
         described_words = words;
         refused_exactly = λ number line some. (
-          (λ h. (refused_as_stated (roomOf before) text number line).0 ((by_answer number line some).1 h)),
-          (λ h. (by_answer number line some).0 ((refused_as_stated (roomOf before) text number line).1 h)),
+          (λ h. (refused_as_stated (room_of before) text number line).0 ((by_answer number line some).1 h)),
+          (λ h. (by_answer number line some).0 ((refused_as_stated (room_of before) text number line).1 h)),
         );
         given_exactly = λ number line some. (
-          (λ h. (refused_exactly (roomOf before) text number line).0 ((by_answer number line some).1 h)),
-          (λ h. (by_answer number line some).0 ((refused_exactly (roomOf before) text number line).1 h)),
+          (λ h. (refused_exactly (room_of before) text number line).0 ((by_answer number line some).1 h)),
+          (λ h. (by_answer number line some).0 ((refused_exactly (room_of before) text number line).1 h)),
         );
         refused_unchanged = λ some.
-            (nothing_by r (answer (roomOf before) text) p.answer some, unchanged (answer (roomOf before) text) refl some);
-        numbered = at_most_18 (answer (roomOf before) text) refl;
+            (nothing_by r (answer (room_of before) text) p.answer some, unchanged (answer (room_of before) text) refl some);
+        numbered = at_most_18 (answer (room_of before) text) refl;
       }
 
 -- Tables as long as a song's own have room for it.
@@ -174,7 +174,7 @@ demanded =
       counted = count_demanded;
       one_outcome = one_outcome;
       an_outcome = λ text before.
-          (answer_of (answer (roomOf before) text), stored (answer (roomOf before) text) before, record { answer = refl; tables = refl });
+          (answer_of (answer (room_of before) text), stored (answer (room_of before) text) before, record { answer = refl; tables = refl });
       one_count = one_count;
       counted_with_room = λ text before after r q p c has.
           counted_with_room text before after r q p c (λ t e. has (own t) t (own_described text t e));

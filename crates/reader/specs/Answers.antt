@@ -22,8 +22,8 @@ pub record Lent : Type 0 where
 abbrev pub lent : List ℕ → List ℕ → List ℕ → List ℕ → List ℕ → Lent
 lent k s m b i = record { keys = k; sections = s; measures = m; beats = b; items = i }
 
-unfoldable pub roomOf : Lent → songcode.Room
-roomOf l =
+unfoldable pub room_of : Lent → songcode.Room
+room_of l =
     record { keys = length l.keys; sections = length l.sections; measures = length l.measures; beats = length l.beats; items = length l.items }
 
 -- "and no table word changes"; where the song is accepted, its words stand in each table. "Lent memory past what a call writes keeps what it held":
@@ -41,8 +41,8 @@ stored (accepted t) old =
 
 -- The promise of the call: its answer and the final content of all lent memory, for every text and all tables.
 pub record Promised (text : List ℕ) (before : Lent) (r : Answer) (after : Lent) : Type 0 where
-  pub answer : r ≡ answer_of (songcode.answer (roomOf before) text)
-  pub tables : after ≡ stored (songcode.answer (roomOf before) text) before
+  pub answer : r ≡ answer_of (songcode.answer (room_of before) text)
+  pub tables : after ≡ stored (songcode.answer (room_of before) text) before
 
 -- The promise of the call without tables: refused by stages 1 to 7, or the counts of the song's own tables, whatever their size.
 pub record Counted (text : List ℕ) (r : Answer) : Type 0 where

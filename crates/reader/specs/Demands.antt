@@ -9,7 +9,7 @@ use Rattle.songcode.specs.Description.Given.{Given}
 use Rattle.songcode.specs.Description.Refusals.{Refused}
 use Rattle.songcode.specs.Description.Described.{HasRoom, Described}
 use Rattle.reader.specs.declared.answers.Answer.{Answer}
-use Rattle.reader.specs.Answers.{Lent, roomOf, Promised, Counted}
+use Rattle.reader.specs.Answers.{Lent, room_of, Promised, Counted}
 
 -- "refusal 0, line 0 and the counts of sections, measures, beats and items"
 pub record Counts (t : Tables) (r : Answer) : Type 0 where
@@ -39,11 +39,11 @@ pub record CountsNothing (r : Answer) : Type 0 where
 -- A chart read: its text, the tables as they were lent, the answer, the tables as they come back.
 pub record ReadDemands (text : List ℕ) (before : Lent) (r : Answer) (after : Lent) : Type 0 where
   -- "A file is accepted exactly when it is a song by the description in document 01 and the lent tables have room", and then its words are stored.
-  pub accepted_exactly : (r.refusal ≡ 0) ↔ ((t : Tables) × Described (roomOf before) text t)
-  pub described_words : (t : Tables) → Described (roomOf before) text t → Counts t r × Holds t before after
+  pub accepted_exactly : (r.refusal ≡ 0) ↔ ((t : Tables) × Described (room_of before) text t)
+  pub described_words : (t : Tables) → Described (room_of before) text t → Counts t r × Holds t before after
   -- "A bad file gets one refusal number and one line": those of its row of the table, and those of the answer's stages; no table word changes.
-  pub refused_exactly : (number line : ℕ) → 1 ≤ number → ((r.refusal ≡ number) × (r.line ≡ line)) ↔ Refused (roomOf before) text (complaint number line)
-  pub given_exactly : (number line : ℕ) → 1 ≤ number → ((r.refusal ≡ number) × (r.line ≡ line)) ↔ Given (stages (roomOf before) text) (complaint number line)
+  pub refused_exactly : (number line : ℕ) → 1 ≤ number → ((r.refusal ≡ number) × (r.line ≡ line)) ↔ Refused (room_of before) text (complaint number line)
+  pub given_exactly : (number line : ℕ) → 1 ≤ number → ((r.refusal ≡ number) × (r.line ≡ line)) ↔ Given (stages (room_of before) text) (complaint number line)
   pub refused_unchanged : 1 ≤ r.refusal → CountsNothing r × (after ≡ before)
   pub numbered : r.refusal ≤ 18
 
@@ -63,6 +63,6 @@ pub record Demands : Type 0 where
   pub one_count : (text : List ℕ) (r q : Answer) → Counted text r → Counted text q → r ≡ q
   -- The count is the answer of the reading wherever the tables have room, and wherever the reading refuses with anything but 18.
   pub counted_with_room : (text : List ℕ) (before after : Lent) (r q : Answer) → Promised text before r after → Counted text q
-      → ((room : Room) (t : Tables) → Described room text t → HasRoom (roomOf before) t) → q ≡ r
+      → ((room : Room) (t : Tables) → Described room text t → HasRoom (room_of before) t) → q ≡ r
   pub counted_when_refused : (text : List ℕ) (before after : Lent) (r q : Answer) → Promised text before r after → Counted text q
       → 1 ≤ r.refusal → (r.refusal ≡ 18 → ⊥) → q ≡ r

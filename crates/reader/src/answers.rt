@@ -5,7 +5,7 @@ ghost use Rattle.reader.specs.Room.{refused_with, accepted_with, counted_by};
 use judging::Totals;
 
 // Refusal and line, both 0 where the song is accepted, and how many words of each table are its own.
-#[derive(Drop)]
+#[derive(Clone, Copy)]
 pub struct Answer {
     pub refusal: usize,
     pub line: usize,

@@ -16,7 +16,7 @@ pub use names::{
 pub use ranks::{NO_COMPLAINT, NO_SECTION_RANK, complain_if, least_of, rank, refusal_at};
 
 // A refusal's number and the line that it names; both 0 where nothing is refused.
-#[derive(Drop)]
+#[derive(Clone, Copy)]
 pub struct Refusal {
     pub number: usize,
     pub line: usize,

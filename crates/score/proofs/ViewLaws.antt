@@ -16,7 +16,6 @@ use Rattle.songcode.specs.Song.{Items, LyricLine, Modifiers, Section, Song}
 use Rattle.songcode.specs.Answer.References.{pattern_items}
 use Rattle.songcode.specs.Answer.Playing.{time_of, bpm_of, repeats}
 use Rattle.songcode.specs.Answer.Meter.{all_fit, count, most_measures}
-use Rattle.cuts.specs.declared.Cut.{Cut}
 use Rattle.score.specs.declared.views.View.{View}
 use Rattle.score.specs.Even.{is_whole, even_measures, even_pattern}
 use Rattle.score.specs.Sections.{side_row, pattern_row, cut_word, is_cut, cuts_by, cuts_row, lyric_by, lyric_row, parts_row, bit, section_row, sections_row}

@@ -5,7 +5,7 @@ ghost use Rattle.score.specs.Places.{word_of};
 use tokens::WRONG_WORD;
 
 // The words from one place on and before another.
-#[derive(Drop)]
+#[derive(Clone, Copy)]
 pub struct Stretch {
     pub from: usize,
     pub to: usize,

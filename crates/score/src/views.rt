@@ -16,7 +16,7 @@ pub const LYRIC: usize = 2;
 
 // A section: where the next begins, N, bpm, the header's line, the repeats, how many measures its pattern has if each has N beats (else 0), the
 // cuts, where its texts stand and its lyric lines.
-#[derive(Drop)]
+#[derive(Clone, Copy)]
 pub struct View {
     pub next: usize,
     pub meter: usize,

@@ -13,8 +13,10 @@ use Rattle.songcode.specs.Answer.Lines.{Line}
 use Rattle.songcode.specs.Song as song
 use Rattle.songcode.specs.Song.{Key, Modifier}
 use Rattle.songcode.specs.Answer.Keys.{key_place}
-use Rattle.songcode.specs.Answer.Modifiers.{ModifierName, of_repeat, of_cut_start, of_cut_end, of_before, of_after, modifier_place, modifier_in, setting_refusal, said_by}
-use Rattle.songcode.specs.Answer.Sections.{Kind, key_line, modifier_line, pattern_line, kind_of_line, key_name_of, modifier_name_of, setting_of, key_of, modifier_of}
+use Rattle.songcode.specs.Answer.Modifiers.{ModifierName, of_repeat, of_cut_start, of_cut_end, of_before, of_after, modifier_place, modifier_in}
+use Rattle.songcode.specs.Answer.Modifiers.{setting_refusal, said_by}
+use Rattle.songcode.specs.Answer.Sections.{Kind, key_line, modifier_line, pattern_line, kind_of_line, key_name_of, modifier_name_of, setting_of, key_of}
+use Rattle.songcode.specs.Answer.Sections.{modifier_of}
 use Rattle.songcode.specs.Answer.Sections.{key_in, modifier_on, modifier_faults_by, modifier_faults, faults}
 use Rattle.songcode.specs.Complaints.{complain_if}
 use Rattle.songcode.proofs.ListLaws.{append_is_nil, complain_if_nil, by_cases}

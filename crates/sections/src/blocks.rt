@@ -10,7 +10,7 @@ use settings::{BlockKind, block_kind, head_in};
 use text::{line_at, line_start, past_blank};
 
 // A line's number and place.
-#[derive(Drop)]
+#[derive(Clone, Copy)]
 pub struct Place {
     pub number: usize,
     pub at: usize,
@@ -28,7 +28,7 @@ pub struct Parts {
 }
 
 // What a section says: the number of its header, its keys and modifiers, and the lines of its pattern and lyrics.
-#[derive(Drop)]
+#[derive(Clone, Copy)]
 pub struct SectionRead {
     pub header: usize,
     pub keys: Keys,

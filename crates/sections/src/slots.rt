@@ -11,7 +11,7 @@ use settings::{
 use text::line_at;
 
 // A setting's line, and the places of its first byte and behind its last; line 0 where there is none.
-#[derive(Drop)]
+#[derive(Clone, Copy)]
 pub struct Said {
     pub line: usize,
     pub start: usize,

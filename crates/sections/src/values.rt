@@ -29,14 +29,14 @@ const BEFORE: usize = 11;
 const AFTER: usize = 12;
 
 // A time of 0 and a bpm of 511 are none.
-#[derive(Drop)]
+#[derive(Clone, Copy)]
 pub struct Keys {
     pub time: usize,
     pub bpm: usize,
 }
 
 // How often, the cuts at the front and at the back, lead-in and tail. A repeat of 1 and a cut that is `Not` are none; so are a lead-in and a tail on line 0.
-#[derive(Drop)]
+#[derive(Clone, Copy)]
 pub struct Modifiers {
     pub repeat: usize,
     pub front: CutRead,

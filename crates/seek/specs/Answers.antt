@@ -4,10 +4,10 @@ use Rattle.std.proofs.Math.Option.{Option, none, some}
 use Rattle.songcode.specs.Answer.Finding.{Jump}
 use Rattle.seek.specs.declared.Found.{Found}
 
-unfoldable pub foundAs : Option ℕ → ℕ → Found
-foundAs none probes = record { refusal = 19; place = 0; probes = probes }
-foundAs (some place) probes = record { refusal = 0; place = place; probes = probes }
+unfoldable pub found_as : Option ℕ → ℕ → Found
+found_as none probes = record { refusal = 19; place = 0; probes = probes }
+found_as (some place) probes = record { refusal = 0; place = place; probes = probes }
 
-unfoldable pub foundOf : Jump → Found
-unfolding foundAs
-foundOf j = foundAs j.place j.probes
+unfoldable pub found_of : Jump → Found
+unfolding found_as
+found_of j = found_as j.place j.probes

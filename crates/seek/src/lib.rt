@@ -3,7 +3,7 @@
 
 ghost use Rattle.std.specs.Prelude.{◌≡◌};
 ghost use Rattle.songcode.specs.Answer.Finding.{jump_to};
-ghost use Rattle.seek.specs.Answers.{foundOf};
+ghost use Rattle.seek.specs.Answers.{found_of};
 
 use refusals::BEAT_NOT_FOUND;
 
@@ -20,7 +20,7 @@ pub struct Found {
 
 // For any table and any beat.
 pub fn find_measure(measures: &[u32], beat: u32) -> Found
-    ensures { result ≡ foundOf (jump_to beat measures.now) }
+    ensures { result ≡ found_of (jump_to beat measures.now) }
 {
     if MOST_RECORDS < measures.len() {
         return Found {

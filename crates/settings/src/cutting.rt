@@ -9,7 +9,7 @@ use cuts::{Beats, Cut, Measures};
 use tokens::{Number, number_in};
 
 // A cut, or a text that is none.
-#[derive(Drop)]
+#[derive(Clone, Copy)]
 pub enum CutRead {
     Cut(Cut),
     Not,

@@ -15,7 +15,8 @@ use Rattle.slips.specs.RulesRead.{up_to, Refuses}
 use Rattle.slips.proofs.ReadingLaws.{told_near}
 
 -- The tokens of lines, from one line on.
-tokens_more : (l : Line) (ls : List Line) (m : Line) (rest : List Line) → tokens_of l (ls ++ (m ∷ rest)) ≡ (tokens_of l ls ++ (line_end ∷ [])) ++ tokens_of m rest
+tokens_more : (l : Line) (ls : List Line) (m : Line) (rest : List Line)
+    → tokens_of l (ls ++ (m ∷ rest)) ≡ (tokens_of l ls ++ (line_end ∷ [])) ++ tokens_of m rest
 unfolding tokens_of
 tokens_more l [] m rest = sym (append_assoc (tokens l.text) (line_end ∷ []) (tokens_of m rest))
 tokens_more l (k ∷ ls) m rest =
@@ -43,7 +44,8 @@ module _ (s : List ℕ) (n from to : ℕ) where
   piece_cut at (m ∷ ms) h =
       ap (λ (ts : List Token). ts ++ (line_end ∷ tokens_of m ms)) h ∙ append_assoc (tokens_from from at s) (tokens_from at to s) (line_end ∷ tokens_of m ms)
 
-  first_of : (rest : List Line) (t : Token) (us : List Token) → tokens_from from to s ≡ t ∷ us → (vs : List Token) × (tokens_of (piece s n from to) rest ≡ t ∷ vs)
+  first_of : (rest : List Line) (t : Token) (us : List Token) → tokens_from from to s ≡ t ∷ us → (vs : List Token)
+      × (tokens_of (piece s n from to) rest ≡ t ∷ vs)
   unfolding tokens_of
   first_of [] t us h = (us, h)
   first_of (m ∷ ms) t us h = (us ++ (line_end ∷ tokens_of m ms), ap (λ (ts : List Token). ts ++ (line_end ∷ tokens_of m ms)) h)

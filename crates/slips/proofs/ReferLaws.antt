@@ -81,7 +81,7 @@ module _ (n : ℕ) (x : Misfit) (f : Fresh x) where
 fresh_all : (n : ℕ) (x : Misfit) (ms : List Mark) → Fresh x → Fresh (fitted n x ms)
 unfolding fitted
 fresh_all n x [] f = f
-fresh_all n x (m ∷ ms) f = fresh_all n _ ms (fresh_one n x f (is_position m.token) m.from m.to)
+fresh_all n x (m ∷ ms) f = fresh_all n (fitting_if (is_position m.token) n x m.from m.to) ms (fresh_one n x f (is_position m.token) m.from m.to)
 
 -- Nothing more is found in a text that was read.
 pub passed_read : (s : List ℕ) → length s ≤ 65536 → (ls : List Line) (ms : List Mark) → MarkedLines s ls ms → (x r : Reading) → Closed x.misfit

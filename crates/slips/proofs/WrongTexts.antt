@@ -19,7 +19,8 @@ use Rattle.songcode.specs.Description.StoppedText.{modifier_unknown, repeat_sett
 use Rattle.songcode.specs.Description.StoppedText.{ModifierDoubled, modifier_twice, PlaceStops, key_after, modifier_before, pattern_past, AllPattern, Split}
 use Rattle.songcode.specs.Description.StoppedText.{SectionStops, name_wrong, out_of_place, key_doubled, modifier_doubled, key_stops, modifier_stops}
 use Rattle.songcode.specs.Description.StoppedText.{pattern_text_lem, no_pattern, no_lyrics, MetadataStops, of_key, of_keys_lem, no_key}
-use Rattle.songcode.specs.Description.StoppedText.{DefinitionStops, head_malformed, head_twice, head_27th, definition_text_lem, OfKind, no_more, this_one, another}
+use Rattle.songcode.specs.Description.StoppedText.{DefinitionStops, head_malformed, head_twice, head_27th, definition_text_lem, OfKind, no_more, this_one}
+use Rattle.songcode.specs.Description.StoppedText.{another}
 use Rattle.songcode.specs.Description.StoppedText.{IsDefinition, IsSection}
 use Rattle.songcode.specs.Description.StoppedText.{TextStops, kind_late, in_metadata_lem, in_definition_lem, in_section, Stops2, stated, no_section_lem}
 use Rattle.songcode.proofs.ChoiceLaws.{is_some_exact}

@@ -27,7 +27,7 @@ use settings::{BlockKind, Kind, kind_of, setting_start};
 use text::{byte_at, line_at};
 
 // Whose text it is: a definition's, a section's, a lead-in's or tail's.
-#[derive(Drop)]
+#[derive(Clone, Copy)]
 pub enum Whose {
     Definition,
     Section,
@@ -36,7 +36,7 @@ pub enum Whose {
 
 // The text so far: what the grammar says of it; the sign of its last token, where this begins and ends; the place of its last `[`, or 0; and, once
 // it has stopped being right, the clause, the place that is to change, and the place where it stopped.
-#[derive(Drop)]
+#[derive(Clone, Copy)]
 pub struct Reading {
     pub check: Check,
     pub last: u32,

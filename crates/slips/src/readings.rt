@@ -12,7 +12,7 @@ use text::line_at;
 const LINE_MOST: usize = 65536;
 
 // Whether a chord was heard before any `%`; whether a `%` was, and where it stands.
-#[derive(Drop)]
+#[derive(Clone, Copy)]
 pub struct Stray {
     pub chord: bool,
     pub found: bool,
@@ -20,7 +20,7 @@ pub struct Stray {
 }
 
 // The measure at hand: how many positions it has so far, where the first begins and the last ends. It is kept once one does not fit.
-#[derive(Drop)]
+#[derive(Clone, Copy)]
 pub struct Misfit {
     pub positions: usize,
     pub from: usize,
@@ -29,7 +29,7 @@ pub struct Misfit {
 }
 
 // N; what was found so far; how many measures were closed, and how many before the stray `%`.
-#[derive(Drop)]
+#[derive(Clone, Copy)]
 pub struct Reading {
     pub time: usize,
     pub stray: Stray,

@@ -16,7 +16,7 @@ use text::line_at;
 const DEFINITIONS_MOST: usize = 26;
 
 // What was read; of the definitions that references meant their numbers, 0 where there is none, and how many measures each has.
-#[derive(Drop)]
+#[derive(Clone, Copy)]
 pub struct Referring {
     pub reading: Reading,
     pub numbers: [usize; 26],

@@ -46,7 +46,7 @@ pub fn number_of(word: u32) -> usize
 }
 
 // A token: its word, the place of its first byte, and the place behind its last.
-#[derive(Drop)]
+#[derive(Clone, Copy)]
 pub struct Token {
     pub word: u32,
     pub from: usize,

@@ -11,7 +11,7 @@ use sections::{Place, line_numbered};
 use text::Line;
 
 // The line, and where the first line of its block begins.
-#[derive(Drop)]
+#[derive(Clone, Copy)]
 pub struct Spot {
     pub line: Line,
     pub block: Place,

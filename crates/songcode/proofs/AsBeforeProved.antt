@@ -84,7 +84,8 @@ slips_alike text h w o = go (unchecked w) (h w o)
 
 -- Request 2: where none is passed over the longest that is taken is the longest that fits.
 longest_alike : (word : List ℕ) (n : ℕ) (ss : List (List ℕ)) (best : Option Base)
-    → ((k : ℕ) (s : List ℕ) → get_elem? ss k ≡ some s → is_passed_over s word ≡ false) → longest_from is_taken n ss word best ≡ longest_from begins n ss word best
+    → ((k : ℕ) (s : List ℕ) → get_elem? ss k ≡ some s → is_passed_over s word ≡ false)
+    → longest_from is_taken n ss word best ≡ longest_from begins n ss word best
 unfolding longest_from is_taken
 longest_alike word n [] best h = refl
 longest_alike word n (s ∷ ss) best h =

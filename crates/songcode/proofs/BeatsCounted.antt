@@ -184,7 +184,8 @@ pattern_total n ms none pass middle (e, p, m) = rw (e, m) nothing
     nothing : 0 + (named_front unmodified.cut_start [] + named_back unmodified.cut_end []) ≡ as_often unmodified * 0
     nothing = refl
 pattern_total n ms (some r) pass middle (shorter, alone, front, back, some_left) =
-    let w : lengths (times (as_often ms) pass) ≡ times (as_often ms) (text_widths n r) = rw (lengths_times (as_often ms) pass, alone_widths n r pass alone) refl in
+    let w : lengths (times (as_often ms) pass) ≡ times (as_often ms) (text_widths n r) = rw
+    (lengths_times (as_often ms) pass, alone_widths n r pass alone) refl in
     let f = front_named ms.cut_start (times (as_often ms) pass) shorter front in
     let b = back_named ms.cut_start ms.cut_end (times (as_often ms) pass) shorter middle front back in
     let t : total (times (as_often ms) pass) ≡ as_often ms * text_beats n r = rw (← (sum_lengths (times (as_often ms) pass)), w, sum_times, sum_text) refl in

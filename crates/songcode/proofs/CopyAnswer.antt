@@ -87,7 +87,8 @@ answered_exactly lent bs copy = (
         let z : flat_copy bs ≡ copy = cc in
         let f : copy_faults lent (flat_copy bs) ≡ [] = subst (λ x. copy_faults lent x ≡ []) (sym z) ((room_for lent copy).1 (l, m)) in
         let v : verdict (flat_stages lent bs) ≡ none =
-        silent_verdict (flat_stages lent bs) (append_silent (song_stages bs) (copy_faults lent (flat_copy bs) ∷ []) (verdict_silent (song_stages bs) e) (f, tt)) in
+        silent_verdict (flat_stages lent bs)
+        (append_silent (song_stages bs) (copy_faults lent (flat_copy bs) ∷ []) (verdict_silent (song_stages bs) e) (f, tt)) in
         ap (λ o. flat_by o (flat_copy bs)) v ∙ ap (λ x. copied x) z
     back (some c) e h l m = let z : ◌≡◌ {A = ℕ} 0 1 = cc in absurd (omega arith)
 

@@ -173,7 +173,8 @@ silent_alike : (p : Parts) (at : ℕ) → Within p.meter (joined p) → silent_p
 unfolding silent_part
 silent_alike p at w = ap is_empty (joined_at p at) ∙ empty_heads p.meter at (joined p) w
 
-any_silent : {xs : List Section} {ps : List Parts} {ys : List Section} (g : FlatSections xs ps ys) → Ready ps → any silent_part (flat_parts g) ≡ any silent_part ps
+any_silent : {xs : List Section} {ps : List Parts} {ys : List Section} (g : FlatSections xs ps ys) → Ready ps
+    → any silent_part (flat_parts g) ≡ any silent_part ps
 unfolding flat_parts any Ready
 any_silent no_flat r = refl
 any_silent (a_flat {p} at f fs) r = rw (silent_alike p at r.0.0, any_silent fs r.1)

@@ -152,6 +152,9 @@ module _ {A : Type 0} where
         let r = front_cut f p.0 kept (subst (λ y. Filled y) q (filled_cut_back b row g)) p.2 in
         let e : cut_back b (cut_front f row) ≡ kept = cuts_commute f b row g ∙ ap (λ y. cut_front f y) q ∙ r in
         let n : 1 ≤ length (cut_back b (cut_front f row)) = rw e (some_front f p.0 kept p.2) in
-        let k = there (λ y. cut_back b y) (back_nil b) (cut_front f row) n in
-        (cut_front f row, cut_front_lem f row g k, subst (λ y. CutsBack b (cut_front f row) y) e (cut_back_lem b (cut_front f row) (filled_cut_front f row g) n))),
+        let k = there (λ y. cut_back b y) (back_nil b) (cut_front f row) n in (
+          cut_front f row,
+          cut_front_lem f row g k,
+          subst (λ y. CutsBack b (cut_front f row) y) e (cut_back_lem b (cut_front f row) (filled_cut_front f row g) n),
+        )),
   )

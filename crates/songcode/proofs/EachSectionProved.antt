@@ -32,7 +32,16 @@ parted [] x behind xs ys e none_each = nil_is_not_cons e
 parted {R = R} [] x behind xs ys e (and_each {x = a} {y = b} {xs = cs} {ys = bs} h hs) =
     let p : a ≡ x = cc in
     let q : cs ≡ behind = cc in
-    record { before = []; thing = b; after = bs; written = refl; holds = subst (λ z. R z b) p h; of_front = none_each; of_behind = subst (λ z. Each R z bs) q hs }
+    record {
+      before = [];
+      thing = b;
+      after = bs;
+      written = refl;
+      holds = subst (λ z. R z b) p h;
+      of_front = none_each;
+      of_behind = subst
+          (λ z. Each R z bs) q hs;
+    }
 parted (f ∷ front) x behind xs ys e none_each = nil_is_not_cons e
 parted {R = R} (f ∷ front) x behind xs ys e (and_each {x = a} {y = b} {xs = cs} {ys = bs} h hs) =
     let p : a ≡ f = cc in

@@ -32,7 +32,8 @@ starts_later at (w ∷ ws) f (suc j) l =
     let later = starts_later (end_beat w) ws p.2 j (omega arith) in
     omega arith
 
-pub apart : (at : ℕ) (table : List ℕ) → follows at table ≡ true → (i j : ℕ) → i < j → j < length table → end_beat (get_or table i 0) ≤ first_beat (get_or table j 0)
+pub apart : (at : ℕ) (table : List ℕ) → follows at table ≡ true → (i j : ℕ) → i < j → j < length table
+    → end_beat (get_or table i 0) ≤ first_beat (get_or table j 0)
 apart at [] f i j l m = absurd (omega arith)
 apart at (w ∷ ws) f i zero l m = absurd (omega arith)
 apart at (w ∷ ws) f zero (suc j) l m = starts_later (end_beat w) ws (follow_parts at w ws f).2 j (omega arith)

@@ -34,7 +34,8 @@ module _ (beat : ℕ) (table : List ℕ) where
       (λ e. rw e (before m refl (ltb-true beat (first_beat (get_or table (half start end) 0)) e) l))
       (λ e. by_cases (leb (end_beat (get_or table (half start end) 0)) beat)
       (λ f. rw (e, f) (past m refl (leb-true (end_beat (get_or table (half start end) 0)) beat f) h))
-      (λ f. rw (e, f) (held m refl (ltb-false beat (first_beat (get_or table (half start end) 0)) e, leb-false (end_beat (get_or table (half start end) 0)) beat f))))
+      (λ f. rw (e, f)
+      (held m refl (ltb-false beat (first_beat (get_or table (half start end) 0)) e, leb-false (end_beat (get_or table (half start end) 0)) beat f))))
 
   pub halving_sound : (turns start end : ℕ) → end ≤ start + turns → Right start end (halving turns beat table start end)
   unfolding halving nowhere provided◌then◌else◌

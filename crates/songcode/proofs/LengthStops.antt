@@ -15,7 +15,8 @@ use Rattle.songcode.specs.Song.{Items, Section, Song, Beat}
 use Rattle.songcode.specs.Answer.PatternText.{references}
 use Rattle.songcode.specs.Answer.References.{pattern_items}
 use Rattle.songcode.specs.Answer.Playing.{time_of, repeats, measures_of, side_measures, kept_measures}
-use Rattle.songcode.specs.Answer.Meter.{played_faults, side_faults, section_meter, meter_faults, measures_in, side_count, section_count, most_measures, cut_faults}
+use Rattle.songcode.specs.Answer.Meter.{played_faults, side_faults, section_meter, meter_faults, measures_in, side_count, section_count, most_measures}
+use Rattle.songcode.specs.Answer.Meter.{cut_faults}
 use Rattle.songcode.specs.Answer.Meter.{length_faults, any_said}
 use Rattle.songcode.specs.Description.WrittenSection.{Each, none_each, and_each}
 use Rattle.songcode.specs.Description.Performance.{as_often, PlaysAlone, PlaysPattern}

@@ -17,7 +17,8 @@ use Rattle.songcode.specs.Song.{KeyName, repeated, cut_start, cut_end, before, a
 use Rattle.songcode.specs.Answer.Keys.{name_in, setting_in, is_setting}
 use Rattle.songcode.specs.Answer.Modifiers.{ModifierName, of_repeat, of_cut_start, of_cut_end, of_before, of_after, cut_in, modifier_in, setting_refusal}
 use Rattle.songcode.specs.Answer.PatternText.{side_text}
-use Rattle.songcode.specs.Answer.Sections.{key_line, modifier_line, pattern_line, kind_of, kind_of_line, behind_first, name_of, setting_of, key_name_of, key_faults_by}
+use Rattle.songcode.specs.Answer.Sections.{key_line, modifier_line, pattern_line, kind_of, kind_of_line, behind_first, name_of, setting_of, key_name_of}
+use Rattle.songcode.specs.Answer.Sections.{key_faults_by}
 use Rattle.songcode.specs.Answer.Sections.{key_faults, modifier_name_of, modifier_faults_by, modifier_faults}
 use Rattle.songcode.specs.Description.WrittenSong.{BeginsWith}
 use Rattle.songcode.specs.Description.StoppedText.{UnderLetter, IsKey, IsModifier, IsPattern, Worded, CallsKey, modifier_word, CallsModifier, KeyStops}

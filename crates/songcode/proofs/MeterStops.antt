@@ -18,7 +18,8 @@ use Rattle.songcode.specs.Song.{Sound, chord, again, silence, Sounds, only, also
 use Rattle.songcode.specs.Song.{Section, Song, Side}
 use Rattle.songcode.specs.Answer.References.{pattern_items}
 use Rattle.songcode.specs.Answer.Playing.{time_of, sound_count, positions, chord_after, last_sounds, last_item, last_items}
-use Rattle.songcode.specs.Answer.Meter.{fits, all_fit_item, all_fit, strays, stray_among, stray_item, stray, row_faults, played_faults, side_faults, section_meter}
+use Rattle.songcode.specs.Answer.Meter.{fits, all_fit_item, all_fit, strays, stray_among, stray_item, stray, row_faults, played_faults, side_faults}
+use Rattle.songcode.specs.Answer.Meter.{section_meter}
 use Rattle.songcode.specs.Answer.Meter.{meter_faults}
 use Rattle.songcode.specs.Description.WrittenSong.{WrittenSong}
 use Rattle.songcode.specs.Description.Fits.{DefinitionsRefer}

@@ -12,7 +12,8 @@ use Rattle.songcode.specs.Lists.{provided◌then◌else◌}
 use Rattle.songcode.specs.Complaints.{Complaint, complaint}
 use Rattle.songcode.specs.Song.{Separator, Item, measure, loop, refer, Items, one, next, Pattern, items, named, Definition, Section, Song}
 use Rattle.songcode.specs.Answer.PatternText.{depth_i, depth, loops_deep, references_i, references, no_reference}
-use Rattle.songcode.specs.Answer.References.{definition_of, items_of, glue, put_in_item, put_in, items_fault, reference_fault, depth_fault, definition_references}
+use Rattle.songcode.specs.Answer.References.{definition_of, items_of, glue, put_in_item, put_in, items_fault, reference_fault, depth_fault}
+use Rattle.songcode.specs.Answer.References.{definition_references}
 use Rattle.songcode.specs.Answer.References.{definitions_references, named_fault, section_reference, reference_faults}
 use Rattle.songcode.specs.Description.WrittenSection.{Each, none_each, and_each, Absent, Distinct}
 use Rattle.songcode.specs.Description.WrittenSong.{id_of, DefinitionLines, WrittenDefinition, WrittenSong}
@@ -160,7 +161,8 @@ module _ (f : ℕ → Option Items) where
         let g = deep_glued (put_in f r) s (put_in_item f i) in
         either (references r) (λ x. let a = items_flat r n x h in omega arith) (λ x. let a = item_flat i n x h in omega arith) m
 
-  deep_item_lem : (i : Item) → ((n : ℕ) (q : Items) → f n ≡ some q → depth q ≤ 1) → depth_i i ≤ 1 → 2 ≤ depth (put_in_item f i) → (n : ℕ) × InLoopItem n i × Looped n
+  deep_item_lem : (i : Item) → ((n : ℕ) (q : Items) → f n ≡ some q → depth q ≤ 1) → depth_i i ≤ 1 → 2 ≤ depth (put_in_item f i) → (n : ℕ) × InLoopItem n i
+      × Looped n
   unfolding depth depth_i put_in_item InLoopItem Looped
   deep_item_lem (measure m) a z h = let y : ⊥ = omega arith in absurd y
   deep_item_lem (loop r k) a z h = flat_items r (omega arith) (omega arith)
@@ -212,7 +214,8 @@ unfolding onto
 member_onto earlier [] e m = ⊎_elim (λ i. i) (λ i. absurd (mathlib.Core.List.Memᴰ.not-nil i)) m
 member_onto earlier (d ∷ ds) e m =
     member_onto (d ∷ earlier) ds e
-    (⊎_elim (λ i. inl (mathlib.Core.List.Memᴰ.tail i)) (λ i. ⊎_elim (λ p. inl (mathlib.Core.List.Memᴰ.head p)) (λ j. inr j) (mathlib.Core.List.Memᴰ.cases_cons i)) m)
+    (⊎_elim (λ i. inl (mathlib.Core.List.Memᴰ.tail i))
+    (λ i. ⊎_elim (λ p. inl (mathlib.Core.List.Memᴰ.head p)) (λ j. inr j) (mathlib.Core.List.Memᴰ.cases_cons i)) m)
 
 definitions_in : (earlier ds : List Definition) {c : Complaint} → Memᴰ c (definitions_references earlier ds)
     → (xs : List Definition) × (d : Definition) × (ys : List Definition) × (ds ≡ xs ++ (d ∷ ys)) × Memᴰ c
@@ -230,7 +233,8 @@ in_definitions : (earlier xs : List Definition) (d : Definition) (ys : List Defi
     → Memᴰ c (definitions_references earlier (xs ++ (d ∷ ys)))
 unfolding definitions_references onto
 in_definitions earlier [] d ys m = mathlib.Core.List.Memᴰ.append_left (definitions_references (d ∷ earlier) ys) m
-in_definitions earlier (x ∷ xs) d ys m = mathlib.Core.List.Memᴰ.append_right (definition_references earlier x.items x.head) (in_definitions (x ∷ earlier) xs d ys m)
+in_definitions earlier (x ∷ xs) d ys m = mathlib.Core.List.Memᴰ.append_right (definition_references earlier x.items x.head)
+    (in_definitions (x ∷ earlier) xs d ys m)
 
 -- Items with references.
 referring : (q : Items) → not (no_reference q) ≡ true → (n : ℕ) × Memᴰ n (references q)

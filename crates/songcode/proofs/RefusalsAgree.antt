@@ -307,7 +307,10 @@ module _ (room : Room) (bs : List ℕ) where
               silent stage4 (meter_faults (song_of bs)) (says_4 e1 e2 e3) e4,
               (
                 silent stage5 (length_faults (song_of bs) 0 (song_of bs).sections) (says_5 e1 e2 e3 e4) e5,
-                (silent stage6 (count_faults (song_of bs)) (says_6 e1 e2 e3 e4 e5) e6, (silent stage7 (sum_faults (song_of bs)) (says_7 e1 e2 e3 e4 e5 e6) e7, tt)),
+                (
+                  silent stage6 (count_faults (song_of bs)) (says_6 e1 e2 e3 e4 e5) e6,
+                  (silent stage7 (sum_faults (song_of bs)) (says_7 e1 e2 e3 e4 e5 e6) e7, tt),
+                ),
               ),
             ),
           ),
@@ -357,7 +360,8 @@ module _ (room : Room) (bs : List ℕ) where
       empty stage5 (length_faults (song_of bs) 0 (song_of bs).sections) (says_5 e1 e2 e3 e4) n.1.1.1.1.0 in
       let e6 : count_faults (song_of bs) ≡ [] = empty stage6 (count_faults (song_of bs)) (says_6 e1 e2 e3 e4 e5) n.1.1.1.1.1.0 in
       in_later e1
-      (in_later e2 (in_later e3 (in_later e4 (in_later e5 (in_later e6 (in_this (first_of stage7 (sum_faults (song_of bs)) c (says_7 e1 e2 e3 e4 e5 e6) h f)))))))
+      (in_later e2
+      (in_later e3 (in_later e4 (in_later e5 (in_later e6 (in_this (first_of stage7 (sum_faults (song_of bs)) c (says_7 e1 e2 e3 e4 e5 e6) h f)))))))
   stated_given c stage8 h f n =
       let e1 : input_faults bs ≡ [] = empty stage1 (input_faults bs) says_1 n.0 in
       let e2 : text_faults (blocks_of bs) ≡ [] = empty stage2 (text_faults (blocks_of bs)) says_2 n.1.0 in

@@ -109,7 +109,14 @@ tail_said_lem = once after_said (λ x. after x.line x.items) 4 (λ y. refl) (λ 
 pub said_together : (ms : List Modifier) → Distinct (map modifier_number ms) → Together ms (modifiers_said ms)
 unfolding modifiers_said
 said_together ms d =
-    record { repeat = repeat_said_lem ms d; cut_start = cut_start_said_lem ms d; cut_end = cut_end_said_lem ms d; before = lead_in_said ms d; after = tail_said_lem ms d }
+    record {
+      repeat = repeat_said_lem ms d;
+      cut_start = cut_start_said_lem ms d;
+      cut_end = cut_end_said_lem ms d;
+      before = lead_in_said ms d;
+      after =
+          tail_said_lem ms d;
+    }
 
 alike : {A : Type 0} {P : A → Type 0} (o p : Option A) → ((y : A) → (o ≡ some y) ↔ P y) → ((y : A) → (p ≡ some y) ↔ P y) → o ≡ p
 alike none none f g = refl

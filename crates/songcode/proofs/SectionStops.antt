@@ -18,7 +18,8 @@ use Rattle.songcode.specs.Song.{KeyName}
 use Rattle.songcode.specs.Answer.Keys.{key_place, of_section}
 use Rattle.songcode.specs.Answer.Modifiers.{ModifierName, of_repeat, of_cut_start, of_cut_end, of_before, of_after, modifier_place}
 use Rattle.songcode.specs.Answer.PatternText.{section_text}
-use Rattle.songcode.specs.Answer.Sections.{kind_of_line, is_pattern_line, not_pattern_line, setting_of, key_name_of, modifier_name_of, twice, key_said, modifier_said}
+use Rattle.songcode.specs.Answer.Sections.{kind_of_line, is_pattern_line, not_pattern_line, setting_of, key_name_of, modifier_name_of, twice, key_said}
+use Rattle.songcode.specs.Answer.Sections.{modifier_said}
 use Rattle.songcode.specs.Answer.Sections.{faults, order, pattern_run, pattern_faults, header_faults, not_dashes, lyric_faults, body, from_dashes}
 use Rattle.songcode.specs.Answer.Sections.{section_faults}
 use Rattle.songcode.specs.Description.WrittenText.{All, Stops}

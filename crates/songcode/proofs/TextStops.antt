@@ -187,7 +187,8 @@ unfolding block_order
 in_order latest [] b behind h =
     mathlib.Core.List.Memᴰ.append_left _
     (complaint_in 3 b.first.number
-    (lt-ltb _ _ (⊎_elim (λ x. x) (λ (i : (a : Block) × Memᴰ a [] × (turn (block_kind b) < turn (block_kind a))). absurd (mathlib.Core.List.Memᴰ.not-nil i.1)) h)))
+    (lt-ltb _ _
+    (⊎_elim (λ x. x) (λ (i : (a : Block) × Memᴰ a [] × (turn (block_kind b) < turn (block_kind a))). absurd (mathlib.Core.List.Memᴰ.not-nil i.1)) h)))
 in_order latest (x ∷ before) b behind h =
     mathlib.Core.List.Memᴰ.append_right (complain_if (ltb (turn (block_kind x)) latest) 3 x.first.number)
     (in_order (max latest (turn (block_kind x))) before b behind
@@ -252,7 +253,8 @@ stated_metadata bs before behind l e {c} (of_key h) =
     (gather_in metadata_fault (subst (λ z. Memᴰ l z) (sym e) (mathlib.Core.List.Memᴰ.append_right before (mathlib.Core.List.Memᴰ.head refl))) (stated_key l h))
 stated_metadata bs before behind l e {c} (no_key n) =
     mathlib.Core.List.Memᴰ.append_right (twice 4 key_said [] (metadata_lines bs))
-    (gather_in metadata_fault (subst (λ z. Memᴰ l z) (sym e) (mathlib.Core.List.Memᴰ.append_right before (mathlib.Core.List.Memᴰ.head refl))) (stated_other l n))
+    (gather_in metadata_fault (subst (λ z. Memᴰ l z) (sym e) (mathlib.Core.List.Memᴰ.append_right before (mathlib.Core.List.Memᴰ.head refl)))
+    (stated_other l n))
 
 -- Heads of definitions.
 head_exact : (b : Block) (n : ℕ) → IsDefinition b → (head_in b.first ≡ some n) ↔ DefinitionHead b.first.text n
@@ -449,7 +451,8 @@ module _ (bs : List Block) where
       (subst (λ z. Memᴰ (complaint 3 b.first.number) (block_order 0 z)) (sym e) (in_order 0 before b behind (inr (a, m, turn_later a b h))))))
   text_by_stated {c} (in_metadata_lem ms before behind l k e h) =
       let w : metadata_lines bs ≡ before ++ (l ∷ behind) = metadata_lines_lem bs ∙ ap (λ z. lines_of z) (kind_once (metadata_are bs) k) ∙ e in
-      mathlib.Core.List.Memᴰ.append_left _ (mathlib.Core.List.Memᴰ.append_left _ (mathlib.Core.List.Memᴰ.append_right (block_order 0 bs) (stated_metadata bs before behind l w h)))
+      mathlib.Core.List.Memᴰ.append_left _
+      (mathlib.Core.List.Memᴰ.append_left _ (mathlib.Core.List.Memᴰ.append_right (block_order 0 bs) (stated_metadata bs before behind l w h)))
   text_by_stated {c} (in_definition_lem ds before behind b k e h) =
       let same : definition_blocks bs ≡ before ++ (b ∷ behind) = kind_once (definitions_are bs) k ∙ e in
       let all : (d : Block) → Memᴰ d (before ++ (b ∷ behind)) → IsDefinition d = λ d m. kind_member k (subst (λ z. Memᴰ d z) (sym e) m) in
@@ -471,7 +474,8 @@ module _ (bs : List Block) where
   or_stated [] p m =
       let h = in_complaint (is_empty (section_blocks bs)) 9 0 m in
       subst (λ x. Stops2 bs x) (sym h.1)
-      (no_section_lem (subst (λ z. OfKind IsSection bs z) (is_empty_true (section_blocks bs) h.0) (sections_are bs)) (λ c t. mathlib.Core.List.Memᴰ.not-nil ((p c).1 t)))
+      (no_section_lem (subst (λ z. OfKind IsSection bs z) (is_empty_true (section_blocks bs) h.0) (sections_are bs))
+      (λ c t. mathlib.Core.List.Memᴰ.not-nil ((p c).1 t)))
   or_stated (x ∷ xs) p {c} m = stated ((p c).0 m)
 
   stated_or : (cs : List Complaint) → ((c : Complaint) → Memᴰ c cs ↔ TextStops bs c) → {c : Complaint} → Stops2 bs c

@@ -118,7 +118,8 @@ pub record EitherOrder : Type 1 where
   -- "for every row of measures that each have at least one beat, and every two cuts, taking the front first or the back first leaves the same
   -- measures and beats, or none in both orders": said of the description, where a row that is kept has a beat, and of what the answer does.
   pub either_order : {A : Type 0} (front back : Cut) (row kept : List (List A)) → Filled row → FrontFirst front back row kept ↔ BackFirst front back row kept
-  pub cuts_commute : {A : Type 0} (front back : Cut) (row : List (List A)) → Filled row → cut_back back (cut_front front row) ≡ cut_front front (cut_back back row)
+  pub cuts_commute : {A : Type 0} (front back : Cut) (row : List (List A)) → Filled row
+      → cut_back back (cut_front front row) ≡ cut_front front (cut_back back row)
   -- "the beats of an accepted section are repeat times the pattern's beats, plus lead-in and tail, less the beats the cuts name"
   pub beats_counted : (room : Room) (bs : List ℕ) (t : Tables) (d : Described room bs t) → Each (BeatsCounted d.song) d.song.sections d.parts
   -- The waltz is played in three: its bridge begins on the last beat of its second measure.

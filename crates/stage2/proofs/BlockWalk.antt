@@ -10,7 +10,7 @@ use Rattle.songcode.specs.Answer.Lines.{Line, Block, Runs, shut, join, runs, blo
 use Rattle.grammar.specs.Checks.{first}
 use Rattle.grammar.specs.Verdicts.{section_fine}
 use Rattle.refusals.specs.Ranks.{no_section, none, only_if}
-use Rattle.stage2.specs.Walk.{Known, Walk, step, known, between, nothing_pending, gap, fine_at, closed, full, stepped, finished, walked, unless}
+use Rattle.stage2.specs.Walk.{Known, Walk, step, between, nothing_pending, gap, fine_at, closed, full, stepped, finished, walked, unless}
 
 -- A block's lines, up to its end, and what is known behind it.
 unfoldable pub in_block : Walk → List Line → ℕ

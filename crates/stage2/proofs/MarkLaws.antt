@@ -18,7 +18,7 @@ use Rattle.songcode.specs.Answer.Modifiers.{ModifierName, of_repeat, of_cut_star
 use Rattle.songcode.specs.Answer.Sections.{kind_of_line, key_name_of, modifier_name_of, key_said, modifier_said, twice_by}
 use Rattle.songcode.proofs.LineAgree.{by_kind}
 use Rattle.songcode.proofs.ListLaws.{by_cases}
-use Rattle.refusals.specs.Ranks.{least, none}
+use Rattle.refusals.specs.Ranks.{least}
 use Rattle.stage2.specs.States.{no_marks, again, marked}
 
 -- What a line says is one of eight things.
@@ -82,7 +82,8 @@ put_agrees marks seen j b h k c =
     (λ e. let s = eqb-true j k e in rw (e, ← s, get_or-set_same marks j true false (omega arith)) refl)
     (λ e. let n = eqb-false j k e in rw (e, get_or-set_other marks j k true false (λ z. n (sym z))) (h.1 k c))
 
-pub marked_agrees : (o : Option ℕ) (marks : List Bool) (seen : List ℕ) → Below o → Agrees marks seen → Agrees (marked (option.get_or o 8) marks) (prepend o seen)
+pub marked_agrees : (o : Option ℕ) (marks : List Bool) (seen : List ℕ) → Below o → Agrees marks seen
+    → Agrees (marked (option.get_or o 8) marks) (prepend o seen)
 unfolding marked prepend Below provided◌then◌else◌
 marked_agrees option.none marks seen b h = h
 marked_agrees (option.some j) marks seen b h = rw (lt-ltb j 8 b) (length-set marks j true ∙ h.0, put_agrees marks seen j b h)

@@ -11,7 +11,8 @@ use Rattle.songcode.specs.Answer.Lines.{Line}
 use Rattle.songcode.specs.Answer.Numbers.{repeat_in}
 use Rattle.songcode.specs.Song.{KeyName, name, artist, original, capo, bpm, time, warning, end, repeated, cut_start, cut_end, before, after}
 use Rattle.songcode.specs.Answer.Keys.{is_setting, of_section, of_metadata, key_place}
-use Rattle.songcode.specs.Answer.Modifiers.{ModifierName, of_repeat, of_cut_start, of_cut_end, of_before, of_after, modifier_in, setting_refusal, modifier_place, cut_in}
+use Rattle.songcode.specs.Answer.Modifiers.{ModifierName, of_repeat, of_cut_start, of_cut_end, of_before, of_after, modifier_in, setting_refusal}
+use Rattle.songcode.specs.Answer.Modifiers.{modifier_place, cut_in}
 use Rattle.songcode.specs.Answer.PatternText.{side_text}
 use Rattle.songcode.specs.Complaints.{complaint, complain_if}
 use Rattle.songcode.specs.Answer.Sections.{setting_of, key_faults_by, modifier_faults_by}

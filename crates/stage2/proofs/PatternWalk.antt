@@ -83,7 +83,8 @@ module _ (l : Line) where
     no_more e = rw e
 
     -- One line more, by its kind.
-    pattern_by_lem : (p : Part) (q : Pending) (k : Kind) → kind_of_line l ≡ k → pattern_left p q (l ∷ ls) ≡ pattern_left (part_after k p) (pending_after k p l q) ls
+    pattern_by_lem : (p : Part) (q : Pending) (k : Kind) → kind_of_line l ≡ k
+        → pattern_left p q (l ∷ ls) ≡ pattern_left (part_after k p) (pending_after k p l q) ls
     unfolding pattern_left part_after pending_after pattern_pending wanted check_on
     pattern_by_lem Keys q key_line e = rw (other_run (key_line_lem e)) refl
     pattern_by_lem Keys q modifier_line e = rw (other_run (modifier_line_lem e)) refl
@@ -98,7 +99,8 @@ module _ (l : Line) where
     pattern_by_lem Behind q modifier_line e = refl
     pattern_by_lem Behind q pattern_line e = refl
 
-    pub pattern_next : (p : Part) (q : Pending) → pattern_left p q (l ∷ ls) ≡ pattern_left (part_after (kind_of_line l) p) (pending_after (kind_of_line l) p l q) ls
+    pub pattern_next : (p : Part) (q : Pending)
+        → pattern_left p q (l ∷ ls) ≡ pattern_left (part_after (kind_of_line l) p) (pending_after (kind_of_line l) p l q) ls
     pattern_next p q = pattern_by_lem p q (kind_of_line l) refl
 
 pub fits_next : (l : Line) (p : Part) (k : Kind) (q : Pending) → Fits p q → Fits (part_after k p) (pending_after k p l q)

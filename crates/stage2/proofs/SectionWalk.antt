@@ -7,7 +7,8 @@ use native.Mathlib.Omega.{arith}
 use Rattle.songcode.specs.Lists.{provided◌then◌else◌, taken, left, is_empty, prepend}
 use Rattle.songcode.specs.Answer.Lines.{Line, Block}
 use Rattle.songcode.specs.Complaints.{Complaint, complain_if}
-use Rattle.songcode.specs.Answer.Sections.{Kind, key_line, modifier_line, pattern_line, kind_of_line, twice, twice_by, key_said, modifier_said, faults, pattern_run}
+use Rattle.songcode.specs.Answer.Sections.{Kind, key_line, modifier_line, pattern_line, kind_of_line, twice, twice_by, key_said, modifier_said, faults}
+use Rattle.songcode.specs.Answer.Sections.{pattern_run}
 use Rattle.songcode.specs.Answer.Sections.{pattern_faults, header_faults, not_dashes, lyric_faults, body, from_dashes, section_faults}
 use Rattle.songcode.specs.Answer.SongText.{section, block_kind}
 use Rattle.songcode.proofs.ListLaws.{by_cases}
@@ -34,7 +35,8 @@ body_left p ks ms ls =
     (least (flat_map faults ls))
 
 body_next : (p : Part) (ks ms : List ℕ) (l : Line) (ls : List Line)
-    → body_left p ks ms (l ∷ ls) ≡ min (body_note p ks ms l) (body_left (part_after (kind_of_line l) p) (prepend (key_said l) ks) (prepend (modifier_said l) ms) ls)
+    → body_left p ks ms (l ∷ ls) ≡ min (body_note p ks ms l)
+    (body_left (part_after (kind_of_line l) p) (prepend (key_said l) ks) (prepend (modifier_said l) ms) ls)
 unfolding body_left body_note order_note order_at twice flat_map
 body_next p ks ms l ls =
     let o = misplaced_at (kind_of_line l) p l in
@@ -124,7 +126,8 @@ module _ (k : Known) where
   section_after p ks ms q (l ∷ ls) =
       by_cases
       (not_dashes l)
-      (λ e. rw e (section_after (part_after (kind_of_line l) p) (prepend (key_said l) ks) (prepend (modifier_said l) ms) (pending_after (kind_of_line l) p l q) ls))
+      (λ e. rw e
+      (section_after (part_after (kind_of_line l) p) (prepend (key_said l) ks) (prepend (modifier_said l) ms) (pending_after (kind_of_line l) p l q) ls))
       (λ e. rw e (sung_after ks ms (pending q.want (ranked 8 l.number) q.bad q.check) ls))
 
 -- The complaints of a section, in songcode's order.

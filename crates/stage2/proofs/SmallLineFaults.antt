@@ -13,7 +13,8 @@ use Rattle.songcode.specs.Answer.Modifiers.{ModifierName, of_repeat, of_cut_star
 use Rattle.songcode.specs.Answer.PatternText.{section_text, definition_text}
 use Rattle.songcode.specs.Complaints.{Complaint, complaint, complain_if}
 use Rattle.songcode.specs.Answer.Sections.{Kind, key_line, modifier_line, pattern_line, kind_of_line, setting_of, key_faults_by, key_faults, key_name_of}
-use Rattle.songcode.specs.Answer.Sections.{modifier_faults_by, modifier_faults, modifier_name_of, twice, twice_by, faults, is_pattern_line, not_key_line, past_run}
+use Rattle.songcode.specs.Answer.Sections.{modifier_faults_by, modifier_faults, modifier_name_of, twice, twice_by, faults, is_pattern_line, not_key_line}
+use Rattle.songcode.specs.Answer.Sections.{past_run}
 use Rattle.songcode.specs.Answer.Sections.{misplaced, order, pattern_faults, lyric_faults}
 use Rattle.songcode.specs.Answer.SongText.{metadata_fault, definition_faults}
 use Rattle.songcode.proofs.ListLaws.{Each, each_append, by_cases}

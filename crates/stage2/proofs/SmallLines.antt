@@ -14,7 +14,6 @@ use Rattle.songcode.specs.Answer.Answer.{blocks_of}
 use Rattle.songcode.proofs.ListLaws.{Each}
 use Rattle.refusals.specs.Refusals.{refusal_of}
 use Rattle.text.specs.Spans.{line_of, spans_from, spans, line_text}
-use Rattle.text.specs.declared.lines.Line.{Line}
 use Rattle.text.proofs.LineLaws.{blocks_spans}
 use Rattle.refusals.specs.Ranks.{refusal_at}
 use Rattle.stage2.specs.Walk.{walked, at_first}
@@ -63,7 +62,8 @@ sections_low s h =
     each_gather LowBlock (λ b. section_if (block_kind b) b) (λ b p. low_section b p (block_kind b)) (blocks_of s) (text_low s h)
 
 -- The law of stage 2: the walk over the lines of a text says which complaint goes first.
-pub stage_walked : (s : List ℕ) → length s ≤ 65536 → refusal_at (walked at_first (map (line_text s) (spans s))) ≡ refusal_of (earliest (text_faults (blocks_of s)))
+pub stage_walked : (s : List ℕ) → length s ≤ 65536
+    → refusal_at (walked at_first (map (line_text s) (spans s))) ≡ refusal_of (earliest (text_faults (blocks_of s)))
 unfolding spans text_faults
 stage_walked s h =
     let ls = map (line_text s) (spans s) in

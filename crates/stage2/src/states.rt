@@ -31,7 +31,7 @@ pub struct Carried {
 }
 
 // What a block's end will complain of: no pattern line, `--` without lyrics, and the pattern's text if the check of it says so.
-#[derive(Drop)]
+#[derive(Clone, Copy)]
 pub struct Pending {
     pub want: usize,
     pub bare: usize,
@@ -49,7 +49,7 @@ pub struct State {
 }
 
 // What a line is complained of, and the state behind it.
-#[derive(Drop)]
+#[derive(Clone, Copy)]
 pub struct Judged {
     pub note: usize,
     pub state: State,

@@ -109,7 +109,8 @@ module _ (low high : ℕ) (bs : List Byte) where
       choice true = refl
       choice false = refl
 
-      go : (o : Option ℕ) → number_in 0 9999 bs ≡ o → Is n ≡ number_of o → number_of (number_in low high bs) ≡ (provided leb low n && leb n high then Is n else Not)
+      go : (o : Option ℕ) → number_in 0 9999 bs ≡ o → Is n ≡ number_of o
+          → number_of (number_in low high bs) ≡ (provided leb low n && leb n high then Is n else Not)
       go none f e = let z : ◌≡◌ {A = ℕ} 0 1 = cc in absurd (omega arith)
       go (some m) f e =
           let k : m ≡ n = cc in

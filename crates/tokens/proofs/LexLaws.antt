@@ -241,7 +241,8 @@ module _ (s : List ℕ) (a stop : ℕ) where
       behind : tokens (placed (a + 1 + k) (drop k (part (a + 1) stop s))) ≡ tokens_from (a + 1 + k) stop s
       behind = rw (part_drop s (a + 1) stop k)
 
-      pub at_closing : get_or s a 0 ≡ 93 → tokens_from a stop s ≡ closing_token (repeat_in (placed 0 (part (a + 1) (a + 1 + k) s))) ∷ tokens_from (a + 1 + k) stop s
+      pub at_closing : get_or s a 0 ≡ 93
+          → tokens_from a stop s ≡ closing_token (repeat_in (placed 0 (part (a + 1) (a + 1 + k) s))) ∷ tokens_from (a + 1 + k) stop s
       unfolding class is_blank is_byte provided◌then◌else◌ repeat_in
       at_closing e =
           opened

@@ -102,29 +102,34 @@ abbrev Held : ℕ → List ℕ → Type 0
 Held r bs = in_row r ((65 + r) ∷ bs) ≡ base_of (longest_from is_taken (first_of r) (row_of r) ((65 + r) ∷ bs) none)
 
 held_none : (r : ℕ) → r < 7 → Held r []
-unfolding sign_of major_length with_minor has_minor base_of longest_from is_taken is_passed_over ends_in_m begins longer provided◌then◌else◌ row_of first_of ascii
+unfolding sign_of major_length with_minor has_minor base_of longest_from is_taken is_passed_over ends_in_m begins longer provided◌then◌else◌ row_of first_of
+    ascii
 held_none = seven (λ r. Held r []) refl refl refl refl refl refl refl
 
 held_sharp : (t : List ℕ) (m maj : Bool) → begins (ascii "m") t ≡ m → begins (ascii "maj") t ≡ maj → (r : ℕ) → r < 7 → Held r (35 ∷ t)
-unfolding sign_of major_length with_minor has_minor base_of longest_from is_taken is_passed_over ends_in_m begins longer provided◌then◌else◌ row_of first_of ascii
+unfolding sign_of major_length with_minor has_minor base_of longest_from is_taken is_passed_over ends_in_m begins longer provided◌then◌else◌ row_of first_of
+    ascii
 held_sharp t false maj e f = seven (λ r. Held r (35 ∷ t)) (simp e) refl (simp e) (simp e) refl (simp e) (simp e)
 held_sharp t true false e f = seven (λ r. Held r (35 ∷ t)) (simp (e, f)) refl (simp (e, f)) (simp (e, f)) refl (simp (e, f)) (simp (e, f))
 held_sharp t true true e f = seven (λ r. Held r (35 ∷ t)) (simp (e, f)) refl (simp (e, f)) (simp (e, f)) refl (simp (e, f)) (simp (e, f))
 
 held_flat : (t : List ℕ) (m maj : Bool) → begins (ascii "m") t ≡ m → begins (ascii "maj") t ≡ maj → (r : ℕ) → r < 7 → Held r (98 ∷ t)
-unfolding sign_of major_length with_minor has_minor base_of longest_from is_taken is_passed_over ends_in_m begins longer provided◌then◌else◌ row_of first_of ascii
+unfolding sign_of major_length with_minor has_minor base_of longest_from is_taken is_passed_over ends_in_m begins longer provided◌then◌else◌ row_of first_of
+    ascii
 held_flat t false maj e f = seven (λ r. Held r (98 ∷ t)) (simp e) (simp e) refl (simp e) (simp e) refl (simp e)
 held_flat t true false e f = seven (λ r. Held r (98 ∷ t)) (simp (e, f)) (simp (e, f)) refl (simp (e, f)) (simp (e, f)) refl (simp (e, f))
 held_flat t true true e f = seven (λ r. Held r (98 ∷ t)) (simp (e, f)) (simp (e, f)) refl (simp (e, f)) (simp (e, f)) refl (simp (e, f))
 
 held_minor : (t : List ℕ) (aj : Bool) → begins (ascii "aj") t ≡ aj → (r : ℕ) → r < 7 → Held r (109 ∷ t)
-unfolding sign_of major_length with_minor has_minor base_of longest_from is_taken is_passed_over ends_in_m begins longer provided◌then◌else◌ row_of first_of ascii
+unfolding sign_of major_length with_minor has_minor base_of longest_from is_taken is_passed_over ends_in_m begins longer provided◌then◌else◌ row_of first_of
+    ascii
 held_minor t false e = seven (λ r. Held r (109 ∷ t)) (simp e) (simp e) (simp e) (simp e) (simp e) (simp e) (simp e)
 held_minor t true e = seven (λ r. Held r (109 ∷ t)) (simp e) (simp e) (simp e) (simp e) (simp e) (simp e) (simp e)
 
 module _ (c : ℕ) (t : List ℕ) (sharp : eqb c 35 ≡ false) (flat : eqb c 98 ≡ false) (minor : eqb c 109 ≡ false) where
   held_other : (r : ℕ) → r < 7 → Held r (c ∷ t)
-  unfolding sign_of major_length with_minor has_minor base_of longest_from is_taken is_passed_over ends_in_m begins longer provided◌then◌else◌ row_of first_of ascii
+  unfolding sign_of major_length with_minor has_minor base_of longest_from is_taken is_passed_over ends_in_m begins longer provided◌then◌else◌ row_of first_of
+      ascii
   held_other =
       let s : eqb 35 c ≡ false = ne_eqb 35 c (λ z. eqb-false c 35 sharp (sym z)) in
       let f : eqb 98 c ≡ false = ne_eqb 98 c (λ z. eqb-false c 98 flat (sym z)) in

@@ -74,7 +74,8 @@ module _ (low high : ℕ) (bs : List Byte) where
   number_high n e = ((number_exact low high bs n).0 e).at_most
 
 -- The token of a count, by the number read.
-pub reference_is : (w : List ℕ) (n : ℕ) → Is n ≡ number_of (number_in 1 9999 (placed 0 w)) → 55 * 2 ^ 26 + n ≡ token_word (reference_token (count_in (placed 0 w)))
+pub reference_is : (w : List ℕ) (n : ℕ) → Is n ≡ number_of (number_in 1 9999 (placed 0 w))
+    → 55 * 2 ^ 26 + n ≡ token_word (reference_token (count_in (placed 0 w)))
 unfolding token_word reference_token count_in
 reference_is w n e = rw (number_there 1 9999 (placed 0 w) n e)
 
@@ -200,7 +201,8 @@ module _ (a : ℕ) (w : List ℕ) where
         unfolding dollar_or placed is_byte provided◌then◌else◌ count_in
         word_reference v e = rw (word_other, e, number_placed 1 9999 (suc a) 0 v)
 
-        pub word_chord : (b : ℕ) (v : List ℕ) → w ≡ b ∷ v → (b ≡ 36 → ⊥) → token_word (chord_token (chord_in (placed a w))) ≡ token_word (word_token (placed a w))
+        pub word_chord : (b : ℕ) (v : List ℕ) → w ≡ b ∷ v → (b ≡ 36 → ⊥)
+            → token_word (chord_token (chord_in (placed a w))) ≡ token_word (word_token (placed a w))
         unfolding placed is_byte
         word_chord b v e n =
             rw (word_other, e) (ap token_word (sym (dollar_chord (record { place = a; value = b }) (placed (suc a) v) (ne_eqb b 36 n))))
@@ -210,7 +212,8 @@ other_sign : (sign b : ℕ) (v : List ℕ) → (b ≡ sign → ⊥) → false �
 unfolding same
 other_sign sign b v n = rw (ne_eqb sign b (λ z. n (sym z)))
 
-pub word_letter : (a b : ℕ) (v w : List ℕ) → w ≡ b ∷ v → is_letter b ≡ true → token_word (chord_token (chord_in (placed a w))) ≡ token_word (word_token (placed a w))
+pub word_letter : (a b : ℕ) (v w : List ℕ) → w ≡ b ∷ v → is_letter b ≡ true
+    → token_word (chord_token (chord_in (placed a w))) ≡ token_word (word_token (placed a w))
 word_letter a b v w e l =
     let r = letter_range b l in
     rw e

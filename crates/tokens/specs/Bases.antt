@@ -60,4 +60,5 @@ with_minor r number length w =
 unfoldable pub row_of_number : ℕ → ℕ
 unfolding provided◌then◌else◌
 row_of_number n =
-    provided ltb n 6 then 0 else provided ltb n 10 then 1 else provided ltb n 14 then 2 else provided ltb n 20 then 3 else provided ltb n 24 then 4 else provided ltb n 28 then 5 else 6
+    provided ltb n 6 then 0 else provided ltb n 10 then 1 else provided ltb n 14 then 2 else provided ltb n 20 then 3 else provided ltb n 24 then 4 else
+    provided ltb n 28 then 5 else 6

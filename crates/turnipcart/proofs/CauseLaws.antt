@@ -4,7 +4,7 @@ use mathlib.Core.Path.{refl}
 use mathlib.Core.List.{List, [], ◌∷◌}
 use Rattle.explain.specs.declared.Explained.{Explained}
 use Rattle.explain.specs.Explained.{Explains}
-use Rattle.turnipcart.specs.Answers.{explainedIn, ExplainsChart}
+use Rattle.turnipcart.specs.Answers.{explained_in, ExplainsChart}
 
 abbrev pub laid : Explained → List ℕ
 laid x =
@@ -21,5 +21,5 @@ laid x =
     ∷ []
 
 pub explained_laid : (text : List ℕ) (x : Explained) → Explains text x → ExplainsChart text x.refusal (laid x)
-unfolding explainedIn
+unfolding explained_in
 explained_laid text x e = record { told = refl; explained = e }

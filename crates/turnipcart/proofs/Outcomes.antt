@@ -10,7 +10,7 @@ use Rattle.concert.specs.Promises.{Moves}
 use Rattle.concert.proofs.Demanded.{demanded}
 use Rattle.cues.specs.declared.Lit.{Lit}
 use Rattle.seek.specs.declared.Found.{Found}
-use Rattle.turnipcart.specs.Answers.{answer_in, foundIn, explainedIn, ReadsChart, CountsChart, FindsBeat, LightsCues, ExplainsChart}
+use Rattle.turnipcart.specs.Answers.{answer_in, found_in, explained_in, ReadsChart, CountsChart, FindsBeat, LightsCues, ExplainsChart}
 use Rattle.turnipcart.specs.OneOutcome.{OneOutcome}
 use Rattle.turnipcart.proofs.PaperLaws.{one_copy}
 
@@ -43,7 +43,7 @@ one_counted text r q x y f g =
     (f.given ∙ ap (λ (z : Answer). z.refusal) same ∙ sym g.given, same)
 
 one_found : (measures : List ℕ) (beat r q : ℕ) (x y : List ℕ) → FindsBeat measures beat r x → FindsBeat measures beat q y
-    → (r ≡ q) × (foundIn x ≡ foundIn y)
+    → (r ≡ q) × (found_in x ≡ found_in y)
 one_found measures beat r q x y f g =
     let same = f.halved ∙ sym g.halved in (f.refused ∙ ap (λ (z : Found). z.refusal) same ∙ sym g.refused, same)
 
@@ -53,7 +53,7 @@ one_lit sections measures before r q d e x y f g =
     let same = f.lit ∙ sym g.lit in (ap (λ (z : Lit). z.refusal) same, ap (λ (z : Lit). z.end) same, f.cues ∙ sym g.cues)
 
 one_explained : (text : List ℕ) (r q : ℕ) (x y : List ℕ) → ExplainsChart text r x → ExplainsChart text q y
-    → (r ≡ q) × ((explainedIn x).refusal ≡ (explainedIn y).refusal) × ((explainedIn x).line ≡ (explainedIn y).line)
+    → (r ≡ q) × ((explained_in x).refusal ≡ (explained_in y).refusal) × ((explained_in x).line ≡ (explained_in y).line)
 one_explained text r q x y f g =
     let same = f.explained.refusal ∙ sym g.explained.refusal in
     (f.told ∙ same ∙ sym g.told, same, f.explained.line ∙ sym g.explained.line)

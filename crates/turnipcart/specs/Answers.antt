@@ -6,12 +6,12 @@ use Rattle.reader.specs.Answers.{Lent, Promised, Counted}
 use Rattle.explain.specs.declared.Explained.{Explained}
 use Rattle.explain.specs.Explained.{Explains}
 use Rattle.seek.specs.declared.Found.{Found}
-use Rattle.seek.specs.Answers.{foundOf}
+use Rattle.seek.specs.Answers.{found_of}
 use Rattle.flat.specs.declared.answers.Copied.{Copied}
 use Rattle.flat.specs.Answers.{Flattened}
 use Rattle.cues.specs.declared.Lit.{Lit}
 use Rattle.cues.specs.Cues.{refusal_of}
-use Rattle.cues.specs.Answers.{litBy, cuesBy}
+use Rattle.cues.specs.Answers.{lit_by, cues_by}
 
 -- Refusal, line, and the counts of sections, measures, beats and items.
 unfoldable pub answer_in : List ℕ → Answer
@@ -19,11 +19,11 @@ answer_in xs =
     record { refusal = get_or xs 0 0; line = get_or xs 1 0; sections = get_or xs 2 0; measures = get_or xs 3 0; beats = get_or xs 4 0; items = get_or xs 5 0 }
 
 -- Refusal, place and probes.
-unfoldable pub foundIn : List ℕ → Found
-foundIn xs = record { refusal = get_or xs 0 0; place = get_or xs 1 0; probes = get_or xs 2 0 }
+unfoldable pub found_in : List ℕ → Found
+found_in xs = record { refusal = get_or xs 0 0; place = get_or xs 1 0; probes = get_or xs 2 0 }
 
 -- A chart read: the refusal of the answer is returned, and answer and tables are as promised. "Lent memory past what a call writes keeps what it held":
--- `Promised`, `Flattened` and `cuesBy` say so with `sets`: from the first place on the new words, behind them what memory held.
+-- `Promised`, `Flattened` and `cues_by` say so with `sets`: from the first place on the new words, behind them what memory held.
 pub record ReadsChart (text : List ℕ) (before : Lent) (refusal : ℕ) (answer : List ℕ) (after : Lent) : Type 0 where
   pub returned : refusal ≡ (answer_in answer).refusal
   pub promised : Promised text before (answer_in answer) after
@@ -35,17 +35,17 @@ pub record CountsChart (text : List ℕ) (refusal : ℕ) (answer : List ℕ) : T
 
 -- A beat found: the refusal is returned, and the three numbers are those of the halving rule.
 pub record FindsBeat (measures : List ℕ) (beat : ℕ) (refusal : ℕ) (found : List ℕ) : Type 0 where
-  pub refused : refusal ≡ (foundIn found).refusal
-  pub halved : foundIn found ≡ foundOf (jump_to beat measures)
+  pub refused : refusal ≡ (found_in found).refusal
+  pub halved : found_in found ≡ found_of (jump_to beat measures)
 
 -- The cues of three tables: the refusal that is returned, the song's end, and every word of the cue table.
 pub record LightsCues (sections measures before : List ℕ) (refusal end : ℕ) (after : List ℕ) : Type 0 where
-  pub lit : ◌≡◌ {A = Lit} (record { refusal = refusal; end = end }) (litBy (refusal_of sections measures (length before)) sections measures)
-  pub cues : after ≡ cuesBy (refusal_of sections measures (length before)) sections measures before
+  pub lit : ◌≡◌ {A = Lit} (record { refusal = refusal; end = end }) (lit_by (refusal_of sections measures (length before)) sections measures)
+  pub cues : after ≡ cues_by (refusal_of sections measures (length before)) sections measures before
 
 -- Refusal, line and cause; the line, the first byte and the length of the place; one more line; three numbers.
-unfoldable pub explainedIn : List ℕ → Explained
-explainedIn xs =
+unfoldable pub explained_in : List ℕ → Explained
+explained_in xs =
     record {
       refusal = get_or xs 0 0;
       line = get_or xs 1 0;
@@ -59,14 +59,14 @@ explainedIn xs =
 
 -- A chart explained.
 pub record ExplainsChart (text : List ℕ) (refusal : ℕ) (cause : List ℕ) : Type 0 where
-  pub told : refusal ≡ (explainedIn cause).refusal
-  pub explained : Explains text (explainedIn cause)
+  pub told : refusal ≡ (explained_in cause).refusal
+  pub explained : Explains text (explained_in cause)
 
 -- Refusal, line, and the length of the copy.
-unfoldable pub copiedIn : List ℕ → Copied
-copiedIn xs = record { refusal = get_or xs 0 0; line = get_or xs 1 0; length = get_or xs 2 0 }
+unfoldable pub copied_in : List ℕ → Copied
+copied_in xs = record { refusal = get_or xs 0 0; line = get_or xs 1 0; length = get_or xs 2 0 }
 
 -- A chart copied flat: the refusal is returned, and the three numbers and the buffer are as promised.
 pub record CopiesChart (text before : List ℕ) (refusal : ℕ) (copied after : List ℕ) : Type 0 where
-  pub handed : refusal ≡ (copiedIn copied).refusal
-  pub flattened : Flattened text before (copiedIn copied) after
+  pub handed : refusal ≡ (copied_in copied).refusal
+  pub flattened : Flattened text before (copied_in copied) after

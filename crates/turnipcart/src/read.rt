@@ -14,14 +14,14 @@ pub extern "C" fn turnipcart_read(
     answer: &mut [usize; 6],
 ) -> usize
     ensures { ReadsChart text.now (record {
-      keys = keys.entry.now;
+      keys = keys.old;
       sections = sections.old;
       measures = measures.old;
       beats = beats.old;
       items = items.old;
     }) result answer.new
         (record {
-          keys = keys.exit.now;
+          keys = keys.new;
           sections = sections.new;
           measures = measures.new;
           beats = beats.new;

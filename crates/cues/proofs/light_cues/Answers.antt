@@ -1,12 +1,12 @@
 -- The three tests in the order of the refusals settle which is given; where all pass, the starts and the end are those that are written.
 use mathlib.Core.Path.{ap, sym, ◌∙◌}
 use lib.ListN.{length}
-use Rattle.cues.specs.Answers.{litBy, cuesBy}
+use Rattle.cues.specs.Answers.{lit_by, cues_by}
 use Rattle.cues.proofs.AnswerLaws.{not_joined, not_timed, too_short, accepted}
 use Rattle.cues.proofs.light_cues.Goals as goal
 
 pub returns-then-not-join_up : goal.returns-then-not-join_up
-unfolding litBy cuesBy
+unfolding lit_by cues_by
 returns-then-not-join_up c =
     let a = c.args in
     let refused = not_joined a.sections.now a.measures.now (length a.cues.now) (sym c.join_up.ensures ∙ c.if-not-join_up.true) in record {
@@ -15,7 +15,7 @@ returns-then-not-join_up c =
     }
 
 pub returns-then-not-are_timed : goal.returns-then-not-are_timed
-unfolding litBy cuesBy
+unfolding lit_by cues_by
 returns-then-not-are_timed c =
     let a = c.args in
     let joined = sym c.join_up.ensures ∙ c.if-not-join_up.false in
@@ -26,7 +26,7 @@ returns-then-not-are_timed c =
     }
 
 pub returns-then-cues-measures : goal.returns-then-cues-measures
-unfolding litBy cuesBy
+unfolding lit_by cues_by
 returns-then-cues-measures c =
     let a = c.args in
     let joined = sym c.join_up.ensures ∙ c.if-not-join_up.false in
@@ -41,7 +41,7 @@ write_starts-end-requires c =
     (sym c.join_up.ensures ∙ c.if-not-join_up.false, sym c.are_timed.ensures ∙ c.if-not-are_timed.false, c.if-cues-measures.false)
 
 pub returns : goal.returns
-unfolding litBy cuesBy
+unfolding lit_by cues_by
 returns c =
     let a = c.args in
     let joined = sym c.join_up.ensures ∙ c.if-not-join_up.false in

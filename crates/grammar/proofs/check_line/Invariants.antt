@@ -7,7 +7,8 @@ use Rattle.grammar.specs.Checks.{check_text}
 use Rattle.grammar.proofs.check_line.Given as goal
 
 abbrev pub invariant-loop-word : goal.invariant-loop-word
-invariant-loop-word l = (l.at ≤ l.to) × (check_text l.check (placed l.at (part l.at l.to l.s)) ≡ check_text l.initial.check (placed l.from (part l.from l.to l.s)))
+invariant-loop-word l = (l.at ≤ l.to)
+    × (check_text l.check (placed l.at (part l.at l.to l.s)) ≡ check_text l.initial.check (placed l.from (part l.from l.to l.s)))
 
 abbrev pub decreases-loop-word : goal.decreases-loop-word
 decreases-loop-word l = l.to - l.at

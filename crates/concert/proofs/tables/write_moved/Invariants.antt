@@ -7,7 +7,8 @@ use mathlib.Core.Path.{◌≡◌}
 use Rattle.concert.proofs.tables.write_moved.Given as goal
 
 abbrev pub invariant-loop-i : goal.invariant-loop-i
-invariant-loop-i l = (l.i ≤ length l.beats) × (length l.second ≡ length l.initial.second) × (l.second ≡ filled (moved_word l.shift) l.beats l.initial.second l.i)
+invariant-loop-i l = (l.i ≤ length l.beats) × (length l.second ≡ length l.initial.second)
+    × (l.second ≡ filled (moved_word l.shift) l.beats l.initial.second l.i)
 
 abbrev pub decreases-loop-i : goal.decreases-loop-i
 decreases-loop-i l = length l.beats - l.i

@@ -57,7 +57,12 @@ write_stretch-time-requires c =
     let r = (cover_at l.i a.sections.now t l.first (length a.measures.now) l.invariant.4).0 in
     let p = part_length l.first (l.first + m - l.first) a.measures.now (omega (arith, f.1, r)) in
     let q = part_length l.first (length l.cues - l.first) l.cues (omega (arith, l.invariant.1, l.invariant.2, l.invariant.8)) in record {
-      measures_in_bounds = (omega (arith, p, q, f.1, r, l.invariant.1, l.invariant.8), omega (arith, p, f.1, r, l.invariant.7), omega (arith, l.invariant.2, l.invariant.3, l.invariant.7), l.invariant.6);
+      measures_in_bounds = (
+        omega (arith, p, q, f.1, r, l.invariant.1, l.invariant.8),
+        omega (arith, p, f.1, r, l.invariant.7),
+        omega (arith, l.invariant.2, l.invariant.3, l.invariant.7),
+        l.invariant.6,
+      );
       bpm_bound = λ h. omega (arith, f.2, timed_bpm (get_or a.sections.now l.i 0) (timed_at l.i a.sections.now t l.invariant.5).0 (omega (arith, h, p, f.1)));
     }
 

@@ -28,4 +28,5 @@ returns-in-Reference c = rw c.in-Reference.is c.refer_to.ensures
 
 pub returns-in_default : goal.returns-in_default
 unfolding arrived
-returns-in_default c = let q = c.args in c.move_to.ensures ∙ only-moved q.c q.place q.kind c.in_default.not-Opens c.in_default.not-Closes c.in_default.not-Reference
+returns-in_default c = let q = c.args in c.move_to.ensures
+    ∙ only-moved q.c q.place q.kind c.in_default.not-Opens c.in_default.not-Closes c.in_default.not-Reference

@@ -2,7 +2,7 @@
 use Rattle.songcode.proofs.SongAlone.{refused_with_tables}
 use Rattle.judging.proofs.VerdictLaws.{early_refused, first_clear}
 use Rattle.reader.proofs.AnswerLaws.{promised_refused}
-use Rattle.reader.specs.Answers.{answer_of, lent, roomOf}
+use Rattle.reader.specs.Answers.{answer_of, lent, room_of}
 use Rattle.reader.specs.declared.answers.Answer.{Answer}
 use mathlib.Core.Path.{sym, ap, ◌∙◌}
 use borrow.Author.Rules.{rules}
@@ -17,7 +17,7 @@ returns c =
     let bs = a.text.now in
     let before = lent a.keys.now a.sections.now a.measures.now a.beats.now a.items.now in
     let is = early_refused bs early.result early.ensures.0 c.before.if1.true in
-    promised_refused bs before c.refused.result (c.refused.ensures ∙ sym (ap answer_of (refused_with_tables (roomOf before) bs _ _ is)))
+    promised_refused bs before c.refused.result (c.refused.ensures ∙ sym (ap answer_of (refused_with_tables (room_of before) bs _ _ is)))
     (λ z. c.before.if1.true (ap (λ (r : Answer). r.refusal) (sym c.refused.ensures) ∙ z))
 
 read-song-requires : tie.Need-read-song-requires

@@ -3,7 +3,7 @@ use Rattle.songcode.proofs.SongAlone.{accepted_with_room}
 use Rattle.songcode.specs.Answer.Answer.{song_of}
 use Rattle.songcode.specs.Answer.Tables.{tables}
 use Rattle.reader.proofs.AnswerLaws.{answered_is, answered_song, keys_room, promised_refused, promised_accepted}
-use Rattle.reader.specs.Answers.{lent, roomOf}
+use Rattle.reader.specs.Answers.{lent, room_of}
 use Rattle.reader.specs.declared.answers.Answer.{Answer}
 use mathlib.Core.Path.{sym, ap, ◌∙◌}
 use borrow.Author.Rules.{rules}
@@ -11,7 +11,7 @@ use Rattle.reader.proofs.reading.read_song.Statement.{statement}
 use Rattle.reader.proofs.reading.read_song.Tie as tie
 
 returns : tie.Need-returns
-unfolding roomOf
+unfolding room_of
 returns c =
     let x = c.before.before.answer-for in
     let judged = c.before.before.before.before.before in
@@ -22,7 +22,7 @@ returns c =
     x.result (x.ensures ∙ told) c.if1.true
 
 write-tables-requires : tie.Need-write-tables-requires
-unfolding roomOf
+unfolding room_of
 write-tables-requires c κs =
     let q = c.before.before.before.before.before.before in
     let x = q.before.before.answer-for in
@@ -30,7 +30,7 @@ write-tables-requires c κs =
     let entry = judged.before.before.before.before.before.before.before.before.before in
     let a = entry.args in
     let bs = a.text.now in
-    let room = roomOf (lent a.keys.now a.sections.now a.measures.now a.beats.now a.items.now) in
+    let room = room_of (lent a.keys.now a.sections.now a.measures.now a.beats.now a.items.now) in
     let song = answered_song bs _ judged.judge.result entry.requires.0 entry.requires.1 judged.judge.ensures _
     (ap (λ (r : Answer). r.refusal) (sym x.ensures) ∙ q.if1.false) in
     let has = ((accepted_with_room room bs (tables (song_of bs))).0 song.0).1 in (
@@ -39,7 +39,7 @@ write-tables-requires c κs =
     )
 
 returns-2 : tie.Need-returns-2
-unfolding roomOf
+unfolding room_of
 returns-2 c =
     let wrote = c.before.before.before.before.before.before.before.before.before.before in
     let q = wrote.before.before.before.before.before.before.before in

@@ -37,7 +37,8 @@ loop-at-preserved c =
       omega arith,
       omega arith,
       elim c.if-slot-lt-SLOTS.branch [
-        | then-slot-lt-SLOTS+then-lines-slot-eq0 w ↦ rw (w.lines-is, w.starts-is, w.stops-is) (sought_first here slot inv w.said_on-new.ensures w.if-lines-slot-eq0.true w.if-slot-lt-SLOTS.true)
+        | then-slot-lt-SLOTS+then-lines-slot-eq0 w ↦ rw (w.lines-is, w.starts-is, w.stops-is)
+            (sought_first here slot inv w.said_on-new.ensures w.if-lines-slot-eq0.true w.if-slot-lt-SLOTS.true)
         | then-slot-lt-SLOTS+else-lines-slot-eq0 w ↦ rw (w.lines-is, w.starts-is, w.stops-is) (sought_again here slot inv w.if-lines-slot-eq0.false)
         | else-slot-lt-SLOTS w ↦ rw (w.lines-is, w.starts-is, w.stops-is) (sought_passed here slot inv w.if-slot-lt-SLOTS.false)
       ],

@@ -8,7 +8,8 @@ use Rattle.text.specs.Spans.{part}
 use Rattle.settings.proofs.lyrics.word_start.Given as goal
 
 abbrev pub invariant-loop-z : goal.invariant-loop-z
-invariant-loop-z l = (l.a ≤ l.z) × (l.z ≤ l.e) × (left not_blank (reverse (placed l.a (part l.a l.e l.s))) ≡ left not_blank (reverse (placed l.a (part l.a l.z l.s))))
+invariant-loop-z l = (l.a ≤ l.z) × (l.z ≤ l.e)
+    × (left not_blank (reverse (placed l.a (part l.a l.e l.s))) ≡ left not_blank (reverse (placed l.a (part l.a l.z l.s))))
 
 abbrev pub decreases-loop-z : goal.decreases-loop-z
 decreases-loop-z l = l.z

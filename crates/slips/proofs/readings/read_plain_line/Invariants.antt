@@ -1,0 +1,15 @@
+-- Token by token: the tokens read so far and those that are left are those of the line.
+use Prim.Native.Nat.{◌-◌, ◌≤◌}
+use mathlib.Core.List.{List, ◌++◌}
+use Rattle.slips.specs.Marks.{Mark, MarksFrom}
+use Rattle.slips.specs.Readings.{Follows}
+use Rattle.slips.proofs.readings.read_plain_line.Given as goal
+
+abbrev pub invariant-loop-at : goal.invariant-loop-at
+invariant-loop-at l =
+    (l.at ≤ l.to)
+    × ((done : List Mark) × Follows l.initial.reading done l.reading
+    × ((ms : List Mark) → MarksFrom l.s l.at l.to ms → MarksFrom l.s l.from l.to (done ++ ms)))
+
+abbrev pub decreases-loop-at : goal.decreases-loop-at
+decreases-loop-at l = l.to - l.at

@@ -1,0 +1,10 @@
+-- Safe, and the loop ends: as long as text is left, the next line begins further on.
+use Prim.Native.Nat.{◌-◌}
+use lib.ListN.{length}
+use Rattle.slips.proofs.references.search_lines.Given as goal
+
+abbrev pub invariant-loop-at : goal.invariant-loop-at
+invariant-loop-at l = Unit {0}
+
+abbrev pub decreases-loop-at : goal.decreases-loop-at
+decreases-loop-at l = length l.s - l.at

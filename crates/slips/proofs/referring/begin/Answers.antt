@@ -1,0 +1,7 @@
+-- All 26 entries are 0, so no other number is remembered.
+use mathlib.Core.Path.{refl}
+use Rattle.slips.proofs.ReferLaws.{none_remembered}
+use Rattle.slips.proofs.referring.begin.Goals as goal
+
+pub returns : goal.returns
+returns c = (refl, λ n i. none_remembered 26 n i)
