@@ -1,6 +1,6 @@
 -- A pass that is passed over, or written whole, done again by arithmetic or by copying: what playing its row would leave.
 use Rattle.std.proofs.Common.{◌≡◌, ℕ, zero, suc, ◌+◌, ◌-◌, ◌*◌, ◌<◌, ◌≤◌, List, [], ◌∷◌, map, length, take, sym, refl, ◌∙◌, subst, append-nil, arith}
-use Rattle.std.proofs.Common.{drop_of_length-le, take_all}
+use Rattle.std.proofs.Common.{true, false, drop_of_length-le, take_all}
 use lib.Seq.{sets, take-nil}
 use Rattle.songcode.specs.Lists.{times}
 use Rattle.songcode.specs.Answer.Playing.{keep}
@@ -11,9 +11,23 @@ use Rattle.player.specs.declared.pens.Pen.{Pen}
 use Rattle.player.specs.Page.{Page, Fine, play, page}
 use Rattle.player.specs.Windows.{window, flat, heads}
 use Rattle.player.specs.Again.{Took, Skips, Copies, skipped_of, copied_of, copy_of, same, later}
+use Rattle.player.proofs.PageLaws.{not_none}
 use Rattle.player.proofs.ContentLaws.{Done, played}
 use Rattle.player.proofs.WindowLaws.{total_window, window_large, length_flat, length_heads}
 use Rattle.player.proofs.CopyLaws.{sets_again, map_same, heads_later}
+
+pub not_true : {X : Type 0} → false ≡ true → X
+not_true h = let z : ◌≡◌ {A = ℕ} 0 1 = cc in absurd (omega arith)
+
+-- What the two tests find.
+pub skips_found : (p q : Pen) (k m b : ℕ) → m ≡ p.todo - q.todo → b ≡ p.skip - q.skip → (q.todo ≡ 0 → ⊥) → (q.skip ≡ 0 → ⊥) → k * m ≤ q.todo
+    → k * b < q.skip → Skips p q k
+skips_found p q k m b e f t s h l = record { some_todo = not_none t; some_skip = not_none s; measures = rw (← e) h; beats = rw (← f) l }
+
+pub copies_found : (p q : Pen) (m b : ℕ) → m ≡ p.todo - q.todo → b ≡ q.b - p.b → p.skip ≤ 0 → (q.todo ≡ 0 → ⊥) → (q.left ≡ 0 → ⊥) → m ≤ q.todo
+    → b < q.left → Copies p q
+copies_found p q m b e f s t l h i =
+    record { no_skip = omega arith; some_todo = not_none t; some_left = not_none l; measures = omega arith; beats = omega arith }
 
 -- Rows of which every beat is passed over.
 window_passed : (s n : ℕ) (row : List (List ℕ)) → total row ≤ s → window s n row ≡ []

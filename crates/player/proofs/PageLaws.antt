@@ -279,6 +279,16 @@ fine_play [] g f = f
 fine_play (x ∷ xs) g f = fine_play xs (measure_of x g) (fine_by g.pen.todo x g f)
 
 -- The pen at the beginning of a measure.
+pub not_none : {n : ℕ} → (n ≡ 0 → ⊥) → 1 ≤ n
+not_none {n} h = some n h
+  where
+    some : (n : ℕ) → (n ≡ 0 → ⊥) → 1 ≤ n
+    some zero h = absurd (h refl)
+    some (suc n) h = omega arith
+
+pub fine_begun : (p r : Pen) (todo skip : ℕ) → r ≡ record { base = p.base; todo = todo; skip = skip; left = p.left; m = p.m; b = p.b } → Fine p → Fine r
+fine_begun p r todo skip e f = rw e (record { few = f.few; fits = f.fits })
+
 pub inked_from : (x : List ℕ) (p r q : Pen) (bs bs' : List ℕ) → p ≡ r
     → ◌≡◌ {A = Ink} (record { pen = q; bs = bs' }) (inked x (record { pen = p; bs = bs }))
     → ◌≡◌ {A = Ink} (record { pen = q; bs = bs' }) (inked x (record { pen = r; bs = bs }))

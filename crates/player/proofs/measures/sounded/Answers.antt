@@ -1,5 +1,5 @@
 -- One measure: passed over, or written and closed.
-use Rattle.player.proofs.PageLaws.{measure_none, measure_some, measure_pass, measured, inked_from}
+use Rattle.player.proofs.PageLaws.{measure_none, measure_some, measure_pass, measured, not_none, fine_begun, inked_from}
 use Rattle.player.proofs.BarLaws.{bar_length}
 use Rattle.player.specs.Page.{rest_of, page}
 use Rattle.player.specs.Bars.{beats_of}
@@ -10,6 +10,9 @@ use Rattle.player.proofs.measures.sounded.Goals as goal
 pub returns-then-p-eq0 : goal.returns-then-p-eq0
 returns-then-p-eq0 c = let a = c.args in measure_none _ (record { pen = a.p; ms = a.ms.now; bs = a.bs.now }) c.if-p-eq0.true
 
+pub begun-requires : goal.begun-requires
+begun-requires c = not_none c.if-p-eq0.false
+
 pub returns-then-beats-p : goal.returns-then-beats-p
 returns-then-beats-p c =
     let a = c.args in
@@ -17,6 +20,13 @@ returns-then-beats-p c =
     ap (λ (r : Pen). page r a.ms.now a.bs.now) (c.resting.ensures ∙ ap (λ (p : Pen). rest_of p) c.begun.ensures)
     ∙ measure_pass (beats_of a.words.now a.to a.bar) a.p _ a.ms.now a.bs.now
     c.if-p-eq0.false e c.if-beats-p.true
+
+pub begun-requires-2 : goal.begun-requires-2
+begun-requires-2 c = not_none c.if-p-eq0.false
+
+pub played-q-requires : goal.played-q-requires
+played-q-requires c =
+    (fine_begun c.args.p _ _ _ c.begun-2.ensures c.requires.0, c.requires.1)
 
 pub close-requires : goal.close-requires
 close-requires c =
