@@ -1,5 +1,5 @@
 -- The tables of roots and of sharp names, held to the spellings: each one test, computed for all entries.
-use Prim.Native.Nat.{ℕ, ◌-◌, ◌/◌, ◌%◌, ◌<◌, ◌≤◌}
+use Prim.Native.Nat.{ℕ, ◌-◌, ◌%◌, ◌<◌, ◌≤◌}
 use mathlib.Core.Path.{◌≡◌, refl}
 use mathlib.Core.List.{List, [], ◌∷◌}
 use mathlib.Core.Bool.{Bool, true, false, not, ◌&&◌}
@@ -15,18 +15,13 @@ use Rattle.songcode.proofs.EachBelow.{all_below, each_below}
 use Rattle.concert.specs.Pitches.{moved_root, sharp_base, moved_base}
 
 -- The code's tables.
-abbrev pub roots : List (List ℕ)
+abbrev pub roots : List ℕ
 roots =
-    (9 ∷ 10 ∷ 8 ∷ 21 ∷ 22 ∷ 20 ∷ [])
-    ∷ (11 ∷ 10 ∷ 23 ∷ 22 ∷ 0 ∷ 1 ∷ [])
-    ∷ (12 ∷ 13 ∷ 2 ∷ 1 ∷ 3 ∷ 14 ∷ [])
-    ∷ (13 ∷ 15 ∷ 4 ∷ 3 ∷ 16 ∷ 15 ∷ [])
-    ∷ (5 ∷ 6 ∷ 17 ∷ 18 ∷ 7 ∷ 6 ∷ [])
-    ∷ (8 ∷ 19 ∷ 18 ∷ 20 ∷ 0 ∷ 0 ∷ [])
-    ∷ []
+    9 ∷ 10 ∷ 8 ∷ 21 ∷ 22 ∷ 20 ∷ 11 ∷ 10 ∷ 23 ∷ 22 ∷ 0 ∷ 1 ∷ 12 ∷ 13 ∷ 2 ∷ 1 ∷ 3 ∷ 14 ∷
+    13 ∷ 15 ∷ 4 ∷ 3 ∷ 16 ∷ 15 ∷ 5 ∷ 6 ∷ 17 ∷ 18 ∷ 7 ∷ 6 ∷ 8 ∷ 19 ∷ 18 ∷ 20 ∷ []
 
 abbrev pub root_at : ℕ → ℕ
-root_at b = get_or (get_or roots (b / 6) []) (b % 6) 0
+root_at b = get_or roots b 0
 
 abbrev pub majors : List ℕ
 majors = 10 ∷ 11 ∷ 14 ∷ 16 ∷ 20 ∷ 24 ∷ 25 ∷ 28 ∷ 30 ∷ 0 ∷ 1 ∷ 6 ∷ []

@@ -9,6 +9,8 @@ use lib.Dec.{eqb}
 use lib.IntN.{ℤ, pos}
 use lib.ListN.{length}
 use borrow.Author.Tests.{eqb-true, eqb-false}
+use Rattle.std.specs.Prelude.{Option}
+use Rattle.refusals.specs.declared.names.Why.{Why}
 use Rattle.songcode.specs.Lists.{any}
 use Rattle.songcode.specs.Answer.Chords.{spelling_of, root_of, is_minor}
 use Rattle.songcode.proofs.ListLaws.{by_cases, none_passes, pass_none}
@@ -95,7 +97,7 @@ unfolding moved_table
 as_many a [] = refl
 as_many a (w ∷ ws) = let x = as_many a ws in omega arith
 
-one_outcome : (z : ℤ) (beats before : List ℕ) (r q : ℕ) (x y : List ℕ) → Moves z beats before r x → Moves z beats before q y → (r ≡ q) × (x ≡ y)
+one_outcome : (z : ℤ) (beats before : List ℕ) (r q : Option Why) (x y : List ℕ) → Moves z beats before r x → Moves z beats before q y → (r ≡ q) × (x ≡ y)
 one_outcome z beats before r q x y m n = (m.refused ∙ sym n.refused, m.second ∙ sym n.second)
 
 pub demanded : Demands

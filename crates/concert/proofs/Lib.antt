@@ -3,6 +3,5 @@ pub mod RootLaws
 pub mod BaseLaws
 pub mod WordLaws
 pub mod TableLaws
-pub mod PromiseLaws
 pub mod Octaves
 pub mod Demanded

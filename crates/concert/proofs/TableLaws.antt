@@ -1,28 +1,15 @@
--- Tables word by word: the first odd word that a loop meets, and a second table as it is filled.
+-- Tables word by word: a test that no word fails, and a second table as it is filled.
 use Prim.Native.Nat.{ℕ, zero, suc, ◌+◌, ◌<◌, ◌≤◌}
-use mathlib.Core.Path.{◌≡◌, ap, sym, ◌∙◌}
+use mathlib.Core.Path.{◌≡◌, ap, ◌∙◌}
 use mathlib.Core.List.{List, [], ◌∷◌, ◌++◌, map, map-append}
-use mathlib.Core.Bool.{Bool, true, false}
+use mathlib.Core.Bool.{Bool, false}
 use native.Mathlib.Omega.{arith}
 use native.Mathlib.Numerals.{add-one}
-use lib.ListN.{length, get_or, take, drop, set, length-map, drop_of_length-le}
-use lib.Seq.{sets, take-suc, take_all, length-take-le, drop-cons}
+use lib.ListN.{length, get_or, take, set, length-map}
+use lib.Seq.{sets, take-suc, take_all, length-take-le}
 use Rattle.songcode.specs.Lists.{any}
 use Rattle.songcode.proofs.ListLaws.{none_passes}
 use Rattle.songcode.proofs.MemoryLaws.{sets_next}
-
-module _ (p : ℕ → Bool) (table : List ℕ) (i : ℕ) (inv : any p (drop i table) ≡ any p table) where
-  pub any_here : i < length table → p (get_or table i 0) ≡ true → true ≡ any p table
-  unfolding any
-  any_here l t = let d : any p (drop i table) ≡ true = rw (drop-cons table i 0 l, t) in sym d ∙ inv
-
-  pub any_on : i < length table → p (get_or table i 0) ≡ false → any p (drop (i + 1) table) ≡ any p table
-  unfolding any
-  any_on l f = let d : any p (drop i table) ≡ any p (drop (i + 1) table) = rw (add-one i, drop-cons table i 0 l, f) in sym d ∙ inv
-
-  pub any_over : length table ≤ i → false ≡ any p table
-  unfolding any
-  any_over l = let d : any p (drop i table) ≡ false = rw (drop_of_length-le table {i = i} l) in sym d ∙ inv
 
 -- Each word passes a test that none of the table fails.
 pub none_there : (p : ℕ → Bool) (table : List ℕ) (i : ℕ) → any p table ≡ false → i < length table → p (get_or table i 0) ≡ false

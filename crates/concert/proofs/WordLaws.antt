@@ -1,49 +1,17 @@
--- A beat word: which are refused, and what is left of one when its base is moved.
-use Prim.Native.Nat.{ℕ, ◌+◌, ◌*◌, ◌/◌, ◌%◌, ◌^◌, ◌<◌, ◌≤◌}
+-- A beat word: what is left of one when its base is moved, and that it is refused no more.
+use Prim.Native.Nat.{ℕ, ◌+◌, ◌*◌, ◌/◌, ◌%◌, ◌^◌, ◌<◌}
 use mathlib.Core.Path.{◌≡◌, refl}
-use mathlib.Core.Bool.{true, false, not, ◌&&◌}
+use mathlib.Core.Bool.{false, not, ◌&&◌}
 use native.Mathlib.Omega.{arith}
-use borrow.Author.Tests.{le-leb, lt-leb, eq-eqb, ne_eqb, leb-true, leb-false, eqb-true, eqb-false, not-false}
+use borrow.Author.Tests.{lt-leb, eqb-true, eqb-false, not-false}
 use lib.Dec.{eqb, leb}
 use lib.IntN.{ℤ}
 use Rattle.songcode.specs.Lists.{provided◌then◌else◌}
 use Rattle.songcode.specs.Answer.Chords.{spelling_of, root_of, is_minor}
-use Rattle.songcode.proofs.ListLaws.{by_cases, none_passes, true_is_not_false}
+use Rattle.songcode.proofs.ListLaws.{by_cases, none_passes}
 use Rattle.concert.specs.Pitches.{moved_root, moved_base}
 use Rattle.concert.specs.Moves.{base_in, behind_base, moved_word, is_odd}
 use Rattle.concert.proofs.BaseLaws.{moved_below, name_sounds}
-
--- The test of a word, as the code makes it.
-pub spare_odd : (w : ℕ) → (w % 16 ≡ 0 → ⊥) → true ≡ is_odd w
-unfolding is_odd base_in
-spare_odd w n = by_cases (leb 34 (w / 2 ^ 26) && leb (w / 2 ^ 26) 62) (λ t. rw t refl) (λ f. rw (f, ne_eqb (w % 2 ^ 4) 0 n) refl)
-
-pub chord_even : (w : ℕ) → w % 16 ≡ 0 → w / 67108864 < 34 → false ≡ is_odd w
-unfolding is_odd base_in
-chord_even w e h = rw (lt-leb 34 (w / 2 ^ 26) h, eq-eqb (w % 2 ^ 4) 0 e) refl
-
-pub silence_even : (w : ℕ) → w < 4294967296 → w % 16 ≡ 0 → 34 ≤ w / 67108864 → not (eqb (w / 67108864) 63) ≡ is_odd w
-unfolding is_odd base_in
-silence_even w l e h =
-    by_cases (eqb (w / 67108864) 63)
-    (λ t. let q = eqb-true (w / 67108864) 63 t in rw (t, lt-leb (w / 2 ^ 26) 62 (omega arith), le-leb 34 (w / 2 ^ 26) h, eq-eqb (w % 2 ^ 4) 0 e) refl)
-    (λ f.
-    let q : w / 67108864 ≤ 62 = fewer (w / 67108864) (omega arith) (eqb-false (w / 67108864) 63 f) in
-    rw (f, le-leb (w / 2 ^ 26) 62 q, le-leb 34 (w / 2 ^ 26) h) refl)
-  where
-    fewer : (b : ℕ) → b < 64 → (b ≡ 63 → ⊥) → b ≤ 62
-    fewer b h n = by_cases (leb b 62) (λ t. leb-true b 62 t) (λ f. absurd (n (let k = leb-false b 62 f in omega arith)))
-
--- A word that is not refused and no silence has a base chord.
-pub base_listed : (w : ℕ) → w < 4294967296 → is_odd w ≡ false → (base_in w ≡ 63 → ⊥) → base_in w < 34
-unfolding is_odd base_in
-base_listed w l f n =
-    let p = none_passes (leb 34 (w / 2 ^ 26) && leb (w / 2 ^ 26) 62) (not (eqb (w % 2 ^ 4) 0)) f in
-    by_cases (leb 34 (w / 2 ^ 26))
-    (λ t. by_cases (leb (w / 2 ^ 26) 62)
-    (λ u. true_is_not_false (rw (t, u) refl) p.0)
-    (λ u. absurd (n (let k = leb-false (w / 2 ^ 26) 62 u in omega arith))))
-    (λ t. leb-false 34 (w / 2 ^ 26) t)
 
 pub moved_listed : (z : ℤ) (b : ℕ) → moved_base z b < 34
 unfolding moved_base

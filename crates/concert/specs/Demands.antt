@@ -1,8 +1,9 @@
 -- What is demanded of these definitions, and proved in `proofs/Demanded.antt`.
-use Rattle.std.specs.Prelude.{ℕ, ◌<◌, ◌≡◌, ◌↔◌, List, map, false, eqb, ℤ, pos, ◌+ℤ◌, ◌*ℤ◌, length}
+use Rattle.std.specs.Prelude.{ℕ, ◌<◌, ◌≡◌, ◌↔◌, List, map, false, eqb, ℤ, pos, ◌+ℤ◌, ◌*ℤ◌, length, Option}
 use Prim.Native.Char.{code}
 use Rattle.songcode.specs.Lists.{any}
 use Rattle.songcode.specs.Answer.Chords.{spelling_of, root_of, is_minor}
+use Rattle.refusals.specs.declared.names.Why.{Why}
 use Rattle.concert.specs.Pitches.{moved_root, moved_base}
 use Rattle.concert.specs.Moves.{base_in, behind_base, moved_word, moved_table, is_odd}
 use Rattle.concert.specs.Promises.{Moves}
@@ -32,4 +33,5 @@ pub record Demands : Type 0 where
   -- "a move of 0 still respells", and once is enough.
   pub once_respelled : (beats : List ℕ) → any is_odd beats ≡ false → moved_table (pos 0) (moved_table (pos 0) beats) ≡ moved_table (pos 0) beats
   -- No second outcome meets the promise.
-  pub one_outcome : (move : ℤ) (beats before : List ℕ) (r q : ℕ) (x y : List ℕ) → Moves move beats before r x → Moves move beats before q y → (r ≡ q) × (x ≡ y)
+  pub one_outcome : (move : ℤ) (beats before : List ℕ) (r q : Option Why) (x y : List ℕ) → Moves move beats before r x → Moves move beats before q y
+      → (r ≡ q) × (x ≡ y)

@@ -1,6 +1,8 @@
 -- "From a beat table write a second one": each word moved, and the tables and moves that are refused.
-use Rattle.std.specs.Prelude.{ℕ, ◌+◌, ◌*◌, ◌/◌, ◌%◌, ◌^◌, List, map, Bool, not, ◌&&◌, ◌||◌, eqb, leb, ltb, ℤ, length}
+use Rattle.std.specs.Prelude.{ℕ, ◌+◌, ◌*◌, ◌/◌, ◌%◌, ◌^◌, List, map, Bool, not, ◌&&◌, ◌||◌, eqb, leb, ltb, ℤ, length, Option, Some, None}
 use Rattle.songcode.specs.Lists.{provided◌then◌else◌, any}
+use Rattle.refusals.specs.declared.names.Why.{Why}
+use Rattle.refusals.specs.declared.names.Why.TheVariants.{TableTooShort, MoveOutOfRange, NoBeatWord}
 use Rattle.concert.specs.Pitches.{is_allowed, moved_base}
 
 -- beats: "base 6 (63 silence)", the highest bits of 32; what stands behind it.
@@ -24,7 +26,10 @@ unfoldable pub is_odd : ℕ → Bool
 unfolding base_in
 is_odd word = (leb 34 (base_in word) && leb (base_in word) 62) || not (eqb (word % 2 ^ 4) 0)
 
--- "Refusals, in this order, line 0": 21, 22, 18; 0 where there is none.
-unfoldable pub refusal_of : ℤ → List ℕ → ℕ → ℕ
+-- "Refusals, in this order, line 0": 21, 22, 18; none where nothing is refused.
+unfoldable pub refusal_of : ℤ → List ℕ → ℕ → Option Why
 unfolding provided◌then◌else◌ is_allowed any is_odd
-refusal_of move beats lent = provided not (is_allowed move) then 21 else provided any is_odd beats then 22 else provided ltb lent (length beats) then 18 else 0
+refusal_of move beats lent =
+    provided not (is_allowed move) then Some MoveOutOfRange
+    else provided any is_odd beats then Some NoBeatWord else provided ltb lent (length beats) then Some TableTooShort
+    else None

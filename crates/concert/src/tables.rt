@@ -1,5 +1,6 @@
 // A table of beats moved word by word.
 ghost use Rattle.std.specs.Prelude.{◌≡◌, true, false, ◌≤◌, length};
+ghost use Rattle.std.specs.Result.{result_err};
 ghost use Rattle.std.proofs.lemmas.List.Edits.{sets};
 ghost use Rattle.songcode.specs.Lists.{any};
 ghost use Rattle.concert.specs.Pitches.{is_allowed};
@@ -8,7 +9,7 @@ ghost use Rattle.concert.specs.Promises.{Moves};
 
 use super::pitches::{is_allowed, moved_base};
 use packing::{SILENCE, beat_base, beat_spare, with_base};
-use refusals::{MOVE_OUT_OF_RANGE, NO_BEAT_WORD, TABLE_TOO_SHORT};
+use refusals::Why;
 
 const BASES: u32 = 34;
 
@@ -16,27 +17,13 @@ const BASES: u32 = 34;
 fn is_odd(word: u32) -> bool
     ensures { result ≡ is_odd word }
 {
-    if beat_spare(word) != 0 {
-        return true;
-    }
-    let base = beat_base(word);
-    if base < BASES {
-        return false;
-    }
-    base != SILENCE
+    beat_spare(word) != 0 || (BASES..SILENCE).contains(&beat_base(word))
 }
 
 fn has_odd(beats: &[u32]) -> bool
     ensures { result ≡ any is_odd beats.now }
 {
-    let mut i = 0;
-    while i < beats.len() {
-        if is_odd(beats[i]) {
-            return true;
-        }
-        i += 1;
-    }
-    false
+    beats.iter().any(|word| is_odd(*word))
 }
 
 // The base moved, all else as it was.
@@ -47,9 +34,10 @@ fn moved_word(word: u32, shift: i32) -> u32
 {
     let base = beat_base(word);
     if base == SILENCE {
-        return word;
+        word
+    } else {
+        with_base(word, moved_base(base as usize, shift))
     }
-    with_base(word, moved_base(base as usize, shift))
 }
 
 fn write_moved(beats: &[u32], shift: i32, second: &mut [u32])
@@ -58,27 +46,24 @@ fn write_moved(beats: &[u32], shift: i32, second: &mut [u32])
     requires beats_in_bounds { length beats.now ≤ length second.old }
     ensures { second.new ≡ sets second.old 0 (moved_table shift beats.now) }
 {
-    let mut i = 0;
-    while i < beats.len() {
-        second[i] = moved_word(beats[i], shift);
-        i += 1;
+    for (i, word) in beats.iter().enumerate() {
+        second[i] = moved_word(*word, shift);
     }
 }
 
-// Every table, every move and every length of the second table are answered: refusal 0 and the moved words, or a refusal and the
-// second table as it was.
-pub fn concert_pitch(beats: &[u32], shift: i32, second: &mut [u32]) -> usize
-    ensures { Moves shift beats.now second.old result second.new }
+// Every table, every move and every length of the second table are answered: the moved words, or a refusal and the second table as it was.
+pub fn concert_pitch(beats: &[u32], shift: i32, second: &mut [u32]) -> Result<(), Why>
+    ensures { Moves shift beats.now second.old (result_err result) second.new }
 {
     if !is_allowed(shift) {
-        return MOVE_OUT_OF_RANGE;
+        return Err(Why::MoveOutOfRange);
     }
     if has_odd(beats) {
-        return NO_BEAT_WORD;
+        return Err(Why::NoBeatWord);
     }
     if second.len() < beats.len() {
-        return TABLE_TOO_SHORT;
+        return Err(Why::TableTooShort);
     }
     write_moved(beats, shift, second);
-    0
+    Ok(())
 }

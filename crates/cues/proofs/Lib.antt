@@ -3,7 +3,6 @@ pub mod JoinLaws
 pub mod StartLaws
 pub mod TableLaws
 pub mod SectionLaws
-pub mod AnswerLaws
 pub mod SongJoins
 pub mod BeatLaws
 pub mod Demanded

@@ -1,7 +1,9 @@
 -- "The lighting desk wants the start of each measure in microseconds", from the tables alone.
-use Rattle.std.specs.Prelude.{ℕ, zero, suc, ◌+◌, ◌*◌, ◌/◌, List, [], ◌∷◌, ◌++◌, Bool, ◌||◌, ◌&&◌, eqb, leb, length, take, drop}
+use Rattle.std.specs.Prelude.{ℕ, zero, suc, ◌+◌, ◌*◌, ◌/◌, List, [], ◌∷◌, ◌++◌, Bool, ◌||◌, ◌&&◌, eqb, leb, length, take, drop, Option, Some, None}
 use Rattle.songcode.specs.Lists.{provided◌then◌else◌, every}
 use Rattle.songcode.specs.Description.Joined.{beat_count, measure_count, section_bpm, join_up}
+use Rattle.refusals.specs.declared.names.Why.{Why}
+use Rattle.refusals.specs.declared.names.Why.TheVariants.{TableTooShort, NotJoined, NotTimed}
 
 -- "entry 0 is 0, each other is 60,000,000 divided by bpm, rounded down"
 unfoldable pub beat_length : ℕ → ℕ
@@ -31,10 +33,10 @@ unfoldable pub is_timed : ℕ → Bool
 unfolding measure_count section_bpm
 is_timed section = eqb (measure_count section) 0 || (leb 1 (section_bpm section) && leb (section_bpm section) 400)
 
--- "Refusals, in this order": 25, 26, 18; else 0.
-unfoldable pub refusal_of : List ℕ → List ℕ → ℕ → ℕ
+-- "Refusals, in this order": 25, 26, 18; else none.
+unfoldable pub refusal_of : List ℕ → List ℕ → ℕ → Option Why
 unfolding join_up is_timed every provided◌then◌else◌
 refusal_of sections measures lent =
     provided join_up sections measures
-    then (provided every is_timed sections then (provided leb (length measures) lent then 0 else 18) else 26)
-    else 25
+    then (provided every is_timed sections then (provided leb (length measures) lent then None else Some TableTooShort) else Some NotTimed)
+    else Some NotJoined

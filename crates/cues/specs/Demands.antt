@@ -1,10 +1,11 @@
 -- What is promised of light cues beyond the contract: "A start is the sum of all beats before", a song that was read joins up, and cues by
 -- computation.
-use Rattle.std.specs.Prelude.{ℕ, ◌<◌, ◌≡◌, List, [], ◌∷◌, map, true, length, take, get_or}
+use Rattle.std.specs.Prelude.{ℕ, ◌<◌, ◌≡◌, List, [], ◌∷◌, map, true, length, take, get_or, Option, None}
 use Rattle.songcode.specs.Lists.{sum}
 use Rattle.songcode.specs.Description.Joined.{first_beat, beat_count, join_up}
 use Rattle.songcode.specs.Answer.Tables.{Tables}
 use Rattle.songcode.specs.Answer.Answer.{Room, answer, accepted}
+use Rattle.refusals.specs.declared.names.Why.{Why}
 use Rattle.cues.specs.Cues.{beat_length, lengths, starts, refusal_of}
 use Rattle.cues.specs.Beats.{lasts, sum_before}
 
@@ -12,20 +13,20 @@ use Rattle.cues.specs.Beats.{lasts, sum_before}
 pub record Trial : Type 0 where
   pub sections : List ℕ
   pub measures : List ℕ
-  pub refusal : ℕ
+  pub refusal : Option Why
   pub cues : List ℕ
   pub end : ℕ
 
-abbrev trial : List ℕ → List ℕ → ℕ → List ℕ → ℕ → Trial
+abbrev trial : List ℕ → List ℕ → Option Why → List ℕ → ℕ → Trial
 trial sections measures refusal cues end =
     record { sections = sections; measures = measures; refusal = refusal; cues = cues; end = end }
 
 unfoldable pub trials : List Trial
 trials =
     -- four, four and three beats at 120; then the last four and three at 90
-    trial (140737488455800 ∷ []) (128 ∷ 8320 ∷ 16480 ∷ []) 0 (0 ∷ 2000000 ∷ 4000000 ∷ []) 5500000
-    ∷ trial (140737488390264 ∷ 140739635906650 ∷ []) (128 ∷ 8320 ∷ 16480 ∷ []) 0 (0 ∷ 2000000 ∷ 4666664 ∷ []) 6666662
-    ∷ trial [] [] 0 [] 0
+    trial (140737488455800 ∷ []) (128 ∷ 8320 ∷ 16480 ∷ []) None (0 ∷ 2000000 ∷ 4000000 ∷ []) 5500000
+    ∷ trial (140737488390264 ∷ 140739635906650 ∷ []) (128 ∷ 8320 ∷ 16480 ∷ []) None (0 ∷ 2000000 ∷ 4666664 ∷ []) 6666662
+    ∷ trial [] [] None [] 0
     ∷ []
 
 pub record Demands : Type 0 where

@@ -8,14 +8,11 @@ const MOST_BEATS: usize = 32;
 
 const MOST_BPM: usize = 400;
 
+#[tactic(auto, unfolding(songcode::specs::Description::Joined::join_up))]
 pub fn join_up(sections: &[u64], measures: &[u32]) -> bool
     ensures { result ≡ join_up sections.now measures.now }
 {
-    if cover(sections, measures.len()) {
-        follow_on(measures)
-    } else {
-        false
-    }
+    cover(sections, measures.len()) && follow_on(measures)
 }
 
 // The sections "cover the measures in order without gap".
@@ -23,14 +20,12 @@ fn cover(sections: &[u64], measures: usize) -> bool
     ensures { result ≡ covers 0 measures sections.now }
 {
     let mut first = 0;
-    let mut i = 0;
-    while i < sections.len() {
-        let section = packing::section_of(sections[i]);
+    for word in sections {
+        let section = packing::section_of(*word);
         if section.first != first {
             return false;
         }
         first += section.measures;
-        i += 1;
     }
     first == measures
 }
@@ -40,20 +35,12 @@ fn follow_on(measures: &[u32]) -> bool
     ensures { result ≡ measures_join 0 measures.now }
 {
     let mut beat = 0;
-    let mut i = 0;
-    while i < measures.len() {
-        let measure = packing::measure_of(measures[i]);
-        if measure.first != beat {
-            return false;
-        }
-        if measure.beats == 0 {
-            return false;
-        }
-        if MOST_BEATS < measure.beats {
+    for word in measures {
+        let measure = packing::measure_of(*word);
+        if measure.first != beat || !(1..=MOST_BEATS).contains(&measure.beats) {
             return false;
         }
         beat += measure.beats;
-        i += 1;
     }
     true
 }
@@ -62,25 +49,12 @@ fn follow_on(measures: &[u32]) -> bool
 pub fn are_timed(sections: &[u64]) -> bool
     ensures { result ≡ every is_timed sections.now }
 {
-    let mut i = 0;
-    while i < sections.len() {
-        if !is_timed(sections[i]) {
-            return false;
-        }
-        i += 1;
-    }
-    true
+    sections.iter().all(|word| is_timed(*word))
 }
 
 fn is_timed(word: u64) -> bool
     ensures { result ≡ is_timed word }
 {
     let section = packing::section_of(word);
-    if section.measures == 0 {
-        return true;
-    }
-    if section.tempo == 0 {
-        return false;
-    }
-    section.tempo <= MOST_BPM
+    section.measures == 0 || (1..=MOST_BPM).contains(&section.tempo)
 }

@@ -15,11 +15,10 @@ pub fn write_starts(sections: &[u64], measures: &[u32], cues: &mut [u64]) -> u64
     ensures cues_after { cues.new ≡ sets cues.old 0 (starts 0 (lengths sections.now measures.now)) }
 {
     let table = &BEAT_LENGTHS;
-    let mut time: u64 = 0;
+    let mut time = 0;
     let mut first = 0;
-    let mut i = 0;
-    while i < sections.len() {
-        let section = packing::section_of(sections[i]);
+    for word in sections {
+        let section = packing::section_of(*word);
         let next = first + section.measures;
         time = write_stretch(
             &measures[first..next],
@@ -29,7 +28,6 @@ pub fn write_starts(sections: &[u64], measures: &[u32], cues: &mut [u64]) -> u64
             &mut cues[first..],
         );
         first = next;
-        i += 1;
     }
     time
 }
@@ -48,11 +46,9 @@ fn write_stretch(
     ensures cues_after { cues.new ≡ sets cues.old 0 (starts time (lengths_at bpm measures.now)) }
 {
     let mut at = time;
-    let mut i = 0;
-    while i < measures.len() {
+    for (i, word) in measures.iter().enumerate() {
         cues[i] = at;
-        at += length_of(measures[i], bpm, table);
-        i += 1;
+        at += length_of(*word, bpm, table);
     }
     at
 }
@@ -63,5 +59,5 @@ fn length_of(word: u32, bpm: usize, table: &[u32; 401]) -> u64
     ensures { (result ≡ beat_count word * beat_length bpm) × (result ≤ 3780000000) }
 {
     let measure = packing::measure_of(word);
-    (measure.beats as u64) * (table[bpm] as u64)
+    (measure.beats as u64) * u64::from(table[bpm])
 }

@@ -10,7 +10,7 @@ use Rattle.songcode.specs.Lists.{provided◌then◌else◌, left, every}
 use Rattle.songcode.specs.Bytes.{Byte, placed, ascii, is_blank, not_blank}
 use Rattle.songcode.specs.Answer.Keys.{setting_in}
 use Rattle.songcode.specs.Answer.Lines.{Line, Block}
-use Rattle.songcode.specs.Song.{Items, items, Modifier, before, after, Section, Song}
+use Rattle.songcode.specs.Song.{Items, Modifier, before, after, Section, Song}
 use Rattle.songcode.specs.Answer.References.{pattern_items}
 use Rattle.songcode.specs.Answer.Sections.{behind_first, pattern_run, body}
 use Rattle.songcode.specs.Answer.Tokens.{tokens}

@@ -1,23 +1,23 @@
 -- From section to section up to the header that a verdict of 17 names: its counts and its measures.
 use Prim.Native.Nat.{ℕ, ◌+◌, ◌<◌, ◌≤◌}
-use mathlib.Core.Path.{◌≡◌, refl, sym, ap, ◌∙◌, subst}
+use mathlib.Core.Path.{◌≡◌, sym, ap, ◌∙◌, subst}
 use mathlib.Core.Logic.{⊎_elim}
 use mathlib.Core.List.Memᴰ
 use mathlib.Core.List.{List, [], ◌∷◌, flat_map, Memᴰ}
 use native.Mathlib.Omega.{arith}
-use borrow.Author.Tests.{eqb-true, eqb-false}
-use lib.Dec.{eqb}
 use lib.ListN.{length}
-use Rattle.songcode.specs.Complaints.{Complaint, earliest}
+use mathlib.Core.Option.{none, some}
+use Rattle.songcode.specs.Complaints.{complaint, earliest}
 use Rattle.songcode.specs.Song.{Section}
 use Rattle.songcode.specs.Answer.References.{reference_faults}
 use Rattle.songcode.specs.Answer.Playing.{played}
 use Rattle.songcode.specs.Answer.Meter.{section_meter, meter_faults, section_count, length_faults}
 use Rattle.songcode.specs.Answer.Lyrics.{counted}
 use Rattle.songcode.specs.Answer.Answer.{song_of}
-use Rattle.songcode.proofs.ListLaws.{by_cases, append_is_nil}
+use Rattle.songcode.proofs.ListLaws.{append_is_nil}
 use Rattle.refusals.specs.declared.Refusal.{Refusal}
-use Rattle.refusals.specs.Refusals.{refusal_of}
+use Rattle.refusals.specs.Names.{number_of}
+use Rattle.refusals.specs.Refusals.{told}
 use Rattle.score.specs.Seen.{RowFrom, Sees}
 use Rattle.score.specs.Views.{view_by, view_of}
 use Rattle.score.proofs.RowLaws.{row_start, row_grows}
@@ -28,9 +28,8 @@ use Rattle.sections.specs.declared.blocks.Place.{Place}
 use Rattle.sections.specs.declared.values.Keys.{Keys}
 use Rattle.sections.specs.Onward.{sections_from, section_at, Later}
 use Rattle.sections.proofs.MeetLaws.{sections_over}
-use Rattle.laying.specs.declared.definitions.Loaded.{Loaded}
 use Rattle.laying.specs.declared.texts.Opened.{Opened}
-use Rattle.laying.specs.Scores.{Begins, Loads, Opens}
+use Rattle.laying.specs.Scores.{Begins, RefusedThree, Opens}
 use Rattle.laying.specs.Rows.{RoomFor, Lays}
 use Rattle.judging.proofs.ArrangedLaws.{Arranges, arranged_plays, arranged_within}
 use Rattle.judging.proofs.AheadLaws.{seen_arranges}
@@ -171,15 +170,10 @@ pub none_ahead : (s : List ℕ) (line : ℕ) (p : Place) → length s ≤ p.at �
 none_ahead s line p h ahead r =
     record { is = λ y m e. absurd (Memᴰ.not-nil (subst (λ (ys : List Section). Memᴰ y ys) (sections_over s p h) (ahead y m e))) }
 
-nothing_refused_lem : (refusal_of (earliest [])).number ≡ 0
-unfolding refusal_of earliest
-nothing_refused_lem = refl
-
--- Where stage 3 has nothing against them the definitions are loaded.
-pub loaded_clear : (s vs : List ℕ) (r : Loaded) → Loads s vs r → reference_faults (song_of s) ≡ [] → r.refusal.number ≡ 0
-loaded_clear s vs r l e =
-    by_cases (eqb r.refusal.number 0)
-    (λ h. eqb-true r.refusal.number 0 h)
-    (λ h.
-    let n = eqb-false r.refusal.number 0 h in
-    ap (λ (q : Refusal). q.number) (l.refused n ∙ ap (λ (cs : List Complaint). refusal_of (earliest cs)) e) ∙ nothing_refused_lem)
+-- Where stage 3 has nothing against the definitions it refuses none.
+pub not_refused : (s : List ℕ) (e : Refusal) → RefusedThree s e → reference_faults (song_of s) ≡ [] → ⊥
+unfolding earliest told
+not_refused s e h k =
+    let z : some (complaint (number_of e.why) e.line) ≡ none = rw k at h in
+    let w : ◌≡◌ {A = ℕ} 0 1 = cc in
+    omega arith

@@ -1,7 +1,10 @@
 -- What is promised of every text: the reader's verdict, a cause that belongs to it, and a place on the line that it names.
 use Rattle.std.specs.Prelude.{ℕ, ◌+◌, ◌≡◌, List}
 use Rattle.songcode.specs.Answer.Answer.{song_answer}
+use Rattle.refusals.specs.declared.Refusal.{Refusal}
+use Rattle.refusals.specs.Names.{number_of}
 use Rattle.reader.specs.Answers.{answer_of}
+use Rattle.reader.specs.Room.{refused_with}
 use Rattle.text.specs.declared.lines.Line.{Line}
 use Rattle.slips.specs.Places.{OnLine}
 use Rattle.slips.specs.Finds.{LineOf, NameOn, BareOn}
@@ -18,6 +21,10 @@ pub record OnVerdict (text : List ℕ) (r : Explained) (test : Line → ℕ → 
   pub listed : LineOf text r.line verdict
   pub same : r.place.line ≡ r.line
   pub found : test verdict (clause_of_cause r.cause) r.place.offset (r.place.offset + r.place.length)
+
+-- The reader's verdict is this refusal.
+abbrev pub Verdict : List ℕ → Refusal → Type 0
+Verdict text e = refused_with (number_of e.why) e.line ≡ answer_of (song_answer text)
 
 pub record Explains (text : List ℕ) (r : Explained) : Type 0 where
   -- "A refusal returns its number and line": those of the reader.

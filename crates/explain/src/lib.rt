@@ -7,17 +7,16 @@ mod sums;
 mod times;
 
 ghost use Rattle.std.specs.Prelude.{◌≡◌, ℕ, ◌≤◌, length};
-ghost use Rattle.songcode.specs.Answer.Answer.{song_answer};
-ghost use Rattle.reader.specs.Answers.{answer_of};
+ghost use Rattle.refusals.specs.Names.{number_of};
 ghost use Rattle.slips.specs.Finds.{Finds};
 ghost use Rattle.explain.specs.Times.{TimeAt};
 ghost use Rattle.explain.specs.Sums.{SumsAt};
-ghost use Rattle.explain.specs.Explained.{Explains};
+ghost use Rattle.explain.specs.Explained.{Verdict, Explains};
 
 use clauses::cause_of;
 use judging::LONG_ROW;
-use reader::{Answer, count_in};
-use refusals::{COUNT_SUM, DIVISION, NO_CHORD_BEFORE, NO_SECTION};
+use reader::count_in;
+use refusals::{Refusal, Why};
 use slips::{Place, Slip, find_slip, place_at};
 use sums::sums_at;
 use times::time_at;
@@ -40,7 +39,7 @@ pub struct Explained {
 }
 
 // A chart that is accepted, or refused on no line: nothing is to be pointed at.
-fn nowhere(refusal: usize, cause: usize, bytes: usize) -> Explained
+fn nowhere(refusal: usize, cause: usize, first: usize) -> Explained
     ensures { (result.refusal ≡ refusal) × (result.line ≡ 0) × (result.cause ≡ cause) × (result.place.line ≡ 0) × (result.place.offset ≡ 0)
         × (result.place.length ≡ 0) }
 {
@@ -49,7 +48,6 @@ fn nowhere(refusal: usize, cause: usize, bytes: usize) -> Explained
         offset: 0,
         length: 0,
     };
-    let first = if refusal == NO_SECTION { 0 } else { bytes };
     Explained {
         refusal,
         line: 0,
@@ -80,49 +78,64 @@ fn at_place(refusal: usize, line: usize, cause: usize, x: Slip, p: Place) -> Exp
 }
 
 // N where the verdict asks for it.
-fn time_for(text: &[u8], a: Answer) -> usize
-    requires { a ≡ answer_of (song_answer text.now) }
-    ensures { a.refusal ≡ 12 → TimeAt text.now a.line result }
+fn time_for(text: &[u8], e: Refusal) -> usize
+    requires { Verdict text.now e }
+    ensures { number_of e.why ≡ 12 → TimeAt text.now e.line result }
 {
-    if a.refusal == DIVISION {
-        return time_at(text, a.line);
+    match e.why {
+        Why::Division => time_at(text, e.line),
+        Why::NoChordBefore => time_at(text, e.line),
+        _ => 0,
     }
-    if a.refusal == NO_CHORD_BEFORE {
-        return time_at(text, a.line);
+}
+
+// A slip with the numbers of refusal 17, if it is that.
+fn with_sums(text: &[u8], e: Refusal, x: Slip, words: &mut [u32]) -> Slip
+    requires { Verdict text.now e × (65552 ≤ length words.old) }
+    ensures { ((time : ℕ) → Finds text.now (number_of e.why) e.line time x → Finds text.now (number_of e.why) e.line time result)
+        × (result.from ≡ x.from) × (result.to ≡ x.to) × (result.clause ≡ x.clause)
+        × (number_of e.why ≡ 17 → SumsAt text.now e.line (record { sum = result.first; measures = result.second })) }
+{
+    match e.why {
+        Why::CountSum => {
+            let t = sums_at(text, e.line, words);
+            Slip {
+                first: t.sum,
+                second: t.measures,
+                ..x
+            }
+        }
+        _ => x,
     }
-    0
 }
 
 // The slip of a text of any length.
-fn slip_in(text: &[u8], refusal: usize, line: usize, time: usize) -> Slip
-    ensures { length text.now ≤ 65536 → Finds text.now refusal line time result }
+fn slip_in(text: &[u8], e: Refusal, time: usize) -> Slip
+    ensures { length text.now ≤ 65536 → Finds text.now (number_of e.why) e.line time result }
 {
     if TEXT_MOST < text.len() {
         return slips::no_slip();
     }
-    find_slip(text, refusal, line, time)
+    find_slip(text, e.why, e.line, time)
 }
 
-// A slip with the numbers of refusal 17, if it is that.
-fn with_sums(text: &[u8], a: Answer, x: Slip, words: &mut [u32]) -> Slip
-    requires { (a ≡ answer_of (song_answer text.now)) × (65552 ≤ length words.old) }
-    ensures { ((time : ℕ) → Finds text.now a.refusal a.line time x → Finds text.now a.refusal a.line time result)
-        × (result.from ≡ x.from) × (result.to ≡ x.to) × (result.clause ≡ x.clause)
-        × (a.refusal ≡ 17 → SumsAt text.now a.line (record { sum = result.first; measures = result.second })) }
+// A chart that is refused: the row does for what is asked of it.
+fn explain_refusal(text: &[u8], e: Refusal, words: &mut [u32]) -> Explained
+    requires { Verdict text.now e × (65552 ≤ length words.old) }
+    ensures { Explains text.now result }
 {
-    if a.refusal != COUNT_SUM {
-        return x;
+    let number = usize::from(e.why);
+    if e.line == 0 {
+        let bytes = match e.why {
+            Why::NoSection => 0,
+            _ => text.len(),
+        };
+        return nowhere(number, cause_of(number, 1), bytes);
     }
-    let t = sums_at(text, a.line, words);
-    Slip {
-        clause: x.clause,
-        from: x.from,
-        to: x.to,
-        other: x.other,
-        first: t.sum,
-        second: t.measures,
-        third: x.third,
-    }
+    let found = slip_in(text, e, time_for(text, e));
+    let x = with_sums(text, e, found, words);
+    let p = place_at(text, x.from, x.to);
+    at_place(number, e.line, cause_of(number, x.clause), x, p)
 }
 
 // Every text of every length is explained. One row does for the verdict and for what is asked of it.
@@ -130,12 +143,8 @@ pub fn explain(text: &[u8]) -> Explained
     ensures { Explains text.now result }
 {
     let mut words = [0u32; LONG_ROW];
-    let a = count_in(text, &mut words);
-    if a.line == 0 {
-        return nowhere(a.refusal, cause_of(a.refusal, 1), text.len());
+    match count_in(text, &mut words) {
+        Ok(_) => nowhere(0, 0, text.len()),
+        Err(refusal) => explain_refusal(text, refusal, &mut words),
     }
-    let found = slip_in(text, a.refusal, a.line, time_for(text, a));
-    let x = with_sums(text, a, found, &mut words);
-    let p = place_at(text, x.from, x.to);
-    at_place(a.refusal, a.line, cause_of(a.refusal, x.clause), x, p)
 }

@@ -1,5 +1,5 @@
 // The counts of a section and the measures that it plays, for refusal 17.
-ghost use Rattle.std.specs.Prelude.{◌≡◌, [], ◌+◌, ◌≤◌, length, replicate};
+ghost use Rattle.std.specs.Prelude.{◌≡◌, [], ◌+◌, ◌≤◌, length};
 ghost use Rattle.songcode.specs.Answer.Meter.{meter_faults, length_faults};
 ghost use Rattle.songcode.specs.Answer.Answer.{song_of};
 ghost use Rattle.tokens.specs.Kept.{KeptFrom};
@@ -12,11 +12,17 @@ use laying::{lay_section, lines_before, load, metadata_end};
 use sections::{Keys, Place, keys_of};
 
 // The sum of the counts; the measures played.
-#[derive(Drop)]
+#[derive(Clone, Copy)]
 pub struct Summed {
     pub sum: usize,
     pub measures: usize,
 }
+
+// Of no section.
+const NOTHING: Summed = Summed {
+    sum: 0,
+    measures: 0,
+};
 
 // Both, of the section with this header: each is laid behind the last one.
 fn sums_from(
@@ -36,8 +42,7 @@ fn sums_from(
     let mut at = mark + 1;
     while place.at < s.len() {
         let x = lay_section(s, place, song, at, words);
-        let section = x.section;
-        if section.header == line {
+        if x.section.header == line {
             let counts = section_counts(s, words, at);
             return Summed {
                 sum: counts.sum,
@@ -47,21 +52,7 @@ fn sums_from(
         at = x.end;
         place = x.next;
     }
-    Summed {
-        sum: 0,
-        measures: 0,
-    }
-}
-
-// Zeros all over the row: no word of an earlier laying is taken for a mark.
-fn clear(words: &mut [u32])
-    ensures { words.new ≡ replicate (length words.old) 0 }
-{
-    let mut i = 0;
-    while i < words.len() {
-        words[i] = 0;
-        i += 1;
-    }
+    NOTHING
 }
 
 // Both, with the row that the sections are laid into.
@@ -71,7 +62,9 @@ pub fn sums_at(s: &[u8], line: usize, words: &mut [u32]) -> Summed
 {
     let end = metadata_end(s);
     let song = keys_of(s, lines_before(end));
-    clear(words);
-    let loaded = load(s, end, words);
-    sums_from(s, loaded.mark, loaded.sections, song, line, words)
+    words.fill(0);
+    match load(s, end, words) {
+        Ok(loaded) => sums_from(s, loaded.mark, loaded.sections, song, line, words),
+        Err(_) => NOTHING,
+    }
 }

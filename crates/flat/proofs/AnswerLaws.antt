@@ -17,9 +17,11 @@ use Rattle.songcode.specs.Answer.Answer as Reading
 use Rattle.songcode.specs.Answer.Flat.{refused, copied, flat_by, flat_copy, copy_faults, flat_stages, flat_answer}
 use Rattle.songcode.proofs.ListLaws.{nil_complain_if, pass_none}
 use Rattle.songcode.proofs.VerdictAgree.{verdict_append, last_stage}
-use Rattle.flat.specs.declared.answers.Copied.{Copied}
+use Rattle.std.proofs.Common.{Result, Ok, Err, IsErrAnd}
+use Rattle.refusals.specs.declared.Refusal.{Refusal}
+use Rattle.refusals.specs.Names.{number_of}
 use Rattle.flat.specs.Sheets.{Sheet, puts}
-use Rattle.flat.specs.Answers.{copied_of, holding, Flattened}
+use Rattle.flat.specs.Answers.{Copied, copied_as, copied_of, holding, Flattened}
 use Rattle.flat.proofs.SheetLaws.{puts_at, puts_sets}
 
 -- 20 is one stage more.
@@ -73,6 +75,13 @@ unfolding copied_of holding
 flattened_refused text before after n l r is same e =
     let f = flat_refused (length before) text n l is in
     record { answer = e ∙ sym (ap copied_of f); copy = same ∙ sym (ap (λ a. holding a before) f) }
+
+-- What a stage refuses is passed up.
+pub copy_refused : (text before : List ℕ) (e : Refusal) (r : Result ℕ Refusal) → IsErrAnd r (λ y. y ≡ e)
+    → song_answer text ≡ Reading.refused (number_of e.why) e.line → Flattened text before (copied_as r) before
+unfolding copied_as
+copy_refused text before e (Ok n) is a = absurd is
+copy_refused text before e (Err y) is a = flattened_refused text before before (number_of e.why) e.line _ a refl (rw is refl)
 
 module _ (text before : List ℕ) (is : song_answer text ≡ accepted (tables (song_of text))) (c d : List ℕ) (count : ℕ)
     (counted : ◌≡◌ {A = Sheet} (record { copy = d; at = count }) (puts (flat_copy text) (record { copy = c; at = 0 }))) where

@@ -204,20 +204,19 @@ beats_part : (bs : List ℕ) (w : ℕ) (m : MeasureFields) (first end : ℕ) →
 unfolding beats_in
 beats_part bs w m first end held p q = let e = measure_fields held in rw (p, q, e.0, e.1) (stretch_part bs m.first m.beats)
 
-pub measure_next : (s : List ℕ) (n : ℕ) (bs ms : List ℕ) (i k : ℕ) (m : MeasureFields) (first end : ℕ) (x y goal : Sheet) → i < k → k ≤ length ms
+pub measure_next : (s : List ℕ) (n : ℕ) (bs ms : List ℕ) (i : ℕ) (m : MeasureFields) (first end : ℕ) (x y goal : Sheet) → i < length ms
     → HoldsMeasure (get_or ms i 0) m → first ≡ min m.first (length bs) → end ≡ min (m.first + m.beats) (length bs)
     → y ≡ puts (end_line (measure_line s n (part first end bs))) x
-    → puts (measure_lines s n (map (beats_in bs) (take (k - i) (drop i ms)))) x ≡ goal
-    → puts (measure_lines s n (map (beats_in bs) (take (k - (i + 1)) (drop (i + 1) ms)))) y ≡ goal
+    → puts (measure_lines s n (map (beats_in bs) (drop i ms))) x ≡ goal
+    → puts (measure_lines s n (map (beats_in bs) (drop (i + 1) ms))) y ≡ goal
 unfolding measure_lines flat_map
-measure_next s n bs ms i k m first end x y goal h f held p q d g =
-    let a : k - i ≡ suc (k - (i + 1)) = omega arith in
-    let c : drop i ms ≡ get_or ms i 0 ∷ drop (i + 1) ms = rw (add-one i) (drop-cons ms i 0 (omega arith)) in
-    let r = measure_lines s n (map (beats_in bs) (take (k - (i + 1)) (drop (i + 1) ms))) in
+measure_next s n bs ms i m first end x y goal h held p q d g =
+    let c : drop i ms ≡ get_or ms i 0 ∷ drop (i + 1) ms = rw (add-one i) (drop-cons ms i 0 h) in
+    let r = measure_lines s n (map (beats_in bs) (drop (i + 1) ms)) in
     rw (d, beats_part bs (get_or ms i 0) m first end held p q)
-    (sym (puts_append (end_line (measure_line s n (beats_in bs (get_or ms i 0)))) r x) ∙ (rw (a, c) at g))
+    (sym (puts_append (end_line (measure_line s n (beats_in bs (get_or ms i 0)))) r x) ∙ (rw c at g))
 
-pub measure_over : (s : List ℕ) (n : ℕ) (bs ms : List ℕ) (i k : ℕ) (x goal : Sheet) → k ≤ i
-    → puts (measure_lines s n (map (beats_in bs) (take (k - i) (drop i ms)))) x ≡ goal → x ≡ goal
+pub measure_over : (s : List ℕ) (n : ℕ) (bs ms : List ℕ) (i : ℕ) (x goal : Sheet) → length ms ≤ i
+    → puts (measure_lines s n (map (beats_in bs) (drop i ms))) x ≡ goal → x ≡ goal
 unfolding measure_lines flat_map puts
-measure_over s n bs ms i k x goal h g = let a : k - i ≡ 0 = omega arith in rw a at g
+measure_over s n bs ms i x goal h g = rw (drop_of_length-le ms h) at g

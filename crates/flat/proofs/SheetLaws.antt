@@ -1,17 +1,16 @@
 -- Laws of a sheet: bytes one behind the other, the count, and what the buffer holds in the end.
-use Prim.Native.Nat.{ℕ, suc, ◌+◌, ◌-◌, ◌<◌, ◌≤◌, min}
+use Prim.Native.Nat.{ℕ, suc, ◌+◌, ◌<◌, ◌≤◌, min}
 use mathlib.Core.Path.{◌≡◌, refl, sym, ap, ◌∙◌}
 use mathlib.Core.List.{List, [], ◌∷◌, ◌++◌}
 use native.Mathlib.Numerals.{add-one}
 use native.Mathlib.Omega.{arith}
 use borrow.Author.Tests.{lt-ltb, le-ltb, ltb-true, ltb-false}
 use lib.Dec.{ltb}
-use lib.ListN.{length, drop, get_or, set}
+use lib.ListN.{drop_of_length-le, length, drop, get_or, set}
 use lib.Seq.{sets, drop-cons}
 use Rattle.songcode.specs.Lists.{provided◌then◌else◌}
 use Rattle.songcode.specs.Answer.Answer.{most_bytes}
 use Rattle.songcode.proofs.ListLaws.{by_cases}
-use Rattle.text.specs.Spans.{part}
 use Rattle.flat.specs.Sheets.{Sheet, put_one, puts}
 
 -- One byte: past the most bytes nothing is looked at, before them it is counted.
@@ -79,15 +78,14 @@ put_is b c d at h e = rw e (sym (put_room b (record { copy = c; at = at }) h))
 pub put_over : (b : ℕ) (c : List ℕ) (at : ℕ) → 65536 < at → ◌≡◌ {A = Sheet} (record { copy = c; at = at }) (puts (b ∷ []) (record { copy = c; at = at }))
 put_over b c at h = sym (puts_full (b ∷ []) (record { copy = c; at = at }) h)
 
--- A byte of a part, and its end.
-pub part_next : (s : List ℕ) (i stop : ℕ) (x y goal : Sheet) → i < stop → stop ≤ length s → y ≡ puts (get_or s i 0 ∷ []) x
-    → puts (part i stop s) x ≡ goal → puts (part (i + 1) stop s) y ≡ goal
+-- One of some bytes, and their end.
+pub byte_next : (bs : List ℕ) (i : ℕ) (x y goal : Sheet) → i < length bs → y ≡ puts (get_or bs i 0 ∷ []) x
+    → puts (drop i bs) x ≡ goal → puts (drop (i + 1) bs) y ≡ goal
 unfolding puts
-part_next s i stop x y goal h f e g =
-    let n : stop - i ≡ suc (stop - (i + 1)) = omega arith in
-    let d : drop i s ≡ get_or s i 0 ∷ drop (suc i) s = drop-cons s i 0 (omega arith) in
-    rw (e, add-one i) (rw (n, d, add-one i) at g)
+byte_next bs i x y goal h e g =
+    let d : drop i bs ≡ get_or bs i 0 ∷ drop (suc i) bs = drop-cons bs i 0 h in
+    rw (e, add-one i) (rw d at g)
 
-pub part_over : (s : List ℕ) (i stop : ℕ) (x goal : Sheet) → stop ≤ i → puts (part i stop s) x ≡ goal → x ≡ goal
+pub byte_over : (bs : List ℕ) (i : ℕ) (x goal : Sheet) → length bs ≤ i → puts (drop i bs) x ≡ goal → x ≡ goal
 unfolding puts
-part_over s i stop x goal h g = let n : stop - i ≡ 0 = omega arith in rw n at g
+byte_over bs i x goal h g = rw (drop_of_length-le bs h) at g

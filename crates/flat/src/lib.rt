@@ -1,7 +1,6 @@
 // A flat copy for paper: a song written out measure by measure as it is played, in a lent buffer.
 #![tactic(auto)]
 
-mod answers;
 mod copying;
 mod lines;
 mod measures;
@@ -9,5 +8,4 @@ mod patterns;
 mod sheets;
 mod songs;
 
-pub use answers::Copied;
 pub use copying::flat_copy;

@@ -8,7 +8,6 @@ ghost use Rattle.flat.specs.Measures.{letters_at, gap, positions, measure_line, 
 
 use super::sheets::{put, put_part};
 use packing::{beat_of, measure_of};
-use score::least;
 use tokens::spelling_of;
 
 // The letters of a base chord.
@@ -17,13 +16,11 @@ fn put_base(number: usize, copy: &mut [u8], at: usize) -> usize
 {
     let name = spelling_of(number);
     let mut out = at;
-    let mut k = 0;
-    while k < 3 {
-        if name[k] == 0 {
-            return out;
+    for letter in name {
+        if letter == 0 {
+            break;
         }
-        out = put(name[k], copy, out);
-        k += 1;
+        out = put(letter, copy, out);
     }
     out
 }
@@ -37,8 +34,8 @@ fn put_letters(s: &[u8], word: u32, copy: &mut [u8], at: usize) -> usize
         return put(b'_', copy, at);
     }
     let named = put_base(beat.base, copy, at);
-    let start = least(beat.extension, s.len());
-    let stop = least(beat.extension + beat.length, s.len());
+    let start = beat.extension.min(s.len());
+    let stop = (beat.extension + beat.length).min(s.len());
     put_part(s, start, stop, copy, named)
 }
 
@@ -57,11 +54,9 @@ fn put_beats(s: &[u8], beats: &[u32], copy: &mut [u8], at: usize) -> usize
     ensures { Adds (spaced (map (letters_at s.now) beats.now)) copy.old at copy.new result }
 {
     let mut out = at;
-    let mut i = 0;
-    while i < beats.len() {
+    for (i, word) in beats.iter().enumerate() {
         out = put_space(i, copy, out);
-        out = put_letters(s, beats[i], copy, out);
-        i += 1;
+        out = put_letters(s, *word, copy, out);
     }
     out
 }
@@ -71,11 +66,9 @@ fn put_missing(from: usize, n: usize, copy: &mut [u8], at: usize) -> usize
     ensures { Adds (positions from (replicate (n - from) (ascii "="))) copy.old at copy.new result }
 {
     let mut out = at;
-    let mut i = from;
-    while i < n {
+    for i in from..n {
         out = put_space(i, copy, out);
         out = put(b'=', copy, out);
-        i += 1;
     }
     out
 }
@@ -104,13 +97,11 @@ pub fn put_measures(
         copy.old at copy.new result }
 {
     let mut out = at;
-    let mut i = 0;
-    while i < k {
-        let m = measure_of(measures[i]);
-        let first = least(m.first, beats.len());
-        let end = least(m.first + m.beats, beats.len());
+    for word in &measures[..k] {
+        let m = measure_of(*word);
+        let first = m.first.min(beats.len());
+        let end = (m.first + m.beats).min(beats.len());
         out = put_measure(s, n, &beats[first..end], copy, out);
-        i += 1;
     }
     out
 }

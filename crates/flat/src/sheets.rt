@@ -23,11 +23,9 @@ pub fn put_part(s: &[u8], start: usize, stop: usize, copy: &mut [u8], at: usize)
     requires { (start ≤ stop) × (stop ≤ length s.now) }
     ensures { Adds (part start stop s.now) copy.old at copy.new result }
 {
-    let mut i = start;
     let mut out = at;
-    while i < stop {
-        out = put(s[i], copy, out);
-        i += 1;
+    for b in &s[start..stop] {
+        out = put(*b, copy, out);
     }
     out
 }

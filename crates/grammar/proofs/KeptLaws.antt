@@ -3,7 +3,9 @@ use Prim.Native.Nat.{ℕ, ◌+◌, ◌-◌, ◌^◌, ◌≤◌, ◌<◌}
 use mathlib.Core.Path.{◌≡◌, refl, ap, ◌∙◌}
 use mathlib.Core.List.{List, [], ◌∷◌}
 use native.Mathlib.Omega.{arith}
-use lib.ListN.{length, get_or}
+use native.Mathlib.Numerals.{add-one}
+use lib.ListN.{length, get_or, drop, drop_of_length-le}
+use lib.Seq.{drop-cons}
 use Rattle.songcode.specs.Bytes.{placed}
 use Rattle.songcode.specs.Answer.Tokens.{Token}
 use Rattle.songcode.proofs.MemoryLaws.{sets_rest}
@@ -18,18 +20,17 @@ use Rattle.grammar.specs.declared.checks.Check.{Check}
 use Rattle.grammar.specs.Kinds.{kind_of, kinds_of, word_kind}
 use Rattle.grammar.specs.Checks.{check_step, check_run, check_text, check_words}
 use Rattle.grammar.proofs.WordLaws.{word_kind_lem}
-use Rattle.grammar.proofs.PartLaws.{part_cons, part_empty}
 use Rattle.grammar.proofs.LineLaws.{part_fits}
 
--- One more word of a part, and none.
-module _ (c : Check) (ws : List ℕ) (i to : ℕ) where
-  pub words_more : i < to → to ≤ length ws → check_words c (part i to ws) ≡ check_words (check_step c (word_kind (get_or ws i 0))) (part (i + 1) to ws)
+-- One more word, and none.
+module _ (c : Check) (ws : List ℕ) (i : ℕ) where
+  pub words_more : i < length ws → check_words c (drop i ws) ≡ check_words (check_step c (word_kind (get_or ws i 0))) (drop (i + 1) ws)
   unfolding check_words
-  words_more p q = rw (part_cons ws i to 0 p q) refl
+  words_more h = rw (add-one i, drop-cons ws i 0 h) refl
 
-  pub words_over : to ≤ i → check_words c (part i to ws) ≡ c
+  pub words_over : length ws ≤ i → check_words c (drop i ws) ≡ c
   unfolding check_words
-  words_over p = rw (part_empty ws i to p) refl
+  words_over h = rw (drop_of_length-le ws h) refl
 
 -- The words of tokens are checked as the tokens are.
 words_tokens : (c : Check) (ts : List Token) → AllFit ts → check_words c (token_words ts) ≡ check_run c (kinds_of ts)

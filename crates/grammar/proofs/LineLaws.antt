@@ -13,7 +13,8 @@ use Rattle.songcode.specs.Answer.PatternText.{barred, side_text}
 use Rattle.tokens.specs.TokenWords.{token_word}
 use Rattle.tokens.specs.Lexing.{Reads}
 use Rattle.tokens.specs.declared.lexing.Lexed.{Lexed}
-use Rattle.tokens.specs.declared.lexing.Lexed.TheVariants.{Token, End}
+use Rattle.std.specs.Prelude as std
+use Rattle.std.specs.Prelude.{Some, None}
 use Rattle.text.specs.Spans.{part}
 use Rattle.text.proofs.WalkLaws.{part_length}
 use Rattle.grammar.specs.declared.kinds.Kind.{Kind}
@@ -45,16 +46,17 @@ text_over c bs e = ap (λ (ts : List songcode.Token). check_run c (kinds_of ts))
 
 -- What the code finds at a place of a line: a token, or the end.
 module _ (c : Check) (s : List ℕ) (at to : ℕ) (p : at ≤ to) (q : to ≤ length s) (r : to ≤ 2 ^ 16) where
-  pub line_token : {l : Lexed} {w n : ℕ} → Reads s at to l → l ≡ Token w n
-      → (at < n) × (n ≤ to) × (check_text c (placed at (part at to s)) ≡ check_text (check_step c (word_kind w)) (placed n (part n to s)))
+  pub line_token : {o : std.Option Lexed} {l : Lexed} → Reads s at to o → o ≡ Some l
+      → (at < l.next) × (l.next ≤ to)
+      × (check_text c (placed at (part at to s)) ≡ check_text (check_step c (word_kind l.word)) (placed l.next (part l.next to s)))
   unfolding Reads
-  line_token {l} {w} {n} h e =
-      let t : Reads s at to (Token w n) = rw e at h in
-      (t.1, t.2, text_next c (placed at (part at to s)) (placed n (part n to s)) t.0 w (part_fits s at to p q r) (t.4 to t.2 (omega arith)) t.3)
+  line_token {o} {l} h e =
+      let t : Reads s at to (Some l) = rw e at h in
+      (t.1, t.2, text_next c (placed at (part at to s)) (placed l.next (part l.next to s)) t.0 l.word (part_fits s at to p q r) (t.4 to t.2 (omega arith)) t.3)
 
-  pub line_over : {l : Lexed} → Reads s at to l → l ≡ End → check_text c (placed at (part at to s)) ≡ c
+  pub line_over : {o : std.Option Lexed} → Reads s at to o → o ≡ None → check_text c (placed at (part at to s)) ≡ c
   unfolding Reads
-  line_over {l} h e = let t : Reads s at to End = rw e at h in text_over c (placed at (part at to s)) t
+  line_over {o} h e = let t : Reads s at to None = rw e at h in text_over c (placed at (part at to s)) t
 
 -- Lead-ins and tails.
 pub side_barred : (bs : List Byte) → any barred bs ≡ true → is_some (side_text bs) ≡ false

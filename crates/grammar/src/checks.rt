@@ -1,16 +1,17 @@
 // The check of a pattern text: where the reading stands, and one function for each place that says what a token leads to.
-ghost use Rattle.std.specs.Prelude.{◌≡◌, ◌<◌, get_or};
+ghost use Rattle.std.specs.Prelude.{◌≡◌, get_or};
 ghost use Rattle.grammar.specs.declared.checks.Place.TheVariants.{Fresh};
 ghost use Rattle.grammar.specs.Checks.{first, spoiled, moved, referred, opened, closed, arrived, is_bad, check_step};
 ghost use Rattle.grammar.specs.Places.{row, next_place};
 
 use super::Kind;
+use Place::{Alone, Bad, Ended, Fresh, Full, Joins, Removed, Sounds, Wants};
 use tokens::LOOPS_DEEP;
 
 // Fresh: nothing was read. Wants: an item is to come. Joins: so it is, behind a `:` that a line end may still join.
 // Sounds: in a measure; Removed: in one with removers. Alone: behind a `$n` that is all there was. Full: behind a loop or a `$n`.
 // Ended: behind an item and a line end. Bad: against the rules.
-#[derive(Clone, Copy)]
+#[derive(Clone, Copy, PartialEq, Eq)]
 pub enum Place {
     Fresh,
     Wants,
@@ -36,7 +37,7 @@ pub fn start() -> Check
     ensures { result ≡ first }
 {
     Check {
-        place: Place::Fresh,
+        place: Fresh,
         loops: 0,
         named: false,
     }
@@ -47,7 +48,7 @@ fn spoil() -> Check
     ensures { result ≡ spoiled }
 {
     Check {
-        place: Place::Bad,
+        place: Bad,
         loops: 0,
         named: false,
     }
@@ -56,11 +57,7 @@ fn spoil() -> Check
 fn move_to(c: Check, place: Place) -> Check
     ensures { result ≡ moved c place }
 {
-    Check {
-        place,
-        loops: c.loops,
-        named: c.named,
-    }
+    Check { place, ..c }
 }
 
 fn refer_to(c: Check, place: Place) -> Check
@@ -68,8 +65,8 @@ fn refer_to(c: Check, place: Place) -> Check
 {
     Check {
         place,
-        loops: c.loops,
         named: true,
+        ..c
     }
 }
 
@@ -80,9 +77,9 @@ fn open_loop(c: Check) -> Check
         return spoil();
     }
     Check {
-        place: Place::Wants,
+        place: Wants,
         loops: c.loops + 1,
-        named: c.named,
+        ..c
     }
 }
 
@@ -93,91 +90,56 @@ fn close_loop(c: Check) -> Check
         return spoil();
     }
     Check {
-        place: Place::Full,
+        place: Full,
         loops: c.loops - 1,
-        named: c.named,
+        ..c
     }
 }
 
-// The places that a token leads to.
-const WANTS: Place = Place::Wants;
-
-const JOINS: Place = Place::Joins;
-
-const SOUNDS: Place = Place::Sounds;
-
-const REMOVED: Place = Place::Removed;
-
-const ALONE: Place = Place::Alone;
-
-const FULL: Place = Place::Full;
-
-const ENDED: Place = Place::Ended;
-
-const BAD: Place = Place::Bad;
-
 // Where a token of each kind leads to, from each place in the order in which the places are declared.
 // A measure begins where an item is to come, and goes on with "one or more positions".
-const BY_SOUND: [Place; 9] = [SOUNDS, SOUNDS, SOUNDS, SOUNDS, BAD, BAD, BAD, SOUNDS, BAD];
+const BY_SOUND: [Place; 9] = [Sounds, Sounds, Sounds, Sounds, Bad, Bad, Bad, Sounds, Bad];
 
 // Removers "stand only at the end" of a measure.
-const BY_REMOVER: [Place; 9] = [BAD, BAD, BAD, REMOVED, REMOVED, BAD, BAD, BAD, BAD];
+const BY_REMOVER: [Place; 9] = [Bad, Bad, Bad, Removed, Removed, Bad, Bad, Bad, Bad];
 
 // A `$n` or a loop begins where an item is to come; at the very beginning a `$n` may be the whole text. Nothing may be added to either.
-const BY_REFERENCE: [Place; 9] = [ALONE, FULL, FULL, BAD, BAD, BAD, BAD, FULL, BAD];
+const BY_REFERENCE: [Place; 9] = [Alone, Full, Full, Bad, Bad, Bad, Bad, Full, Bad];
 
-const BY_OPENS: [Place; 9] = [WANTS, WANTS, WANTS, BAD, BAD, BAD, BAD, WANTS, BAD];
+const BY_OPENS: [Place; 9] = [Wants, Wants, Wants, Bad, Bad, Bad, Bad, Wants, Bad];
 
 // Behind an item stands a separator, or the end of the loop around it.
-const BY_SEMICOLON: [Place; 9] = [BAD, BAD, BAD, WANTS, WANTS, WANTS, WANTS, BAD, BAD];
+const BY_SEMICOLON: [Place; 9] = [Bad, Bad, Bad, Wants, Wants, Wants, Wants, Bad, Bad];
 
-const BY_CLOSES: [Place; 9] = [BAD, BAD, BAD, FULL, FULL, FULL, FULL, BAD, BAD];
+const BY_CLOSES: [Place; 9] = [Bad, Bad, Bad, Full, Full, Full, Full, Bad, Bad];
 
 // A line end counts with a `:` in front of it, and with one behind it.
-const BY_LINE_END: [Place; 9] = [BAD, BAD, WANTS, ENDED, ENDED, ENDED, ENDED, BAD, BAD];
+const BY_LINE_END: [Place; 9] = [Bad, Bad, Wants, Ended, Ended, Ended, Ended, Bad, Bad];
 
-const BY_COLON: [Place; 9] = [BAD, BAD, BAD, JOINS, JOINS, JOINS, JOINS, JOINS, BAD];
+const BY_COLON: [Place; 9] = [Bad, Bad, Bad, Joins, Joins, Joins, Joins, Joins, Bad];
 
 // Where such a token leads to from a place.
 fn at_place(leads: [Place; 9], place: Place) -> Place
     ensures { result ≡ get_or leads (row place) Fresh }
 {
     match place {
-        Place::Fresh => leads[0],
-        Place::Wants => leads[1],
-        Place::Joins => leads[2],
-        Place::Sounds => leads[3],
-        Place::Removed => leads[4],
-        Place::Alone => leads[5],
-        Place::Full => leads[6],
-        Place::Ended => leads[7],
-        Place::Bad => leads[8],
+        Fresh => leads[0],
+        Wants => leads[1],
+        Joins => leads[2],
+        Sounds => leads[3],
+        Removed => leads[4],
+        Alone => leads[5],
+        Full => leads[6],
+        Ended => leads[7],
+        Bad => leads[8],
     }
 }
 
-// The number of a place, in the order in which they are declared.
-pub fn row(place: Place) -> usize
-    ensures value { result ≡ row place }
-    ensures upper_bound { result < 9 }
-{
-    match place {
-        Place::Fresh => 0,
-        Place::Wants => 1,
-        Place::Joins => 2,
-        Place::Sounds => 3,
-        Place::Removed => 4,
-        Place::Alone => 5,
-        Place::Full => 6,
-        Place::Ended => 7,
-        Place::Bad => 8,
-    }
-}
-
-// The last place.
+// Against the rules.
 pub fn is_bad(place: Place) -> bool
     ensures { result ≡ is_bad place }
 {
-    row(place) == 8
+    place == Bad
 }
 
 fn next_place(place: Place, kind: Kind) -> Place
@@ -192,7 +154,7 @@ fn next_place(place: Place, kind: Kind) -> Place
         Kind::LineEnd => at_place(BY_LINE_END, place),
         Kind::Opens => at_place(BY_OPENS, place),
         Kind::Closes => at_place(BY_CLOSES, place),
-        Kind::Wrong => BAD,
+        Kind::Wrong => Bad,
     }
 }
 

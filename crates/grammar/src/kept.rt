@@ -19,10 +19,8 @@ fn check_words(words: &[u32], from: usize, to: usize, c: Check) -> Check
     ensures { result ≡ check_words c (part from to words.now) }
 {
     let mut check = c;
-    let mut i = from;
-    while i < to {
-        check = step_check(check, words[i]);
-        i += 1;
+    for word in &words[from..to] {
+        check = step_check(check, *word);
     }
     check
 }

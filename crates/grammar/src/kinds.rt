@@ -6,7 +6,7 @@ use tokens::{
     AGAIN, CHORDS, CLOSES, COLON, LINE_END, OPENS, REFERENCE, REMOVER, SEMICOLON, SILENCE, kind,
 };
 
-#[derive(Clone, Copy)]
+#[derive(Clone, Copy, PartialEq, Eq)]
 pub enum Kind {
     Sound,
     Remover,
@@ -35,8 +35,7 @@ pub fn kind_of(word: u32) -> Kind
         COLON => Kind::Colon,
         SEMICOLON => Kind::Semicolon,
         REMOVER => Kind::Remover,
-        AGAIN => Kind::Sound,
-        SILENCE => Kind::Sound,
+        AGAIN | SILENCE => Kind::Sound,
         _ => Kind::Wrong,
     }
 }

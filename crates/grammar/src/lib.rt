@@ -14,12 +14,12 @@ ghost use Rattle.grammar.specs.declared.kinds.Kind.TheVariants.{LineEnd};
 ghost use Rattle.grammar.specs.Kinds.{word_kind};
 ghost use Rattle.grammar.specs.Checks.{check_step, check_text};
 
-pub use checks::{Check, Place, is_bad, row, start, step_kind};
+pub use checks::{Check, Place, is_bad, start, step_kind};
 pub use kept::check_kept;
 pub use kinds::Kind;
 use kinds::kind_of;
 pub use sides::side_fine;
-use tokens::{Lexed, next_token};
+use tokens::next_token;
 pub use verdicts::{definition_fine, is_alone, section_fine};
 
 // The check behind one more token, given by its word.
@@ -43,11 +43,9 @@ fn check_line(s: &[u8], from: usize, to: usize, c: Check) -> Check
 {
     let mut check = c;
     let mut at = from;
-    loop {
-        let Lexed::Token(word, next) = next_token(s, at, to) else {
-            return check;
-        };
-        check = step_check(check, word);
-        at = next;
+    while let Some(token) = next_token(s, at, to) {
+        check = step_check(check, token.word);
+        at = token.next;
     }
+    check
 }

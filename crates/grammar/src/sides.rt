@@ -12,21 +12,14 @@ use super::{check_line, start};
 fn is_barred(b: u8) -> bool
     ensures { result ≡ barred_byte b }
 {
-    b == b':' || b == b'$'
+    matches!(b, b':' | b'$')
 }
 
 fn has_barred(s: &[u8], from: usize, to: usize) -> bool
     requires { (from ≤ to) × (to ≤ length s.now) }
     ensures { result ≡ any_barred s.now from to }
 {
-    let mut i = from;
-    while i < to {
-        if is_barred(s[i]) {
-            return true;
-        }
-        i += 1;
-    }
-    false
+    s[from..to].iter().any(|b| is_barred(*b))
 }
 
 // The text of a lead-in or tail.
@@ -34,8 +27,5 @@ pub fn side_fine(s: &[u8], from: usize, to: usize) -> bool
     requires { (from ≤ to) × (to ≤ length s.now) × (to ≤ 65536) }
     ensures { result ≡ is_some (side_text (placed from (part from to s.now))) }
 {
-    if has_barred(s, from, to) {
-        return false;
-    }
-    unnamed_fine(check_line(s, from, to, start()))
+    !has_barred(s, from, to) && unnamed_fine(check_line(s, from, to, start()))
 }

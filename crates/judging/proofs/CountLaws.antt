@@ -76,7 +76,7 @@ all_counted k a p b h =
 pub section_counted : (song : Song) (x : Section) (ws : List ℕ) (m : Modifiers) (t : Texts)
     → TextsAre song.definitions x ws t → m.repeat ≡ repeats x.modifiers → 1 ≤ m.repeat
     → Counted (count_of_texts m t) (section_count song x)
-unfolding count_of_texts section_count
+unfolding section_count
 section_counted song x ws m t w e h =
     let a = carried_count ws t.lead (side_items x.modifiers.before) w.lead ∙ ap (min 65536)
     (side_count_lem x.modifiers.before) in
@@ -93,5 +93,4 @@ pattern_within song x = omega arith
 pub count_small : (m : Modifiers) (t : Texts) → m.repeat ≤ 9999 → t.lead.outline.measures ≤ 65536
     → t.pattern.outline.measures ≤ 65536 → t.tail.outline.measures ≤ 65536
     → count_of_texts m t ≤ 655425536
-unfolding count_of_texts
 count_small m t k a p b = let h : m.repeat * t.pattern.outline.measures ≤ 9999 * 65536 = mul-le-mul k p in omega arith

@@ -20,8 +20,8 @@ use Rattle.songcode.proofs.ListLaws.{by_cases, true_is_not_false, none_passes, i
 use Rattle.songcode.specs.EitherOrder.{Filled}
 use Rattle.songcode.proofs.RowLaws.{filled_items, length_items}
 use Rattle.cuts.specs.declared.Cut as code
-use Rattle.settings.specs.declared.cutting.CutRead.{CutRead}
-use Rattle.settings.specs.declared.cutting.CutRead.TheVariants as read
+use Rattle.std.specs.Prelude as std
+use Rattle.std.specs.Prelude.{Some, None}
 use Rattle.settings.specs.Cuts.{cut_is, CutFits}
 use Rattle.outlines.specs.declared.readings.Outline.{Outline}
 use Rattle.outlines.specs.Words.{vacant}
@@ -32,23 +32,23 @@ use Rattle.sections.specs.declared.values.Modifiers.{Modifiers}
 use Rattle.laying.specs.declared.texts.Texts.{Texts}
 use Rattle.laying.specs.Scores.{Carries}
 use Rattle.judging.specs.Lengths.{cut_or_none, is_modified, cut_away}
-use Rattle.laying.specs.Rows.{read_cut, has_cut}
+use Rattle.laying.specs.Rows.{has_cut}
 
 -- A cut as it is read.
 pub cut_said_lem : (o : Option Cut) → cut_or_none (cut_is o) ≡ cut_said o
-unfolding cut_or_none cut_is cut_said cut_of
+unfolding cut_is cut_said cut_of
 cut_said_lem none = refl
 cut_said_lem (some c) = refl
 
-no_cut : (o : Option Cut) → read_cut (cut_is o) ≡ false → o ≡ none
+no_cut : (o : Option Cut) → std.is_some (cut_is o) ≡ false → o ≡ none
 unfolding cut_is
 no_cut none e = refl
 no_cut (some c) e = true_is_not_false refl e
 
-pub cut_fits : (c : CutRead) → CutFits c → (cut_or_none c).beats.0 ≤ 9999
-unfolding CutFits cut_or_none
-cut_fits (read.Cut c) h = h.1
-cut_fits read.Not h = omega arith
+pub cut_fits : (c : std.Option code.Cut) → CutFits c → (cut_or_none c).beats.0 ≤ 9999
+unfolding CutFits
+cut_fits (Some c) h = h.1
+cut_fits None h = omega arith
 
 -- Nothing is kept exactly where no beat is left.
 kept_empty : {A : Type 0} (f b : code.Cut) (row : List (List A)) → is_empty (kept_of f b row) ≡ eqb (last_beat b row - first_beat f row) 0
@@ -107,11 +107,11 @@ module _ (ws : List ℕ) (n header : ℕ) (ms : song.Modifiers) (m : Modifiers) 
 
   row_uncut : (r : Items) → Carries ws t.pattern (some r) → has_cut m ≡ false
       → cut_away ws n m t ≡ is_empty (kept_measures n ms (some r))
-  unfolding Carries cut_away kept_measures cut_row applied has_cut provided◌then◌else◌
+  unfolding Carries cut_away kept_measures cut_row applied provided◌then◌else◌
   row_uncut r w e =
-      let q = none_passes (read_cut m.front) (read_cut m.back) e in
-      let f = no_cut ms.cut_start (ap read_cut (sym front) ∙ q.0) in
-      let b = no_cut ms.cut_end (ap read_cut (sym back) ∙ q.1) in
+      let q = none_passes (std.is_some m.front) (std.is_some m.back) e in
+      let f = no_cut ms.cut_start (ap std.is_some (sym front) ∙ q.0) in
+      let b = no_cut ms.cut_end (ap std.is_some (sym back) ∙ q.1) in
       rw (w.0, q.0, q.1, f, b, w.1.measures, ← often) (sym (uncut_empty n m.repeat r played))
 
   pub cut_away_is : (o : Option Items) → Carries ws t.pattern o → 1 ≤ n

@@ -1,6 +1,6 @@
 -- Stage 5 of a list of sections: the complaint of the first of them that has one is given.
 use Prim.Native.Nat.{ℕ, ◌+◌, ◌<◌, ◌≤◌}
-use mathlib.Core.Path.{◌≡◌, refl, sym, ap, ◌∙◌}
+use mathlib.Core.Path.{◌≡◌, refl, sym, ◌∙◌}
 use mathlib.Core.List.{List, [], ◌∷◌, ◌++◌}
 use mathlib.Core.Bool.{Bool, true, false, ◌&&◌}
 use mathlib.Core.Option.{Option, none, some}
@@ -14,7 +14,9 @@ use Rattle.songcode.specs.Answer.References.{pattern_items}
 use Rattle.songcode.specs.Answer.Playing.{time_of, kept_measures}
 use Rattle.songcode.specs.Answer.Meter.{section_count, most_measures, cut_faults, length_faults, any_said}
 use Rattle.songcode.proofs.ListLaws.{Each, each_append, each_map, nil_is_not_cons}
-use Rattle.refusals.specs.Refusals.{refusal_of}
+use Rattle.std.specs.Prelude.{Some}
+use Rattle.refusals.specs.declared.names.Why.TheVariants.{SongTooLong, NothingLeft}
+use Rattle.refusals.specs.Refusals.{told}
 use Rattle.sections.specs.Onward.{Later}
 use Rattle.laying.proofs.ComplaintLaws.{UpTo, Behind, first_wins}
 use Rattle.laying.proofs.FaultLineLaws.{line_if}
@@ -45,8 +47,8 @@ length_behind song line sofar (x ∷ xs) w =
     x.header w.0) (behind_cut n line x.header x.modifiers (pattern_items song.definitions x.pattern) w.0))
     (length_behind song line (sofar + section_count song x) xs w.1)
 
-passing_first : (b : Bool) (line : ℕ) → refusal_of (earliest (complaint 14 line ∷ complain_if b 15 line)) ≡ record { number = 14; line = line }
-unfolding refusal_of earliest earlier goes_first complain_if when provided◌then◌else◌
+passing_first : (b : Bool) (line : ℕ) → earliest (complaint 14 line ∷ complain_if b 15 line) ≡ some (complaint 14 line)
+unfolding earliest earlier goes_first complain_if when provided◌then◌else◌
 passing_first true line = rw (le-ltb line line (omega arith), eq-eqb line line refl)
 passing_first false line = refl
 
@@ -54,13 +56,13 @@ module _ (song : Song) (sofar : ℕ) (x : Section) (xs : List Section) (away : B
     (cuts : cut_faults (time_of song x) x.header x.modifiers (pattern_items song.definitions x.pattern) ≡ complain_if away 15 x.header) where
   -- The song passes its length here.
   pub length_passes : 65535 < sofar + section_count song x → Later x.header xs
-      → refusal_of (earliest (length_faults song sofar (x ∷ xs))) ≡ record { number = 14; line = x.header }
-  unfolding length_faults complain_if when most_measures
+      → earliest (length_faults song sofar (x ∷ xs)) ≡ told (Some (record { why = SongTooLong; line = x.header }))
+  unfolding length_faults complain_if when most_measures told
   length_passes h l =
       let rest = length_faults song (sofar + section_count song x) xs in
       rw (cuts, le-leb sofar 65535 small, lt-ltb 65535 (sofar + section_count song x) h)
-      (ap refusal_of (first_wins x.header (complaint 14 x.header ∷ complain_if away 15 x.header) rest (here away)
-      (length_behind song x.header (sofar + section_count song x) xs l) (λ z. nil_is_not_cons (sym z)))
+      (first_wins x.header (complaint 14 x.header ∷ complain_if away 15 x.header) rest (here away)
+      (length_behind song x.header (sofar + section_count song x) xs l) (λ z. nil_is_not_cons (sym z))
       ∙ passing_first away x.header)
     where
       here : (b : Bool) → Each (UpTo x.header) (complaint 14 x.header ∷ complain_if b 15 x.header)
@@ -70,13 +72,13 @@ module _ (song : Song) (sofar : ℕ) (x : Section) (xs : List Section) (away : B
 
   -- Its cuts leave no beat.
   pub length_cut : sofar + section_count song x ≤ 65535 → away ≡ true → Later x.header xs
-      → refusal_of (earliest (length_faults song sofar (x ∷ xs))) ≡ record { number = 15; line = x.header }
-  unfolding length_faults complain_if when most_measures refusal_of earliest earlier
+      → earliest (length_faults song sofar (x ∷ xs)) ≡ told (Some (record { why = NothingLeft; line = x.header }))
+  unfolding length_faults complain_if when most_measures told earliest earlier
   length_cut h e l =
       let rest = length_faults song (sofar + section_count song x) xs in
       rw (cuts, e, le-leb sofar 65535 small, le-ltb 65535 (sofar + section_count song x) h)
-      (ap refusal_of (first_wins x.header (complaint 15 x.header ∷ []) rest (here_if true 15 x.header)
-      (length_behind song x.header (sofar + section_count song x) xs l) (λ z. nil_is_not_cons (sym z))))
+      (first_wins x.header (complaint 15 x.header ∷ []) rest (here_if true 15 x.header)
+      (length_behind song x.header (sofar + section_count song x) xs l) (λ z. nil_is_not_cons (sym z)))
 
   -- Neither.
   pub length_on : sofar + section_count song x ≤ 65535 → away ≡ false → length_faults song sofar (x ∷ xs) ≡ length_faults song (sofar + section_count song x) xs

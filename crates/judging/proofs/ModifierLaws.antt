@@ -7,8 +7,8 @@ use mathlib.Core.Option.{Option, none, some, get_or, bind}
 use native.Mathlib.Omega.{arith}
 use lib.Dec.{eqb}
 use lib.ListN.{length}
-use borrow.Author.Tests.{eq-eqb, ne_eqb, eqb-true}
-use Rattle.songcode.specs.Lists.{provided◌then◌else◌, is_some}
+use borrow.Author.Tests.{eq-eqb, ne_eqb}
+use Rattle.songcode.specs.Lists.{is_some}
 use Rattle.songcode.specs.Answer.Lines.{Block, blocks}
 use Rattle.songcode.specs.Answer.Numbers.{repeat_in}
 use Rattle.songcode.specs.Song.{Cut, Modifier, Side}
@@ -17,9 +17,11 @@ use Rattle.songcode.specs.Answer.Modifiers.{repeat_said, before_said, after_said
 use Rattle.songcode.specs.Answer.Sections.{body, section_faults, section_in}
 use Rattle.songcode.specs.Answer.Playing.{repeats}
 use Rattle.songcode.specs.Answer.Meter.{any_said}
-use Rattle.songcode.proofs.ListLaws.{by_cases, append_is_nil}
+use Rattle.songcode.proofs.ListLaws.{append_is_nil}
 use Rattle.songcode.proofs.PatternLaws.{none_some}
-use Rattle.settings.specs.declared.cutting.CutRead.{CutRead}
+use Rattle.std.specs.Prelude as std
+use Rattle.std.specs.Prelude.{Some, None}
+use Rattle.cuts.specs.declared.Cut as code
 use Rattle.settings.specs.Cuts.{cut_is}
 use Rattle.settings.proofs.NumberLaws.{number_in_range}
 use Rattle.sections.specs.declared.blocks.Place.{Place}
@@ -36,18 +38,19 @@ use Rattle.sections.proofs.TellLaws.{repeat_tells, before_tells, after_tells}
 use Rattle.sections.proofs.SectionLaws.{clean_order}
 use Rattle.laying.proofs.SideLaws.{nothing_there}
 use Rattle.judging.specs.Lengths.{is_modified}
-use Rattle.laying.specs.Rows.{read_cut, has_cut}
 
--- A place that is no line says nothing; one that says something is on a line.
-line_there : (s : List ℕ) (r : Said) {x : Side} → bind (setting_at s r) side_said ≡ some x → r.line ≡ 0 → ⊥
-unfolding setting_at bind provided◌then◌else◌
-line_there s r {x} e z = let h : none ≡ some x = rw (eq-eqb r.line 0 z) at e in none_some refl h
+-- What says nothing is not said.
+not_said : (s : List ℕ) (r : std.Option Said) → setting_at s r ≡ none → std.is_some r ≡ false
+unfolding setting_at
+not_said s None e = refl
+not_said s (Some r) e = none_some e refl
 
-no_line : (s : List ℕ) (r : Said) → setting_at s r ≡ none → r.line ≡ 0
-unfolding setting_at provided◌then◌else◌
-no_line s r e = by_cases (eqb r.line 0) (λ t. eqb-true r.line 0 t) (λ t. none_some (rw t at e) refl)
+side_there : (s : List ℕ) (r : std.Option Said) {x : Side} → bind (setting_at s r) side_said ≡ some x → std.is_some r ≡ true
+unfolding setting_at bind
+side_there s None e = none_some refl e
+side_there s (Some r) e = refl
 
-cut_said_lem : {c : CutRead} (o : Option Cut) → c ≡ cut_is o → read_cut c ≡ is_some o
+cut_said_lem : {c : std.Option code.Cut} (o : Option Cut) → c ≡ cut_is o → std.is_some c ≡ is_some o
 unfolding cut_is is_some
 cut_said_lem none e = rw e
 cut_said_lem (some c) e = rw e
@@ -82,15 +85,15 @@ module _ (s : List ℕ) (p : Place) (o : Onward s p) (inside : p.at < length s) 
       go none h = none_some refl h
       go (some x) h = (number_in_range 2 9999 x.text h).0
 
-  side_said_lem : (m : ModifierName) (g : Modifier → Option Side) → Tells m g side_said → (r : Said)
+  side_said_lem : (m : ModifierName) (g : Modifier → Option Side) → Tells m g side_said → (r : std.Option Said)
       → setting_at s r ≡ setting_among (8 + modifier_place m) (late_lines (body block)) → (o : Option Side) → bind (setting_at s r) side_said ≡ o
-      → not (eqb r.line 0) ≡ is_some o
+      → std.is_some r ≡ is_some o
   unfolding is_some
   side_said_lem m g tells r e none h =
       let w = clean_order block clean in
       let nothing = nothing_there m g side_said tells (body block) w.0 w.1 (ap (λ (x : Option Setting). bind x side_said) (sym e) ∙ h) in
-      rw (eq-eqb r.line 0 (no_line s r (e ∙ nothing)))
-  side_said_lem m g tells r e (some y) h = rw (ne_eqb r.line 0 (line_there s r h))
+      not_said s r (e ∙ nothing)
+  side_said_lem m g tells r e (some y) h = side_there s r h
 
   module _ (r : SectionRead) (w : ModifiersAre s (late_lines (body block)) r.modifiers) (says : SectionSays s (section_at s p) r) where
     abbrev m : Modifiers
@@ -105,7 +108,7 @@ module _ (s : List ℕ) (p : Place) (o : Onward s p) (inside : p.at < length s) 
         rw (ne_eqb m.repeat 1 (λ z. omega arith))
 
     pub modified_is : is_modified r.modifiers ≡ any_said (section_at s p).modifiers
-    unfolding is_modified has_cut any_said modifier_place
+    unfolding any_said modifier_place
     modified_is =
         let x = (section_at s p).modifiers in
         rw (

@@ -8,7 +8,7 @@ use mathlib.Core.Option.{none, some, get_or}
 use native.Mathlib.Omega.{arith}
 use lib.ListN.{length}
 use borrow.Author.Tests.{not-false}
-use Rattle.songcode.specs.Complaints.{Complaint, complain_if, earliest}
+use Rattle.songcode.specs.Complaints.{complain_if, earliest}
 use Rattle.songcode.specs.Song.{Items, Section, Song}
 use Rattle.songcode.specs.Answer.References.{pattern_items}
 use Rattle.songcode.specs.Answer.Playing.{time_among, time_of}
@@ -17,7 +17,9 @@ use Rattle.songcode.specs.Answer.Meter.{cut_faults}
 use Rattle.songcode.specs.Answer.Meter.{length_faults}
 use Rattle.songcode.specs.Answer.Answer.{song_of}
 use Rattle.songcode.proofs.ListLaws.{append_is_nil, complain_if_nil}
-use Rattle.refusals.specs.Refusals.{refusal_of}
+use Rattle.std.specs.Prelude.{Some}
+use Rattle.refusals.specs.declared.names.Why.TheVariants.{SongTooLong, NothingLeft}
+use Rattle.refusals.specs.Refusals.{told}
 use Rattle.sections.specs.declared.blocks.Place.{Place}
 use Rattle.sections.specs.declared.values.Modifiers.{Modifiers}
 use Rattle.sections.specs.Onward.{sections_from, Onward, section_at}
@@ -36,20 +38,20 @@ use Rattle.judging.proofs.LengthLaws.{length_passes, length_cut, length_on}
 -- So many measures were counted before the place; what the sections from there on are refused for is what the stage is, and stage 4 refuses none of them.
 unfoldable pub Measured : List ℕ → Place → ℕ → Type 0
 Measured s p k =
-    (refusal_of (earliest (length_faults (song_of s) k (sections_from s p))) ≡ refusal_of (earliest (length_faults (song_of s) 0 (song_of s).sections)))
+    (earliest (length_faults (song_of s) k (sections_from s p)) ≡ earliest (length_faults (song_of s) 0 (song_of s).sections))
     × (flat_map (section_meter (song_of s)) (sections_from s p) ≡ [])
 
 pub measured_start : (s : List ℕ) (p : Place) → Begins s p → meter_faults (song_of s) ≡ [] → Measured s p 0
 unfolding Measured meter_faults
 measured_start s p b e = (
-  ap (λ (xs : List Section). refusal_of (earliest (length_faults (song_of s) 0 xs))) b.sections,
+  ap (λ (xs : List Section). earliest (length_faults (song_of s) 0 xs)) b.sections,
   ap (flat_map (section_meter (song_of s))) b.sections ∙ e,
 )
 
 pub measured_end : (s : List ℕ) (p : Place) (k : ℕ) → length s ≤ p.at → Measured s p k
-    → record { number = 0; line = 0 } ≡ refusal_of (earliest (length_faults (song_of s) 0 (song_of s).sections))
-unfolding Measured length_faults refusal_of earliest
-measured_end s p k h w = ap (λ (xs : List Section). refusal_of (earliest (length_faults (song_of s) k xs))) (sym (sections_over s p h)) ∙ w.0
+    → none ≡ earliest (length_faults (song_of s) 0 (song_of s).sections)
+unfolding Measured length_faults earliest
+measured_end s p k h w = ap (λ (xs : List Section). earliest (length_faults (song_of s) k xs)) (sym (sections_over s p h)) ∙ w.0
 
 -- A pattern of which stage 4 complains in no way.
 pub row_fits : (n line : ℕ) (r : Items) → row_faults n line r ≡ [] → all_fit n r ≡ true
@@ -135,18 +137,18 @@ module _ (s ws : List ℕ) (p : Place) (r : Opened) (w : Opens s p ws r) where
           (pattern_items song.definitions x.pattern) w.texts.pattern (meter_range song x).0 (pattern_fits song x metered.0)
           (modified_is s p o inside r.section read says))
 
-      whole : refusal_of (earliest (length_faults song k (x ∷ sections_from s r.next))) ≡ refusal_of (earliest (length_faults song 0 song.sections))
+      whole : earliest (length_faults song k (x ∷ sections_from s r.next)) ≡ earliest (length_faults song 0 song.sections)
       unfolding Measured
-      whole = ap (λ (xs : List Section). refusal_of (earliest (length_faults song k xs))) (sym w.met.first) ∙ measured.0
+      whole = ap (λ (xs : List Section). earliest (length_faults song k xs)) (sym w.met.first) ∙ measured.0
 
       pub opened_passes : 65535 < k + count_of_texts m r.texts
-          → record { number = 14; line = r.section.header } ≡ refusal_of (earliest (length_faults song 0 song.sections))
+          → told (Some (record { why = SongTooLong; line = r.section.header })) ≡ earliest (length_faults song 0 song.sections)
       opened_passes h =
           rw w.met.says.header
           (sym (length_passes song k x (sections_from s r.next) (cut_away ws n m r.texts) small cuts (too_many k h) w.met.later) ∙ whole)
 
       pub opened_cut : k + count_of_texts m r.texts ≤ 65535 → cut_away ws n m r.texts ≡ true
-          → record { number = 15; line = r.section.header } ≡ refusal_of (earliest (length_faults song 0 song.sections))
+          → told (Some (record { why = NothingLeft; line = r.section.header })) ≡ earliest (length_faults song 0 song.sections)
       opened_cut h e =
           let c = all_counted k h in
           rw w.met.says.header
@@ -156,7 +158,7 @@ module _ (s ws : List ℕ) (p : Place) (r : Opened) (w : Opens s p ws r) where
       unfolding Measured
       opened_on h e =
           let c = all_counted k h in (
-            rw c (ap (λ (xs : List Complaint). refusal_of (earliest xs))
+            rw c (ap earliest
                 (sym (length_on song k x (sections_from s r.next) (cut_away ws n m r.texts) small cuts (omega arith) e)) ∙ whole),
             metered.1,
           )

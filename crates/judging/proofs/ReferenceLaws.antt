@@ -14,8 +14,12 @@ use Rattle.songcode.specs.Song.{Pattern, items, named, Definition, Section}
 use Rattle.songcode.specs.Answer.References.{definition_of, named_fault, section_reference, definitions_references, reference_faults}
 use Rattle.songcode.specs.Answer.Answer.{song_of}
 use Rattle.songcode.proofs.ListLaws.{by_cases, true_is_not_false, Each, each_map}
+use Rattle.songcode.proofs.PatternLaws.{none_some}
 use Rattle.refusals.specs.declared.Refusal.{Refusal}
-use Rattle.refusals.specs.Refusals.{refusal_of, nothing_refused}
+use Rattle.std.specs.Prelude as std
+use Rattle.std.specs.Prelude.{Some}
+use Rattle.refusals.specs.declared.names.Why.TheVariants.{ReferenceUndefined}
+use Rattle.refusals.specs.Refusals.{told}
 use Rattle.outlines.specs.Words.{is_missing}
 use Rattle.sections.specs.declared.blocks.Place.{Place}
 use Rattle.sections.specs.declared.values.Keys.{Keys}
@@ -23,17 +27,16 @@ use Rattle.sections.specs.Onward.{sections_from, section_at, Later}
 use Rattle.sections.proofs.MeetLaws.{sections_over}
 use Rattle.laying.specs.declared.texts.Opened.{Opened}
 use Rattle.laying.specs.Laying.{Names}
-use Rattle.laying.specs.Scores.{Told, Begins, Opens}
+use Rattle.laying.specs.Scores.{Told, Begins, Opens, RefusedThree}
 use Rattle.laying.specs.Rows.{Lays}
-use Rattle.laying.proofs.ComplaintLaws.{UpTo, Numbered, first_wins, gather_behind, refused_none}
+use Rattle.laying.proofs.ComplaintLaws.{UpTo, first_wins, gather_behind}
 use Rattle.laying.proofs.FaultLineLaws.{section_line}
 use Rattle.judging.specs.References.{name_fault}
-use Rattle.judging.proofs.StageLaws.{numbered_gather}
 
 module _ (ds : List Definition) (header : ℕ) where
   -- A pattern of its own.
-  own_pattern : (x : Pattern) (k : ℕ) → Names x k → k ≡ 0 → nothing_refused ≡ refusal_of (earliest (section_reference ds x header))
-  unfolding Names section_reference refusal_of earliest
+  own_pattern : (x : Pattern) (k : ℕ) → Names x k → k ≡ 0 → none ≡ earliest (section_reference ds x header)
+  unfolding Names section_reference earliest
   own_pattern (items r) k w e = refl
   own_pattern (named n) k w e =
       let p = w.0 in
@@ -58,19 +61,19 @@ module _ (ds : List Definition) (header : ℕ) where
 
   -- A name that no definition has, and one that a definition has.
   missing_name : (x : Pattern) (k : ℕ) (b : Bool) → Names x k → (k ≡ 0 → ⊥) → b ≡ not (is_some (definition_of k ds)) → b ≡ true
-      → record { number = 10; line = header } ≡ refusal_of (earliest (section_reference ds x header))
-  unfolding refusal_of earliest earlier
+      → told (Some (record { why = ReferenceUndefined; line = header })) ≡ earliest (section_reference ds x header)
+  unfolding told earliest earlier
   missing_name x k b w n e t = rw (named_fault_lem x k w n, fault_there (definition_of k ds) (sym e ∙ t))
 
   found_name : (x : Pattern) (k : ℕ) (b : Bool) → Names x k → (k ≡ 0 → ⊥) → b ≡ not (is_some (definition_of k ds)) → b ≡ false
-      → nothing_refused ≡ refusal_of (earliest (section_reference ds x header))
-  unfolding refusal_of earliest
+      → none ≡ earliest (section_reference ds x header)
+  unfolding earliest
   found_name x k b w n e t = rw (named_fault_lem x k w n, fault_none (definition_of k ds) (sym e ∙ t))
 
   -- What the code finds of a name.
   pub name_fault_lem : {s ws : List ℕ} → Told s ws → ds ≡ (song_of s).definitions → (x : Pattern) (k : ℕ) → Names x k
-      → name_fault ws k header ≡ refusal_of (earliest (section_reference ds x header))
-  unfolding name_fault provided◌then◌else◌
+      → told (name_fault ws k header) ≡ earliest (section_reference ds x header)
+  unfolding name_fault told provided◌then◌else◌
   name_fault_lem {s} {ws} told e x k names =
       let there : is_missing ws k ≡ not (is_some (definition_of k ds)) = told.missing k
       ∙ ap (λ (d : List Definition). not (is_some (definition_of k d))) (sym e) in
@@ -94,45 +97,26 @@ module _ (ds : List Definition) where
   unfolding UpTo
   up_to x = each_map (λ c e. omega arith) (section_fault x) (on_header x)
 
-  numbered : (x : Section) → Each Numbered (section_fault x)
-  unfolding section_fault section_reference named_fault Each Numbered
-  numbered x = of x.pattern
-    where
-      found : (o : Option Definition) → Each (λ c. 1 ≤ c.number) (named_fault o x.header)
-      found none = (omega arith, tt)
-      found (some d) = tt
-
-      of : (p : Pattern) → Each (λ c. 1 ≤ c.number) (section_reference ds p x.header)
-      of (items r) = tt
-      of (named n) = found (definition_of n ds)
-
-  pub all_numbered : (xs : List Section) → Each Numbered (flat_map section_fault xs)
-  all_numbered xs = numbered_gather section_fault numbered xs
-
   -- A section's refusal is that of all from it on; where it has none, the next ones' is.
-  first_section : (x : Section) (xs : List Section) (r : Refusal) → Later x.header xs → r ≡ refusal_of (earliest (section_fault x))
-      → (r.number ≡ 0 → ⊥) → r ≡ refusal_of (earliest (flat_map section_fault (x ∷ xs)))
-  unfolding flat_map refusal_of earliest
-  first_section x xs r w e n =
-      e ∙ ap refusal_of (sym (first_wins x.header (section_fault x) (flat_map section_fault xs) (up_to x)
-      (gather_behind x.header section_fault on_header xs w) (λ z. n (ap (λ (q : Refusal). q.number) e ∙ of (section_fault x) z))))
-    where
-      of : (cs : List Complaint) → cs ≡ [] → (refusal_of (earliest cs)).number ≡ 0
-      of cs z = rw z refl
+  first_section : (x : Section) (xs : List Section) (e : Refusal) → Later x.header xs → told (Some e) ≡ earliest (section_fault x)
+      → told (Some e) ≡ earliest (flat_map section_fault (x ∷ xs))
+  unfolding flat_map told earliest
+  first_section x xs e w is =
+      is ∙ sym (first_wins x.header (section_fault x) (flat_map section_fault xs) (up_to x) (gather_behind x.header section_fault on_header xs w)
+      (λ z. none_some (ap earliest z) (sym is)))
 
-  next_section : (x : Section) (xs : List Section) (r : Refusal) → r ≡ refusal_of (earliest (section_fault x)) → r.number ≡ 0
-      → flat_map section_fault (x ∷ xs) ≡ flat_map section_fault xs
+  next_section : (x : Section) (xs : List Section) → section_fault x ≡ [] → flat_map section_fault (x ∷ xs) ≡ flat_map section_fault xs
   unfolding flat_map
-  next_section x xs r e z = rw (refused_none (section_fault x) (numbered x) (ap (λ (q : Refusal). q.number) (sym e) ∙ z)) refl
+  next_section x xs e = rw e refl
 
 -- The fault of a section that is laid.
-pub fault_at : {s old ws : List ℕ} {p : Place} {song : Keys} {at : ℕ} (m : Opened) → Lays s p song at old ws m → Told s ws → {r : Refusal}
-    → r ≡ name_fault ws m.named m.section.header → r ≡ refusal_of (earliest (section_fault (song_of s).definitions (section_at s p)))
+pub fault_at : {s old ws : List ℕ} {p : Place} {song : Keys} {at : ℕ} (m : Opened) → Lays s p song at old ws m → Told s ws → {r : std.Option Refusal}
+    → r ≡ name_fault ws m.named m.section.header → told r ≡ earliest (section_fault (song_of s).definitions (section_at s p))
 unfolding section_fault
-fault_at {s} {old} {ws} {p} m w told e =
+fault_at {s} {old} {ws} {p} m w there e =
     let ds = (song_of s).definitions in
-    e ∙ name_fault_lem ds m.section.header told refl (section_at s p).pattern m.named w.names
-    ∙ ap (λ (h : ℕ). refusal_of (earliest (section_reference ds (section_at s p).pattern h))) w.opens.met.says.header
+    ap told e ∙ name_fault_lem ds m.section.header there refl (section_at s p).pattern m.named w.names
+    ∙ ap (λ (h : ℕ). earliest (section_reference ds (section_at s p).pattern h)) w.opens.met.says.header
 
 -- Stage 3 from section to section, where nothing is wrong with the definitions: what is left of it is all of it.
 unfoldable pub ReferencesLeft : List ℕ → Place → Type 0
@@ -146,18 +130,18 @@ pub references_over : (s : List ℕ) (p : Place) → length s ≤ p.at → Refer
 unfolding ReferencesLeft flat_map
 references_over s p h w = sym w ∙ ap (flat_map (section_fault (song_of s).definitions)) (sections_over s p h)
 
-module _ {s ws : List ℕ} {p : Place} {m : Opened} (o : Opens s p ws m) {r : Refusal}
-    (e : r ≡ refusal_of (earliest (section_fault (song_of s).definitions (section_at s p)))) where
-  pub references_stop : (r.number ≡ 0 → ⊥) → ReferencesLeft s p → r ≡ refusal_of (earliest (reference_faults (song_of s)))
+module _ {s ws : List ℕ} {p : Place} {m : Opened} (o : Opens s p ws m) where
+  pub references_stop : (e : Refusal) → told (Some e) ≡ earliest (section_fault (song_of s).definitions (section_at s p)) → ReferencesLeft s p
+      → RefusedThree s e
   unfolding ReferencesLeft
-  references_stop n w =
-      first_section (song_of s).definitions (section_at s p) (sections_from s m.next) r o.met.later e n
-      ∙ ap (λ (xs : List Section). refusal_of (earliest (flat_map (section_fault (song_of s).definitions) xs))) (sym o.met.first)
-      ∙ ap (λ (cs : List Complaint). refusal_of (earliest cs)) w
+  references_stop e is w =
+      first_section (song_of s).definitions (section_at s p) (sections_from s m.next) e o.met.later is
+      ∙ ap (λ (xs : List Section). earliest (flat_map (section_fault (song_of s).definitions) xs)) (sym o.met.first)
+      ∙ ap earliest w
 
-  pub references_next : r.number ≡ 0 → ReferencesLeft s p → ReferencesLeft s m.next
+  pub references_next : section_fault (song_of s).definitions (section_at s p) ≡ [] → ReferencesLeft s p → ReferencesLeft s m.next
   unfolding ReferencesLeft
   references_next z w =
-      sym (next_section (song_of s).definitions (section_at s p) (sections_from s m.next) r e z)
+      sym (next_section (song_of s).definitions (section_at s p) (sections_from s m.next) z)
       ∙ ap (flat_map (section_fault (song_of s).definitions)) (sym o.met.first)
       ∙ w

@@ -23,6 +23,7 @@ use Rattle.songcode.specs.Answer.References.{pattern_items}
 use Rattle.songcode.specs.Answer.Playing.{time_of}
 use Rattle.songcode.specs.Answer.Meter.{all_fit, stray, row_faults, played_faults, side_faults, section_meter, meter_faults}
 use Rattle.songcode.proofs.ListLaws.{Each, each_append}
+use Rattle.refusals.specs.Names.{Numbered}
 use Rattle.refusals.specs.Ranks.{Small}
 use Rattle.stage2.proofs.SmallLineFaults.{Low, LowBlock, Fine, fine_gather, each_taken}
 use Rattle.stage2.proofs.SmallLines.{sections_low}
@@ -140,7 +141,7 @@ low_section b h =
     }
 
 low_sections : (bs : List Block) → Each LowBlock bs → Each LowSection (map section_in bs)
-unfolding Each map
+unfolding Each
 low_sections [] h = tt
 low_sections (b ∷ bs) h = (low_section b h.0, low_sections bs h.1)
 
@@ -149,11 +150,11 @@ fine_row : (n line : ℕ) (r : Items) → LowLine line → Fine (row_faults n li
 unfolding row_faults complain_if when Each
 fine_row n line r h =
     each_append Small (complain_if (not (all_fit n r)) 12 line) (complain_if (stray none r) 13 line)
-    (one (not (all_fit n r)) 12 (omega arith) (omega arith)) (one (stray none r) 13 (omega arith) (omega arith))
+    (one (not (all_fit n r)) 12 (omega arith, omega arith)) (one (stray none r) 13 (omega arith, omega arith))
   where
-    one : (t : Bool) (number : ℕ) → 1 ≤ number → number < 32 → Fine (complain_if t number line)
-    one true number a b = ((b, h, a), tt)
-    one false number a b = tt
+    one : (t : Bool) (number : ℕ) → Numbered number → Fine (complain_if t number line)
+    one true number a = ((a, h), tt)
+    one false number a = tt
 
 fine_played : (n line : ℕ) (o : Option Items) → LowLine line → Fine (played_faults n line o)
 unfolding played_faults Each

@@ -82,17 +82,15 @@ tallied_sum ls = refl
 
 module _ (s : Song) (x : Section) (empty : Bool) (t : Tally) (e : empty ≡ not (is_played s x)) (u : t ≡ tallied x.lyrics) where
   lines_said : has_lines empty t ≡ is_sung s x
-  unfolding has_lines tallied
+  unfolding tallied
   lines_said = rw (e, u, no_lines x.lyrics, not-not (is_played s x))
 
   prompts_said : Numbered x.lyrics → has_prompts empty t ≡ is_prompted s x
-  unfolding has_prompts
   prompts_said h =
       let b : eqb t.bare 0 ≡ every is_counted x.lyrics = ap (λ (y : Tally). eqb y.bare 0) u ∙ tallied_bare x.lyrics h in
       rw (lines_said, b)
 
   differs_said : (k : ℕ) → k ≡ length (played s x) → sum_differs empty t k ≡ off_sum s x
-  unfolding sum_differs
   differs_said k h =
       let w : t.sum ≡ counted x.lyrics = ap (λ (y : Tally). y.sum) u ∙ tallied_sum x.lyrics in
       rw (lines_said, w, h)
@@ -151,7 +149,7 @@ summed_from s xs e = subst (λ ys. Summed s ys (record { sections = 0; measures 
 summed_next : (s : Song) (y : Section) (rest : List Section) (x : Sums) (c : Counts) (l : ℕ) (b : Bool) → c.measures ≡ length (played s y)
     → c.beats ≡ total (played s y) → l ≡ length y.lyrics → b ≡ is_prompted s y
     → Summed s (y ∷ rest) x → Summed s rest (with_section x c l b)
-unfolding with_section flat_map every lyrics_of
+unfolding flat_map every lyrics_of
 summed_next s y rest x c l b m t e p h =
     let h0 = h.sections in
     let h1 = h.measures in

@@ -12,7 +12,7 @@ use Rattle.songcode.specs.Complaints.{Complaint, complaint, complain_if, goes_fi
 use Rattle.songcode.specs.Song.{LyricLine, Section, Song}
 use Rattle.songcode.specs.Answer.Lyrics.{is_counted, is_played, lines_taken, has_counts, count_faults}
 use Rattle.songcode.proofs.ListLaws.{by_cases, any_append, Each, each_append}
-use Rattle.refusals.specs.Refusals.{refusal_of}
+use Rattle.refusals.specs.Refusals.{told}
 use Rattle.judging.specs.declared.lyrics.Tally.{Tally}
 use Rattle.judging.specs.declared.lyrics.Taken.{Taken}
 use Rattle.judging.specs.Lyrics.{first_line, bare_line, tallied, taken_with, count_fault}
@@ -100,21 +100,21 @@ first_bare (l ∷ ls) a =
     (λ e. rw e (ap (λ (o : Option Complaint). some (earlier (complaint 16 l.number) o)) (first_bare ls a.1) ∙ earlier_bare l.number
     (bare_line ls) a.0))
 
-fault_of_lem : (b : ℕ) → count_fault (record { counted = true; bare = b }) ≡ refusal_of (bare_of b)
-unfolding count_fault refusal_of bare_of provided◌then◌else◌
+fault_of_lem : (b : ℕ) → told (count_fault (record { counted = true; bare = b })) ≡ bare_of b
+unfolding count_fault told bare_of provided◌then◌else◌
 fault_of_lem zero = refl
 fault_of_lem (suc b) = rw (ne_eqb (suc b) 0 (λ (z : suc b ≡ 0). let y : ⊥ = omega arith in y))
 
-no_fault : (b : ℕ) → count_fault (record { counted = false; bare = b }) ≡ refusal_of (earliest [])
-unfolding count_fault refusal_of earliest provided◌then◌else◌
+no_fault : (b : ℕ) → told (count_fault (record { counted = false; bare = b })) ≡ earliest []
+unfolding count_fault told earliest provided◌then◌else◌
 no_fault b = refl
 
 pub count_refusal : (s : Song) (y : Taken) → y.counted ≡ has_counts s → y.bare ≡ bare_line (lines_taken s) → Numbered (lines_taken s)
-    → count_fault y ≡ refusal_of (earliest (count_faults s))
+    → told (count_fault y) ≡ earliest (count_faults s)
 unfolding count_faults provided◌then◌else◌
 count_refusal s y i j a =
     let parts : y ≡ record { counted = has_counts s; bare = bare_line (lines_taken s) } = rw (← i, ← j) refl in
-    ap count_fault parts
+    ap (λ (t : Taken). told (count_fault t)) parts
     ∙ by_cases (has_counts s)
-    (λ e. rw e (fault_of_lem (bare_line (lines_taken s)) ∙ ap refusal_of (sym (first_bare (lines_taken s) a))))
+    (λ e. rw e (fault_of_lem (bare_line (lines_taken s)) ∙ sym (first_bare (lines_taken s) a)))
     (λ e. rw e (no_fault (bare_line (lines_taken s))))

@@ -1,15 +1,17 @@
 -- The walk over the sections: what is known of those before a place, with one more section, and behind the last.
 use mathlib.Core.Option.{get_or}
-use Prim.Native.Nat.{ℕ, ◌+◌, ◌*◌, ◌<◌, ◌≤◌}
+use mathlib.Core.Option as option
+use Rattle.std.specs.Prelude as std
+use Rattle.std.specs.Prelude.{None, Result, Ok}
+use Rattle.std.specs.Result.{result_err}
+use Prim.Native.Nat.{ℕ, ◌+◌, ◌*◌, ◌%◌, ◌<◌, ◌≤◌}
 use mathlib.Core.Path.{◌≡◌, refl, sym, ap, ◌∙◌, subst}
 use mathlib.Core.List.{List, [], ◌∷◌, flat_map}
 use mathlib.Core.Bool.{◌||◌}
 use native.Mathlib.Omega.{arith}
-use lib.Dec.{eqb}
 use lib.ListN.{length}
-use borrow.Author.Tests.{eq-eqb, eqb-true, eqb-false}
 use Rattle.songcode.specs.Lists.{provided◌then◌else◌, any}
-use Rattle.songcode.specs.Complaints.{verdict, earliest, stage_or}
+use Rattle.songcode.specs.Complaints.{verdict, stage_or}
 use Rattle.songcode.specs.Song.{Section, Song}
 use Rattle.songcode.specs.Answer.References.{reference_faults}
 use Rattle.songcode.specs.Answer.Playing.{time_among, played}
@@ -18,9 +20,10 @@ use Rattle.songcode.specs.Answer.Meter.{section_meter, meter_faults, section_cou
 use Rattle.songcode.specs.Answer.Lyrics.{is_counted, lines_taken, has_counts, count_faults, sum_faults}
 use Rattle.songcode.specs.Answer.Tables.{tables}
 use Rattle.songcode.specs.Answer.Answer.{song_of}
-use Rattle.songcode.proofs.ListLaws.{by_cases, Each}
+use Rattle.songcode.proofs.ListLaws.{Each}
 use Rattle.refusals.specs.declared.Refusal.{Refusal}
-use Rattle.refusals.specs.Refusals.{refusal_of, first_given}
+use Rattle.refusals.specs.Names.{Numbered}
+use Rattle.refusals.specs.Refusals.{told}
 use Rattle.player.specs.Texts.{row_words}
 use Rattle.player.proofs.SectionMeaning.{rows_length, rows_total}
 use Rattle.sections.specs.declared.blocks.Place.{Place}
@@ -36,26 +39,25 @@ use Rattle.judging.specs.declared.singing.Sung.{Sung}
 use Rattle.laying.specs.Rows.{Lays}
 use Rattle.judging.specs.Meters.{meter_fault}
 use Rattle.judging.specs.Measures.{with_measures, metered_refusal}
-use Rattle.judging.specs.Lyrics.{first_line, tally_in, bare_line}
-use Rattle.judging.specs.Sums.{row_of_texts, counts_of, with_section, totals_of, Holds}
-use Rattle.judging.specs.Singing.{sung_with, Singable, lyric_refusal}
-use Rattle.judging.specs.Walking.{nothing_metered, nothing_sung, walk_refusal, outcome_of}
+use Rattle.judging.specs.Lyrics.{first_line, tally_in, bare_line, count_fault}
+use Rattle.judging.specs.Sums.{row_of_texts, counts_of, totals_of, Holds}
+use Rattle.judging.specs.Singing.{sung_with, Singable, off_fault, lyric_refusal}
+use Rattle.judging.specs.Walking.{nothing_metered, nothing_sung, walk_refusal}
 use Rattle.judging.specs.Stages.{lyric_faults, playing_faults, later_faults}
-use Rattle.refusals.specs.Ranks.{least, refusal_at}
+use Rattle.refusals.specs.Ranks.{no_section, least, refusal_at}
 use Rattle.refusals.proofs.RankLaws.{earliest_least}
 use Rattle.judging.proofs.SmallMeters.{meters_small}
 use Rattle.laying.proofs.MeterLaws.{meter_range}
-use Rattle.judging.proofs.JudgedLaws.{Judged, judged_start, judged_next, judged_clear, judged_end, opened_fault}
+use Rattle.judging.proofs.JudgedLaws.{Judged, judged_start, judged_next, judged_clear, judged_named, judged_end, opened_fault}
 use Rattle.judging.proofs.OpenedLaws.{all_counted}
 use Rattle.judging.proofs.LengthsAreLaws.{LengthsAre, lengths_start, lengths_small, lengths_added, lengths_next, lengths_end}
 use Rattle.judging.proofs.PlayedLaws.{played_short}
 use Rattle.judging.proofs.PlayLaws.{texts_play, texts_within, texts_beats}
 use Rattle.judging.proofs.TallyLaws.{first_zero, lyrics_inside, lyrics_tallied}
-use Rattle.judging.proofs.TakenLaws.{Numbered, taken_from, taken_numbered, taken_counted, taken_bare, count_refusal}
+use Rattle.judging.proofs.TakenLaws.{Numbered as Numbered-lines, taken_from, taken_numbered, taken_counted, taken_bare, count_refusal}
 use Rattle.judging.proofs.SumLaws.{opened_empty, lines_numbered, opened_lines, opened_differs, opened_summed, Summed, summed_from, summed_end}
 use Rattle.judging.proofs.OffLaws.{OffIs, off_start, off_next, off_refusal}
-use Rattle.judging.proofs.StageLaws.{stage_passed, given_none, two_stages, groups_given, numbered_meters, numbered_counts}
-use Rattle.judging.proofs.ClearLaws.{measures_clear, song_clear, clear_none}
+use Rattle.judging.proofs.StageLaws.{stage_passed, told_none, none_told, none_err, told_or, given_none, two_stages, groups_given}
 
 -- What stages 6 and 7 know of the sections before the place, which have so many measures before cuts.
 pub record SungIs (s : List ℕ) (p : Place) (k : ℕ) (y : Sung) : Type 0 where
@@ -66,14 +68,14 @@ pub record SungIs (s : List ℕ) (p : Place) (k : ℕ) (y : Sung) : Type 0 where
   pub summed : Summed (song_of s) (sections_from s p) y.sums
   pub counted : y.taken.counted || any is_counted (taken_from (song_of s) (sections_from s p)) ≡ has_counts (song_of s)
   pub bare : first_line y.taken.bare (bare_line (taken_from (song_of s) (sections_from s p))) ≡ bare_line (lines_taken (song_of s))
-  pub numbered : Numbered (taken_from (song_of s) (sections_from s p)) → Numbered (lines_taken (song_of s))
+  pub numbered : Numbered-lines (taken_from (song_of s) (sections_from s p)) → Numbered-lines (lines_taken (song_of s))
   pub off : OffIs s p y.off
 
 -- What is known of the sections before the place; they are counted as long as stages 4 and 5 refuse nothing.
 pub record Walked (s : List ℕ) (p : Place) (x : Metered) (y : Sung) : Type 0 where
   pub meters : Judged s p x.meters
   pub lengths : LengthsAre s p x.lengths
-  pub sung : (metered_refusal x).number ≡ 0 → SungIs s p x.lengths.measures y
+  pub sung : refusal_at x.meters ≡ option.none → (k : ℕ) → x.lengths ≡ Ok k → SungIs s p k y
 
 sung_start : (s : List ℕ) (p : Place) → Begins s p → SungIs s p 0 nothing_sung
 unfolding has_counts lines_taken first_line provided◌then◌else◌
@@ -86,12 +88,20 @@ sung_start s p b =
       summed = summed_from (song_of s) (sections_from s p) b.sections;
       counted = ap (λ (xs : List Section). any is_counted (taken_from (song_of s) xs)) b.sections;
       bare = ap (λ (xs : List Section). bare_line (taken_from (song_of s) xs)) b.sections;
-      numbered = λ h. subst (λ (xs : List Section). Numbered (taken_from (song_of s) xs)) b.sections h;
+      numbered = λ h. subst (λ (xs : List Section). Numbered-lines (taken_from (song_of s) xs)) b.sections h;
       off = off_start s p b;
     }
 
 pub walked_start : {s : List ℕ} {p : Place} → Begins s p → Walked s p nothing_metered nothing_sung
-walked_start {s} {p} b = record { meters = judged_start s p b; lengths = lengths_start s p b; sung = λ z. sung_start s p b }
+walked_start {s} {p} b =
+    record {
+      meters = judged_start s p b;
+      lengths = lengths_start s p b;
+      sung = λ z k e. subst (λ (i : ℕ). SungIs s p i nothing_sung) (sym (same_ok e)) (sung_start s p b);
+    }
+  where
+    same_ok : {i k : ℕ} → ◌≡◌ {A = Result ℕ Refusal} (Ok i) (Ok k) → k ≡ i
+    same_ok h = cc
 
 -- One more section is laid and opened, and played in its N.
 module _ {s old ws : List ℕ} {p : Place} {keys : Keys} {at : ℕ} (r : Opened) (l : Lays s p keys at old ws r) (o : Onward s p) (inside : p.at < length s)
@@ -131,37 +141,36 @@ module _ {s old ws : List ℕ} {p : Place} {keys : Keys} {at : ℕ} (r : Opened)
     fault = opened_fault s ws p r w t l.said refl
 
     next_meters : Judged s r.next next.meters
-    unfolding with_measures
     next_meters = judged_next s p x.meters _ fault before.meters r.next w.met.first
 
     next_lengths : LengthsAre s r.next next.lengths
-    unfolding with_measures
     next_lengths = rw l.said (lengths_next s ws p r w t o inside x.lengths before.lengths)
 
+    pub named_next : length s ≤ 65536 → next.meters < no_section → Numbered (next.meters % 32)
+    named_next small h = judged_named s r.next next.meters small next_meters h
+
     -- Stages 4 and 5 refuse nothing up to its end.
-    module _ (clear : (metered_refusal next).number ≡ 0) where
-      unrefused : ((refusal_at next.meters).number ≡ 0) × (next.lengths.refusal.number ≡ 0)
-      unfolding metered_refusal
-      unrefused = given_none (refusal_at next.meters) next.lengths.refusal clear
+    module _ (clear : refusal_at next.meters ≡ option.none) (k : ℕ) (fine : next.lengths ≡ Ok k) where
+      unrefused_meters : (refusal_at x.meters ≡ option.none) × (section_meter song here ≡ [])
+      unrefused_meters = judged_clear s p x.meters _ fault before.meters clear
 
-      unrefused_meters : ((refusal_at x.meters).number ≡ 0) × (section_meter song here ≡ [])
-      unfolding with_measures
-      unrefused_meters = judged_clear s p x.meters _ fault before.meters unrefused.0
+      small_next : k ≤ 65535
+      small_next = let h = lengths_small s r.next next.lengths next_lengths in rw fine at h
 
-      added : (x.lengths.refusal.number ≡ 0) × (next.lengths.measures ≡ x.lengths.measures + section_count song here)
-      unfolding with_measures
+      added : (j : ℕ) × (x.lengths ≡ Ok j) × (k ≡ j + section_count song here)
       added =
-          let a = lengths_added ws n r.section.header r.section.modifiers r.texts x.lengths unrefused.1 in
-          let h = lengths_small s r.next next.lengths next_lengths unrefused.1 in
-          let e = all_counted s ws p r w x.lengths.measures (subst (λ (k : ℕ). k ≤ 65535) a.1 h) in
-          (a.0, a.1 ∙ ap (λ (k : ℕ). x.lengths.measures + k) e)
+          let a = lengths_added ws n r.section.header r.section.modifiers r.texts x.lengths fine in
+          let e = all_counted s ws p r w a.0 (subst (λ (i : ℕ). i ≤ 65535) a.2 small_next) in
+          (a.0, a.1, a.2 ∙ ap (λ (i : ℕ). a.0 + i) e)
 
-      few : x.lengths.measures + section_count song here ≤ 65535
-      few = subst (λ (k : ℕ). k ≤ 65535) added.1 (lengths_small s r.next next.lengths next_lengths unrefused.1)
+      abbrev sofar : ℕ
+      sofar = added.0
 
-      is : SungIs s p x.lengths.measures y
-      unfolding metered_refusal first_given provided◌then◌else◌
-      is = before.sung (rw (eq-eqb (refusal_at x.meters).number 0 unrefused_meters.0) added.0)
+      few : sofar + section_count song here ≤ 65535
+      few = subst (λ (i : ℕ). i ≤ 65535) added.2 small_next
+
+      is : SungIs s p sofar y
+      is = before.sung unrefused_meters.0 sofar added.1
 
       row : row_of_texts ws n r.texts r.section.modifiers ≡ row_words (played song here)
       row =
@@ -200,7 +209,7 @@ module _ {s old ws : List ℕ} {p : Place} {keys : Keys} {at : ℕ} (r : Opened)
           record {
             lyrics = lyrics_inside r l;
             plays =
-                texts_within song here ws r.texts r.section.modifiers w.texts w.met.says.repeat n 0 x.lengths.measures
+                texts_within song here ws r.texts r.section.modifiers w.texts w.met.says.repeat n 0 sofar
                 some_beat few_beats w.met.read.modifiers.front_fits few (omega arith);
             sums =
                 record {
@@ -214,13 +223,13 @@ module _ {s old ws : List ℕ} {p : Place} {keys : Keys} {at : ℕ} (r : Opened)
       abbrev sung : Sung
       sung = sung_with r.texts.pattern.outline.empty r.section.header lines (counts_of ws n r.texts r.section.modifiers) y
 
-      sung_next : SungIs s r.next next.lengths.measures sung
-      unfolding sung_with with_section counts_of
+      sung_next : SungIs s r.next k sung
+      unfolding sung_with counts_of
       sung_next =
           let a = few_measures in
           let b = beats_short in
           let d = few_lines in
-          let g = added.1 in
+          let g = added.2 in
           let e = opened_empty r w in
           let f = l.fits.lyrics in
           let u = lyrics_tallied r l in
@@ -239,83 +248,90 @@ module _ {s old ws : List ℕ} {p : Place} {keys : Keys} {at : ℕ} (r : Opened)
                 taken_bare song here rest e y.taken u
                 ∙ ap (λ (ys : List Section). first_line y.taken.bare (bare_line (taken_from song ys))) first ∙ is.bare;
             numbered = λ h.
-                is.numbered (subst (λ (ys : List Section). Numbered (taken_from song ys)) first
+                is.numbered (subst (λ (ys : List Section). Numbered-lines (taken_from song ys)) first
                 (taken_numbered song here rest e (lines_numbered here.lyrics f) h));
             off = off_next r w o y.off _ (opened_differs r w f lines u _ measures_are) is.off;
           }
 
-      walked_sung : Walked s r.next next sung
-      walked_sung = record { meters = next_meters; lengths = next_lengths; sung = λ z. sung_next }
+    walked_sung : Walked s r.next next (sung_with r.texts.pattern.outline.empty r.section.header lines (counts_of ws n r.texts r.section.modifiers) y)
+    walked_sung = record { meters = next_meters; lengths = next_lengths; sung = λ z k e. sung_next z k e }
 
-    walked_refused : ((metered_refusal next).number ≡ 0 → ⊥) → Walked s r.next next y
-    walked_refused n = record { meters = next_meters; lengths = next_lengths; sung = λ z. absurd (n z) }
+    walked_refused : (metered_refusal next ≡ option.none → ⊥) → Walked s r.next next y
+    unfolding metered_refusal told stage_or
+    walked_refused n = record { meters = next_meters; lengths = next_lengths; sung = λ z k e. absurd (n (rw (z, e) refl)) }
 
   -- As the code finds it.
-  module _ (x : Metered) (y : Sung) (before : Walked s p x y) {z : Metered} (e : z ≡ with_measures ws n r x) {q : Refusal} (f : q ≡ metered_refusal z) where
-    unrefused_yet : q.number ≡ 0 → (metered_refusal (with_measures ws n r x)).number ≡ 0
-    unrefused_yet h = ap (λ (m : Metered). (metered_refusal m).number) (sym e) ∙ ap (λ (m : Refusal). m.number) (sym f) ∙ h
+  module _ (x : Metered) (y : Sung) (before : Walked s p x y) {z : Metered} (e : z ≡ with_measures ws n r x) where
+    pub walk_named : length s ≤ 65536 → z.meters < no_section → Numbered (z.meters % 32)
+    walk_named small = rw e (named_next x y before small)
 
-    pub walk_sings : q.number ≡ 0 → Singable ws n r y
-    walk_sings h = sings x y before (unrefused_yet h)
-
-    pub walk_on : (h : q.number ≡ 0) {v : Sung} → v ≡ sung_with r.texts.pattern.outline.empty r.section.header lines
+    pub walk_on : {v : Sung} → v ≡ sung_with r.texts.pattern.outline.empty r.section.header lines
         (counts_of ws n r.texts r.section.modifiers) y → Walked s r.next z v
-    walk_on h g = rw (e, g) (walked_sung x y before (unrefused_yet h))
+    walk_on g = rw (e, g) (walked_sung x y before)
 
-    pub walk_refused : (q.number ≡ 0 → ⊥) → {v : Sung} → v ≡ y → Walked s r.next z v
-    walk_refused h g =
-        rw (e, g) (walked_refused x y before
-        (λ a. h (ap (λ (m : Refusal). m.number) f ∙ ap (λ (m : Metered). (metered_refusal m).number) e ∙ a)))
+    module _ (q : std.Option Refusal) (f : told q ≡ metered_refusal z) where
+      unrefused_yet : q ≡ None → metered_refusal (with_measures ws n r x) ≡ option.none
+      unrefused_yet h = ap metered_refusal (sym e) ∙ sym f ∙ told_none h
+
+      pub walk_sings : q ≡ None → Singable ws n r y
+      unfolding metered_refusal
+      walk_sings h =
+          let g = given_none _ _ (unrefused_yet h) in
+          let k = none_err _ g.1 in
+          sings x y before g.0 k.0 k.1
+
+      pub walk_refused : (q ≡ None → ⊥) → {v : Sung} → v ≡ y → Walked s r.next z v
+      walk_refused h g = rw (e, g) (walked_refused x y before (λ a. h (none_told q (f ∙ ap metered_refusal e ∙ a))))
 
 -- Behind the last section.
 module _ {s : List ℕ} {p : Place} (small : length s ≤ 65536) (over : length s ≤ p.at) (x : Metered) (y : Sung) (w : Walked s p x y) where
   abbrev all : Song
   all = song_of s
 
-  metered_verdict : metered_refusal x ≡ refusal_of (verdict (meter_faults all ∷ length_faults all 0 all.sections ∷ []))
+  metered_verdict : metered_refusal x ≡ verdict (meter_faults all ∷ length_faults all 0 all.sections ∷ [])
   unfolding metered_refusal
   metered_verdict =
-      two_stages (meter_faults all) (length_faults all 0 all.sections) (refusal_at x.meters) x.lengths.refusal (numbered_meters all)
+      two_stages (meter_faults all) (length_faults all 0 all.sections) (refusal_at x.meters) (told (result_err x.lengths))
       (ap refusal_at (judged_end s p x.meters over w.meters) ∙ earliest_least (meter_faults all) (meters_small s small))
       (lengths_end s p x.lengths over w.lengths)
 
-  lyric_verdict : (metered_refusal x).number ≡ 0 → lyric_refusal y ≡ refusal_of (verdict (lyric_faults all))
-  unfolding lyric_refusal lyric_faults Each flat_map any bare_line
+  -- Where stages 4 and 5 refuse nothing, all sections are counted.
+  all_sung : metered_refusal x ≡ option.none → (k : ℕ) × SungIs s p k y
+  unfolding metered_refusal
+  all_sung z =
+      let g = given_none _ _ z in
+      let k = none_err _ g.1 in
+      (k.0, w.sung g.0 k.0 k.1)
+
+  lyric_verdict : metered_refusal x ≡ option.none → told (lyric_refusal y) ≡ verdict (lyric_faults all)
+  unfolding lyric_faults Each flat_map any bare_line
   lyric_verdict z =
-      let i = w.sung z in
+      let i = (all_sung z).1 in
       let gone = sections_over s p over in
       let counted = sym (or_false y.taken.counted)
       ∙ ap (λ (xs : List Section). y.taken.counted || any is_counted (taken_from all xs)) (sym gone) ∙ i.counted in
       let bare = sym (first_zero y.taken.bare)
       ∙ ap (λ (xs : List Section). first_line y.taken.bare (bare_line (taken_from all xs))) (sym gone) ∙ i.bare in
-      let numbered = i.numbered (subst (λ (xs : List Section). Numbered (taken_from all xs)) (sym gone) tt) in
-      two_stages (count_faults all) (sum_faults all) _ _ (numbered_counts all) (count_refusal all y.taken counted bare numbered)
+      let numbered = i.numbered (subst (λ (xs : List Section). Numbered-lines (taken_from all xs)) (sym gone) tt) in
+      told_or (count_fault y.taken) (off_fault y.taken.counted y.off)
+      ∙ two_stages (count_faults all) (sum_faults all) _ _ (count_refusal all y.taken counted bare numbered)
       (λ e. off_refusal s p y.off y.taken.counted over counted i.off)
 
-  walk_verdict : walk_refusal x y ≡ refusal_of (verdict (playing_faults all))
-  unfolding walk_refusal playing_faults verdict earliest stage_or
+  walk_verdict : walk_refusal x y ≡ verdict (playing_faults all)
+  unfolding walk_refusal playing_faults
   walk_verdict =
-      groups_given (meter_faults all ∷ length_faults all 0 all.sections ∷ []) (lyric_faults all) (metered_refusal x) (lyric_refusal y) metered_verdict
-      (λ z. let c = measures_clear all (metered_refusal x) metered_verdict z in (rw (c.0, c.1) refl, lyric_verdict z))
+      groups_given (meter_faults all ∷ length_faults all 0 all.sections ∷ []) (lyric_faults all) (metered_refusal x) (told (lyric_refusal y)) metered_verdict
+      lyric_verdict
 
-  later_verdict : reference_faults all ≡ [] → walk_refusal x y ≡ refusal_of (verdict (later_faults all))
+  pub later_verdict : reference_faults all ≡ [] → walk_refusal x y ≡ verdict (later_faults all)
   unfolding later_faults
   later_verdict e = walk_verdict ∙ sym (stage_passed (reference_faults all) (playing_faults all) e)
 
-  pub outcome_verdict : reference_faults all ≡ [] → (outcome_of x y).refusal ≡ refusal_of (verdict (later_faults all))
-  unfolding outcome_of totals_of provided◌then◌else◌ refusal_of
-  outcome_verdict e =
-      by_cases (eqb (walk_refusal x y).number 0)
-      (λ t.
-      let z = ap (λ (q : Refusal). q.number) (sym (later_verdict e)) ∙ eqb-true (walk_refusal x y).number 0 t in
-      rw t (ap refusal_of (sym (clear_none all (song_clear all z)))))
-      (λ t. rw t (later_verdict e))
+  pub named_end : x.meters < no_section → Numbered (x.meters % 32)
+  named_end h = judged_named s p x.meters small w.meters h
 
-  pub outcome_holds : (outcome_of x y).refusal.number ≡ 0 → Holds (tables all) (outcome_of x y)
-  unfolding outcome_of walk_refusal provided◌then◌else◌
-  outcome_holds h =
-      by_cases (eqb (walk_refusal x y).number 0)
-      (λ t.
-      let z = (given_none (metered_refusal x) (lyric_refusal y) (eqb-true (walk_refusal x y).number 0 t)).0 in
-      rw t (summed_end all y.sums (subst (λ xs. Summed all xs y.sums) (sections_over s p over) (w.sung z).summed)))
-      (λ t. absurd (eqb-false (walk_refusal x y).number 0 t (rw t at h)))
+  pub outcome_holds : walk_refusal x y ≡ option.none → Holds (tables all) (totals_of y.sums)
+  unfolding walk_refusal
+  outcome_holds z =
+      let i = (all_sung (given_none _ _ z).0).1 in
+      summed_end all y.sums (subst (λ xs. Summed all xs y.sums) (sections_over s p over) i.summed)

@@ -1,5 +1,5 @@
 -- A chart that stages 3 to 7 have judged.
-use Rattle.std.specs.Prelude.{ℕ, ◌+◌, ◌<◌, ◌≤◌, ◌≡◌, List, [], length, take}
+use Rattle.std.specs.Prelude.{ℕ, ◌+◌, ◌<◌, ◌≤◌, ◌≡◌, List, [], length, take, Result, Some, MatchResult}
 use Rattle.songcode.specs.Complaints.{verdict}
 use Rattle.songcode.specs.Song.{Song}
 use Rattle.songcode.specs.Answer.References.{reference_faults}
@@ -7,13 +7,13 @@ use Rattle.songcode.specs.Answer.Meter.{meter_faults, length_faults}
 use Rattle.songcode.specs.Answer.Lyrics.{count_faults, sum_faults}
 use Rattle.songcode.specs.Answer.Tables.{Tables, tables}
 use Rattle.songcode.specs.Answer.Answer.{song_of}
-use Rattle.refusals.specs.Refusals.{refusal_of}
+use Rattle.refusals.specs.declared.Refusal.{Refusal}
+use Rattle.refusals.specs.Refusals.{told}
 use Rattle.score.specs.declared.stretches.Stretch.{Stretch}
 use Rattle.score.specs.Fitting.{SectionsFit}
 use Rattle.outlines.specs.Rows.{definitions_row, blocks_row, score_of}
 use Rattle.judging.specs.declared.charts.Chart.{Chart}
 use Rattle.judging.specs.declared.walking.Outcome.{Outcome}
-use Rattle.laying.specs.declared.definitions.Loaded.{Loaded}
 use Rattle.laying.specs.Fronts.{DefinitionsFit}
 use Rattle.laying.specs.Scores.{Begins}
 use Rattle.judging.specs.Sums.{Holds}
@@ -44,12 +44,16 @@ pub record Laid (s ws : List ℕ) (rows : Stretch) : Type 0 where
   pub sized : Sized s ws rows
   pub clear : Clear (song_of s)
 
--- Nothing is refused: the row begins with the definitions and sections of the song, and so many words the tables take.
-pub record LaidOut (s : List ℕ) (ws : List ℕ) (l : Loaded) (r : Outcome) : Type 0 where
-  pub early : l.refusal.number ≡ 0
+-- Nothing is wrong with the song: the row begins with its definitions and sections, and so many words the tables take.
+pub record LaidOut (s : List ℕ) (ws : List ℕ) (r : Outcome) : Type 0 where
+  pub clear : Clear (song_of s)
   pub blocks : take r.rows.to ws ≡ blocks_row (song_of s)
   pub sized : Sized s ws r.rows
   pub holds : Holds (tables (song_of s)) r.totals
+
+-- What stages 3 to 7 give of the song.
+abbrev pub RefusedLater : List ℕ → Refusal → Type 0
+RefusedLater s e = told (Some e) ≡ verdict (later_faults (song_of s))
 
 -- The song can be written: it is laid, and so many words its tables take.
 pub record Writable (s : List ℕ) (ws : List ℕ) (r : Chart) : Type 0 where
@@ -57,9 +61,9 @@ pub record Writable (s : List ℕ) (ws : List ℕ) (r : Chart) : Type 0 where
   pub laid : Laid s ws r.rows
   pub holds : Holds (tables (song_of s)) r.totals
 
-pub record Judges (s : List ℕ) (ws : List ℕ) (r : Chart) : Type 0 where
-  pub refusal : r.totals.refusal ≡ refusal_of (verdict (later_faults (song_of s)))
-  pub writable : r.totals.refusal.number ≡ 0 → Writable s ws r
+-- The song can be written, or one of stages 3 to 7 refuses it.
+abbrev pub Judges : List ℕ → List ℕ → Result Chart Refusal → Type 0
+Judges s ws r = MatchResult r (Writable s ws) (RefusedLater s)
 
 -- The tables are long enough.
 pub record Roomy (t : Tables) (s m b i : List ℕ) : Type 0 where

@@ -2,12 +2,13 @@
 use Rattle.std.specs.Prelude.{ℕ, ◌+◌, ◌-◌, ◌*◌, ◌≤◌, ◌≡◌, Bool, not, ◌||◌, List, eqb, ltb, length}
 use Rattle.songcode.specs.Lists.{provided◌then◌else◌, times}
 use Rattle.refusals.specs.declared.Refusal.{Refusal}
-use Rattle.refusals.specs.Refusals.{nothing_refused}
+use Rattle.refusals.specs.declared.names.Why.TheVariants.{SongTooLong, NothingLeft}
 use Rattle.settings.specs.Cuts.{CutFits}
 use Rattle.cuts.specs.declared.Cut.{Cut}
 use Rattle.cuts.specs.Cuts.{cut_of}
-use Rattle.settings.specs.declared.cutting.CutRead.{CutRead}
-use Rattle.settings.specs.declared.cutting.CutRead.TheVariants as read
+use Rattle.std.specs.Prelude as std
+use Rattle.std.specs.Prelude.{is_some, Result, Ok, Err}
+use Rattle.std.specs.Option.{unwrap_or}
 use Rattle.player.specs.declared.playing.Arrangement.{Arrangement}
 use Rattle.player.specs.Walks.{row_of}
 use Rattle.player.specs.Windows.{first_beat, last_beat}
@@ -17,15 +18,10 @@ use Rattle.sections.specs.declared.values.Modifiers.{Modifiers}
 use Rattle.laying.specs.declared.texts.Text.{Text}
 use Rattle.laying.specs.declared.texts.Texts.{Texts}
 use Rattle.laying.specs.Rows.{has_cut}
-use Rattle.judging.specs.declared.lengths.Lengths.{Lengths}
 
--- The cut that is said, else the other one; and one that takes nothing where none is said.
-abbrev pub cut_or : CutRead → Cut → Cut
-cut_or (read.Cut c) other = c
-cut_or read.Not other = other
-
-unfoldable pub cut_or_none : CutRead → Cut
-cut_or_none c = cut_or c (cut_of 0 0)
+-- The cut that is said, else one that takes nothing.
+abbrev pub cut_or_none : std.Option Cut → Cut
+cut_or_none c = unwrap_or c (cut_of 0 0)
 
 -- What a section plays in n: its texts, and what its modifiers say.
 abbrev pub arrangement_of : ℕ → Texts → Modifiers → Arrangement
@@ -41,16 +37,15 @@ arrangement_of n t m =
       even = even_in t.pattern.outline n;
     }
 
-unfoldable pub count_of_texts : Modifiers → Texts → ℕ
+abbrev pub count_of_texts : Modifiers → Texts → ℕ
 count_of_texts m t = t.lead.outline.measures + m.repeat * t.pattern.outline.measures + t.tail.outline.measures
 
-unfoldable pub is_modified : Modifiers → Bool
-unfolding has_cut
-is_modified m = not (eqb m.repeat 1) || not (eqb m.before.line 0) || not (eqb m.after.line 0) || has_cut m
+abbrev pub is_modified : Modifiers → Bool
+is_modified m = not (eqb m.repeat 1) || is_some m.before || is_some m.after || has_cut m
 
 -- What the code finds of the cuts of a section played in n.
 unfoldable pub cut_away : List ℕ → ℕ → Modifiers → Texts → Bool
-unfolding provided◌then◌else◌ is_modified has_cut cut_or_none times
+unfolding provided◌then◌else◌ times
 cut_away ws n m t =
     provided t.pattern.outline.empty then is_modified m
     else (provided has_cut m
@@ -60,22 +55,18 @@ cut_away ws n m t =
     0
     else eqb t.pattern.outline.measures 0)
 
--- What is refused of a section played in n, where the song has so many measures up to its end.
-unfoldable pub length_fault : List ℕ → ℕ → ℕ → Modifiers → Texts → ℕ → Refusal
+-- The song's measures up to the end of a section played in n, or what is refused of it.
+unfoldable pub length_fault : List ℕ → ℕ → ℕ → Modifiers → Texts → ℕ → Result ℕ Refusal
 unfolding provided◌then◌else◌
 length_fault ws n header m t measures =
-    provided ltb 65535 measures then record { number = 14; line = header }
-    else (provided cut_away ws n m t then record { number = 15; line = header } else nothing_refused)
+    provided ltb 65535 measures then Err (record { why = SongTooLong; line = header })
+    else (provided cut_away ws n m t then Err (record { why = NothingLeft; line = header }) else Ok measures)
 
 -- With one more section; where one is refused, those behind it are not asked.
-unfoldable pub with_lengths : List ℕ → ℕ → ℕ → Modifiers → Texts → Lengths → Lengths
-unfolding provided◌then◌else◌ length_fault
-with_lengths ws n header m t x =
-    provided eqb x.refusal.number 0 then record {
-      refusal = length_fault ws n header m t (x.measures + count_of_texts m t);
-      measures = x.measures + count_of_texts m t;
-    }
-    else x
+unfoldable pub with_lengths : List ℕ → ℕ → ℕ → Modifiers → Texts → Result ℕ Refusal → Result ℕ Refusal
+unfolding length_fault
+with_lengths ws n header m t (Err r) = Err r
+with_lengths ws n header m t (Ok k) = length_fault ws n header m t (k + count_of_texts m t)
 
 -- Where its outline tells so, each measure of a text has n beats.
 abbrev pub EvenText : List ℕ → ℕ → Text → Type 0

@@ -1,10 +1,10 @@
 -- Lyric lines summed up: how many they are, their counts, and the first line without one.
-use Rattle.std.specs.Prelude.{ℕ, ◌+◌, ◌≤◌, ◌≡◌, Bool, true, false, not, ◌||◌, ◌&&◌, List, [], ◌∷◌, eqb, ltb, length, take, drop}
+use Rattle.std.specs.Prelude.{ℕ, ◌+◌, ◌≤◌, ◌≡◌, Bool, true, false, not, ◌||◌, ◌&&◌, List, [], ◌∷◌, eqb, ltb, length, take, drop, Option, Some, None}
 use Rattle.songcode.specs.Lists.{provided◌then◌else◌, any}
 use Rattle.songcode.specs.Song.{LyricLine}
 use Rattle.songcode.specs.Answer.Lyrics.{is_counted, counted}
 use Rattle.refusals.specs.declared.Refusal.{Refusal}
-use Rattle.refusals.specs.Refusals.{nothing_refused}
+use Rattle.refusals.specs.declared.names.Why.TheVariants.{CountMissing}
 use Rattle.score.specs.declared.stretches.Stretch.{Stretch}
 use Rattle.score.specs.LyricLines.{lyric_in}
 use Rattle.judging.specs.declared.lyrics.Tally.{Tally}
@@ -56,6 +56,6 @@ unfolding provided◌then◌else◌ first_line
 taken_with empty y t = provided empty then y else record { counted = y.counted || t.counted; bare = first_line y.bare t.bare }
 
 -- What stage 6 refuses of the lines taken.
-unfoldable pub count_fault : Taken → Refusal
+unfoldable pub count_fault : Taken → Option Refusal
 unfolding provided◌then◌else◌
-count_fault y = provided y.counted && not (eqb y.bare 0) then record { number = 16; line = y.bare } else nothing_refused
+count_fault y = provided y.counted && not (eqb y.bare 0) then Some (record { why = CountMissing; line = y.bare }) else None

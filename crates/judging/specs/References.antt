@@ -1,10 +1,10 @@
 -- What stage 3 finds of a section, by the number that its pattern names.
-use Rattle.std.specs.Prelude.{ℕ, List, eqb}
+use Rattle.std.specs.Prelude.{ℕ, List, eqb, not, ◌&&◌, Option, Some, None}
 use Rattle.songcode.specs.Lists.{provided◌then◌else◌}
 use Rattle.refusals.specs.declared.Refusal.{Refusal}
-use Rattle.refusals.specs.Refusals.{nothing_refused}
+use Rattle.refusals.specs.declared.names.Why.TheVariants.{ReferenceUndefined}
 use Rattle.outlines.specs.Words.{is_missing}
 
-unfoldable pub name_fault : List ℕ → ℕ → ℕ → Refusal
+unfoldable pub name_fault : List ℕ → ℕ → ℕ → Option Refusal
 unfolding provided◌then◌else◌ is_missing
-name_fault ws n header = provided eqb n 0 then nothing_refused else (provided is_missing ws n then record { number = 10; line = header } else nothing_refused)
+name_fault ws n header = provided not (eqb n 0) && is_missing ws n then Some (record { why = ReferenceUndefined; line = header }) else None

@@ -1,8 +1,9 @@
 -- What stages 6 and 7 sum up from section to section, where the stages before refuse nothing.
-use Rattle.std.specs.Prelude.{ℕ, ◌+◌, ◌≤◌, Bool, not, ◌&&◌, List, eqb}
+use Rattle.std.specs.Prelude.{ℕ, ◌+◌, ◌≤◌, Bool, not, ◌&&◌, List, eqb, Option, Some, None}
 use Rattle.songcode.specs.Lists.{provided◌then◌else◌}
 use Rattle.refusals.specs.declared.Refusal.{Refusal}
-use Rattle.refusals.specs.Refusals.{first_given, nothing_refused}
+use Rattle.refusals.specs.declared.names.Why.TheVariants.{CountSum}
+use Rattle.std.specs.Option.{option_or}
 use Rattle.player.specs.declared.playing.Counts.{Counts}
 use Rattle.laying.specs.declared.texts.Opened.{Opened}
 use Rattle.judging.specs.declared.lyrics.Tally.{Tally}
@@ -18,7 +19,7 @@ off_with off differs header = provided eqb off 0 then (provided differs then hea
 
 -- With one more section: its lyric lines, and what it plays.
 unfoldable pub sung_with : Bool → ℕ → Tally → Counts → Sung → Sung
-unfolding taken_with off_with sum_differs with_section has_prompts
+unfolding taken_with off_with
 sung_with empty header t c y =
     record {
       taken = taken_with empty y.taken t;
@@ -40,10 +41,9 @@ pub record Singable (ws : List ℕ) (n : ℕ) (x : Opened) (y : Sung) : Type 0 w
   pub sums : Addable y.sums (counts_of ws n x.texts x.section.modifiers) (tally_in ws x.lyrics)
 
 -- What stage 7 refuses, where the lines have counts.
-unfoldable pub off_fault : Bool → ℕ → Refusal
+unfoldable pub off_fault : Bool → ℕ → Option Refusal
 unfolding provided◌then◌else◌
-off_fault counted off = provided counted && not (eqb off 0) then record { number = 17; line = off } else nothing_refused
+off_fault counted off = provided counted && not (eqb off 0) then Some (record { why = CountSum; line = off }) else None
 
-unfoldable pub lyric_refusal : Sung → Refusal
-unfolding first_given count_fault off_fault
-lyric_refusal y = first_given (count_fault y.taken) (off_fault y.taken.counted y.off)
+abbrev pub lyric_refusal : Sung → Option Refusal
+lyric_refusal y = option_or (count_fault y.taken) (off_fault y.taken.counted y.off)

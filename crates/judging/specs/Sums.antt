@@ -3,8 +3,6 @@ use Rattle.std.specs.Prelude.{ℕ, ◌+◌, ◌≡◌, Bool, not, ◌&&◌, List
 use Rattle.songcode.specs.Lists.{provided◌then◌else◌}
 use Rattle.songcode.specs.Answer.Tables.{Tables}
 use Rattle.songcode.specs.Description.Performance.{total}
-use Rattle.refusals.specs.declared.Refusal.{Refusal}
-use Rattle.refusals.specs.Refusals.{nothing_refused}
 use Rattle.player.specs.declared.playing.Counts.{Counts}
 use Rattle.player.specs.Arrangements.{arranged_row, PlaysWithin}
 use Rattle.sections.specs.declared.values.Modifiers.{Modifiers}
@@ -29,29 +27,23 @@ counts_of ws n t m = record { measures = length (row_of_texts ws n t m); beats =
 
 -- Whether a section has lyric lines and a pattern that is not empty; whether, moreover, all its lines have counts; whether they sum to another number
 -- of measures.
-unfoldable pub has_lines : Bool → Tally → Bool
+abbrev pub has_lines : Bool → Tally → Bool
 has_lines empty t = not empty && not (eqb t.lines 0)
 
-unfoldable pub has_prompts : Bool → Tally → Bool
-unfolding has_lines
+abbrev pub has_prompts : Bool → Tally → Bool
 has_prompts empty t = has_lines empty t && eqb t.bare 0
 
-unfoldable pub sum_differs : Bool → Tally → ℕ → Bool
-unfolding has_lines
+abbrev pub sum_differs : Bool → Tally → ℕ → Bool
 sum_differs empty t measures = has_lines empty t && not (eqb t.sum measures)
 
-unfoldable pub with_section : Sums → Counts → ℕ → Bool → Sums
+abbrev pub with_section : Sums → Counts → ℕ → Bool → Sums
 with_section x c l b =
     record { sections = x.sections + 1; measures = x.measures + c.measures; beats = x.beats + c.beats; lines = x.lines + l; all = x.all && b }
-
-abbrev pub refused_with : Refusal → Totals
-refused_with refusal = record { refusal = refusal; sections = 0; measures = 0; beats = 0; items = 0 }
 
 unfoldable pub totals_of : Sums → Totals
 unfolding provided◌then◌else◌
 totals_of x =
     record {
-      refusal = nothing_refused;
       sections = x.sections;
       measures = x.measures;
       beats = x.beats;

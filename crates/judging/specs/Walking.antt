@@ -1,18 +1,19 @@
 -- What the walk over the sections begins with, and what it answers behind the last of them.
-use Rattle.std.specs.Prelude.{true, false, eqb}
-use Rattle.songcode.specs.Lists.{provided◌then◌else◌}
+use Rattle.std.specs.Prelude.{◌≡◌, true, false, Result, Ok, Some, MatchResult}
+use Rattle.std.proofs.Math.Option as math
+use Rattle.songcode.specs.Complaints.{Complaint, stage_or}
 use Rattle.refusals.specs.declared.Refusal.{Refusal}
-use Rattle.refusals.specs.Refusals.{first_given, nothing_refused}
+use Rattle.refusals.specs.Refusals.{told}
 use Rattle.refusals.specs.Ranks.{none}
 use Rattle.judging.specs.declared.measures.Metered.{Metered}
 use Rattle.judging.specs.declared.sums.Totals.{Totals}
 use Rattle.judging.specs.declared.singing.Sung.{Sung}
 use Rattle.judging.specs.Measures.{metered_refusal}
-use Rattle.judging.specs.Sums.{refused_with, totals_of}
+use Rattle.judging.specs.Sums.{totals_of}
 use Rattle.judging.specs.Singing.{lyric_refusal}
 
 abbrev pub nothing_metered : Metered
-nothing_metered = record { meters = none; lengths = record { refusal = nothing_refused; measures = 0 } }
+nothing_metered = record { meters = none; lengths = Ok 0 }
 
 abbrev pub nothing_sung : Sung
 nothing_sung =
@@ -23,10 +24,10 @@ nothing_sung =
     }
 
 -- The first of stages 4 to 7 that refuses.
-unfoldable pub walk_refusal : Metered → Sung → Refusal
-unfolding first_given metered_refusal lyric_refusal
-walk_refusal x y = first_given (metered_refusal x) (lyric_refusal y)
+unfoldable pub walk_refusal : Metered → Sung → math.Option Complaint
+unfolding stage_or metered_refusal told
+walk_refusal x y = stage_or (metered_refusal x) (told (lyric_refusal y))
 
-unfoldable pub outcome_of : Metered → Sung → Totals
-unfolding provided◌then◌else◌ walk_refusal totals_of
-outcome_of x y = provided eqb (walk_refusal x y).number 0 then totals_of y.sums else refused_with (walk_refusal x y)
+-- Behind the last section: none of them refuses, and so many words the tables take; or what is refused.
+abbrev pub Ends : Metered → Sung → Result Totals Refusal → Type 0
+Ends x y r = MatchResult r (λ t. (walk_refusal x y ≡ math.none) × (t ≡ totals_of y.sums)) (λ e. told (Some e) ≡ walk_refusal x y)

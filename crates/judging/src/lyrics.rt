@@ -2,7 +2,7 @@
 ghost use Rattle.std.specs.Prelude.{◌≡◌, ◌+◌, ◌≤◌, ◌<◌, ◌*◌};
 ghost use Rattle.judging.specs.Lyrics.{first_line, with_line, Inside, tally_in, taken_with, count_fault};
 
-use refusals::{COUNT_MISSING, NOTHING, Refusal};
+use refusals::{Refusal, Why};
 use score::{LYRIC, Stretch, lyric_at};
 
 // Of some lyric lines: how many they are, the sum of their counts, whether one has a count, and the least number of a line that has none, 0 if all have.
@@ -21,10 +21,7 @@ fn first_line(a: usize, b: usize) -> usize
     if a == 0 {
         return b;
     }
-    if b == 0 {
-        return a;
-    }
-    if b < a { b } else { a }
+    if b == 0 { a } else { a.min(b) }
 }
 
 // With one more line; a count of 0 is none.
@@ -37,14 +34,13 @@ fn with_line(t: Tally, number: usize, count: usize) -> Tally
             lines: t.lines + 1,
             sum: t.sum + count,
             counted: true,
-            bare: t.bare,
+            ..t
         };
     }
     Tally {
         lines: t.lines + 1,
-        sum: t.sum,
-        counted: t.counted,
         bare: first_line(t.bare, number),
+        ..t
     }
 }
 
@@ -90,16 +86,14 @@ pub fn taken_with(empty: bool, y: Taken, t: Tally) -> Taken
 }
 
 // What stage 6 refuses.
-pub fn count_fault(y: Taken) -> Refusal
+pub fn count_fault(y: Taken) -> Option<Refusal>
     ensures { result ≡ count_fault y }
 {
-    if y.counted {
-        if y.bare != 0 {
-            return Refusal {
-                number: COUNT_MISSING,
-                line: y.bare,
-            };
-        }
+    if y.counted && y.bare != 0 {
+        return Some(Refusal {
+            why: Why::CountMissing,
+            line: y.bare,
+        });
     }
-    NOTHING
+    None
 }

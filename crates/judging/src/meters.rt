@@ -1,32 +1,36 @@
 // Stage 4 of a section: measures that fit N, and `%` with a chord before it.
 ghost use Rattle.std.specs.Prelude.{◌≡◌};
-ghost use Rattle.judging.specs.Meters.{text_fault, meter_fault};
+ghost use Rattle.judging.specs.Meters.{text_fault, side_fault, meter_fault};
 
 use laying::Texts;
 use outlines::{Outline, sizes_fit};
-use refusals::{DIVISION, NO_CHORD_BEFORE, complain_if, least_of};
-use sections::Modifiers;
+use refusals::{NO_COMPLAINT, Why, complain_if};
+use sections::{Modifiers, Said};
 
 // What a text is complained of in N, on that line.
 fn text_fault(o: Outline, n: usize, line: usize) -> usize
     ensures { result ≡ text_fault o n line }
 {
-    let twelve = complain_if(!sizes_fit(o.sizes, n), DIVISION, line);
-    least_of(twelve, complain_if(o.wants, NO_CHORD_BEFORE, line))
+    let twelve = complain_if(!sizes_fit(o.sizes, n), Why::Division, line);
+    twelve.min(complain_if(o.wants, Why::NoChordBefore, line))
 }
 
-// A section's pattern names the header, its lead-in and tail their own lines.
+// What a lead-in or tail is complained of, on its own line.
+fn side_fault(said: Option<Said>, o: Outline, n: usize) -> usize
+    ensures { result ≡ side_fault said o n }
+{
+    match said {
+        Some(x) => text_fault(o, n, x.line),
+        None => NO_COMPLAINT,
+    }
+}
+
+// A section's pattern is complained of on its header's line.
 pub fn meter_fault(header: usize, m: Modifiers, t: Texts, n: usize) -> usize
     ensures { result ≡ meter_fault header m t n }
 {
-    let before = m.before;
-    let after = m.after;
-    let pattern = t.pattern;
-    let lead = t.lead;
-    let tail = t.tail;
-    let sides = least_of(
-        text_fault(lead.outline, n, before.line),
-        text_fault(tail.outline, n, after.line),
-    );
-    least_of(text_fault(pattern.outline, n, header), sides)
+    let own = text_fault(t.pattern.outline, n, header);
+    let lead = side_fault(m.before, t.lead.outline, n);
+    let tail = side_fault(m.after, t.tail.outline, n);
+    own.min(lead.min(tail))
 }

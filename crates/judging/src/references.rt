@@ -3,20 +3,17 @@ ghost use Rattle.std.specs.Prelude.{◌≡◌};
 ghost use Rattle.judging.specs.References.{name_fault};
 
 use outlines::is_missing;
-use refusals::{NOTHING, REFERENCE_UNDEFINED, Refusal};
+use refusals::{Refusal, Why};
 
 // What is wrong with the number that a section's pattern names; 0 is none.
-pub fn name_fault(words: &[u32], named: u32, header: usize) -> Refusal
+pub fn name_fault(words: &[u32], named: u32, header: usize) -> Option<Refusal>
     ensures { result ≡ name_fault words.now named header }
 {
-    if named == 0 {
-        return NOTHING;
-    }
-    if is_missing(words, named) {
-        return Refusal {
-            number: REFERENCE_UNDEFINED,
+    if named != 0 && is_missing(words, named) {
+        return Some(Refusal {
+            why: Why::ReferenceUndefined,
             line: header,
-        };
+        });
     }
-    NOTHING
+    None
 }

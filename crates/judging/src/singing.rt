@@ -8,7 +8,7 @@ use super::lyrics::{Taken, Tally, count_fault, taken_with, tally_lyrics};
 use super::sums::{Sums, counts_of, has_prompts, sum_differs, with_section};
 use laying::Opened;
 use player::Counts;
-use refusals::{COUNT_SUM, NOTHING, Refusal, first_given};
+use refusals::{Refusal, Why};
 
 // Of the sections so far: the lyric lines taken, the header of the first whose counts do not sum to its measures, 0 if there is none,
 // and what they hold.
@@ -45,34 +45,28 @@ pub fn sing(words: &[u32], n: usize, x: Opened, y: Sung) -> Sung
     ensures { result ≡ sung_with x.texts.pattern.outline.empty x.section.header
         (tally_in words.now x.lyrics) (counts_of words.now n x.texts x.section.modifiers) y }
 {
-    let section = x.section;
-    let texts = x.texts;
-    let pattern = texts.pattern;
-    let outline = pattern.outline;
+    let modifiers = x.section.modifiers;
     let t = tally_lyrics(words, x.lyrics);
-    let c = counts_of(words, n, texts, section.modifiers);
-    sung_with(outline.empty, section.header, t, c, y)
+    let c = counts_of(words, n, x.texts, modifiers);
+    sung_with(x.texts.pattern.outline.empty, x.section.header, t, c, y)
 }
 
 // What stage 7 refuses, where the lines have counts.
-fn off_fault(counted: bool, off: usize) -> Refusal
+fn off_fault(counted: bool, off: usize) -> Option<Refusal>
     ensures { result ≡ off_fault counted off }
 {
-    if counted {
-        if off != 0 {
-            return Refusal {
-                number: COUNT_SUM,
-                line: off,
-            };
-        }
+    if counted && off != 0 {
+        return Some(Refusal {
+            why: Why::CountSum,
+            line: off,
+        });
     }
-    NOTHING
+    None
 }
 
 // What is refused of all sections: whether their lines are counted is known only now.
-pub fn lyric_refusal(y: Sung) -> Refusal
+pub fn lyric_refusal(y: Sung) -> Option<Refusal>
     ensures { result ≡ lyric_refusal y }
 {
-    let taken = y.taken;
-    first_given(count_fault(taken), off_fault(taken.counted, y.off))
+    count_fault(y.taken).or(off_fault(y.taken.counted, y.off))
 }

@@ -1,18 +1,16 @@
 // A section played and counted, and what the song's tables will hold.
 ghost use Rattle.std.specs.Prelude.{◌≡◌, ◌+◌, ◌≤◌};
-ghost use Rattle.judging.specs.Sums.{TextsWithin, counts_of, refused_with, has_lines, has_prompts, sum_differs, with_section, totals_of};
+ghost use Rattle.judging.specs.Sums.{TextsWithin, counts_of, has_lines, has_prompts, sum_differs, with_section, totals_of};
 
 use super::lengths::arrangement;
 use super::lyrics::Tally;
 use laying::Texts;
 use player::{Counts, count_section};
-use refusals::{NOTHING, Refusal};
 use sections::Modifiers;
 
-// How many words the tables take, or the refusal of a stage.
+// How many words the tables take.
 #[derive(Clone, Copy)]
 pub struct Totals {
-    pub refusal: Refusal,
     pub sections: usize,
     pub measures: usize,
     pub beats: usize,
@@ -30,18 +28,6 @@ pub struct Sums {
     pub all: bool,
 }
 
-pub fn refused(refusal: Refusal) -> Totals
-    ensures { result ≡ refused_with refusal }
-{
-    Totals {
-        refusal,
-        sections: 0,
-        measures: 0,
-        beats: 0,
-        items: 0,
-    }
-}
-
 // How many measures and beats a section plays.
 pub fn counts_of(words: &[u32], n: usize, t: Texts, m: Modifiers) -> Counts
     requires { TextsWithin words.now n t m 0 }
@@ -54,7 +40,6 @@ pub fn totals_of(x: Sums) -> Totals
     ensures { result ≡ totals_of x }
 {
     Totals {
-        refusal: NOTHING,
         sections: x.sections,
         measures: x.measures,
         beats: x.beats,
@@ -66,30 +51,21 @@ pub fn totals_of(x: Sums) -> Totals
 fn has_lines(empty: bool, t: Tally) -> bool
     ensures { result ≡ has_lines empty t }
 {
-    if empty {
-        return false;
-    }
-    t.lines != 0
+    !empty && t.lines != 0
 }
 
 // Whether, moreover, all its lines have counts.
 pub fn has_prompts(empty: bool, t: Tally) -> bool
     ensures { result ≡ has_prompts empty t }
 {
-    if !has_lines(empty, t) {
-        return false;
-    }
-    t.bare == 0
+    has_lines(empty, t) && t.bare == 0
 }
 
 // "each such section with lyrics sums to its measures": whether this one does not.
 pub fn sum_differs(empty: bool, t: Tally, measures: usize) -> bool
     ensures { result ≡ sum_differs empty t measures }
 {
-    if !has_lines(empty, t) {
-        return false;
-    }
-    t.sum != measures
+    has_lines(empty, t) && t.sum != measures
 }
 
 // With one more section: its measures and beats, its lyric lines, and whether it has items.

@@ -1,19 +1,18 @@
--- Which complaint is given of two lists put together, and refusals as numbers.
+-- Which complaint is given of two lists put together.
 use Prim.Native.Nat.{ℕ, ◌<◌, ◌≤◌}
 use mathlib.Core.Path.{◌≡◌, refl, ap, ◌∙◌, subst}
 use mathlib.Core.List.{List, [], ◌∷◌, ◌++◌, flat_map}
 use mathlib.Core.Logic.{inl, inr, ⊎_elim}
-use mathlib.Core.Bool.{Bool, true, false}
+use mathlib.Core.Bool.{true, false}
 use mathlib.Core.Option.{Option, none, some}
 use native.Mathlib.Omega.{arith}
 use borrow.Author.Tests.{lt-ltb, le-ltb, le-leb, eq-eqb}
-use Rattle.songcode.specs.Lists.{provided◌then◌else◌, when}
-use Rattle.songcode.specs.Complaints.{Complaint, complain_if, goes_first, earlier, earliest}
+use Rattle.songcode.specs.Lists.{provided◌then◌else◌}
+use Rattle.songcode.specs.Complaints.{Complaint, goes_first, earlier, earliest}
 use Rattle.songcode.specs.Description.Given.{Before}
 use Rattle.songcode.specs.Song.{Section}
 use Rattle.songcode.proofs.ListLaws.{by_cases, true_is_not_false, Each, each_append, each_map}
 use Rattle.songcode.proofs.VerdictAgree.{goes_first_lem, goes_behind}
-use Rattle.refusals.specs.Refusals.{refusal_of}
 use Rattle.sections.specs.Onward.{Later}
 
 pub before_goes : (c d : Complaint) → Before c d → goes_first c d ≡ true
@@ -74,15 +73,6 @@ unfolding earliest
 earliest_none [] e = refl
 earliest_none (c ∷ xs) e = let z : ◌≡◌ {A = ℕ} 0 1 = cc in absurd (omega arith)
 
--- Complaints that have numbers from 1 on, as all have.
-unfoldable pub Numbered : Complaint → Type 0
-Numbered c = 1 ≤ c.number
-
-pub numbered_if : (b : Bool) (n line : ℕ) → 1 ≤ n → Each Numbered (complain_if b n line)
-unfolding Each Numbered complain_if when
-numbered_if true n line h = (h, tt)
-numbered_if false n line h = tt
-
 -- One of the list satisfies whatever all do.
 pub earliest_each : (P : Complaint → Type 0) (xs : List Complaint) (c : Complaint) → Each P xs → earliest xs ≡ some c → P c
 unfolding Each earliest earlier provided◌then◌else◌
@@ -98,18 +88,6 @@ earliest_each P (d ∷ xs) c h e = of (earliest xs) (λ b q. earliest_each P xs 
         by_cases (goes_first d b)
         (λ t. let w : d ≡ c = rw t at r in subst P w h.0)
         (λ t. let w : b ≡ c = rw t at r in subst P w (q b refl))
-
--- A refusal of number 0 says that there is no complaint.
-pub refused_none : (xs : List Complaint) → Each Numbered xs → (refusal_of (earliest xs)).number ≡ 0 → xs ≡ []
-unfolding refusal_of Numbered
-refused_none xs h e = of (earliest xs) refl e
-  where
-    of : (o : Option Complaint) → earliest xs ≡ o → (refusal_of o).number ≡ 0 → xs ≡ []
-    of none q r = earliest_none xs q
-    of (some c) q r =
-        let w = earliest_each (λ c. 1 ≤ c.number) xs c h q in
-        let z : ⊥ = omega arith in
-        absurd z
 
 -- A complaint on a line goes before all on later lines.
 unfoldable pub UpTo : ℕ → Complaint → Type 0

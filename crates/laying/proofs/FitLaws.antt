@@ -6,7 +6,8 @@ use mathlib.Core.Bool.{Bool, true, false}
 use mathlib.Core.Option.{Option, none, some}
 use native.Mathlib.Omega.{arith}
 use borrow.Author.Tests.{leb-true, leb-false}
-use lib.Dec.{eqb, leb}
+use Rattle.std.specs.Prelude as std
+use lib.Dec.{leb}
 use lib.ListN.{length, take, drop, length-take, length-drop, drop_of_length-le}
 use lib.Seq.{take-nil}
 use Rattle.songcode.specs.Lists.{provided◌then◌else◌}
@@ -136,9 +137,10 @@ module _ (s : List ℕ) (small : length s ≤ 65536) where
           let z : part a e s ≡ [] = rw (drop_of_length-le s {i = a} (omega arith)) (take-nil (e - a)) in
           rw z tt
 
-  pub said_good : (r : Said) → Each Good (said_tokens (setting_at s r))
-  unfolding said_tokens setting_at provided◌then◌else◌ Each
-  said_good r = by_cases (eqb r.line 0) (λ t. rw t tt) (λ t. rw t (part_good r.start r.stop))
+  pub said_good : (r : std.Option Said) → Each Good (said_tokens (setting_at s r))
+  unfolding said_tokens setting_at Each
+  said_good std.None = tt
+  said_good (std.Some r) = part_good r.start r.stop
 
   GoodLine : Line → Type 0
   GoodLine l = Each Good (tokens l.text)

@@ -30,7 +30,7 @@ use Rattle.outlines.specs.declared.readings.Outline.{Outline}
 use Rattle.outlines.specs.Words.{vacant, look_up, is_missing}
 use Rattle.outlines.specs.Readings.{outlined}
 use Rattle.outlines.specs.Rows.{outline_of, text_row}
-use Rattle.outlines.specs.Faults.{all_faults, faultless, fault_number, fault_in}
+use Rattle.outlines.specs.Faults.{all_faults, faultless, fault_told, fault_in}
 use Rattle.outlines.specs.Told.{refusal, Tells, Told, KnowsItems, Knows, Known}
 use Rattle.outlines.proofs.OutlineAgree.{outline_tells}
 use Rattle.outlines.proofs.SketchLaws.{outline_sketches}
@@ -126,7 +126,7 @@ module _ (ds earlier : List Definition) (ws : List ℕ)
     pub fault_is : (i : Option Items) → definitions.Says ls i
         → refusal (fault_in (is_missing ws) (look_up ws) (drop at.from (take at.to ws))) head
         ≡ earliest (definition_references earlier i head)
-    unfolding fault_in all_faults faultless fault_number refusal earliest definition_references provided◌then◌else◌ definitions.Says
+    unfolding fault_in all_faults faultless fault_told refusal earliest definition_references provided◌then◌else◌ definitions.Says
     fault_is none w = rw (nothing_there w) refl
     fault_is (some r) w = fault_given earlier (is_missing ws) (look_up ws) earlier_known head ws at r (stands r w) (fits r w) w.1
 

@@ -8,8 +8,7 @@ use native.Mathlib.Omega.{arith}
 use native.Mathlib.Numerals.{add-one}
 use lib.ListN.{length, drop, get_or}
 use lib.Seq.{sets, drop-cons}
-use borrow.Author.Tests.{ne_eqb}
-use Rattle.songcode.specs.Lists.{provided◌then◌else◌}
+use Rattle.std.specs.Prelude as std
 use Rattle.songcode.specs.Bytes.{Byte, placed}
 use Rattle.songcode.specs.Answer.Lines.{Line}
 use Rattle.songcode.specs.Song.{KeyName, name, artist, original, capo, bpm, time, warning, end}
@@ -25,21 +24,21 @@ use Rattle.text.proofs.WalkLaws.{part_length}
 use Rattle.sections.specs.declared.slots.Said.{Said}
 use Rattle.sections.specs.Slots.{Setting, setting_among, setting_at}
 use Rattle.sections.proofs.SaidLaws.{key_among}
+use Rattle.sections.proofs.SlotLaws.{setting_some}
 use Rattle.laying.proofs.LyricRowLaws.{offset_part, length_part}
 use Rattle.laying.specs.Keys.{word_of_setting, ShortText, ShortSetting}
 use Rattle.laying.proofs.GoodLaws.{part_short, input_good}
 
-module _ (s : List ℕ) (r : Said) where
-  module _ (there : r.line ≡ 0 → ⊥) where
+module _ (s : List ℕ) {o : std.Option Said} {r : Said} where
+  module _ (there : o ≡ std.Some r) where
     abbrev text : List Byte
     text = placed r.start (part r.start r.stop s)
 
-    is_there : setting_at s r ≡ some (record { line = r.line; text = text })
-    unfolding setting_at provided◌then◌else◌
-    is_there = rw (ne_eqb r.line 0 there)
+    is_there : setting_at s o ≡ some (record { line = r.line; text = text })
+    is_there = ap (setting_at s) there ∙ setting_some s r
 
     -- The setting's place and length fit the fields of its word.
-    pub key_fits : r.stop ≤ length s → length s ≤ 65536 → input_faults s ≡ [] → ShortSetting (setting_at s r)
+    pub key_fits : r.stop ≤ length s → length s ≤ 65536 → input_faults s ≡ [] → ShortSetting (setting_at s o)
         → (r.start < r.stop) × (r.start < 65536) × (r.stop - r.start < 512)
     unfolding ShortSetting
     key_fits inside small good short =
@@ -50,7 +49,7 @@ module _ (s : List ℕ) (r : Said) where
         let p = part_short s r.start r.stop (input_good s small good) in
         (omega arith, omega arith, ⊎_elim (λ a. omega arith) (λ a. omega arith) h.1)
 
-    pub key_word_is : r.start < r.stop → r.stop ≤ length s → 2 ^ 31 + r.start * 2 ^ 15 + (r.stop - r.start) * 2 ^ 6 ≡ word_of_setting (setting_at s r)
+    pub key_word_is : r.start < r.stop → r.stop ≤ length s → 2 ^ 31 + r.start * 2 ^ 15 + (r.stop - r.start) * 2 ^ 6 ≡ word_of_setting (setting_at s o)
     unfolding word_of_setting key_word
     key_word_is h inside = rw (is_there, offset_part s r.start r.stop h inside, length_part s r.start r.stop inside)
 

@@ -1,14 +1,14 @@
 -- The words of the lines of a run, line by line.
 use Prim.Native.Nat.{ℕ, suc, ◌+◌, ◌-◌, ◌*◌, ◌^◌, ◌<◌, ◌≤◌}
-use mathlib.Core.Path.{◌≡◌, refl, sym, ap, ◌∙◌}
+use mathlib.Core.Path.{◌≡◌, refl, sym, ap, ◌∙◌, subst}
 use mathlib.Core.List.{List, [], ◌∷◌, ◌++◌, append_assoc, append-nil}
 use native.Mathlib.Omega.{arith}
-use borrow.Author.Tests.{ltb-true, ltb-false, ne_eqb}
+use borrow.Author.Tests.{ltb-true, ltb-false}
+use Rattle.std.specs.Prelude as std
 use lib.Dec.{ltb}
 use lib.ListN.{length, take, length-append}
 use lib.Seq.{sets, length-sets, take-nil}
-use mathlib.Core.Option.{none, some}
-use Rattle.songcode.specs.Lists.{provided◌then◌else◌}
+use mathlib.Core.Option.{some}
 use Rattle.songcode.specs.Bytes.{placed}
 use Rattle.songcode.specs.Answer.Lines as songcode
 use Rattle.songcode.specs.Answer.Tokens.{Token, line_end, lexed, word, tokens, tokens_of}
@@ -24,7 +24,8 @@ use Rattle.tokens.proofs.PartLaws.{part_none}
 use Rattle.sections.specs.declared.runs.Run.{Run}
 use Rattle.sections.specs.declared.slots.Said.{Said}
 use Rattle.sections.specs.Runs.{text_lines, lines_of}
-use Rattle.sections.specs.Slots.{setting_at}
+use Rattle.sections.specs.Slots.{Inside, setting_at}
+use Rattle.sections.proofs.SlotLaws.{setting_some}
 use Rattle.sections.proofs.RunLaws.{lines_found, lines_over}
 use Rattle.laying.specs.Laying.{run_tokens, said_tokens, weight, said_weight}
 
@@ -197,19 +198,21 @@ run_laid s run l n held table words fill₀ fill line at left f a b i e =
     (rw w (i.table ∙ rw a (sets_sets n fill₀ x y held b)), rw w (sym m))
 
 -- A setting that is said, and how long it is.
-pub said_some : (s : List ℕ) (r : Said) → (r.line ≡ 0 → ⊥)
-    → setting_at s r ≡ some (record { line = r.line; text = placed r.start (part r.start r.stop s) })
-unfolding setting_at provided◌then◌else◌
-said_some s r h = rw (ne_eqb _ _ h)
+module _ (s : List ℕ) {o : std.Option Said} {r : Said} (is : o ≡ std.Some r) where
+  said_some : setting_at s o ≡ some (record { line = r.line; text = placed r.start (part r.start r.stop s) })
+  said_some = ap (setting_at s) is ∙ setting_some s r
 
-pub said_weight_lem : (s : List ℕ) (r : Said) → (r.line ≡ 0 → ⊥) → r.stop ≤ length s → said_weight (setting_at s r) ≡ r.stop - r.start
-unfolding said_weight
-said_weight_lem s r h k = rw (said_some s r h) (length_placed r.start (part r.start r.stop s) ∙ part_length s r.start r.stop k)
+  pub said_inside : Inside s o → (r.start ≤ r.stop) × (r.stop ≤ length s)
+  said_inside h = subst (Inside s) is h
 
-pub said_tokens_lem : (s : List ℕ) (r : Said) → (r.line ≡ 0 → ⊥) → said_tokens (setting_at s r) ≡ tokens_from r.start r.stop s
-unfolding said_tokens
-said_tokens_lem s r h = rw (said_some s r h)
+  pub said_weight_lem : r.stop ≤ length s → said_weight (setting_at s o) ≡ r.stop - r.start
+  unfolding said_weight
+  said_weight_lem k = rw said_some (length_placed r.start (part r.start r.stop s) ∙ part_length s r.start r.stop k)
 
-pub nothing_said : (s : List ℕ) (r : Said) → r.line ≡ 0 → token_words (said_tokens (setting_at s r)) ≡ []
-unfolding setting_at provided◌then◌else◌ said_tokens token_words
-nothing_said s r h = rw h
+  pub said_tokens_lem : said_tokens (setting_at s o) ≡ tokens_from r.start r.stop s
+  unfolding said_tokens
+  said_tokens_lem = rw said_some
+
+pub nothing_said : (s : List ℕ) {o : std.Option Said} → o ≡ std.None → token_words (said_tokens (setting_at s o)) ≡ []
+unfolding setting_at said_tokens token_words
+nothing_said s h = rw h

@@ -1,8 +1,10 @@
 -- The definitions of a song, loaded one after another: none at first, then one more, and at last all.
-use Prim.Native.Nat.{ℕ, zero, suc, ◌+◌, ◌-◌, ◌<◌, ◌≤◌}
+use Prim.Native.Nat.{ℕ, ◌+◌, ◌-◌, ◌<◌, ◌≤◌}
 use mathlib.Core.Path.{◌≡◌, refl, sym, ap, ◌∙◌, subst}
 use mathlib.Core.List.{List, [], ◌∷◌, ◌++◌, map, append_assoc, append-nil, flat_map}
 use mathlib.Core.Option.{Option, none, some, or_else}
+use Rattle.std.specs.Prelude as std
+use Rattle.std.specs.Prelude.{Some, None}
 use native.Mathlib.Omega.{arith}
 use borrow.Author.Tests.{eqb-true}
 use lib.Dec.{eqb}
@@ -23,7 +25,9 @@ use Rattle.songcode.proofs.ListLaws.{by_cases, nil_is_not_cons, append_is_nil, E
 use Rattle.songcode.proofs.MemoryLaws.{sets_append, sets_front, sets_before, sets_there}
 use Rattle.songcode.proofs.PatternLaws.{none_some}
 use Rattle.songcode.proofs.BlockKinds.{by_kind}
-use Rattle.refusals.specs.Refusals.{refusal_of}
+use Rattle.refusals.specs.declared.names.Why.{Why}
+use Rattle.refusals.specs.Names.{number_of}
+use Rattle.refusals.specs.Refusals.{told}
 use Rattle.tokens.specs.TokenWords.{token_words}
 use Rattle.tokens.specs.Kept.{KeptFrom}
 use Rattle.score.specs.declared.stretches.Stretch.{Stretch}
@@ -39,12 +43,11 @@ use Rattle.sections.specs.declared.blocks.DefinitionRead.{DefinitionRead}
 use Rattle.sections.specs.Runs.{lines_of}
 use Rattle.sections.specs.BlockParts.{block_at, lines_past, DefinitionAt, NextAt}
 use Rattle.sections.specs.Onward.{sections_from, Later}
-use Rattle.laying.specs.declared.definitions.Loaded.{Loaded}
 use Rattle.laying.specs.Laying.{run_tokens, weight}
 use Rattle.laying.specs.Metadata.{MetadataEnds}
 use Rattle.laying.specs.Fronts.{DefinitionFits, Front}
-use Rattle.laying.specs.Scores.{Begins, Loads}
-use Rattle.laying.specs.Loading.{Held, entered, blocks_from, definitions_from, Leaves, Loading, LoadsOne}
+use Rattle.laying.specs.Scores.{Begins, LoadsAll, RefusedThree}
+use Rattle.laying.specs.Loading.{Held, entered, blocks_from, definitions_from, Leaves, Loading, LoadsNext}
 use Rattle.laying.proofs.KeptRowLaws.{kept_on}
 use Rattle.laying.proofs.ComplaintLaws.{earliest_none, UpTo, Behind, first_wins, gather_behind}
 use Rattle.laying.proofs.WeightLaws.{weight_behind, run_words}
@@ -125,12 +128,6 @@ unfolding or_else
 or_none none = refl
 or_none (some x) = refl
 
--- A number other than 0 is a complaint.
-refusal_some : (f head : ℕ) → (f ≡ 0 → ⊥) → refusal f head ≡ some (complaint f head)
-unfolding refusal
-refusal_some zero head n = absurd (n refl)
-refusal_some (suc f) head n = refl
-
 -- The definition at a place is loaded.
 module _ (s ws : List ℕ) (mark : ℕ) (p : Place) (w : Loading s ws mark p) (inside : p.at < length s)
     (kind : block_kind (block_at s p.number p.at) ≡ definition)
@@ -198,7 +195,6 @@ module _ (s ws : List ℕ) (mark : ℕ) (p : Place) (w : Loading s ws mark p) (i
     row_with_lem o = head_word (2 + length new) e.id ∷ outline_word o ∷ new
 
     pub entered_is : (o : Outline) → entered mark end e.id o mid ≡ sets ws mark (row_with_lem o ++ (0 ∷ []))
-    unfolding entered
     entered_is o =
         let n : mark + 2 ≡ mark + 1 + 1 = omega arith in
         let k : end - mark ≡ 2 + length new = omega arith in
@@ -217,7 +213,7 @@ module _ (s ws : List ℕ) (mark : ℕ) (p : Place) (w : Loading s ws mark p) (i
     held_mid : (n : ℕ) → Held ds mid (definition_of n w.earlier) (is_missing mid n) (stretch_of mid n) (look_up mid n)
     held_mid n = rw (w.same n) (front_held ds mid n (front_kept {at = mark + 2} w.front (omega arith) both_before))
 
-    module _ (q : Place) (x : NextAt s (e.pattern.number + e.pattern.lines) e.pattern.next q) (f : ℕ)
+    module _ (q : Place) (x : NextAt s (e.pattern.number + e.pattern.lines) e.pattern.next q) (f : std.Option Why)
         (f-is : f ≡ fault_in (is_missing mid) (look_up mid) (drop (mark + 2) (take end mid))) where
       abbrev new_definition : Definition
       new_definition = record { head = e.head; id = e.id; items = definition_items (lines_of s e.pattern) }
@@ -272,14 +268,14 @@ module _ (s ws : List ℕ) (mark : ℕ) (p : Place) (w : Loading s ws mark p) (i
       complaints_here = each_map (λ c h. omega arith) complaints (definition_line w.earlier (definition_items (lines_of s e.pattern)) e.head)
 
       -- The first fault goes before all that stand behind it.
-      pub refused_one : (f ≡ 0 → ⊥) → record { number = f; line = e.head } ≡ refusal_of (earliest (reference_faults (song_of s)))
-      unfolding refusal_of earliest
-      refused_one n =
-          let given : earliest complaints ≡ some (complaint f e.head) = sym fault_said ∙ refusal_some f e.head n in
+      pub refused_one : {why : Why} → f ≡ Some why → RefusedThree s (record { why = why; line = e.head })
+      unfolding told earliest refusal
+      refused_one {why} is =
+          let given : earliest complaints ≡ some (complaint (number_of why) e.head) = sym fault_said ∙ ap (λ (o : std.Option Why). refusal o e.head) is in
           let some_said : complaints ≡ [] → ⊥ = λ z. none_some (ap earliest z) given in
-          sym (ap refusal_of (ap earliest all_said ∙ first_wins e.head complaints (later_said ++ sections_said) complaints_here all_behind some_said ∙ given))
+          sym (ap earliest all_said ∙ first_wins e.head complaints (later_said ++ sections_said) complaints_here all_behind some_said ∙ given)
 
-      module _ (fine : f ≡ 0) where
+      module _ (fine : f ≡ None) where
         none_said : complaints ≡ []
         unfolding refusal
         none_said = earliest_none complaints (sym fault_said ∙ rw fine)
@@ -361,24 +357,12 @@ module _ (s ws : List ℕ) (mark : ℕ) (p : Place) (w : Loading s ws mark p) (i
               clear = split ∙ ap (λ cs. cs ++ later_said) none_said;
             }
 
-      pub loads_one : (o : Outline) (vs : List ℕ) → o ≡ outlined (look_up mid) (drop (mark + 2) (take end mid)) → vs ≡ entered mark end e.id o mid
-          → LoadsOne s vs p (record { mark = end; sections = q; refusal = record { number = f; line = e.head } })
-      loads_one o vs o_is vs-is =
+      pub loads_one : f ≡ None → (o : Outline) (vs : List ℕ) → o ≡ outlined (look_up mid) (drop (mark + 2) (take end mid))
+          → vs ≡ entered mark end e.id o mid → LoadsNext s vs p (record { mark = end; sections = q })
+      loads_one z o vs o_is vs-is =
           let a = r.onward in
           let b = x.onward in
-          record { refused = refused_one; loading = λ z. rw (vs-is, o_is) (loading_next z); further = omega arith }
-
--- A refusal ends the loading.
-pub loads_refused : (s ws : List ℕ) (p : Place) (r : Loaded) → LoadsOne s ws p r → (r.refusal.number ≡ 0 → ⊥) → Loads s ws r
-loads_refused s ws p r w n =
-    record {
-      refused = w.refused;
-      clear = λ z. absurd (n z);
-      ready = λ z. absurd (n z);
-      kept = λ z. absurd (n z);
-      begins = λ z. absurd (n z);
-      filled = λ z. absurd (n z);
-    }
+          record { loading = rw (vs-is, o_is) (loading_next z); further = omega arith }
 
 -- All definitions are loaded where the first section begins.
 only_sections : (bs : List Block) → block_order 2 bs ≡ [] → (definition_blocks bs ≡ []) × (section_blocks bs ≡ bs)
@@ -429,18 +413,17 @@ module _ (s ws : List ℕ) (mark : ℕ) (p : Place) (w : Loading s ws mark p) (f
         sections = ap (map section_in) (sym only.1 ∙ l.sections);
       }
 
-  pub loads_all : Loads s ws (record { mark = mark; sections = p; refusal = record { number = 0; line = 0 } })
+  pub loads_all : LoadsAll s ws (record { mark = mark; sections = p })
   unfolding definitions_references
   loads_all =
       record {
-        refused = λ n. absurd (n refl);
-        clear = λ z. w.clear ∙ ap (definitions_references w.earlier) none_left;
-        ready = λ z. record {
+        clear = w.clear ∙ ap (definitions_references w.earlier) none_left;
+        ready = record {
           small = w.small;
           room = let r = w.kept.room in omega arith;
           front = subst (λ ds. Front (song_of s).definitions ds ws mark) all_done w.front;
         };
-        kept = λ z. w.kept;
-        begins = λ z. begins_there;
-        filled = λ z. w.filled;
+        kept = w.kept;
+        begins = begins_there;
+        filled = w.filled;
       }

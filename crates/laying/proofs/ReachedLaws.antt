@@ -9,7 +9,7 @@ use lib.Dec.{ltb, leb}
 use lib.ListN.{length, drop, get_or}
 use lib.Seq.{drop-cons}
 use Rattle.songcode.specs.Lists.{provided◌then◌else◌, left}
-use Rattle.songcode.specs.Answer.Lines.{Line, cr, inside, ending}
+use Rattle.songcode.specs.Answer.Lines.{Line, cr, ending}
 use Rattle.songcode.proofs.ListLaws.{by_cases, taken_left, nil_is_not_cons}
 use Rattle.text.specs.Spans.{end, longer, line_length, break_width, break_length, line_of, line_at, line_text, spans_from}
 use Rattle.text.proofs.SpanLaws.{by_ending}

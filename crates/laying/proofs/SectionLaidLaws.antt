@@ -49,7 +49,8 @@ use Rattle.laying.specs.declared.texts.Text.{Text}
 use Rattle.laying.specs.declared.texts.Texts.{Texts}
 use Rattle.laying.specs.Laying.{run_tokens, said_tokens, weight, said_weight, Names, named_at}
 use Rattle.laying.specs.Scores.{named_text, Carries, Ready, side_items}
-use Rattle.laying.specs.Rows.{meter_of, tempo_of, read_cut, has_cut, cuts_said, lead_said, pattern_said, tail_said, lyrics_said, parts_said, PlacesAre}
+use Rattle.std.specs.Prelude as std
+use Rattle.laying.specs.Rows.{meter_of, tempo_of, has_cut, cuts_said, lead_said, pattern_said, tail_said, lyrics_said, parts_said, PlacesAre}
 use Rattle.laying.specs.Rows.{about_section, outline_by, text_at, told_texts, bulk, RoomFor, Before, SongKeys, Lays}
 use Rattle.laying.proofs.FrontLaws.{front_kept}
 use Rattle.laying.proofs.ReadyLaws.{ready_carries}
@@ -61,19 +62,20 @@ use Rattle.laying.proofs.MeterLaws.{meter_is, meter_range, tempo_is, tempo_few}
 use Rattle.laying.proofs.FitLaws.{said_good, run_good}
 use Rattle.laying.proofs.NamedLaws.{pattern_shape, name_there, named_some, plays_itself, plays_named}
 use Rattle.laying.proofs.SideLaws.{nothing_there}
-use Rattle.laying.proofs.SideRowLaws.{side_row_lem, pattern_row_lem, cut_there, cut_words, cut_small}
+use Rattle.settings.proofs.ReadLaws.{cut_there}
+use Rattle.laying.proofs.SideRowLaws.{side_row_lem, pattern_row_lem, cut_words, cut_small}
 use Rattle.laying.proofs.TextLaws.{side_carries, items_carries, carries_either, carries_even}
 
 -- A cut that is read is said on a line.
-cuts_said_lem : (a b : Option Setting) (v w : ℕ) → length (cuts_by (read_cut (cut_said a) || read_cut (cut_said b)) v w) ≤ cuts_there a b
+cuts_said_lem : (a b : Option Setting) (v w : ℕ) → length (cuts_by (std.is_some (cut_said a) || std.is_some (cut_said b)) v w) ≤ cuts_there a b
 unfolding cut_said cut_is bind cuts_there is_some provided◌then◌else◌ cuts_by
 cuts_said_lem none none v w = omega arith
-cuts_said_lem none (some x) v w = most (read_cut (cut_said (some x)))
+cuts_said_lem none (some x) v w = most (std.is_some (cut_said (some x)))
   where
     most : (t : Bool) → length (cuts_by t v w) ≤ 2
     most true = omega arith
     most false = omega arith
-cuts_said_lem (some x) b v w = most (read_cut (cut_said (some x)) || read_cut (cut_said b))
+cuts_said_lem (some x) b v w = most (std.is_some (cut_said (some x)) || std.is_some (cut_said b))
   where
     most : (t : Bool) → length (cuts_by t v w) ≤ 2
     most true = omega arith
@@ -156,7 +158,7 @@ module _ {s : List ℕ} {p : Place} {at : ℕ} {held : List ℕ} {met : Met} {so
   solid = (subst (Each SolidBlock) (o.opens within) (blocks_solid (text_lines s p.number p.at))).0
 
   cuts_few : length (cuts_said r.modifiers) ≤ cuts_there (setting_among 9 (late_lines (body block))) (setting_among 10 (late_lines (body block)))
-  unfolding cuts_said has_cut
+  unfolding cuts_said
   cuts_few = rw (m.read.modifiers.front, m.read.modifiers.back) (cuts_said_lem _ _ _ _)
 
   -- The block's lines have more bytes than its parts have words.
@@ -224,7 +226,7 @@ module _ {s : List ℕ} {p : Place} {at : ℕ} {held : List ℕ} {met : Met} {so
   pattern_said_lem = pattern_row_lem x.pattern (run_tokens lines) (pattern_shape lines x.pattern m.written) (run_good s small r.pattern)
 
   cut_same : has_cut r.modifiers ≡ is_cut x.modifiers
-  unfolding has_cut is_cut
+  unfolding is_cut
   cut_same = rw (m.says.front, m.says.back, cut_there x.modifiers.cut_start, cut_there x.modifiers.cut_end)
 
   cuts_same : cuts_said r.modifiers ≡ cuts_row x.modifiers
@@ -478,7 +480,6 @@ module _ {s : List ℕ} {p : Place} {at : ℕ} {held : List ℕ} {met : Met} {so
             ∷ parts_row x
 
         row_with_lem : words ≡ sets held at (row_with h.even)
-        unfolding about_section
         row_with_lem =
             let a = places.from in
             let b = places.begun in
@@ -532,7 +533,6 @@ module _ {s : List ℕ} {p : Place} {at : ℕ} {held : List ℕ} {met : Met} {so
 
         -- The parts stand there as before.
         behind : (from to : ℕ) → at + 4 ≤ from → drop from (take to words) ≡ drop from (take to mid)
-        unfolding about_section
         behind from to f =
             ap (λ (ws : List ℕ). drop from (take to ws)) entered
             ∙ set_behind _ at _ from to (omega arith)
@@ -567,13 +567,13 @@ module _ {s : List ℕ} {p : Place} {at : ℕ} {held : List ℕ} {met : Met} {so
             record { words = behind q.last q.end (omega arith) ∙ lyrics_there ∙ lyrics_same; size = omega arith }
 
         lead_carries : Carries words (text_at words q.from q.begun) (side_items x.modifiers.before)
-        unfolding text_at lead_said
+        unfolding lead_said
         lead_carries =
             side_carries words (look_up words) (record { from = q.from; to = q.begun }) lead x.modifiers.before m.says.before lead_clean
             (said_good s small r.modifiers.before) places.begun lead_again
 
         tail_carries : Carries words (text_at words q.ended q.last) (side_items x.modifiers.after)
-        unfolding text_at tail_said
+        unfolding tail_said
         tail_carries =
             side_carries words (look_up words) (record { from = q.ended; to = q.last }) tail x.modifiers.after m.says.after tail_clean
             (said_good s small r.modifiers.after) places.last tail_again
@@ -637,7 +637,6 @@ module _ {s : List ℕ} {p : Place} {at : ℕ} {held : List ℕ} {met : Met} {so
                 end = q.end;
                 next = met.next;
               })
-          unfolding told_texts
           lays told f =
               rw told (record {
                 opens = record { met = m; texts = record { lead = lead_carries; pattern = rw said_there pattern_carries; tail = tail_carries } };

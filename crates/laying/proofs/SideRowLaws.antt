@@ -2,7 +2,6 @@
 use mathlib.Core.Path.{◌≡◌, refl, sym, ap, ◌∙◌, subst}
 use mathlib.Core.List.{List, [], ◌∷◌}
 use mathlib.Core.Option.{Option, none, some, bind}
-use Rattle.songcode.specs.Lists.{is_some}
 use Rattle.songcode.specs.Song as song
 use Rattle.songcode.specs.Song.{Items, Pattern, items, named, Side}
 use Rattle.songcode.specs.Answer.Tokens.{Token, tokens, reference}
@@ -20,7 +19,7 @@ use Rattle.sections.specs.SectionSays.{side_on, side_said}
 use Rattle.score.specs.Sections.{items_row, side_row, pattern_row, cut_word}
 use Rattle.score.specs.Fitting.{SideFits, PatternFits, CutSmall}
 use Rattle.laying.specs.Laying.{said_tokens}
-use Rattle.laying.specs.Rows.{read_cut, read_word}
+use Rattle.laying.specs.Rows.{read_word}
 use Rattle.laying.proofs.FitLaws.{Counted, Good, items_fit}
 use Rattle.laying.proofs.NamedLaws.{Shape}
 
@@ -55,13 +54,8 @@ pattern_row_lem (named n) ts h good =
     (ap token_words h, (g.0.1, g.0.0))
 
 -- The cuts.
-pub cut_there : (o : Option song.Cut) → read_cut (cut_is o) ≡ is_some o
-unfolding cut_is is_some
-cut_there none = refl
-cut_there (some c) = refl
-
 pub cut_words : (o : Option song.Cut) → read_word (cut_is o) ≡ cut_word o
-unfolding read_word cut_is cut_word
+unfolding cut_is cut_word
 cut_words none = refl
 cut_words (some c) = refl
 

@@ -11,29 +11,16 @@ use Rattle.songcode.specs.Answer.SongText.{metadata_lines, text_faults}
 use Rattle.songcode.specs.Answer.Tables.{key_words}
 use Rattle.songcode.specs.Answer.Answer.{blocks_of, song_of}
 use Rattle.songcode.proofs.ListLaws.{by_cases}
-use Rattle.sections.specs.declared.blocks.Place.{Place}
-use Rattle.sections.specs.declared.runs.Run.{Run}
+use Rattle.std.specs.Prelude as std
 use Rattle.sections.specs.declared.slots.Said.{Said}
-use Rattle.sections.specs.Runs.{lines_of}
 use Rattle.sections.specs.Slots.{setting_among, setting_at}
-use Rattle.sections.specs.Gathering.{FirstSaid, FirstOfEach}
-use Rattle.laying.specs.Metadata.{lines_before, MetadataEnds}
-use Rattle.laying.specs.Keys.{word_of_setting, ShortSetting, SongSays}
+use Rattle.sections.specs.Gathering.{FirstSaid}
+use Rattle.laying.specs.Keys.{word_of_setting, ShortSetting}
 use Rattle.laying.proofs.SettingLaws.{metadata_short}
 use Rattle.laying.proofs.KeyLaws.{keys_written}
 
-pub says_song : {s lines starts stops : List ℕ} {p : Place} {run : Run} → run ≡ lines_before p → MetadataEnds s p
-    → FirstOfEach s (lines_of s run) lines starts stops → SongSays s lines starts stops
-says_song {s} is ends first =
-    record {
-      wide = first.wide;
-      each =
-          λ k h. let x = first.each k (omega arith) in
-          record { setting = x.setting ∙ ap (λ (r : Run). setting_among k (lines_of s r)) is ∙ ends.keys k h; inside = x.inside };
-    }
-
 -- A key's setting is short, where stage 2 complains of nothing.
-pub said_short : {s : List ℕ} {k : ℕ} {r : Said} → text_faults (blocks_of s) ≡ [] → FirstSaid s (metadata_lines (blocks_of s)) k r
+pub said_short : {s : List ℕ} {k : ℕ} {r : std.Option Said} → text_faults (blocks_of s) ≡ [] → FirstSaid s (metadata_lines (blocks_of s)) k r
     → ShortSetting (setting_at s r)
 said_short {s} {k} clean x = subst ShortSetting (sym x.setting) (metadata_short k (blocks_of s) clean)
 
@@ -46,7 +33,7 @@ pub record KeysUpTo (s ws old : List ℕ) (k : ℕ) : Type 0 where
 pub keys_none : (s old : List ℕ) → KeysUpTo s old old 0
 keys_none s old = record { long = refl; behind = refl; words = λ j h. absurd (let z : ⊥ = omega arith in z) }
 
-pub keys_more : (s ws old : List ℕ) (k w : ℕ) {r : Said} → k < 8 → 8 ≤ length old → FirstSaid s (metadata_lines (blocks_of s)) k r
+pub keys_more : (s ws old : List ℕ) (k w : ℕ) {r : std.Option Said} → k < 8 → 8 ≤ length old → FirstSaid s (metadata_lines (blocks_of s)) k r
     → w ≡ word_of_setting (setting_at s r) → KeysUpTo s ws old k → KeysUpTo s (set ws k w) old (k + 1)
 keys_more s ws old k w below room x e up =
     let long = up.long in

@@ -1,11 +1,12 @@
 -- The words of the keys table, from the settings that the lines of the metadata say.
-use Rattle.std.specs.Prelude.{ℕ, ◌<◌, ◌≤◌, ◌≡◌, List, ◌⊎◌, length}
+use Rattle.std.specs.Prelude.{ℕ, ◌<◌, ◌≤◌, List, ◌⊎◌, length}
 use Rattle.std.proofs.Math.Option.{Option, none, some}
 use Rattle.songcode.specs.Bytes.{Byte}
 use Rattle.songcode.specs.Answer.Characters.{characters}
 use Rattle.songcode.specs.Answer.SongText.{metadata_lines}
 use Rattle.songcode.specs.Answer.Tables.{key_word}
 use Rattle.songcode.specs.Answer.Answer.{blocks_of}
+use Rattle.sections.specs.declared.gathering.Gathered.{Gathered}
 use Rattle.sections.specs.Slots.{Setting}
 use Rattle.sections.specs.Gathering.{said_by, FirstSaid}
 
@@ -23,7 +24,6 @@ unfoldable pub ShortSetting : Option Setting → Type 0
 ShortSetting none = Unit {0}
 ShortSetting (some x) = ShortText x.text
 
--- Rows that hold the first settings of the song's own keys: a setting's line, its first byte and its end, by its number.
-pub record SongSays (s lines starts stops : List ℕ) : Type 0 where
-  pub wide : (length lines ≡ 13) × (length starts ≡ 13) × (length stops ≡ 13)
-  pub each : (k : ℕ) → k < 8 → FirstSaid s (metadata_lines (blocks_of s)) k (said_by lines starts stops k)
+-- The first settings of the song's own keys, by their number.
+pub record SongSays (s : List ℕ) (g : Gathered) : Type 0 where
+  pub each : (k : ℕ) → k < 8 → FirstSaid s (metadata_lines (blocks_of s)) k (said_by g k)

@@ -1,16 +1,15 @@
 -- The definitions before a place are loaded: what the buffer holds of them, and what is left.
-use Rattle.std.specs.Prelude.{ℕ, ◌+◌, ◌-◌, ◌<◌, ◌≤◌, ◌≡◌, Bool, true, false, length, set}
+use Rattle.std.specs.Prelude.{ℕ, ◌+◌, ◌-◌, ◌<◌, ◌≤◌, ◌≡◌, Bool, true, false, length, set, Result, MatchResult}
 use mathlib.Core.List.{List, [], ◌∷◌, ◌++◌, map, flat_map}
 use Rattle.std.proofs.Math.Option.{Option, none, some}
-use Rattle.songcode.specs.Complaints.{earliest}
 use Rattle.songcode.specs.Answer.Lines.{Block, blocks}
 use Rattle.songcode.specs.Song.{Items, Definition}
 use Rattle.songcode.specs.Answer.Sections.{twice}
 use Rattle.songcode.specs.Answer.SongText.{block_order, definition_blocks, section_blocks, head_in, heads_faults, first_line, definition_faults, definition_in}
-use Rattle.songcode.specs.Answer.References.{definition_of, items_of, put_in, definitions_references, reference_faults}
+use Rattle.songcode.specs.Answer.References.{definition_of, items_of, put_in, definitions_references}
 use Rattle.songcode.specs.Description.WrittenSong.{id_of}
 use Rattle.songcode.specs.Answer.Answer.{blocks_of, song_of}
-use Rattle.refusals.specs.Refusals.{refusal_of}
+use Rattle.refusals.specs.declared.Refusal.{Refusal}
 use Rattle.tokens.specs.Kept.{KeptFrom}
 use Rattle.score.specs.declared.stretches.Stretch.{Stretch}
 use Rattle.score.specs.Places.{head_word}
@@ -23,6 +22,7 @@ use Rattle.sections.specs.Runs.{text_lines}
 use Rattle.sections.specs.BlockParts.{block_at, lines_past}
 use Rattle.laying.specs.declared.definitions.Loaded.{Loaded}
 use Rattle.laying.specs.Fronts.{DefinedFits, Front}
+use Rattle.laying.specs.Scores.{RefusedThree}
 
 -- The text of a definition in the row, and its outline; its references are right among all definitions.
 pub record HeldText (ds : List Definition) (ws : List ℕ) (at : Stretch) (o : Outline) (r : Items) : Type 0 where
@@ -42,8 +42,7 @@ Held ds ws none missing at o = (missing ≡ true) × (at.to ≤ at.from) × (o �
 Held ds ws (some d) missing at o = (missing ≡ false) × HeldItems ds ws at o d.items
 
 -- The two words in front of a definition's text that stands from the mark's second next place up to an end, and the new mark there.
-unfoldable pub entered : ℕ → ℕ → ℕ → Outline → List ℕ → List ℕ
-unfolding outline_word
+abbrev pub entered : ℕ → ℕ → ℕ → Outline → List ℕ → List ℕ
 entered mark end id o ws = set (set (set ws (mark + 1) (outline_word o)) mark (head_word (end - mark) id)) end 0
 
 -- The blocks from a place on, and the definitions among them.
@@ -80,8 +79,11 @@ pub record Loading (s ws : List ℕ) (mark : ℕ) (p : Place) : Type 0 where
   pub leaves : Leaves s (length done) (map id_of earlier) p
   pub clear : definitions_references [] (song_of s).definitions ≡ definitions_references earlier (definitions_from s p)
 
--- One more definition is loaded, or stage 3 refuses it.
-pub record LoadsOne (s ws : List ℕ) (p : Place) (r : Loaded) : Type 0 where
-  pub refused : (r.refusal.number ≡ 0 → ⊥) → r.refusal ≡ refusal_of (earliest (reference_faults (song_of s)))
-  pub loading : r.refusal.number ≡ 0 → Loading s ws r.mark r.sections
+-- One more definition is loaded, and a block behind it is next.
+pub record LoadsNext (s ws : List ℕ) (p : Place) (r : Loaded) : Type 0 where
+  pub loading : Loading s ws r.mark r.sections
   pub further : p.at < r.sections.at
+
+-- One more definition is loaded, or stage 3 refuses it.
+abbrev pub LoadsOne : List ℕ → List ℕ → Place → Result Loaded Refusal → Type 0
+LoadsOne s ws p r = MatchResult r (LoadsNext s ws p) (RefusedThree s)

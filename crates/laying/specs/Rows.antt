@@ -1,5 +1,5 @@
 -- A section laid into the row: the words of its parts as the code reads them, and what the row holds then.
-use Rattle.std.specs.Prelude.{ℕ, ◌+◌, ◌-◌, ◌*◌, ◌/◌, ◌<◌, ◌≤◌, ◌≡◌, Bool, true, false, ◌||◌, eqb, length, take, drop, set}
+use Rattle.std.specs.Prelude.{ℕ, ◌+◌, ◌-◌, ◌*◌, ◌/◌, ◌<◌, ◌≤◌, ◌≡◌, Bool, ◌||◌, eqb, length, take, drop, set, is_some}
 use mathlib.Core.List.{List, [], ◌∷◌, ◌++◌, map, flat_map}
 use Rattle.std.proofs.Math.Option.{get_or}
 use Rattle.std.proofs.lemmas.List.Edits.{sets}
@@ -9,8 +9,9 @@ use Rattle.songcode.specs.Answer.Lines.{Block, blocks}
 use Rattle.songcode.specs.Answer.Sections.{lyric_line}
 use Rattle.songcode.specs.Answer.Playing.{time_among, bpm_among, time_of}
 use Rattle.songcode.specs.Answer.Answer.{song_of}
-use Rattle.settings.specs.declared.cutting.CutRead.{CutRead}
-use Rattle.settings.specs.declared.cutting.CutRead.TheVariants as read
+use Rattle.std.specs.Prelude as std
+use Rattle.std.specs.Prelude.{Some, None}
+use Rattle.cuts.specs.declared.Cut.{Cut}
 use Rattle.tokens.specs.TokenWords.{token_words}
 use Rattle.score.specs.declared.stretches.Stretch.{Stretch}
 use Rattle.score.specs.Places.{played_text}
@@ -50,19 +51,15 @@ unfolding provided◌then◌else◌
 place_word start stop = provided eqb start stop then 0 else start * 65536 + (stop - start)
 
 -- The words of the cuts as the code reads them.
-abbrev pub read_cut : CutRead → Bool
-read_cut (read.Cut c) = true
-read_cut read.Not = false
+abbrev pub read_word : std.Option Cut → ℕ
+read_word (Some c) = c.measures.0 * 262144 + c.beats.0 * 16
+read_word None = 0
 
-unfoldable pub read_word : CutRead → ℕ
-read_word (read.Cut c) = c.measures.0 * 262144 + c.beats.0 * 16
-read_word read.Not = 0
-
-unfoldable pub has_cut : Modifiers → Bool
-has_cut m = read_cut m.front || read_cut m.back
+abbrev pub has_cut : Modifiers → Bool
+has_cut m = is_some m.front || is_some m.back
 
 unfoldable pub cuts_said : Modifiers → List ℕ
-unfolding cuts_by has_cut read_word
+unfolding cuts_by
 cuts_said m = cuts_by (has_cut m) (read_word m.front) (read_word m.back)
 
 -- The words of the parts of a section that is read.
@@ -95,8 +92,7 @@ pub record PlacesAre (s : List ℕ) (r : SectionRead) (at : ℕ) (p : Places) : 
   pub end : p.end ≡ p.last + 2 * length (lines_of s r.lyrics)
 
 -- The four words about a section, stored from the last to the first.
-unfoldable pub about_section : SectionRead → Heads → ℕ → Places → List ℕ → List ℕ
-unfolding has_cut bit
+abbrev pub about_section : SectionRead → Heads → ℕ → Places → List ℕ → List ℕ
 about_section r h at p ws =
     set (set (set (set ws (at + 3) ((p.end - p.last) / 2 * 65536 + h.even))
     (at + 2) ((p.begun - p.from) * 65536 + (p.last - p.ended)))
@@ -109,12 +105,10 @@ unfolding provided◌then◌else◌ outlined look_up
 outline_by ws t n = provided eqb n 0 then outlined (look_up ws) (drop t.from (take t.to ws)) else look_up ws n
 
 -- The texts at these places, with what they say; a pattern that names a definition plays that definition's text.
-unfoldable pub text_at : List ℕ → ℕ → ℕ → Text
-unfolding outlined look_up
+abbrev pub text_at : List ℕ → ℕ → ℕ → Text
 text_at ws from to = record { at = record { from = from; to = to }; outline = outlined (look_up ws) (drop from (take to ws)) }
 
-unfoldable pub told_texts : List ℕ → Places → Outline → Texts
-unfolding text_at played_text
+abbrev pub told_texts : List ℕ → Places → Outline → Texts
 told_texts ws p o =
     record {
       lead = text_at ws p.from p.begun;

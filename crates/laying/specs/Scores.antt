@@ -1,5 +1,5 @@
 -- When the buffer holds the definitions of a song, and the texts of a section.
-use Rattle.std.specs.Prelude.{ℕ, ◌+◌, ◌<◌, ◌≤◌, ◌≡◌, List, [], Bool, false, not, eqb, length}
+use Rattle.std.specs.Prelude.{ℕ, ◌+◌, ◌<◌, ◌≤◌, ◌≡◌, List, [], Bool, false, not, eqb, length, Result, Some, MatchResult}
 use Rattle.std.proofs.Math.Option.{Option, none, some, bind}
 use Rattle.songcode.specs.Lists.{provided◌then◌else◌, is_some}
 use Rattle.songcode.specs.Complaints.{earliest}
@@ -9,7 +9,8 @@ use Rattle.songcode.specs.Answer.References.{definition_of, pattern_items, defin
 use Rattle.songcode.specs.Answer.Playing.{measures_of}
 use Rattle.songcode.specs.Answer.SongText.{section_blocks}
 use Rattle.songcode.specs.Answer.Answer.{blocks_of, song_of}
-use Rattle.refusals.specs.Refusals.{refusal_of}
+use Rattle.refusals.specs.declared.Refusal.{Refusal}
+use Rattle.refusals.specs.Refusals.{told}
 use Rattle.tokens.specs.Kept.{KeptFrom}
 use Rattle.score.specs.declared.stretches.Stretch.{Stretch}
 use Rattle.score.specs.Places.{stretch_of}
@@ -60,15 +61,21 @@ pub record Begins (s : List ℕ) (p : Place) : Type 0 where
   pub all : blocks (text_lines s p.number p.at) ≡ section_blocks (blocks_of s)
   pub sections : sections_from s p ≡ (song_of s).sections
 
--- The definitions are loaded: what stage 3 refuses of them; where it refuses nothing, they are ready, what is kept behind them is right, and the sections
--- follow.
-pub record Loads (s : List ℕ) (ws : List ℕ) (r : Loaded) : Type 0 where
-  pub refused : (r.refusal.number ≡ 0 → ⊥) → r.refusal ≡ refusal_of (earliest (reference_faults (song_of s)))
-  pub clear : r.refusal.number ≡ 0 → definitions_references [] (song_of s).definitions ≡ []
-  pub ready : r.refusal.number ≡ 0 → Ready s ws r.mark
-  pub kept : r.refusal.number ≡ 0 → KeptFrom s ws (r.mark + 1)
-  pub begins : r.refusal.number ≡ 0 → Begins s r.sections
-  pub filled : r.refusal.number ≡ 0 → r.mark ≤ r.sections.at
+-- All definitions are loaded, and stage 3 complains of none: they are ready, what is kept behind them is right, and the sections follow.
+pub record LoadsAll (s : List ℕ) (ws : List ℕ) (r : Loaded) : Type 0 where
+  pub clear : definitions_references [] (song_of s).definitions ≡ []
+  pub ready : Ready s ws r.mark
+  pub kept : KeptFrom s ws (r.mark + 1)
+  pub begins : Begins s r.sections
+  pub filled : r.mark ≤ r.sections.at
+
+-- What stage 3 gives of the song.
+abbrev pub RefusedThree : List ℕ → Refusal → Type 0
+RefusedThree s e = told (Some e) ≡ earliest (reference_faults (song_of s))
+
+-- The definitions are loaded, or stage 3 refuses one of them.
+abbrev pub Loads : List ℕ → List ℕ → Result Loaded Refusal → Type 0
+Loads s ws r = MatchResult r (LoadsAll s ws) (RefusedThree s)
 
 unfoldable pub side_items : Option Side → Option Items
 unfolding bind

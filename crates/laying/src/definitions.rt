@@ -10,17 +10,16 @@ ghost use Rattle.laying.specs.Loading.{Loading, LoadsOne, entered};
 
 use super::laying::lay_run;
 use outlines::{Outline, outline_of, outline_word, reference_fault};
-use refusals::{NOTHING, Refusal};
+use refusals::Refusal;
 use score::{HEADS, Stretch, head_word};
 use sections::{Place, kind_at, next_block, read_definition};
 use settings::BlockKind;
 
-// The place of the mark behind the last definition, where the first section begins, and the first refusal of stage 3 among the definitions.
+// The place of the mark behind the last definition, and where the first section begins.
 #[derive(Clone, Copy)]
 pub struct Loaded {
     pub mark: usize,
     pub sections: Place,
-    pub refusal: Refusal,
 }
 
 // The two words in front of a definition's text, and the mark behind it.
@@ -35,31 +34,30 @@ fn enter(words: &mut [u32], mark: usize, end: usize, id: usize, o: Outline)
     words[end] = 0;
 }
 
-// The definition at a place, laid where the mark is, and the place of the next block; its refusal has number 0 where its references are right.
-fn load_one(s: &[u8], p: Place, mark: usize, words: &mut [u32]) -> Loaded
+// The definition at a place, laid where the mark is, and the place of the next block; or what is wrong with its references.
+fn load_one(s: &[u8], p: Place, mark: usize, words: &mut [u32]) -> Result<Loaded, Refusal>
     requires { Loading s.now words.old mark p × (p.at < length s.now) × (block_kind (block_at s.now p.number p.at) ≡ definition) }
     ensures { LoadsOne s.now words.new p result × (length words.new ≡ length words.old) }
 {
     let e = read_definition(s, p.number, p.at);
     let run = e.pattern;
+    let sections = next_block(s, run.number + run.lines, run.next);
     let from = mark + HEADS;
     let end = lay_run(s, run, words, from);
     let text = Stretch { from, to: end };
-    let fault = reference_fault(words, text);
+    if let Some(why) = reference_fault(words, text) {
+        return Err(Refusal { why, line: e.head });
+    }
     let outline = outline_of(words, text);
     enter(words, mark, end, e.id, outline);
-    Loaded {
+    Ok(Loaded {
         mark: end,
-        sections: next_block(s, run.number + run.lines, run.next),
-        refusal: Refusal {
-            number: fault,
-            line: e.head,
-        },
-    }
+        sections,
+    })
 }
 
-// The definitions from a block on, and the place of the first section.
-pub fn load(s: &[u8], first: Place, words: &mut [u32]) -> Loaded
+// The definitions from a block on, and the place of the first section; or the first refusal of stage 3 among them.
+pub fn load(s: &[u8], first: Place, words: &mut [u32]) -> Result<Loaded, Refusal>
     requires { (text_faults (blocks_of s.now) ≡ []) × MetadataEnds s.now first × (length s.now ≤ 65536) × KeptFrom s.now words.old 0 }
     ensures { Loads s.now words.new result × (length words.new ≡ length words.old) }
 {
@@ -68,26 +66,16 @@ pub fn load(s: &[u8], first: Place, words: &mut [u32]) -> Loaded
     let mut place = first;
     while place.at < s.len() {
         match kind_at(s, place.number, place.at) {
-            BlockKind::Metadata => {
-                break;
-            }
-            BlockKind::Section => {
-                break;
-            }
+            BlockKind::Metadata | BlockKind::Section => break,
             BlockKind::Definition => {
-                let next = load_one(s, place, mark, words);
-                let refusal = next.refusal;
-                if refusal.number != 0 {
-                    return next;
-                }
+                let next = load_one(s, place, mark, words)?;
                 mark = next.mark;
                 place = next.sections;
             }
         }
     }
-    Loaded {
+    Ok(Loaded {
         mark,
         sections: place,
-        refusal: NOTHING,
-    }
+    })
 }

@@ -5,8 +5,7 @@ ghost use Rattle.tokens.specs.TokenWords.{token_words};
 ghost use Rattle.tokens.specs.Kept.{KeptFrom};
 ghost use Rattle.sections.specs.Runs.{lines_of};
 ghost use Rattle.sections.specs.BlockParts.{Placed};
-ghost use Rattle.sections.specs.Slots.{setting_at};
-ghost use Rattle.sections.specs.Values.{Inside};
+ghost use Rattle.sections.specs.Slots.{Inside, setting_at};
 ghost use Rattle.laying.specs.Laying.{run_tokens, said_tokens, weight, said_weight};
 
 use sections::{Run, Said};
@@ -43,13 +42,13 @@ pub fn lay_run(s: &[u8], run: Run, words: &mut [u32], n: usize) -> usize
 }
 
 // The words of a lead-in or tail, if there is one.
-pub fn lay_said(s: &[u8], said: Said, words: &mut [u32], n: usize) -> usize
+pub fn lay_said(s: &[u8], said: Option<Said>, words: &mut [u32], n: usize) -> usize
     requires { Inside s.now said × (length s.now ≤ 65536) × (n + said_weight (setting_at s.now said) ≤ length words.old) }
     ensures held { words.new ≡ sets words.old n (token_words (said_tokens (setting_at s.now said))) }
     ensures fill { result ≡ n + length (token_words (said_tokens (setting_at s.now said))) }
 {
-    if said.line == 0 {
-        return n;
+    match said {
+        Some(x) => lex_line(s, x.start, x.stop, words, n),
+        None => n,
     }
-    lex_line(s, said.start, said.stop, words, n)
 }

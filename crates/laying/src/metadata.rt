@@ -19,12 +19,7 @@ pub fn metadata_end(s: &[u8]) -> Place
                 let block = run_of(s, Test::Full, place.number, place.at);
                 place = next_block(s, place.number + block.lines, block.next);
             }
-            BlockKind::Definition => {
-                return place;
-            }
-            BlockKind::Section => {
-                return place;
-            }
+            BlockKind::Definition | BlockKind::Section => return place,
         }
     }
     place

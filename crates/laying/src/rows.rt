@@ -11,14 +11,14 @@ ghost use Rattle.score.specs.Sections.{bit, lyric_row};
 ghost use Rattle.score.specs.Fitting.{LyricFits, LyricsFit};
 ghost use Rattle.sections.specs.Runs.{lines_of};
 ghost use Rattle.sections.specs.BlockParts.{Placed};
-ghost use Rattle.sections.specs.Slots.{setting_at};
-ghost use Rattle.sections.specs.Values.{Inside};
+ghost use Rattle.sections.specs.Slots.{Inside, setting_at};
 ghost use Rattle.laying.specs.Laying.{weight, said_weight};
-ghost use Rattle.laying.specs.Rows.{meter_of, tempo_of, place_word, read_cut, read_word, has_cut, cuts_said, parts_said, PlacesAre, about_section};
+ghost use Rattle.laying.specs.Rows.{meter_of, tempo_of, place_word, read_word, has_cut, cuts_said, parts_said, PlacesAre, about_section};
 
 use super::laying::{lay_run, lay_said};
+use cuts::Cut;
 use sections::{Modifiers, Run, SectionRead};
-use settings::{CutRead, lyric_words, style_of};
+use settings::{lyric_words, style_of};
 use text::line_at;
 
 // "N is the section's time, else the song's"; 0 is no time.
@@ -107,22 +107,11 @@ pub fn lay_lyrics(s: &[u8], run: Run, words: &mut [u32], n: usize) -> usize
     fill
 }
 
-fn is_cut(c: CutRead) -> bool
-    ensures { result ≡ read_cut c }
-{
-    match c {
-        CutRead::Cut(cut) => true,
-        CutRead::Not => false,
-    }
-}
-
 // Whether a section has a cut.
 pub fn has_cut(m: Modifiers) -> bool
     ensures { result ≡ has_cut m }
 {
-    let front = m.front;
-    let back = m.back;
-    is_cut(front) || is_cut(back)
+    m.front.is_some() || m.back.is_some()
 }
 
 // A cut of so many measures 14 and beats 14.
@@ -134,13 +123,13 @@ fn packed_cut(measures: usize, beats: usize) -> u32
 }
 
 // The word of a cut; 0 where there is none.
-fn cut_word(c: CutRead) -> u32
+fn cut_word(c: Option<Cut>) -> u32
     requires { CutFits c }
     ensures { result ≡ read_word c }
 {
     match c {
-        CutRead::Cut(cut) => packed_cut(cut.measures.0, cut.beats.0),
-        CutRead::Not => 0,
+        Some(cut) => packed_cut(cut.measures.0, cut.beats.0),
+        None => 0,
     }
 }
 
@@ -153,10 +142,8 @@ fn lay_cuts(m: Modifiers, words: &mut [u32], n: usize) -> usize
     if !has_cut(m) {
         return n;
     }
-    let front = m.front;
-    let back = m.back;
-    let first = cut_word(front);
-    let second = cut_word(back);
+    let first = cut_word(m.front);
+    let second = cut_word(m.back);
     words[n] = first;
     words[n + 1] = second;
     n + 2

@@ -112,7 +112,6 @@ pub fn lay_section(s: &[u8], p: Place, song: Keys, at: usize, words: &mut [u32])
         from: places.last,
         to: places.end,
     };
-    let next = met.next;
     Opened {
         section,
         meter,
@@ -120,6 +119,6 @@ pub fn lay_section(s: &[u8], p: Place, song: Keys, at: usize, words: &mut [u32])
         texts,
         lyrics,
         end: places.end,
-        next,
+        next: met.next,
     }
 }

@@ -4,27 +4,28 @@ use packing::beat_of;
 use std::io;
 use tokens::spelling_of;
 
+// The number of the last base chord; silence has a higher one.
+const LAST_BASE: usize = 33;
+
+// Up to the zeros at its end.
 fn show_name(out: &impl Print, name: [u8; 3]) -> io::Result<()> {
-    if name[1] == 0 {
-        return out.write_all(&[name[0]]);
-    }
-    if name[2] == 0 {
-        return out.write_all(&[name[0], name[1]]);
-    }
-    out.write_all(&name)
+    let length = name
+        .iter()
+        .position(|byte| *byte == 0)
+        .unwrap_or(name.len());
+    out.write_all(&name[..length])
 }
 
 // `.` goes on with the sound before, `_` is silence.
 pub fn show_beat(out: &impl Print, text: &[u8], word: u32) -> io::Result<()> {
-    let b = beat_of(word);
-    if !b.head {
+    let beat = beat_of(word);
+    if !beat.head {
         return out.write_all(b" .");
     }
-    let base = b.base;
-    if 33 < base {
+    if beat.base > LAST_BASE {
         return out.write_all(b" _");
     }
     out.write_all(b" ")?;
-    show_name(out, spelling_of(base))?;
-    show_part(out, text, b.extension, b.length)
+    show_name(out, spelling_of(beat.base))?;
+    show_part(out, text, beat.extension, beat.length)
 }

@@ -1,34 +1,16 @@
 // Sections with their measures, and items.
 use super::beats::show_beat;
-use super::parts::{least, show_part};
+use super::parts::show_part;
 use packing::{item_of, measure_of, section_of};
 use std::io;
 
 fn show_measure(out: &impl Print, text: &[u8], word: u32, beats: &[u32]) -> io::Result<()> {
+    let measure = measure_of(word);
     out.write_all(b"measure")?;
-    let m = measure_of(word);
-    let start = least(m.first, beats.len());
-    let end = start + least(m.beats, beats.len() - start);
-    for beat in &beats[start..end] {
+    for beat in beats.iter().skip(measure.first).take(measure.beats) {
         show_beat(out, text, *beat)?;
     }
     out.write_all(b"\n")
-}
-
-fn show_measures(
-    out: &impl Print,
-    text: &[u8],
-    first: usize,
-    count: usize,
-    measures: &[u32],
-    beats: &[u32],
-) -> io::Result<()> {
-    let start = least(first, measures.len());
-    let end = start + least(count, measures.len() - start);
-    for measure in &measures[start..end] {
-        show_measure(out, text, *measure, beats)?;
-    }
-    Ok(())
 }
 
 fn show_section(
@@ -38,9 +20,15 @@ fn show_section(
     measures: &[u32],
     beats: &[u32],
 ) -> io::Result<()> {
-    let s = section_of(word);
-    println!(out; "section {} {} {}", s.header, s.measures, s.meter)?;
-    show_measures(out, text, s.first, s.measures, measures, beats)
+    let section = section_of(word);
+    println!(out;
+        "section {} {} {}",
+        section.header, section.measures, section.meter
+    )?;
+    for measure in measures.iter().skip(section.first).take(section.measures) {
+        show_measure(out, text, *measure, beats)?;
+    }
+    Ok(())
 }
 
 pub fn show_sections(
@@ -51,35 +39,34 @@ pub fn show_sections(
     measures: &[u32],
     beats: &[u32],
 ) -> io::Result<()> {
-    let end = least(count, sections.len());
-    for section in &sections[..end] {
+    for section in sections.iter().take(count) {
         show_section(out, text, *section, measures, beats)?;
     }
     Ok(())
 }
 
-fn show_style(out: &impl Print, style: usize) -> io::Result<()> {
-    if style == 0 {
-        out.write_all(b"plain")
-    } else if style == 1 {
-        out.write_all(b"info")
-    } else {
-        out.write_all(b"crew")
+fn style_name(style: usize) -> &'static str {
+    match style {
+        0 => "plain",
+        1 => "info",
+        _ => "crew",
     }
 }
 
 fn show_item(out: &impl Print, text: &[u8], word: u64) -> io::Result<()> {
     let item = item_of(word);
-    out.write_all(b"item ")?;
-    show_style(out, item.style)?;
-    print!(out; " {} {} ", item.first, item.measures)?;
+    print!(out;
+        "item {} {} {} ",
+        style_name(item.style),
+        item.first,
+        item.measures
+    )?;
     show_part(out, text, item.offset, item.length)?;
     out.write_all(b"\n")
 }
 
 pub fn show_items(out: &impl Print, text: &[u8], count: usize, items: &[u64]) -> io::Result<()> {
-    let end = least(count, items.len());
-    for item in &items[..end] {
+    for item in items.iter().take(count) {
         show_item(out, text, *item)?;
     }
     Ok(())

@@ -1,5 +1,5 @@
 -- References that are too deep: what the faults tell of them, and how deep the items are with references put in.
-use Prim.Native.Nat.{ℕ, suc, ◌+◌, ◌-◌, ◌≤◌, max}
+use Prim.Native.Nat.{ℕ, suc, ◌+◌, ◌≤◌, max}
 use mathlib.Core.Path.{◌≡◌, refl, sym, ap, ◌∙◌}
 use mathlib.Core.Bool.{Bool, true, false, ◌||◌}
 use mathlib.Core.Option.{Option}
@@ -35,12 +35,6 @@ past_both k l a b = by_cases (ltb k (l + a))
     less h = by_cases (ltb k (l + b))
         (λ e. let m = ltb-true k (l + b) e in rw (e, lt-ltb k (l + max a b) (omega arith)))
         (λ e. let m = ltb-false k (l + b) e in rw (e, le-ltb k (l + max a b) (omega arith)))
-
--- What passes the rest of a limit passes the limit with what is taken from it.
-pub rest_less : (k l d : ℕ) → l ≤ k → ltb (k - l) d ≡ ltb k (l + d)
-rest_less k l d h = by_cases (ltb k (l + d))
-    (λ e. let m = ltb-true k (l + d) e in rw (e, lt-ltb (k - l) d (omega arith)))
-    (λ e. let m = ltb-false k (l + d) e in rw (e, le-ltb (k - l) d (omega arith)))
 
 depth_glue : (r : Items) (s : Separator) (q : Items) → depth (glue r s q) ≡ max (depth r) (depth q)
 unfolding glue depth

@@ -21,7 +21,7 @@ use Rattle.score.specs.Standing.{ItemsFit, Stands}
 use Rattle.score.proofs.StandingLaws.{stands_written}
 use Rattle.outlines.specs.declared.readings.Outline.{Outline}
 use Rattle.outlines.specs.Words.{vacant}
-use Rattle.outlines.specs.Faults.{all_faults, faultless, fault_number, fault_in}
+use Rattle.outlines.specs.Faults.{all_faults, faultless, fault_told, fault_in}
 use Rattle.outlines.specs.Told.{KnowsItems, Knows, Known, refusal}
 use Rattle.outlines.proofs.ChordLaws.{or_false}
 use Rattle.outlines.proofs.GivenLaws.{has, given, TenOrEleven, refusal_ten, refusal_other, given_first, when_ten, when_eleven, when_either}
@@ -112,7 +112,7 @@ module _ (ds : List Definition) (missing : ℕ → Bool) (find : ℕ → Outline
   start_deep r d = items_deep missing find r faultless 0 refl (omega arith)
 
   items_given : (r : Items) → depth r ≤ loops_deep
-      → refusal (fault_number (fault_items missing find r faultless)) head ≡ earliest (definition_references ds (some r) head)
+      → refusal (fault_told (fault_items missing find r faultless)) head ≡ earliest (definition_references ds (some r) head)
   items_given r d =
       let g = fault_items missing find r faultless in
       let cs = definition_references ds (some r) head in

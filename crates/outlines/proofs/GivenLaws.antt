@@ -17,7 +17,7 @@ use Rattle.songcode.proofs.ListLaws.{true_is_not_false, any_append, Each}
 use Rattle.outlines.specs.declared.readings.Outline.{Outline}
 use Rattle.outlines.specs.declared.faults.Faults.{Faults}
 use Rattle.outlines.specs.Words.{vacant}
-use Rattle.outlines.specs.Faults.{fault_number}
+use Rattle.outlines.specs.Faults.{fault_told}
 use Rattle.outlines.specs.Told.{KnowsItems, Knows, refusal}
 
 -- The earliest is a 10 if there is one.
@@ -55,12 +55,12 @@ given_first head (c ∷ cs) h = go h.0 (given_first head cs h.1)
     go (inl e) i = rw (e, i) (first_ten (has 10 cs) (has 11 cs) head)
     go (inr e) i = rw (e, i) (first_eleven (has 10 cs) (has 11 cs) head)
 
-pub refusal_ten : (f : Faults) (u : Bool) (head : ℕ) → f.missing ≡ true → refusal (fault_number f) head ≡ given true u head
-unfolding refusal fault_number given provided◌then◌else◌
+pub refusal_ten : (f : Faults) (u : Bool) (head : ℕ) → f.missing ≡ true → refusal (fault_told f) head ≡ given true u head
+unfolding refusal fault_told given provided◌then◌else◌
 refusal_ten f u head e = rw e
 
-pub refusal_other : (f : Faults) (u : Bool) (head : ℕ) → f.missing ≡ false → f.deep ≡ u → refusal (fault_number f) head ≡ given false u head
-unfolding refusal fault_number given provided◌then◌else◌
+pub refusal_other : (f : Faults) (u : Bool) (head : ℕ) → f.missing ≡ false → f.deep ≡ u → refusal (fault_told f) head ≡ given false u head
+unfolding refusal fault_told given provided◌then◌else◌
 refusal_other f true head e d = rw (e, d)
 refusal_other f false head e d = rw (e, d)
 

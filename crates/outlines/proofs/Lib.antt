@@ -1,7 +1,6 @@
 -- Laws of the definitions that the proofs of the functions cite.
 pub mod SizeLaws
 pub mod StepLaws
-pub mod PartLaws
 pub mod FitLaws
 pub mod TreeLaws
 pub mod ChordLaws

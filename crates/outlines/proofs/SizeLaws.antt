@@ -1,32 +1,34 @@
 -- Sizes joined: the least number that two numbers divide, looked for one after another.
-use Prim.Native.Nat.{ℕ, zero, suc, ◌+◌, ◌-◌, ◌*◌, ◌≤◌, min}
+use Prim.Native.Nat.{ℕ, zero, suc, ◌+◌, ◌*◌, ◌<◌, ◌≤◌, min}
 use mathlib.Core.Path.{◌≡◌}
-use mathlib.Core.Bool.{Bool, true, false, ◌&&◌}
+use mathlib.Core.Bool.{Bool, true, false}
 use native.Mathlib.Omega.{arith}
 use native.Mathlib.Nat.{mul-le-mul}
-use borrow.Author.Tests.{leb-true, leb-false}
-use lib.Dec.{leb}
+use borrow.Author.Tests.{eqb-true, eqb-false, leb-true, leb-false}
+use lib.Dec.{eqb, leb}
+use Rattle.std.proofs.Common.{Option, None, Some, MatchOption}
+use Rattle.std.specs.Option.{unwrap_or}
 use Rattle.songcode.specs.Lists.{provided◌then◌else◌}
 use Rattle.songcode.proofs.ListLaws.{by_cases}
-use Rattle.outlines.specs.Sizes.{divides, common_by}
+use Rattle.outlines.specs.Sizes.{first_from}
 
-pub both_of : (a b m : ℕ) (x y r t : Bool) → x ≡ divides a m → y ≡ divides b m → r ≡ (x && y) → r ≡ t → (divides a m && divides b m) ≡ t
-both_of a b m x y r t e f g h = rw (← e, ← f, ← g) h
-
-some_left : (m : ℕ) → m ≤ 32 → 33 - m ≡ suc (33 - (m + 1))
-some_left m h = omega arith
-
-pub common_found : (m a b : ℕ) → m ≤ 32 → (divides a m && divides b m) ≡ true → common_by (33 - m) m a b ≡ m
-unfolding common_by provided◌then◌else◌
-common_found m a b h e = rw (some_left m h, e)
-
-pub common_more : (m a b : ℕ) → m ≤ 32 → (divides a m && divides b m) ≡ false → common_by (33 - m) m a b ≡ common_by (33 - (m + 1)) (m + 1) a b
-unfolding common_by provided◌then◌else◌
-common_more m a b h e = rw (some_left m h, e)
-
-pub common_over : (m a b : ℕ) → 33 ≤ m → common_by (33 - m) m a b ≡ m
-unfolding common_by
-common_over m a b h = let e : 33 - m ≡ 0 = omega arith in rw e
+-- The number that a search from m on finds, or the end where it finds none.
+pub first_is : (test : ℕ → Bool) (k m end : ℕ) (r : Option ℕ) → end ≡ m + k
+    → MatchOption r ((j : ℕ) → m ≤ j → j < end → test j ≡ false)
+    (λ i. (m ≤ i) × (i < end) × (test i ≡ true) × ((j : ℕ) → m ≤ j → j < i → test j ≡ false))
+    → unwrap_or r end ≡ first_from test k m
+unfolding first_from provided◌then◌else◌
+first_is test zero m end None e f = omega arith
+first_is test zero m end (Some i) e f = absurd (omega (arith, f.0, f.1))
+first_is test (suc k) m end None e f =
+    rw (f m (omega arith) (omega arith)) (first_is test k (m + 1) end None (omega arith) (λ j l u. f j (omega arith) u))
+first_is test (suc k) m end (Some i) e f = by_cases (eqb i m)
+    (λ y. let z = eqb-true i m y in
+    let t : test m ≡ true = rw z at f.2 in rw t z)
+    (λ y. let z = eqb-false i m y in
+    let l = f.0 in
+    rw (f.3 m (omega arith) (omega arith))
+    (first_is test k (m + 1) end (Some i) (omega arith) (omega arith, f.1, f.2, λ j v u. f.3 j (omega arith) u)))
 
 -- A product is capped after its factor.
 pub min_times : (n a : ℕ) → min 65536 (n * min 65536 a) ≡ min 65536 (n * a)

@@ -1,7 +1,9 @@
 -- What is wrong with the references of a text, read word by word.
-use Rattle.std.specs.Prelude.{ℕ, ◌+◌, ◌-◌, List, [], ◌∷◌, Bool, false, ◌||◌, ltb}
+use Rattle.std.specs.Prelude.{ℕ, ◌+◌, ◌-◌, List, [], ◌∷◌, Bool, false, ◌||◌, ltb, Option, Some, None}
 use Rattle.songcode.specs.Lists.{provided◌then◌else◌}
 use Rattle.songcode.specs.Answer.PatternText.{loops_deep}
+use Rattle.refusals.specs.declared.names.Why.{Why}
+use Rattle.refusals.specs.declared.names.Why.TheVariants.{ReferenceUndefined, ReferenceKind}
 use Rattle.tokens.specs.Signs.{kind_of, number_of, is_opening, is_closing, is_reference}
 use Rattle.outlines.specs.declared.readings.Outline.{Outline}
 use Rattle.outlines.specs.declared.faults.Faults.{Faults}
@@ -37,10 +39,11 @@ all_faults missing find f (w ∷ ws) = all_faults missing find (faults_read miss
 unfoldable pub faultless : Faults
 faultless = record { level = 0; missing = false; deep = false }
 
-unfoldable pub fault_number : Faults → ℕ
+-- What is given for them: a missing definition goes before one that may not stand there.
+unfoldable pub fault_told : Faults → Option Why
 unfolding provided◌then◌else◌
-fault_number f = provided f.missing then 10 else (provided f.deep then 11 else 0)
+fault_told f = provided f.missing then Some ReferenceUndefined else (provided f.deep then Some ReferenceKind else None)
 
-unfoldable pub fault_in : (ℕ → Bool) → (ℕ → Outline) → List ℕ → ℕ
-unfolding all_faults faultless fault_number
-fault_in missing find ws = fault_number (all_faults missing find faultless ws)
+unfoldable pub fault_in : (ℕ → Bool) → (ℕ → Outline) → List ℕ → Option Why
+unfolding all_faults faultless fault_told
+fault_in missing find ws = fault_told (all_faults missing find faultless ws)

@@ -1,5 +1,7 @@
 -- When an outline says what items say, as references put them in.
-use Rattle.std.specs.Prelude.{ℕ, zero, suc, ◌≤◌, min, ◌≡◌, List, [], Bool, true, false, not}
+use Rattle.std.specs.Prelude as std
+use Rattle.std.specs.Prelude.{Some, None}
+use Rattle.std.specs.Prelude.{ℕ, ◌≤◌, min, ◌≡◌, List, [], Bool, true, false, not}
 use Rattle.std.proofs.Math.Option.{Option, none, some}
 use Rattle.songcode.specs.Lists.{is_empty, is_some}
 use Rattle.songcode.specs.Complaints.{Complaint, complaint}
@@ -8,6 +10,8 @@ use Rattle.songcode.specs.Answer.PatternText.{depth, references}
 use Rattle.songcode.specs.Answer.References.{definition_of, put_in_item}
 use Rattle.songcode.specs.Answer.Playing.{last_items}
 use Rattle.songcode.specs.Answer.Meter.{all_fit, stray, count}
+use Rattle.refusals.specs.declared.names.Why.{Why}
+use Rattle.refusals.specs.Names.{number_of}
 use Rattle.score.specs.Even.{is_whole}
 use Rattle.outlines.specs.declared.readings.Outline.{Outline}
 use Rattle.outlines.specs.Sizes.{divides}
@@ -46,7 +50,7 @@ Knows (some d) missing o = (missing ≡ false) × KnowsItems d.items o
 unfoldable pub Known : List Definition → (ℕ → Bool) → (ℕ → Outline) → Type 0
 Known ds missing find = (n : ℕ) → Knows (definition_of n ds) (missing n) (find n)
 
--- The refusal of that number on that line; 0 is none.
-unfoldable pub refusal : ℕ → ℕ → Option Complaint
-refusal zero line = none
-refusal (suc n) line = some (complaint (suc n) line)
+-- What is refused, on that line.
+unfoldable pub refusal : std.Option Why → ℕ → Option Complaint
+refusal None line = none
+refusal (Some why) line = some (complaint (number_of why) line)

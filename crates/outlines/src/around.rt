@@ -12,8 +12,5 @@ pub fn keep(around: &mut [usize], level: usize, count: usize)
 pub fn kept(around: &[usize], level: usize) -> usize
     ensures { result ≡ get_or around.now level 0 }
 {
-    if level < around.len() {
-        return around[level];
-    }
-    0
+    around.get(level).copied().unwrap_or(0)
 }

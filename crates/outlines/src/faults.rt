@@ -1,18 +1,18 @@
 // What is wrong with the references of a definition, in one pass over its words.
-ghost use Rattle.std.specs.Prelude.{◌≡◌, ◌+◌, ltb, take, drop};
+ghost use Rattle.std.specs.Prelude.{◌≡◌, ◌+◌, ltb, take, drop, true, false, MatchOption};
 ghost use Rattle.songcode.specs.Answer.PatternText.{loops_deep};
-ghost use Rattle.outlines.specs.Faults.{too_deep, reference_read, bracket_read, faults_read, fault_number, fault_in};
-ghost use Rattle.outlines.specs.Words.{look_up, is_missing};
+ghost use Rattle.outlines.specs.Faults.{too_deep, reference_read, bracket_read, faults_read, fault_told, fault_in};
+ghost use Rattle.outlines.specs.Words.{vacant, look_up, is_missing};
 
 use super::readings::Outline;
-use super::signs::{either, inner_level, outer_level};
-use super::words::{is_missing, outline_for};
-use refusals::{REFERENCE_KIND, REFERENCE_UNDEFINED};
-use score::{Stretch, least, word_at};
+use super::signs::inner_level;
+use super::words::outline_if_defined;
+use refusals::Why;
+use score::Stretch;
 use tokens::{CLOSES, LOOPS_DEEP, OPENS, REFERENCE, kind, number};
 
 // In how many loops the place at hand is; whether a reference was to no earlier definition; whether one may not stand there.
-#[derive(Drop)]
+#[derive(Clone, Copy, Default)]
 pub struct Faults {
     pub level: usize,
     pub missing: bool,
@@ -20,88 +20,82 @@ pub struct Faults {
 }
 
 // Whether loops so deep pass the limit where they are put in at that level.
+#[tactic(auto, unfolding(songcode::specs::Answer::PatternText::loops_deep))]
 fn past_limit(level: usize, depth: usize) -> bool
     ensures { result ≡ ltb loops_deep (level + depth) }
 {
-    if LOOPS_DEEP < level {
-        return true;
-    }
-    LOOPS_DEEP - level < depth
+    LOOPS_DEEP < level.saturating_add(depth)
 }
 
 // A definition that is empty or holds a reference, or whose loops pass the limit.
+#[tactic(auto, unfolding(crate::specs::Faults::too_deep))]
 pub fn too_deep(level: usize, o: Outline) -> bool
     ensures { result ≡ too_deep level o }
 {
-    either(either(o.empty, o.refers), past_limit(level, o.depth))
+    o.empty || o.refers || past_limit(level, o.depth)
 }
 
-// A reference to a definition of that outline.
-pub fn judge_reference(missing: bool, o: Outline, f: Faults) -> Faults
-    ensures { result ≡ reference_read missing o f }
+// A reference to a definition of that outline, or to none: what is not there cannot be put in either.
+#[tactic(auto, unfolding(crate::specs::Faults::reference_read, crate::specs::Faults::too_deep, crate::specs::Words::vacant))]
+pub fn judge_reference(o: Option<Outline>, f: Faults) -> Faults
+    ensures { MatchOption o (result ≡ reference_read true vacant f) (λ x. result ≡ reference_read false x f) }
 {
-    Faults {
-        level: f.level,
-        missing: either(f.missing, missing),
-        deep: either(f.deep, too_deep(f.level, o)),
+    match o {
+        None => Faults {
+            missing: true,
+            deep: true,
+            ..f
+        },
+        Some(x) => Faults {
+            deep: f.deep | too_deep(f.level, x),
+            ..f
+        },
     }
 }
 
 // A word of kind `k` that is no reference.
+#[tactic(auto, unfolding(crate::specs::Faults::bracket_read))]
 pub fn pass_bracket(k: u32, f: Faults) -> Faults
     ensures { result ≡ bracket_read k f }
 {
-    if k == OPENS {
-        return Faults {
-            level: inner_level(f.level),
-            missing: f.missing,
-            deep: f.deep,
-        };
-    }
-    if k == CLOSES {
-        return Faults {
-            level: outer_level(f.level),
-            missing: f.missing,
-            deep: f.deep,
-        };
-    }
-    f
+    let level = match k {
+        OPENS => inner_level(f.level),
+        CLOSES => f.level.saturating_sub(1),
+        _ => f.level,
+    };
+    Faults { level, ..f }
 }
 
+#[tactic(auto, unfolding(crate::specs::Faults::faults_read, crate::specs::Words::look_up))]
 pub fn judge_word(words: &[u32], f: Faults, w: u32) -> Faults
     ensures { result ≡ faults_read (is_missing words.now) (look_up words.now) f w }
 {
-    let k = kind(w);
-    if k == REFERENCE {
-        let x = number(w);
-        return judge_reference(is_missing(words, x), outline_for(words, x), f);
+    match kind(w) {
+        REFERENCE => judge_reference(outline_if_defined(words, number(w)), f),
+        k => pass_bracket(k, f),
     }
-    pass_bracket(k, f)
 }
 
-// The number of the refusal, 0 if there is none.
-pub fn fault_number(f: Faults) -> usize
-    ensures { result ≡ fault_number f }
+// What is refused of them, if anything.
+pub fn fault_told(f: Faults) -> Option<Why>
+    ensures { result ≡ fault_told f }
 {
     if f.missing {
-        return REFERENCE_UNDEFINED;
+        return Some(Why::ReferenceUndefined);
     }
-    if f.deep { REFERENCE_KIND } else { 0 }
+    if f.deep {
+        Some(Why::ReferenceKind)
+    } else {
+        None
+    }
 }
 
-pub fn reference_fault(words: &[u32], text: Stretch) -> usize
+pub fn reference_fault(words: &[u32], text: Stretch) -> Option<Why>
     ensures { result ≡ fault_in (is_missing words.now) (look_up words.now) (drop text.from (take text.to words.now)) }
 {
-    let end = least(text.to, words.len());
-    let mut i = text.from;
-    let mut f = Faults {
-        level: 0,
-        missing: false,
-        deep: false,
-    };
-    while i < end {
-        f = judge_word(words, f, word_at(words, text.to, i));
-        i += 1;
+    let mut f = Faults::default();
+    for w in text.words(words) {
+        f = judge_word(words, f, *w);
     }
-    fault_number(f)
+    fault_told(f)
 }

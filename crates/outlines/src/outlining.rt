@@ -3,18 +3,19 @@ ghost use Rattle.std.specs.Prelude.{◌≡◌, ◌≤◌, take, drop};
 ghost use Rattle.outlines.specs.Readings.{Nested, nested, word_read, words_read, outlined};
 ghost use Rattle.outlines.specs.Words.{look_up};
 
-use super::readings::{Outline, Reading, advance, refer, sound_chord, start, sum_up};
+use super::readings::{Outline, Reading, advance, refer, sound, start, sum_up};
 use super::words::outline_for;
-use score::{Stretch, least, word_at};
+use score::Stretch;
 use tokens::{CHORDS, LOOPS_DEEP, REFERENCE, kind, number};
 
 // One word, most often a chord; a reference says what the outline of its definition says.
+#[tactic(auto, unfolding(crate::specs::Readings::word_read))]
 pub fn follow(words: &[u32], around: &mut [usize], s: Reading, w: u32) -> Reading
     ensures { ◌≡◌ {A = Nested} (nested result around.new) (word_read (look_up words.now) (nested s around.old) w) }
 {
     let k = kind(w);
     if k < CHORDS {
-        return sound_chord(s);
+        return sound(k, s);
     }
     if k == REFERENCE {
         return refer(outline_for(words, number(w)), s);
@@ -27,12 +28,9 @@ pub fn read_words(words: &[u32], text: Stretch, around: &mut [usize], first: Rea
     ensures { result ≡ (words_read (look_up words.now) (nested first around.old)
         (drop text.from (take text.to words.now))).reading }
 {
-    let end = least(text.to, words.len());
-    let mut i = text.from;
     let mut s = first;
-    while i < end {
-        s = follow(words, around, s, word_at(words, text.to, i));
-        i += 1;
+    for w in text.words(words) {
+        s = follow(words, around, s, *w);
     }
     s
 }
@@ -43,5 +41,5 @@ pub fn outline_of(words: &[u32], text: Stretch) -> Outline
 {
     let mut around = [0usize; LOOPS_DEEP];
     let s = read_words(words, text, &mut around, start());
-    sum_up(least(text.to, words.len()) <= text.from, s)
+    sum_up(text.words(words).is_empty(), s)
 }

@@ -3,9 +3,7 @@ ghost use Rattle.std.specs.Prelude.{◌≡◌};
 ghost use Rattle.outlines.specs.Readings.{started, sounded, closed, opened, loop_shut, referred, Nested, nested, step_of, summed};
 
 use super::around::{keep, kept};
-use super::signs::{
-    both, capped_sum, capped_times, deeper_of, either, inner_level, one_more, outer_level, unless,
-};
+use super::signs::{capped_sum, capped_times, inner_level, one_more};
 use super::sizes::join;
 use tokens::{AGAIN, CHORDS, CLOSES, OPENS, REMOVER, is_position, kind, number};
 
@@ -26,7 +24,7 @@ pub struct Outline {
 
 // A text read up to some place: the positions of the measure at hand, how many measures the row at hand has so far, how many loops are
 // open around it, and how many were at most.
-#[derive(Drop)]
+#[derive(Clone, Copy)]
 pub struct Reading {
     pub refers: bool,
     pub wants: bool,
@@ -39,6 +37,7 @@ pub struct Reading {
     pub deepest: usize,
 }
 
+#[tactic(auto, unfolding(crate::specs::Readings::started))]
 pub fn start() -> Reading
     ensures { result ≡ started }
 {
@@ -56,40 +55,21 @@ pub fn start() -> Reading
 }
 
 // A position of a measure, of kind `k`.
+#[tactic(auto, unfolding(crate::specs::Readings::sounded))]
 pub fn sound(k: u32, s: Reading) -> Reading
     ensures { result ≡ sounded k s }
 {
     Reading {
-        refers: s.refers,
-        sizes: s.sizes,
-        wants: either(s.wants, unless(k == AGAIN, s.chord)),
-        chord: either(s.chord, k < CHORDS),
-        whole: unless(s.whole, k == REMOVER),
+        wants: s.wants | ((k == AGAIN) & !s.chord),
+        chord: s.chord | (k < CHORDS),
+        whole: s.whole & (k != REMOVER),
         positions: one_more(s.positions),
-        count: s.count,
-        level: s.level,
-        deepest: s.deepest,
-    }
-}
-
-// A chord, of whichever kind.
-pub fn sound_chord(s: Reading) -> Reading
-    ensures { result ≡ sounded 0 s }
-{
-    Reading {
-        refers: s.refers,
-        sizes: s.sizes,
-        wants: s.wants,
-        chord: true,
-        whole: s.whole,
-        positions: one_more(s.positions),
-        count: s.count,
-        level: s.level,
-        deepest: s.deepest,
+        ..s
     }
 }
 
 // The end of a measure, if one is at hand.
+#[tactic(auto, unfolding(crate::specs::Readings::closed))]
 pub fn close(s: Reading) -> Reading
     ensures { result ≡ closed s }
 {
@@ -97,71 +77,57 @@ pub fn close(s: Reading) -> Reading
         return s;
     }
     Reading {
-        refers: s.refers,
         sizes: join(s.sizes, s.positions),
-        wants: s.wants,
-        chord: s.chord,
-        whole: s.whole,
         positions: 0,
         count: capped_sum(s.count, 1),
-        level: s.level,
-        deepest: s.deepest,
+        ..s
     }
 }
 
 // An opening bracket: the row inside begins.
+#[tactic(auto, unfolding(crate::specs::Readings::opened))]
 pub fn open(s: Reading) -> Reading
     ensures { result ≡ opened s }
 {
     let level = inner_level(s.level);
     Reading {
-        refers: s.refers,
-        sizes: s.sizes,
-        wants: s.wants,
-        chord: s.chord,
-        whole: s.whole,
-        positions: s.positions,
         count: 0,
         level,
-        deepest: deeper_of(s.deepest, level),
+        deepest: s.deepest.max(level),
+        ..s
     }
 }
 
 // A closing bracket behind the last measure: the row is played `n` times, behind the `outer` measures before its loop.
+#[tactic(auto, unfolding(crate::specs::Readings::loop_shut))]
 pub fn shut_loop(n: u32, outer: usize, s: Reading) -> Reading
     ensures { result ≡ loop_shut n outer s }
 {
     Reading {
-        refers: s.refers,
-        sizes: s.sizes,
-        wants: s.wants,
-        chord: s.chord,
-        whole: s.whole,
-        positions: s.positions,
         count: capped_sum(outer, capped_times(n, s.count)),
-        level: outer_level(s.level),
-        deepest: s.deepest,
+        level: s.level.saturating_sub(1),
+        ..s
     }
 }
 
 // A reference to a text of that outline.
+#[tactic(auto, unfolding(crate::specs::Readings::referred))]
 pub fn refer(o: Outline, s: Reading) -> Reading
     ensures { result ≡ referred o s }
 {
     Reading {
         refers: true,
         sizes: join(s.sizes, o.sizes),
-        wants: either(s.wants, unless(o.wants, s.chord)),
-        chord: either(s.chord, o.chord),
-        whole: both(s.whole, o.whole),
-        positions: s.positions,
+        wants: s.wants | (o.wants & !s.chord),
+        chord: s.chord | o.chord,
+        whole: s.whole & o.whole,
         count: capped_sum(s.count, o.measures),
-        level: s.level,
-        deepest: s.deepest,
+        ..s
     }
 }
 
 // Any word but a reference: the number of a row waits in `around` from an opening bracket to the closing one.
+#[tactic(auto, unfolding(crate::specs::Readings::step_of, crate::specs::Readings::entered, crate::specs::Readings::left))]
 pub fn advance(around: &mut [usize], s: Reading, w: u32) -> Reading
     ensures { ◌≡◌ {A = Nested} (nested result around.new) (step_of (nested s around.old) w) }
 {
@@ -174,13 +140,14 @@ pub fn advance(around: &mut [usize], s: Reading, w: u32) -> Reading
         return open(s);
     }
     if k == CLOSES {
-        let outer = kept(around, outer_level(s.level));
+        let outer = kept(around, s.level.saturating_sub(1));
         return shut_loop(number(w), outer, close(s));
     }
     close(s)
 }
 
 // The outline of the text read to its end.
+#[tactic(auto, unfolding(crate::specs::Readings::summed))]
 pub fn sum_up(empty: bool, s: Reading) -> Outline
     ensures { result ≡ summed empty (closed s) }
 {

@@ -1,66 +1,37 @@
-// Two answers put together, numbers that stop at 65,536, and levels of loops, which stop at 7.
-ghost use Rattle.std.specs.Prelude.{◌≡◌, ◌||◌, ◌&&◌, not, ◌+◌, ◌-◌, ◌*◌, min, max};
+// Numbers of measures, positions and levels, each with the most that an outline tells.
+ghost use Rattle.std.specs.Prelude.{◌≡◌, ◌+◌, ◌*◌, min};
 
-use score::least;
+// An outline tells measures up to 65,536, positions of a measure up to 33, which fit no N, and loops up to 7 deep.
+const MEASURES_TOLD: usize = 65536;
 
-pub fn either(a: bool, b: bool) -> bool
-    ensures { result ≡ (a || b) }
-{
-    a || b
-}
+const POSITIONS_TOLD: usize = 33;
 
-pub fn both(a: bool, b: bool) -> bool
-    ensures { result ≡ (a && b) }
-{
-    a && b
-}
+const DEPTH_TOLD: usize = 7;
 
-pub fn unless(a: bool, b: bool) -> bool
-    ensures { result ≡ (a && not b) }
-{
-    a && !b
-}
-
-// A sum, 65,536 where it is more.
+// Measures behind others.
 pub fn capped_sum(a: usize, b: usize) -> usize
     ensures { result ≡ min 65536 (a + b) }
 {
-    least(65536, least(65536, a) + least(65536, b))
+    a.saturating_add(b).min(MEASURES_TOLD)
 }
 
-// So many times a number, 65,536 where it is more.
+// Measures that are played so many times.
 pub fn capped_times(n: u32, a: usize) -> usize
     ensures { result ≡ min 65536 (n * a) }
 {
-    least(65536, (n as usize) * least(65536, a))
+    a.saturating_mul(n as usize).min(MEASURES_TOLD)
 }
 
-// One more position, 33 where there are more than 32.
+// One more position.
 pub fn one_more(p: usize) -> usize
     ensures { result ≡ min 33 (p + 1) }
 {
-    least(33, least(33, p) + 1)
+    p.min(POSITIONS_TOLD - 1) + 1
 }
 
-// The deepest level that an outline's word holds.
-const DEPTH_MOST: usize = 7;
-
-// One loop further in, 7 where there are more.
+// One loop further in.
 pub fn inner_level(level: usize) -> usize
     ensures { result ≡ min 7 (level + 1) }
 {
-    least(DEPTH_MOST, least(DEPTH_MOST, level) + 1)
-}
-
-// One loop further out, 0 outside of all.
-pub fn outer_level(level: usize) -> usize
-    ensures { result ≡ level - 1 }
-{
-    if level == 0 { 0 } else { level - 1 }
-}
-
-pub fn deeper_of(a: usize, b: usize) -> usize
-    ensures { result ≡ max a b }
-{
-    if a < b { b } else { a }
+    level.min(DEPTH_TOLD - 1) + 1
 }

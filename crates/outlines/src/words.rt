@@ -1,7 +1,7 @@
 // The outlines of the definitions: each is a word of the row, behind its definition's head.
-ghost use Rattle.std.specs.Prelude.{◌≡◌, ◌≤◌, ◌*◌};
+ghost use Rattle.std.specs.Prelude.{◌≡◌, ◌≤◌, ◌+◌, true, false, get_or, MatchOption};
+ghost use Rattle.score.specs.Places.{place_of};
 ghost use Rattle.outlines.specs.Words.{is_set, outline_word, outline_in, is_missing, look_up};
-ghost use Rattle.score.specs.Sections.{bit};
 
 use super::readings::Outline;
 use score::{entry_at, length_at, place_of};
@@ -28,33 +28,36 @@ const ALL_SIZES: usize = 64;
 
 const ALL_DEPTHS: usize = 8;
 
-fn weighed(b: bool, weight: usize) -> usize
-    requires { weight ≤ 256 }
-    ensures { (result ≡ bit b * weight) × (result ≤ weight) }
-{
-    if b { weight } else { 0 }
-}
+// The outline of an empty text.
+const VACANT: Outline = Outline {
+    empty: true,
+    depth: 0,
+    refers: false,
+    sizes: 1,
+    wants: false,
+    chord: false,
+    whole: true,
+    measures: 0,
+};
 
 // An outline as a word.
+#[tactic(auto, unfolding(crate::specs::Words::outline_word))]
 pub fn outline_word(o: Outline) -> u32
     requires { (o.sizes ≤ 33) × (o.measures ≤ 65536) × (o.depth ≤ 7) }
     ensures { result ≡ outline_word o }
 {
-    let wants = weighed(o.wants, WANTS);
-    let empty = weighed(o.empty, EMPTY);
-    let chord = weighed(o.chord, CHORD);
-    let refers = weighed(o.refers, REFERS);
-    let whole = weighed(o.whole, WHOLE);
-    (o.measures * MEASURES
+    let word = o.measures * MEASURES
         + o.sizes * SIZES
-        + wants
-        + empty
-        + chord
-        + refers
+        + usize::from(o.wants) * WANTS
+        + usize::from(o.empty) * EMPTY
+        + usize::from(o.chord) * CHORD
+        + usize::from(o.refers) * REFERS
         + o.depth * DEPTH
-        + whole) as u32
+        + usize::from(o.whole) * WHOLE;
+    word as u32
 }
 
+#[tactic(auto, unfolding(crate::specs::Words::is_set))]
 fn is_set(w: usize, weight: usize) -> bool
     requires { 1 ≤ weight }
     ensures { result ≡ is_set w weight }
@@ -63,6 +66,7 @@ fn is_set(w: usize, weight: usize) -> bool
 }
 
 // The outline that a word says.
+#[tactic(auto, unfolding(crate::specs::Words::outline_in))]
 fn outline_in(word: u32) -> Outline
     ensures { result ≡ outline_in word }
 {
@@ -79,28 +83,30 @@ fn outline_in(word: u32) -> Outline
     }
 }
 
+// The outline of the definition of that number, if there is one.
+#[tactic(auto, unfolding(crate::specs::Words::is_missing))]
+pub fn outline_if_defined(words: &[u32], x: u32) -> Option<Outline>
+    ensures { MatchOption result (is_missing words.now x ≡ true)
+        (λ o. (is_missing words.now x ≡ false) × (o ≡ outline_in (get_or words.now (place_of words.now x + 1) 0))) }
+{
+    let place = place_of(words, x);
+    if length_at(words, place) == 0 {
+        return None;
+    }
+    Some(outline_in(entry_at(words, place + 1)))
+}
+
 // Whether no definition has that number.
 pub fn is_missing(words: &[u32], x: u32) -> bool
     ensures { result ≡ is_missing words.now x }
 {
-    length_at(words, place_of(words, x)) == 0
+    outline_if_defined(words, x).is_none()
 }
 
 // The outline of the definition of that number; that of an empty text where there is none.
+#[tactic(auto, unfolding(crate::specs::Words::look_up, crate::specs::Words::vacant))]
 pub fn outline_for(words: &[u32], x: u32) -> Outline
     ensures { result ≡ look_up words.now x }
 {
-    if is_missing(words, x) {
-        return Outline {
-            empty: true,
-            depth: 0,
-            refers: false,
-            sizes: 1,
-            wants: false,
-            chord: false,
-            whole: true,
-            measures: 0,
-        };
-    }
-    outline_in(entry_at(words, place_of(words, x) + 1))
+    outline_if_defined(words, x).unwrap_or(VACANT)
 }

@@ -5,12 +5,12 @@ ghost use Rattle.std.specs.Prelude.{◌≡◌, ◌+◌, ◌-◌, ◌*◌, ◌/�
 pub const SILENCE: u32 = 63;
 
 // What stands behind the base.
-const BEHIND: u32 = 67108864;
+const BEHIND: u32 = 1 << 26;
 
 // The bits not named.
-const SPARE: u32 = 16;
+const SPARE: u32 = 1 << 4;
 
-const HEAD: u32 = 16;
+const HEAD: u32 = 1 << 4;
 
 pub fn beat_base(word: u32) -> u32
     ensures { result ≡ word / 2 ^ 26 }

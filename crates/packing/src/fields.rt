@@ -1,8 +1,9 @@
 // The fields of the words of the sections, measures, beats and items tables, taken out of the bits that they are packed in.
 // Any word may be asked, also one that no table holds; bits that document 01 does not name say nothing.
+ghost use Rattle.std.specs.Prelude.{◌≡◌, ◌/◌, ◌%◌, ◌^◌, ◌<◌};
 ghost use Rattle.packing.specs.Fields.{HoldsSection, HoldsMeasure, HoldsBeat, HoldsItem};
 
-#[derive(Drop)]
+#[derive(Clone, Copy, PartialEq, Eq)]
 pub struct SectionFields {
     pub header: usize,
     pub first: usize,
@@ -11,13 +12,13 @@ pub struct SectionFields {
     pub tempo: usize,
 }
 
-#[derive(Drop)]
+#[derive(Clone, Copy, PartialEq, Eq)]
 pub struct MeasureFields {
     pub first: usize,
     pub beats: usize,
 }
 
-#[derive(Drop)]
+#[derive(Clone, Copy, PartialEq, Eq)]
 pub struct BeatFields {
     pub base: usize,
     pub extension: usize,
@@ -25,7 +26,7 @@ pub struct BeatFields {
     pub head: bool,
 }
 
-#[derive(Drop)]
+#[derive(Clone, Copy, PartialEq, Eq)]
 pub struct ItemFields {
     pub offset: usize,
     pub length: usize,
@@ -34,16 +35,24 @@ pub struct ItemFields {
     pub style: usize,
 }
 
+// The field of so many bits, so many from the lowest on.
+fn field(word: u64, from: u32, bits: u32) -> usize
+    requires { (from < 64) × (bits < 64) }
+    ensures { result ≡ word / 2 ^ from % 2 ^ bits }
+{
+    ((word >> from) & ((1 << bits) - 1)) as usize
+}
+
 // sections: header line 17, first measure 16, measures 16, N 6, bpm 9.
 pub fn section_of(word: u64) -> SectionFields
     ensures { HoldsSection word result }
 {
     SectionFields {
-        header: (word / 140737488355328) as usize,
-        first: (word / 2147483648 % 65536) as usize,
-        measures: (word / 32768 % 65536) as usize,
-        meter: (word / 512 % 64) as usize,
-        tempo: (word % 512) as usize,
+        header: field(word, 47, 17),
+        first: field(word, 31, 16),
+        measures: field(word, 15, 16),
+        meter: field(word, 9, 6),
+        tempo: field(word, 0, 9),
     }
 }
 
@@ -51,9 +60,10 @@ pub fn section_of(word: u64) -> SectionFields
 pub fn measure_of(word: u32) -> MeasureFields
     ensures { HoldsMeasure word result }
 {
+    let word = u64::from(word);
     MeasureFields {
-        first: (word / 2048) as usize,
-        beats: (word / 32 % 64) as usize,
+        first: field(word, 11, 21),
+        beats: field(word, 5, 6),
     }
 }
 
@@ -61,11 +71,12 @@ pub fn measure_of(word: u32) -> MeasureFields
 pub fn beat_of(word: u32) -> BeatFields
     ensures { HoldsBeat word result }
 {
+    let word = u64::from(word);
     BeatFields {
-        base: (word / 67108864) as usize,
-        extension: (word / 1024 % 65536) as usize,
-        length: (word / 32 % 32) as usize,
-        head: word / 16 % 2 == 1,
+        base: field(word, 26, 6),
+        extension: field(word, 10, 16),
+        length: field(word, 5, 5),
+        head: field(word, 4, 1) == 1,
     }
 }
 
@@ -74,10 +85,10 @@ pub fn item_of(word: u64) -> ItemFields
     ensures { HoldsItem word result }
 {
     ItemFields {
-        offset: (word / 281474976710656) as usize,
-        length: (word / 4294967296 % 65536) as usize,
-        first: (word / 65536 % 65536) as usize,
-        measures: (word / 4 % 16384) as usize,
-        style: (word % 4) as usize,
+        offset: field(word, 48, 16),
+        length: field(word, 32, 16),
+        first: field(word, 16, 16),
+        measures: field(word, 2, 14),
+        style: field(word, 0, 2),
     }
 }

@@ -22,7 +22,7 @@ pub fn key_word(offset: usize, length: usize) -> u32
     requires { (offset < 65536) × (length < 512) }
     ensures { result ≡ 2 ^ 31 + offset * 2 ^ 15 + length * 2 ^ 6 }
 {
-    2147483648 + (offset as u32) * 32768 + (length as u32) * 64
+    (1 << 31) + ((offset as u32) << 15) + ((length as u32) << 6)
 }
 
 // sections: header line 17, first measure 16, measures 16, N 6, bpm 9.
@@ -30,10 +30,10 @@ pub fn section_word(header: usize, first: usize, measures: usize, meter: usize, 
     requires { (header < 131072) × (first < 65536) × (measures < 65536) × (meter < 64) × (tempo < 512) }
     ensures { result ≡ section_word header first measures meter tempo }
 {
-    (header as u64) * 140737488355328
-        + (first as u64) * 2147483648
-        + (measures as u64) * 32768
-        + (meter as u64) * 512
+    ((header as u64) << 47)
+        + ((first as u64) << 31)
+        + ((measures as u64) << 15)
+        + ((meter as u64) << 9)
         + (tempo as u64)
 }
 
@@ -42,20 +42,20 @@ pub fn measure_word(first: usize, beats: usize) -> u32
     requires { (first < 2097152) × (beats < 64) }
     ensures { result ≡ measure_word first beats }
 {
-    (first as u32) * 2048 + (beats as u32) * 32
+    ((first as u32) << 11) + ((beats as u32) << 5)
 }
 
 // So much more is the word of a measure that begins a beat later.
-pub const BEAT_LATER: usize = 2048;
+pub const BEAT_LATER: usize = 1 << 11;
 
 // items: text offset 16, length 16, first measure 16, measures 14, style 2.
 pub fn item_word(offset: usize, length: usize, first: usize, measures: usize, style: usize) -> u64
     requires { (offset < 65536) × (length < 65536) × (first < 65536) × (measures < 16384) × (style < 4) }
     ensures { result ≡ packed_item offset length first measures style }
 {
-    (offset as u64) * 281474976710656
-        + (length as u64) * 4294967296
-        + (first as u64) * 65536
-        + (measures as u64) * 4
+    ((offset as u64) << 48)
+        + ((length as u64) << 32)
+        + ((first as u64) << 16)
+        + ((measures as u64) << 2)
         + (style as u64)
 }

@@ -1,6 +1,6 @@
 -- A pass that is passed over, or written whole, done again by arithmetic or by copying: what playing its row would leave.
 use Rattle.std.proofs.Common.{◌≡◌, ℕ, zero, suc, ◌+◌, ◌-◌, ◌*◌, ◌<◌, ◌≤◌, List, [], ◌∷◌, map, length, take, sym, refl, ◌∙◌, subst, append-nil, arith}
-use Rattle.std.proofs.Common.{true, false, drop_of_length-le, take_all}
+use Rattle.std.proofs.Common.{drop_of_length-le, take_all}
 use lib.Seq.{sets, take-nil}
 use Rattle.songcode.specs.Lists.{times}
 use Rattle.songcode.specs.Answer.Playing.{keep}
@@ -11,23 +11,9 @@ use Rattle.player.specs.declared.pens.Pen.{Pen}
 use Rattle.player.specs.Page.{Page, Fine, play, page}
 use Rattle.player.specs.Windows.{window, flat, heads}
 use Rattle.player.specs.Again.{Took, Skips, Copies, skipped_of, copied_of, copy_of, same, later}
-use Rattle.player.proofs.PageLaws.{not_none}
 use Rattle.player.proofs.ContentLaws.{Done, played}
 use Rattle.player.proofs.WindowLaws.{total_window, window_large, length_flat, length_heads}
 use Rattle.player.proofs.CopyLaws.{sets_again, map_same, heads_later}
-
-pub not_true : {X : Type 0} → false ≡ true → X
-not_true h = let z : ◌≡◌ {A = ℕ} 0 1 = cc in absurd (omega arith)
-
--- What the two tests find.
-pub skips_found : (p q : Pen) (k m b : ℕ) → m ≡ p.todo - q.todo → b ≡ p.skip - q.skip → (q.todo ≡ 0 → ⊥) → (q.skip ≡ 0 → ⊥) → k * m ≤ q.todo
-    → k * b < q.skip → Skips p q k
-skips_found p q k m b e f t s h l = record { some_todo = not_none t; some_skip = not_none s; measures = rw (← e) h; beats = rw (← f) l }
-
-pub copies_found : (p q : Pen) (m b : ℕ) → m ≡ p.todo - q.todo → b ≡ q.b - p.b → p.skip ≤ 0 → (q.todo ≡ 0 → ⊥) → (q.left ≡ 0 → ⊥) → m ≤ q.todo
-    → b < q.left → Copies p q
-copies_found p q m b e f s t l h i =
-    record { no_skip = omega arith; some_todo = not_none t; some_left = not_none l; measures = omega arith; beats = omega arith }
 
 -- Rows of which every beat is passed over.
 window_passed : (s n : ℕ) (row : List (List ℕ)) → total row ≤ s → window s n row ≡ []
@@ -52,18 +38,18 @@ page_equal g h a b c d e f i j = same_fields _ _ _ _ _ _ _ _ _ _ _ _ _ _ _ _ a b
     same_fields base base' todo todo' skip skip' left left' m m' b b' ms ms' bs bs' p q r s t u v w = rw (p, q, r, s, t, u, v, w)
 
 -- The pass that took the pen.
-took_done : (row : List (List ℕ)) (p q : Pen) (ms bs : List ℕ) (t : Took row p q ms bs) → Done (page p t.ms_before t.bs_before) (page q ms bs) row
+took_done : (row : List (List ℕ)) (p q : Pen) (ms bs : List ℕ) (t : Took row p (page q ms bs)) → Done (page p t.ms_before t.bs_before) (page q ms bs) row
 took_done row p q ms bs t = let g : Page = page p t.ms_before t.bs_before in subst (λ (h : Page). Done g h row) (sym t.pass) (played row g)
 
-pub took_onward : (row : List (List ℕ)) (p q : Pen) (ms bs : List ℕ) → Took row p q ms bs → (p.m ≤ q.m) × (p.b ≤ q.b)
+pub took_onward : (row : List (List ℕ)) (p q : Pen) (ms bs : List ℕ) → Took row p (page q ms bs) → (p.m ≤ q.m) × (p.b ≤ q.b)
 took_onward row p q ms bs t = let d = took_done row p q ms bs t in (omega (arith, d.m), omega (arith, d.b))
 
 -- It ended before the last measure, so it looked at the whole row.
-whole_row : (row : List (List ℕ)) (p q : Pen) (ms bs : List ℕ) → Took row p q ms bs → 1 ≤ q.todo → 1 ≤ q.skip + q.left
+whole_row : (row : List (List ℕ)) (p q : Pen) (ms bs : List ℕ) → Took row p (page q ms bs) → 1 ≤ q.todo → 1 ≤ q.skip + q.left
     → (take p.todo row ≡ row) × (p.todo - q.todo ≡ length row)
 whole_row row p q ms bs t h some = let e = (took_done row p q ms bs t).todo some in (take_all p.todo row (omega arith), omega arith)
 
-passed_beats : (row : List (List ℕ)) (p q : Pen) (ms bs : List ℕ) → Took row p q ms bs → 1 ≤ q.todo → 1 ≤ q.skip → p.skip - q.skip ≡ total row
+passed_beats : (row : List (List ℕ)) (p q : Pen) (ms bs : List ℕ) → Took row p (page q ms bs) → 1 ≤ q.todo → 1 ≤ q.skip → p.skip - q.skip ≡ total row
 passed_beats row p q ms bs t h k =
     let d = took_done row p q ms bs t in
     let e : q.skip ≡ p.skip - total row = rw (whole_row row p q ms bs t h (omega arith)).0 at d.skip in
@@ -87,7 +73,7 @@ row_passed row q r ms bs h k a b c d e f =
     page_equal (page r ms bs) (play row (page q ms bs)) (a ∙ sym n.base) (b ∙ sym (n.todo (omega arith))) (c ∙ sym s) (omega arith) (omega arith)
     (omega arith) (sym x) (sym y)
 
-pub skipped_again : (row : List (List ℕ)) (p q r : Pen) (k : ℕ) (ms bs : List ℕ) → Took row p q ms bs → Skips p q k → r ≡ skipped_of p q k
+pub skipped_again : (row : List (List ℕ)) (p q r : Pen) (k : ℕ) (ms bs : List ℕ) → Took row p (page q ms bs) → Skips p q k → r ≡ skipped_of p q k
     → page r ms bs ≡ play (times k row) (page q ms bs)
 unfolding skipped_of
 skipped_again row p q r k ms bs t s e =
@@ -100,7 +86,7 @@ skipped_again row p q r k ms bs t s e =
     let j = s.beats in
     rw e (row_passed (times k row) q (skipped_of p q k) ms bs (omega arith) (omega arith) refl (rw l) (rw m) refl refl refl)
 
-pub skipped_once : (row : List (List ℕ)) (p q r : Pen) (ms bs : List ℕ) → Took row p q ms bs → Skips p q 1 → r ≡ skipped_of p q 1
+pub skipped_once : (row : List (List ℕ)) (p q r : Pen) (ms bs : List ℕ) → Took row p (page q ms bs) → Skips p q 1 → r ≡ skipped_of p q 1
     → page r ms bs ≡ play row (page q ms bs)
 unfolding times
 skipped_once row p q r ms bs t s e = rw append-nil at (skipped_again row p q r 1 ms bs t s e)
@@ -117,7 +103,7 @@ record Written (row : List (List ℕ)) (p q : Pen) (ms bs ms_before bs_before : 
   words : ms ≡ sets ms_before p.m (heads (p.base + p.b) (window 0 p.left row))
   sounds : bs ≡ sets bs_before p.b (flat (window 0 p.left row))
 
-written : (row : List (List ℕ)) (p q : Pen) (ms bs : List ℕ) (t : Took row p q ms bs) → Copies p q → Written row p q ms bs t.ms_before t.bs_before
+written : (row : List (List ℕ)) (p q : Pen) (ms bs : List ℕ) (t : Took row p (page q ms bs)) → Copies p q → Written row p q ms bs t.ms_before t.bs_before
 written row p q ms bs t c =
     let d = took_done row p q ms bs t in
     let some = c.some_left in
@@ -140,7 +126,7 @@ written row p q ms bs t c =
       sounds = rw (a.0, z) at d.bs;
     }
 
-pub copied_again : (row : List (List ℕ)) (p q r : Pen) (ms bs ms' bs' : List ℕ) → Fine q → Took row p q ms bs → Copies p q → r ≡ copied_of p q
+pub copied_again : (row : List (List ℕ)) (p q r : Pen) (ms bs ms' bs' : List ℕ) → Fine q → Took row p (page q ms bs) → Copies p q → r ≡ copied_of p q
     → ms' ≡ copy_of (later ((q.b - p.b) * 2048)) ms p.m q.m → bs' ≡ copy_of same bs p.b q.b → page r ms' bs' ≡ play row (page q ms bs)
 unfolding copied_of
 copied_again row p q r ms bs ms' bs' f t c e g h =

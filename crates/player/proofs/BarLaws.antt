@@ -1,42 +1,35 @@
 -- The beats of a measure written one position after another, where the table has room for all of them.
-use Rattle.std.proofs.Common.{◌≡◌, ℕ, zero, suc, ◌+◌, ◌-◌, ◌*◌, ◌<◌, ◌≤◌, List, [], ◌∷◌, ◌++◌, length, get_or, take, drop, set, replicate, sym, refl, ap, ◌∙◌}
-use Rattle.std.proofs.Common.{add-one, arith, length-take, take_all, lt-ltb, eq-eqb, ne_eqb}
-use lib.Seq.{sets}
+use Rattle.std.proofs.Common.{◌≡◌, ℕ, zero, suc, ◌+◌, ◌-◌, ◌*◌, ◌≤◌, List, [], ◌∷◌, ◌++◌, length, take, drop, set, replicate, sym, ap, ◌∙◌}
+use Rattle.std.proofs.Common.{append_assoc, arith, length-drop, length-take-le, take_all, eq-eqb, ne_eqb}
+use lib.Seq.{sets, sets-eq, drop-drop}
+use borrow.Rule.Slice.PartMut.{put_mid}
 use Rattle.songcode.specs.Lists.{provided◌then◌else◌}
 use Rattle.songcode.proofs.MemoryLaws.{sets_append}
-use Rattle.score.specs.Places.{word_of}
-use Rattle.score.proofs.WordLaws.{word_is}
 use Rattle.tokens.specs.Signs.{kind_of}
 use Rattle.player.specs.declared.pens.Pen.{Pen}
 use Rattle.player.specs.declared.bars.Bar.{Bar}
 use Rattle.player.specs.Bars.{beats_of, Counted}
-use Rattle.player.specs.Signs.{voice_of, chord_of, lasting_of, part_of, parts_of, sounds_as, sounding_of, positions_at}
+use Rattle.player.specs.Signs.{voice_of, chord_of, lasting_of, part_of, parts_of, sounds_as, sounding_of}
 use Rattle.player.specs.Page.{Ink, inked}
-use Rattle.player.proofs.SignLaws.{position_within, position_there, positions_next, part_length, parts_length}
+use Rattle.player.proofs.SignLaws.{lasting_length, part_length, parts_length}
 use Rattle.player.proofs.ContentLaws.{inked_is, ink_eq}
 
--- A word n times.
-pub words_next : (n i w b : ℕ) (t goal : List ℕ) → i < n → sets t (b + i) (replicate (n - i) w) ≡ goal
-    → sets (set t (b + i) w) (b + (i + 1)) (replicate (n - (i + 1)) w) ≡ goal
-words_next n i w b t goal h e =
-    let s : n - i ≡ suc (n - (i + 1)) = omega arith in
-    let z : b + (i + 1) ≡ suc (b + i) = omega arith in
-    rw z (rw s at e)
-
-pub words_over : (n i w b : ℕ) (t goal : List ℕ) → n ≤ i → sets t (b + i) (replicate (n - i) w) ≡ goal → t ≡ goal
-words_over n i w b t goal h e = let s : n - i ≡ 0 = omega arith in rw s at e
-
--- A sound.
-pub sound_none : (share v b : ℕ) (t : List ℕ) → share ≡ 0 → t ≡ sets t b (lasting_of share v)
+-- A sound: a table filled with its word, then the head; where the table has no place, neither changes it.
+pub sound_set : (n v w : ℕ) (t : List ℕ) → t ≡ replicate n v → w ≡ v + 16 → set t 0 w ≡ lasting_of n v
 unfolding lasting_of
-sound_none zero v b t e = refl
-sound_none (suc k) v b t e = absurd (omega arith)
+sound_set zero v w t e f = rw e
+sound_set (suc n) v w t e f = rw (e, f)
 
-pub sound_some : (share v b : ℕ) (t t' : List ℕ) → (share ≡ 0 → ⊥) → t' ≡ sets (set t b (v + 16)) (b + 1) (replicate (share - 1) v)
-    → t' ≡ sets t b (lasting_of share v)
+pub sound_none : (n v : ℕ) (t : List ℕ) → t ≡ replicate n v → length t ≤ 0 → t ≡ lasting_of n v
 unfolding lasting_of
-sound_some zero v b t t' n e = absurd (n refl)
-sound_some (suc k) v b t t' n e = let z : suc k - 1 ≡ k = omega arith in e ∙ rw (z, add-one b)
+sound_none zero v t e h = e
+sound_none (suc n) v t e h = let z : suc (length (replicate n v)) ≤ 0 = rw e at h in absurd (omega arith)
+
+-- Words written into a part of a table.
+put_part : (b k : ℕ) (t xs : List ℕ) → k ≡ length xs → b + k ≤ length t → put_mid b k t xs ≡ sets t b xs
+put_part b k t xs e h =
+    let d : drop k (drop b t) ≡ drop (b + length xs) t = rw e (drop-drop (length xs) b t) in
+    rw d (sym (append_assoc (take b t) xs (drop (b + length xs) t)) ∙ sym (sets-eq xs t b (omega arith)))
 
 -- A position.
 pub bar_removed : (share last w k b : ℕ) (t : List ℕ) → k ≡ kind_of w → k ≡ 61
@@ -44,67 +37,51 @@ pub bar_removed : (share last w k b : ℕ) (t : List ℕ) → k ≡ kind_of w �
 unfolding part_of sounds_as provided◌then◌else◌
 bar_removed share last w k b t e h = let z = eq-eqb (kind_of w) 61 (sym e ∙ h) in (simp z (omega arith), simp z)
 
--- A chord sounds itself.
-pub chord_voice : (last w k : ℕ) → k ≡ kind_of w → k < 34 → w ≡ voice_of last w
-unfolding voice_of provided◌then◌else◌
-chord_voice last w k e h = simp (lt-ltb (kind_of w) 34 (omega arith))
-
 pub bar_place : (share w k b : ℕ) → k ≡ kind_of w → (k ≡ 61 → ⊥) → b + share ≡ b + share * sounds_as (kind_of w)
 unfolding sounds_as provided◌then◌else◌
 bar_place share w k b e n = let y : (kind_of w ≡ 61 → ⊥) = λ x. n (e ∙ x) in simp (ne_eqb (kind_of w) 61 y) (omega arith)
 
-pub bar_sounds : (share last w k v b : ℕ) (t t' : List ℕ) → k ≡ kind_of w → (k ≡ 61 → ⊥) → v ≡ voice_of last w → t' ≡ sets t b (lasting_of share v)
-    → t' ≡ sets t b (part_of share last w)
+pub bar_sounds : (share last w k v b e : ℕ) (t ys : List ℕ) → k ≡ kind_of w → (k ≡ 61 → ⊥) → v ≡ voice_of last w → e ≡ b + share → e ≤ length t
+    → ys ≡ lasting_of (length (take (e - b) (drop b t))) v → put_mid b (e - b) t ys ≡ sets t b (part_of share last w)
 unfolding part_of provided◌then◌else◌
-bar_sounds share last w k v b t t' e n p q = let y : (kind_of w ≡ 61 → ⊥) = λ x. n (e ∙ x) in simp (ne_eqb (kind_of w) 61 y, ← p) q
+bar_sounds share last w k v b e t ys p n q f h y =
+    let s : e - b ≡ share = omega arith in
+    let l : length (take share (drop b t)) ≡ share = length-take-le share (drop b t) (simp length-drop (omega arith)) in
+    let y' : ys ≡ lasting_of share v = rw (s, l) at y in
+    let m : (kind_of w ≡ 61 → ⊥) = λ x. n (p ∙ x) in
+    simp (s, ne_eqb (kind_of w) 61 m, ← q)
+    (rw y' (put_part b share t (lasting_of share v) (sym (lasting_length share v)) (omega arith)))
 
 -- The positions of a measure.
 times_sum : (s a b : ℕ) → s * (a + b) ≡ s * a + s * b
 times_sum s a b = omega arith
 
-pub bar_inside : (ws : List ℕ) (to i stop : ℕ) → i < stop → stop ≡ i + length (positions_at ws to i) → (i < length ws) × (get_or ws i 0 ≡ word_of ws to i)
-bar_inside ws to i stop lt e =
-    let h = position_within ws to i (position_there ws to i (omega arith)) in
-    let l = length-take to ws in
-    let k : i < length ws = omega (arith, h.1) in
-    (k, word_is ws to i 0 h.0 k)
-
-pub bar_next : (ws : List ℕ) (to i stop share l w y b b' : ℕ) (t t' goal : List ℕ) → i < stop → stop ≡ i + length (positions_at ws to i)
-    → w ≡ word_of ws to i → y ≡ chord_of l w → b' ≡ b + share * sounds_as (kind_of w) → t' ≡ sets t b (part_of share l w)
-    → sets t b (parts_of share l (positions_at ws to i)) ≡ goal
-    → (stop ≡ i + 1 + length (positions_at ws to (i + 1))) × (sets t' b' (parts_of share y (positions_at ws to (i + 1))) ≡ goal)
+pub bar_next : (ps qs : List ℕ) (share l w y b b' : ℕ) (t t' goal : List ℕ) → ps ≡ w ∷ qs → y ≡ chord_of l w
+    → b' ≡ b + share * sounds_as (kind_of w) → t' ≡ sets t b (part_of share l w) → sets t b (parts_of share l ps) ≡ goal
+    → sets t' b' (parts_of share y qs) ≡ goal
 unfolding parts_of
-bar_next ws to i stop share l w y b b' t t' goal lt e f j m p q =
-    let n = positions_next ws to i (omega arith) in
-    let e' : stop ≡ i + suc (length (positions_at ws to (i + 1))) = rw n at e in
+bar_next ps qs share l w y b b' t t' goal n j m p q =
     let one = part_of share l w in
-    let rest = parts_of share (chord_of l w) (positions_at ws to (i + 1)) in
-    let q' : sets t b (one ++ rest) ≡ goal = rw f (rw n at q) in
+    let rest = parts_of share (chord_of l w) qs in
+    let q' : sets t b (one ++ rest) ≡ goal = rw n at q in
     let m' : b' ≡ b + length one = m ∙ ap (λ k. b + k) (sym (part_length share l w)) in
-    (omega arith, rw (p, m', j) (sym (sets_append t b one rest) ∙ q'))
+    rw (p, m', j) (sym (sets_append t b one rest) ∙ q')
 
-pub bar_room : (ws : List ℕ) (to i stop share w b b' n : ℕ) → i < stop → stop ≡ i + length (positions_at ws to i) → w ≡ word_of ws to i
-    → b' ≡ b + share * sounds_as (kind_of w) → b + share * sounding_of (positions_at ws to i) ≤ n
-    → (b + share * sounds_as (kind_of w) ≤ n) × (b' + share * sounding_of (positions_at ws to (i + 1)) ≤ n)
+pub bar_room : (ps qs : List ℕ) (share w b b' n : ℕ) → ps ≡ w ∷ qs → b' ≡ b + share * sounds_as (kind_of w) → b + share * sounding_of ps ≤ n
+    → (b + share * sounds_as (kind_of w) ≤ n) × (b' + share * sounding_of qs ≤ n)
 unfolding sounding_of
-bar_room ws to i stop share w b b' n lt e f m h =
-    let k = positions_next ws to i (omega arith) in
-    let s : sounding_of (positions_at ws to i) ≡ sounds_as (kind_of w) + sounding_of (positions_at ws to (i + 1)) = rw (k, ← f) in
-    let u = times_sum share (sounds_as (kind_of w)) (sounding_of (positions_at ws to (i + 1))) in
-    let h' : b + share * (sounds_as (kind_of w) + sounding_of (positions_at ws to (i + 1))) ≤ n = rw s at h in
+bar_room ps qs share w b b' n e m h =
+    let s : sounding_of ps ≡ sounds_as (kind_of w) + sounding_of qs = rw e in
+    let u = times_sum share (sounds_as (kind_of w)) (sounding_of qs) in
+    let h' : b + share * (sounds_as (kind_of w) + sounding_of qs) ≤ n = rw s at h in
     (omega arith, omega arith)
 
-pub bar_over : (ws : List ℕ) (to i stop share l b : ℕ) (t goal : List ℕ) → stop ≤ i → stop ≡ i + length (positions_at ws to i)
-    → sets t b (parts_of share l (positions_at ws to i)) ≡ goal → t ≡ goal
+pub bar_over : (ps : List ℕ) (share l b : ℕ) (t goal : List ℕ) → ps ≡ [] → sets t b (parts_of share l ps) ≡ goal → t ≡ goal
 unfolding parts_of
-bar_over ws to i stop share l b t goal le e q = over (positions_at ws to i) (omega arith) q
-  where
-    over : (ps : List ℕ) → length ps ≡ 0 → sets t b (parts_of share l ps) ≡ goal → t ≡ goal
-    over [] h k = k
-    over (p ∷ ps) h k = let z : ⊥ = omega arith in absurd z
+bar_over ps share l b t goal n q = rw n at q
 
-pub bar_length : (ws : List ℕ) (to : ℕ) (x : Bar) → Counted ws to x → x.share * x.sounding ≡ length (beats_of ws to x)
-bar_length ws to x c = ap (λ n. x.share * n) c.sounding ∙ sym (parts_length x.share x.last (positions_at ws to x.at))
+pub bar_length : (x : Bar) → Counted x → x.share * x.sounding ≡ length (beats_of x)
+bar_length x c = ap (λ n. x.share * n) c.sounding ∙ sym (parts_length x.share x.last.word x.positions.now)
 
 -- Beats that are all written.
 pub inked_whole : (x : List ℕ) (n : ℕ) (p r : Pen) (bs bs' : List ℕ) → n ≡ length x → p.skip ≤ 0 → n ≤ p.left

@@ -143,3 +143,6 @@ module _ {n k : ℕ} {row : List (List ℕ)} (e : Even n k row) (r : ℕ) where
 
 pub even_few : (n m : ℕ) → n ≤ 32 → m ≤ 65536 → n * m ≤ 2097152
 even_few n m h k = mul-le-mul h k
+
+-- Both ways through a span, for a check that finds its proof by them.
+pub ruleset span_ways = (spanned_none, spanned_some)

@@ -293,3 +293,10 @@ pub inked_from : (x : List ℕ) (p r q : Pen) (bs bs' : List ℕ) → p ≡ r
     → ◌≡◌ {A = Ink} (record { pen = q; bs = bs' }) (inked x (record { pen = p; bs = bs }))
     → ◌≡◌ {A = Ink} (record { pen = q; bs = bs' }) (inked x (record { pen = r; bs = bs }))
 inked_from x p r q bs bs' e k = rw e at k
+
+-- Each way through a function, for a check that finds its proof by them.
+pub ruleset close_ways = (close_none, close_some)
+
+pub ruleset lasting_ways = (lasting_none, lasting_some, fine_of, moved_beat)
+
+pub ruleset rest_ways = (goes_on, rests)

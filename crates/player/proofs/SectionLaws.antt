@@ -219,6 +219,11 @@ plays_same : (base base' : ℕ) (ms bs : List ℕ) (row row' : List (List ℕ)) 
     → Plays row base c ms bs ms' bs' → Plays row' base' c ms bs ms' bs'
 plays_same base base' ms bs row row' c ms' bs' e k t = rw (e, k) at t
 
+-- The tables end as the page that they were lent to left them.
+pub plays_left : (row : List (List ℕ)) (base : ℕ) (c : Counts) (ms bs ms' bs' ms'' bs'' : List ℕ) → Plays row base c ms bs ms' bs'
+    → ms'' ≡ ms' → bs'' ≡ bs' → Plays row base c ms bs ms'' bs''
+plays_left row base c ms bs ms' bs' ms'' bs'' t e f = rw (e, f) t
+
 -- A section is the part of all its beats.
 module _ (f k : Cut) (r : ℕ) (lead row tail : List (List ℕ)) (x : Short lead) (y : Short row) (z : Short tail) (p : Pen) (ms bs : List ℕ) (c : Counts)
     (ms' bs' : List ℕ)

@@ -67,8 +67,36 @@ position_there ws to at h =
     by_cases (is_position (kind_of (word_of ws to at))) (λ e. e)
     (λ e. let z : length (positions_at ws to at) ≡ 0 = ap length (positions_none ws to at e) in absurd (omega arith))
 
-pub positions_next : (ws : List ℕ) (to at : ℕ) → 1 ≤ length (positions_at ws to at) → positions_at ws to at ≡ word_of ws to at ∷ positions_at ws to (at + 1)
-positions_next ws to at h = positions_more ws to at (position_there ws to at h)
+-- The same in words of which some were passed.
+pub here : (ts : List ℕ) (k : ℕ) → k < length ts → drop k ts ≡ get_or ts k 0 ∷ drop (k + 1) ts
+here ts k h = rw (add-one k) (drop-cons ts k 0 h)
+
+pub past : (ts : List ℕ) (k : ℕ) → length ts ≤ k → drop k ts ≡ []
+past ts k h = drop_of_length-le ts {i = k} h
+
+pub none_here : (ts : List ℕ) (k : ℕ) → k < length ts → is_position (kind_of (get_or ts k 0)) ≡ false → positions_of (drop k ts) ≡ []
+none_here ts k h e = rw (here ts k h) (none_of (get_or ts k 0) (drop (k + 1) ts) e)
+
+pub one_here : (ts : List ℕ) (k : ℕ) → k < length ts → is_position (kind_of (get_or ts k 0)) ≡ true
+    → positions_of (drop k ts) ≡ get_or ts k 0 ∷ positions_of (drop (k + 1) ts)
+one_here ts k h e = rw (here ts k h) (one_of (get_or ts k 0) (drop (k + 1) ts) e)
+
+pub none_past : (ts : List ℕ) (k : ℕ) → length ts ≤ k → positions_of (drop k ts) ≡ []
+unfolding positions_of
+none_past ts k h = rw (past ts k h)
+
+-- A measure's positions stand in front.
+positions_front : (ts : List ℕ) → (length (positions_of ts) ≤ length ts) × (take (length (positions_of ts)) ts ≡ positions_of ts)
+unfolding positions_of
+positions_front [] = (omega arith, refl)
+positions_front (w ∷ ts) =
+    by_cases (is_position (kind_of w))
+    (λ e. let h = positions_front ts in
+    let g = h.0 in rw (e, provided◌then◌else◌) (omega arith, ap (λ (l : List ℕ). w ∷ l) h.1))
+    (λ e. rw (e, provided◌then◌else◌) (omega arith, refl))
+
+pub front_text : (ts : List ℕ) (count : ℕ) → count ≡ length (positions_of ts) → (count ≤ length ts) × (take count ts ≡ positions_of ts)
+front_text ts count e = rw e (positions_front ts)
 
 -- How many beats a measure has.
 pub lasting_length : (share v : ℕ) → length (lasting_of share v) ≡ share

@@ -2,13 +2,13 @@
 use Rattle.std.specs.Prelude.{◌≡◌, ℕ, ◌+◌, ◌-◌, ◌*◌, ◌%◌, ◌^◌, ◌<◌, ◌≤◌, List, map, take, drop}
 use Rattle.std.proofs.lemmas.List.Edits.{sets}
 use Rattle.player.specs.declared.pens.Pen.{Pen}
-use Rattle.player.specs.Page.{Page, play}
+use Rattle.player.specs.Page.{Page, play, page}
 
--- A row took the pen from p to q, and left these words in the two tables.
-pub record Took (row : List (List ℕ)) (p q : Pen) (ms bs : List ℕ) : Type 0 where
+-- A row took the pen from p to where it is on the page, whose tables it left so.
+pub record Took (row : List (List ℕ)) (p : Pen) (g : Page) : Type 0 where
   pub ms_before : List ℕ
   pub bs_before : List ℕ
-  pub pass : ◌≡◌ {A = Page} (record { pen = q; ms = ms; bs = bs }) (play row (record { pen = p; ms = ms_before; bs = bs_before }))
+  pub pass : g ≡ play row (page p ms_before bs_before)
 
 -- The pass from p to q ended before the last measure and the last beat to pass over, and k more do so, or end with the last measure.
 pub record Skips (p q : Pen) (k : ℕ) : Type 0 where

@@ -6,6 +6,7 @@ use Rattle.songcode.specs.Description.Performance.{total}
 use Rattle.score.specs.declared.views.View.{View}
 use Rattle.score.specs.Places.{played_text}
 use Rattle.player.specs.declared.pens.Pen.{Pen}
+use Rattle.player.specs.declared.pens.Page.{Page as Lent}
 use Rattle.player.specs.declared.playing.Arrangement.{Arrangement}
 use Rattle.player.specs.declared.playing.Counts.{Counts}
 use Rattle.player.specs.Walks.{row_of}
@@ -64,3 +65,7 @@ pub record Plays (row : List (List ℕ)) (base : ℕ) (c : Counts) (ms bs ms' bs
   pub beats : c.beats ≡ total row
   pub measure_table : ms' ≡ sets ms 0 (heads base row)
   pub beat_table : bs' ≡ sets bs 0 (flat row)
+
+-- The same of a page, from the pen's base on.
+abbrev pub PlaysOn : List (List ℕ) → Counts → Lent → Lent → Type 0
+PlaysOn row c g h = Plays row g.pen.base c g.measures.now g.beats.now h.measures.now h.beats.now

@@ -1,7 +1,8 @@
 -- What the pen and the two tables become: left folds over beats and over measures.
-use Rattle.std.specs.Prelude.{ℕ, zero, suc, ◌+◌, ◌-◌, ◌≤◌, Bool, true, false, List, [], ◌∷◌, ◌==◌, slice_set}
+use Rattle.std.specs.Prelude.{◌≡◌, ℕ, zero, suc, ◌+◌, ◌-◌, ◌≤◌, Bool, true, false, List, [], ◌∷◌, ◌==◌, slice_set}
 use Rattle.songcode.specs.Answer.Tables.{measure_word}
 use Rattle.player.specs.declared.pens.Pen.{Pen}
+use Rattle.player.specs.declared.pens.Page.{Page as Lent}
 
 -- The pen and the table of beats.
 pub record Ink : Type 0 where
@@ -16,6 +17,14 @@ pub record Page : Type 0 where
 
 abbrev pub page : Pen → List ℕ → List ℕ → Page
 page p ms bs = record { pen = p; ms = ms; bs = bs }
+
+-- What a page of the code holds, whose tables are lent, and that another has the same tables.
+abbrev pub shown : Lent → Page
+shown g = page g.pen g.measures.now g.beats.now
+
+pub record SameTables (g h : Lent) : Type 0 where
+  pub measures : h.measures.ghost_name ≡ g.measures.ghost_name
+  pub beats : h.beats.ghost_name ≡ g.beats.ghost_name
 
 -- No more measures than beats, and no more beats than 65,535 measures of 32.
 pub record Fine (p : Pen) : Type 0 where

@@ -6,8 +6,9 @@ use Rattle.score.specs.Places.{word_of, stretch_of}
 use Rattle.tokens.specs.Signs.{kind_of, number_of, is_separator, is_stop, is_opening, is_closing, is_reference}
 use Rattle.player.specs.Signs.{chords_of, parts_of, positions_at}
 use Rattle.player.specs.declared.measures.Walk.{Walk}
-use Rattle.player.specs.declared.walks.Scope.{Scope}
-use Rattle.player.specs.Page.{Page, play, page}
+use Rattle.player.specs.declared.measures.Scope.{Scope}
+use Rattle.player.specs.declared.pens.Page.{Page as Lent}
+use Rattle.player.specs.Page.{Page, play, shown}
 
 pub record Read : Type 0 where
   pub row : List (List ℕ)
@@ -96,14 +97,25 @@ unfoldable pub row_of : ℕ → List ℕ → Stretch → List (List ℕ)
 unfolding level
 row_of n ws s = (level 8 n ws s.to s.from 4227858432).row
 
--- How the code says it: where a walk has come with both tables, what it reads from there on, and the numbers that it keeps to.
-abbrev pub end_of : Walk → List ℕ → List ℕ → End
-end_of w ms bs = record { at = w.at; last = w.last; page = page w.pen ms bs }
+-- How the code says it: where a walk has come with its page, what it reads from there on, and the numbers that it keeps to.
+abbrev pub end_of : Walk → Lent → End
+end_of w g = record { at = w.at; last = w.last.word; page = shown g }
 
-abbrev pub level_from : Scope → Walk → List ℕ → Read
-level_from s w ws = level s.depth s.n ws s.to w.at w.last
+abbrev pub level_from : Scope → Walk → Read
+level_from s w = level s.depth s.n s.words.now s.to w.at w.last.word
 
-pub record Within (s : Scope) (w : Walk) : Type 0 where
-  pub last : w.last ≤ 4227858432
+abbrev pub item_from : Scope → Walk → Read
+item_from s w = item_of (level s.depth s.n s.words.now) s.n s.words.now s.to w.at w.last.word
+
+abbrev pub ref_from : Scope → ℕ → Walk → Read
+ref_from s x w = ref_of (level s.depth s.n s.words.now) s.words.now x w.at w.last.word
+
+abbrev pub loop_from : Scope → Walk → Read
+loop_from s w = loop_of (level s.depth s.n s.words.now) s.words.now s.to (w.at + 1) w.last.word
+
+abbrev pub measure_from : Scope → Walk → Read
+measure_from s w = one_of s.n s.words.now s.to w.at w.last.word
+
+pub record Within (s : Scope) : Type 0 where
   pub meter : s.n ≤ 32
   pub levels : s.depth < 1000

@@ -6,17 +6,16 @@ ghost use Rattle.player.specs.Windows.{whole_of};
 ghost use Rattle.player.specs.Even.{spanned};
 ghost use Rattle.player.specs.Arrangements.{arranged_row, PlaysWithin};
 
+use super::pens::Page;
 use super::playing::{Arrangement, Counts, opening, planned, play_section, rounds};
-use score::{Stretch, minus};
+use score::Stretch;
 
 // The section is played into tables that have no room.
 fn count_by_walking(words: &[u32], a: Arrangement) -> Counts
     requires { PlaysWithin words.now a 0 }
     ensures { (result.measures ≡ length (arranged_row words.now a)) × (result.beats ≡ total (arranged_row words.now a)) }
 {
-    let mut no_measures = [0u32; 0];
-    let mut no_beats = [0u32; 0];
-    play_section(words, a, 0, &mut no_measures, &mut no_beats)
+    play_section(words, a, 0, &mut [], &mut [])
 }
 
 // How many measures and beats a text plays by itself.
@@ -26,24 +25,20 @@ fn count_text(words: &[u32], n: usize, s: Stretch) -> Counts
     ensures beats { result.beats ≡ total (whole_of (row_of n words.now s)) }
     ensures bound { (result.measures ≤ result.beats) × (result.beats ≤ 2097120) }
 {
-    let mut no_measures = [0u32; 0];
-    let mut no_beats = [0u32; 0];
-    let q = rounds(
-        words,
-        n,
-        s,
-        1,
-        opening(0, 0, 2097120),
-        &mut no_measures,
-        &mut no_beats,
-    );
+    let mut page = Page {
+        pen: opening(0, 0, 2097120),
+        measures: &mut [],
+        beats: &mut [],
+    };
+    rounds(words, n, s, 1, &mut page);
     Counts {
-        measures: q.m,
-        beats: q.b,
+        measures: page.pen.m,
+        beats: page.pen.b,
     }
 }
 
 // How many measures of n beats hold `left` beats behind the first `skip`.
+#[tactic(auto, using(crate::proofs::EvenLaws::span_ways))]
 fn span(n: usize, skip: usize, left: usize) -> usize
     requires { ((left ≢ 0) → 1 ≤ n) × (skip + left ≤ 4294967295) }
     ensures { (result ≡ spanned n skip left) × (result ≤ 4294967295) }
@@ -51,7 +46,7 @@ fn span(n: usize, skip: usize, left: usize) -> usize
     if left == 0 {
         return 0;
     }
-    minus((skip + left - 1) / n, skip / n) + 1
+    ((skip + left - 1) / n).saturating_sub(skip / n) + 1
 }
 
 // Where every measure of the pattern has n beats, only the lead-in and the tail are walked.

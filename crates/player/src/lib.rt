@@ -4,6 +4,7 @@
 mod again;
 mod bars;
 mod counting;
+mod heard;
 mod leaves;
 mod measures;
 mod pens;

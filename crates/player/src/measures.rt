@@ -1,66 +1,68 @@
 // One measure of the text: its positions are looked at once, then sounded, each for its share of N.
 ghost use Rattle.std.specs.Prelude.{◌≡◌, ◌+◌, ◌-◌, ◌<◌, ◌≤◌, true, length};
-ghost use Rattle.player.specs.Signs.{part_of, positions_at, sounding_of, chords_of};
+ghost use Rattle.player.specs.Signs.{part_of, positions_of, sounding_of, chords_of};
 ghost use Rattle.player.specs.Bars.{beats_of, Counted};
-ghost use Rattle.player.specs.Page.{Ink, Fine, page, inked, measure_of};
-ghost use Rattle.player.specs.Walks.{finish, one_of, end_of};
+ghost use Rattle.player.specs.Page.{Ink, Fine, SameTables, shown, inked, measure_of};
+ghost use Rattle.player.specs.Walks.{finish, measure_from, end_of};
 
 use super::bars::{Bar, write_bar};
+use super::heard::Sound;
 use super::leaves::{chord_after, share_of, sounds, voice};
-use super::pens::{Pen, close, lasting, resting};
-use score::word_at;
-use tokens::{CHORDS, REMOVER, is_position, kind};
+use super::pens::{Page, Pen, close, lasting, resting};
+use score::Stretch;
+use tokens::{REMOVER, is_position, kind};
 
-// Where a walk has come: the place, the last chord, the pen.
+// Where a walk may read: in which row of words, in which N, up to which place, and how many levels of loops and references deep.
+#[derive(Clone, Copy)]
+pub struct Scope<'w> {
+    pub words: &'w [u32],
+    pub n: usize,
+    pub to: usize,
+    pub depth: usize,
+}
+
+// Where a walk has come: the place and the last chord.
 #[derive(Clone, Copy)]
 pub struct Walk {
     pub at: usize,
-    pub last: u32,
-    pub pen: Pen,
+    pub last: Sound,
 }
 
-// The end of a measure's positions, how many of them sound, and the last chord behind them.
-#[derive(Drop)]
+// How many positions stand in front, how many of them sound, and the last chord behind them.
+#[derive(Clone, Copy)]
 pub struct Seen {
-    pub stop: usize,
+    pub count: usize,
     pub sounding: usize,
-    pub last: u32,
+    pub last: Sound,
 }
 
-pub fn look(words: &[u32], to: usize, at: usize, last: u32) -> Seen
-    requires { last ≤ 4227858432 }
-    ensures stop { result.stop ≡ at + length (positions_at words.now to at) }
-    ensures sounding { result.sounding ≡ sounding_of (positions_at words.now to at) }
-    ensures last { (result.last ≡ chords_of last (positions_at words.now to at)) × (result.last ≤ 4227858432) }
+pub fn look(text: &[u32], last: Sound) -> Seen
+    ensures count { result.count ≡ length (positions_of text.now) }
+    ensures sounding { result.sounding ≡ sounding_of (positions_of text.now) }
+    ensures last { result.last.word ≡ chords_of last.word (positions_of text.now) }
 {
-    let mut i = at;
-    let mut s = 0;
-    let mut l = last;
-    loop {
-        let w = word_at(words, to, i);
+    let mut seen = Seen {
+        count: 0,
+        sounding: 0,
+        last,
+    };
+    for &w in text {
         let k = kind(w);
-        if k < CHORDS {
-            s += 1;
-            l = w;
-            i += 1;
-            continue;
-        }
         if !is_position(k) {
-            return Seen {
-                stop: i,
-                sounding: s,
-                last: l,
-            };
+            return seen;
         }
-        s += sounds(k);
-        i += 1;
+        seen.count += 1;
+        seen.sounding += sounds(k);
+        seen.last = chord_after(seen.last, w);
     }
+    seen
 }
 
 // One position; a remover has no beats.
-pub fn position(w: u32, share: usize, last: u32, p: Pen, bs: &mut [u32]) -> Pen
-    requires { Fine p × (last ≤ 4227858432) }
-    ensures { ◌≡◌ {A = Ink} (record { pen = result; bs = bs.new }) (inked (part_of share last w) (record { pen = p; bs = bs.old })) }
+#[tactic(auto, using(crate::proofs::LookLaws::part_ways))]
+pub fn position(w: u32, share: usize, last: Sound, p: Pen, bs: &mut [u32]) -> Pen
+    requires { Fine p }
+    ensures { ◌≡◌ {A = Ink} (record { pen = result; bs = bs.new }) (inked (part_of share last.word w) (record { pen = p; bs = bs.old })) }
 {
     if kind(w) == REMOVER {
         return p;
@@ -69,19 +71,15 @@ pub fn position(w: u32, share: usize, last: u32, p: Pen, bs: &mut [u32]) -> Pen
 }
 
 // The positions of a measure, beat by beat.
-pub fn positions(words: &[u32], to: usize, bar: Bar, p: Pen, bs: &mut [u32]) -> Pen
-    requires { Fine p × Counted words.now to bar }
-    ensures { ◌≡◌ {A = Ink} (record { pen = result; bs = bs.new })
-        (inked (beats_of words.now to bar) (record { pen = p; bs = bs.old })) }
+pub fn positions(bar: Bar, p: Pen, bs: &mut [u32]) -> Pen
+    requires { Fine p × Counted bar }
+    ensures { ◌≡◌ {A = Ink} (record { pen = result; bs = bs.new }) (inked (beats_of bar.entry) (record { pen = p; bs = bs.old })) }
 {
     let mut q = p;
-    let mut l = bar.last;
-    let mut i = bar.at;
-    while i < bar.stop {
-        let w = word_at(words, to, i);
-        q = position(w, bar.share, l, q, bs);
-        l = chord_after(l, w);
-        i += 1;
+    let mut last = bar.last;
+    for &w in bar.positions {
+        q = position(w, bar.share, last, q, bs);
+        last = chord_after(last, w);
     }
     q
 }
@@ -90,13 +88,7 @@ pub fn positions(words: &[u32], to: usize, bar: Bar, p: Pen, bs: &mut [u32]) -> 
 fn is_whole(p: Pen, beats: usize, room: usize) -> bool
     ensures { result ≡ true → (p.skip ≤ 0) × (beats ≤ p.left) × (p.b < room → p.b + beats ≤ room) }
 {
-    if 0 < p.skip || p.left < beats {
-        return false;
-    }
-    if p.b < room {
-        return beats <= room - p.b;
-    }
-    true
+    p.skip == 0 && beats <= p.left && (room <= p.b || beats <= room - p.b)
 }
 
 // The pen behind so many beats that are written.
@@ -105,29 +97,24 @@ fn advanced(p: Pen, beats: usize) -> Pen
     ensures { result ≡ record { base = p.base; todo = p.todo; skip = p.skip; left = p.left - beats; m = p.m; b = p.b + beats } }
 {
     Pen {
-        base: p.base,
-        todo: p.todo,
-        skip: p.skip,
         left: p.left - beats,
-        m: p.m,
         b: p.b + beats,
+        ..p
     }
 }
 
 // The same positions; where all their beats are written, nothing is asked of each, and where the table is full, they cost nothing.
-pub fn played(words: &[u32], to: usize, bar: Bar, p: Pen, bs: &mut [u32]) -> Pen
-    requires { Fine p × Counted words.now to bar }
-    ensures { ◌≡◌ {A = Ink} (record { pen = result; bs = bs.new })
-        (inked (beats_of words.now to bar) (record { pen = p; bs = bs.old })) }
+pub fn played(bar: Bar, p: Pen, bs: &mut [u32]) -> Pen
+    requires { Fine p × Counted bar }
+    ensures { ◌≡◌ {A = Ink} (record { pen = result; bs = bs.new }) (inked (beats_of bar.entry) (record { pen = p; bs = bs.old })) }
 {
     let beats = bar.share * bar.sounding;
     let room = bs.len();
     if !is_whole(p, beats, room) {
-        return positions(words, to, bar, p, bs);
+        return positions(bar, p, bs);
     }
     if p.b < room {
-        write_bar(words, to, bar, p.b, bs);
-        return advanced(p, beats);
+        write_bar(bar, p.b, bs);
     }
     advanced(p, beats)
 }
@@ -138,61 +125,52 @@ fn begun(p: Pen, skip: usize) -> Pen
     ensures { result ≡ record { base = p.base; todo = p.todo - 1; skip = skip; left = p.left; m = p.m; b = p.b } }
 {
     Pen {
-        base: p.base,
         todo: p.todo - 1,
         skip,
-        left: p.left,
-        m: p.m,
-        b: p.b,
+        ..p
     }
 }
 
 // A measure, if one is still to be looked at. One that is passed over as a whole costs nothing for its beats.
-pub fn sounded(words: &[u32], to: usize, bar: Bar, p: Pen, ms: &mut [u32], bs: &mut [u32]) -> Pen
-    requires { Fine p × Counted words.now to bar }
-    ensures { page result ms.new bs.new
-        ≡ measure_of (beats_of words.now to bar) (page p ms.old bs.old) }
+pub fn sounded(bar: Bar, page: &mut Page)
+    requires { Fine page.old.pen × Counted bar }
+    ensures played { shown page.new ≡ measure_of (beats_of bar.entry) (shown page.old) }
+    ensures tables { SameTables page.old page.new }
 {
+    let p = page.pen;
     if p.todo == 0 {
-        return p;
+        return;
     }
     let beats = bar.share * bar.sounding;
     if beats <= p.skip {
-        return resting(begun(p, p.skip - beats));
+        page.pen = resting(begun(p, p.skip - beats));
+        return;
     }
-    let from = p.b;
-    let q = played(words, to, bar, begun(p, p.skip), bs);
-    resting(close(from, q, ms))
+    let q = played(bar, begun(p, p.skip), page.beats);
+    page.pen = resting(close(p.b, q, page.measures));
 }
 
 // One measure of the text.
-pub fn measure(
-    words: &[u32],
-    n: usize,
-    to: usize,
-    from: Walk,
-    ms: &mut [u32],
-    bs: &mut [u32],
-) -> Walk
-    requires { Fine from.pen × (from.last ≤ 4227858432) × (n ≤ 32) }
-    ensures walk { end_of result ms.new bs.new
-        ≡ finish (one_of n words.now to from.at from.last) (page from.pen ms.old bs.old) }
-    ensures last { result.last ≤ 4227858432 }
+pub fn measure(s: Scope, from: Walk, page: &mut Page) -> Walk
+    requires { Fine page.old.pen × (s.n ≤ 32) }
+    ensures walk { end_of result page.new ≡ finish (measure_from s.entry from) (shown page.old) }
+    ensures tables { SameTables page.old page.new }
 {
-    let seen = look(words, to, from.at, from.last);
-    let count = seen.stop - from.at;
-    let share = share_of(n, count);
+    let text = Stretch {
+        from: from.at,
+        to: s.to,
+    }
+    .words(s.words);
+    let seen = look(text, from.last);
     let bar = Bar {
-        at: from.at,
-        stop: seen.stop,
+        positions: &text[..seen.count],
         sounding: seen.sounding,
-        share,
+        share: share_of(s.n, seen.count),
         last: from.last,
     };
-    let pen = sounded(words, to, bar, from.pen, ms, bs);
+    sounded(bar, page);
     Walk {
-        at: seen.stop,
+        at: from.at + seen.count,
         last: seen.last,
-        pen,
     }
 }

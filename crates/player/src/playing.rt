@@ -2,16 +2,17 @@
 ghost use Rattle.std.specs.Prelude.{◌≡◌, ◌+◌, ◌-◌, ◌*◌, ◌≤◌, min, true, ◌++◌, length, take, ◌≢◌};
 ghost use Rattle.songcode.specs.Lists.{times};
 ghost use Rattle.songcode.specs.Description.Performance.{total};
-ghost use Rattle.player.specs.Page.{Page, Fine, play};
+ghost use Rattle.player.specs.Page.{Fine, SameTables, play, shown};
 ghost use Rattle.player.specs.Walks.{row_of};
 ghost use Rattle.player.specs.Windows.{window, first_beat, last_beat};
-ghost use Rattle.player.specs.Arrangements.{repeated_row, arranged_row, Countable, PlaysWithin, Opening, Plays};
+ghost use Rattle.player.specs.Arrangements.{repeated_row, arranged_row, Countable, PlaysWithin, Opening, Plays, PlaysOn};
 
-use super::measures::Walk;
-use super::pens::Pen;
-use super::walks::{Scope, again, items};
+use super::heard::Sound;
+use super::measures::{Scope, Walk};
+use super::pens::{Page, Pen};
+use super::walks::{again, items};
 use cuts::Cut;
-use score::{Stretch, least, minus};
+use score::Stretch;
 use tokens::SILENCE_WORD;
 
 #[derive(Clone, Copy)]
@@ -43,37 +44,27 @@ pub struct Plan {
 }
 
 // A stretch, r times, if anything stands there; nothing more is looked at once no measure is to be looked at.
-pub fn rounds(
-    words: &[u32],
-    n: usize,
-    s: Stretch,
-    r: usize,
-    p: Pen,
-    ms: &mut [u32],
-    bs: &mut [u32],
-) -> Pen
-    requires { Fine p × (n ≤ 32) }
-    ensures { ◌≡◌ {A = Page} (record { pen = result; ms = ms.new; bs = bs.new })
-        (play (times r (row_of n words.now s)) (record { pen = p; ms = ms.old; bs = bs.old })) }
+pub fn rounds(words: &[u32], n: usize, s: Stretch, r: usize, page: &mut Page)
+    requires { Fine page.old.pen × (n ≤ 32) }
+    ensures played { shown page.new ≡ play (times r (row_of n words.now s)) (shown page.old) }
+    ensures tables { SameTables page.old page.new }
 {
-    if s.to <= s.from {
-        return p;
-    }
-    if r == 0 || p.todo == 0 {
-        return p;
+    if s.to <= s.from || r == 0 || page.pen.todo == 0 {
+        return;
     }
     let scope = Scope {
+        words,
         n,
         to: s.to,
         depth: 8,
     };
     let start = Walk {
         at: s.from,
-        last: SILENCE_WORD,
-        pen: p,
+        last: Sound { word: SILENCE_WORD },
     };
-    let w = items(words, scope, start, ms, bs);
-    again(words, scope, start, w.pen, r - 1, ms, bs)
+    let before = page.pen;
+    items(scope, start, page);
+    again(scope, start, before, r - 1, page);
 }
 
 // How many of the first k measures of the repeated pattern there are, and their beats: a walk with every beat passed over.
@@ -83,8 +74,6 @@ fn tally_by_walking(words: &[u32], a: Arrangement, k: usize) -> Counts
     ensures beats { result.beats ≡ total (take k (repeated_row words.now a)) }
     ensures bound { result.beats ≤ 2097152 }
 {
-    let mut ms = [0u32; 1];
-    let mut bs = [0u32; 1];
     let every = Pen {
         base: 0,
         todo: k,
@@ -93,10 +82,16 @@ fn tally_by_walking(words: &[u32], a: Arrangement, k: usize) -> Counts
         m: 0,
         b: 0,
     };
-    let q = rounds(words, a.n, a.pattern, a.repeat, every, &mut ms, &mut bs);
-    let measures = k - q.todo;
-    let beats = 4294967295 - q.skip;
-    Counts { measures, beats }
+    let mut page = Page {
+        pen: every,
+        measures: &mut [],
+        beats: &mut [],
+    };
+    rounds(words, a.n, a.pattern, a.repeat, &mut page);
+    Counts {
+        measures: k - page.pen.todo,
+        beats: 4294967295 - page.pen.skip,
+    }
 }
 
 // The same; nothing is walked where every measure has n beats.
@@ -109,7 +104,7 @@ pub fn tally(words: &[u32], a: Arrangement, k: usize) -> Counts
     if a.even == 0 {
         return tally_by_walking(words, a, k);
     }
-    let measures = least(k, a.repeat * a.even);
+    let measures = k.min(a.repeat * a.even);
     Counts {
         measures,
         beats: a.n * measures,
@@ -117,6 +112,7 @@ pub fn tally(words: &[u32], a: Arrangement, k: usize) -> Counts
 }
 
 // The beats of the first k measures; nothing is walked for none.
+#[tactic(auto, unfolding(songcode::specs::Description::Performance::total))]
 fn beats_before(words: &[u32], a: Arrangement, k: usize) -> usize
     requires { Countable words.now a × (k ≤ 65536) }
     ensures { (result ≡ total (take k (repeated_row words.now a))) × (result ≤ 2097152) }
@@ -124,8 +120,7 @@ fn beats_before(words: &[u32], a: Arrangement, k: usize) -> usize
     if k == 0 {
         return 0;
     }
-    let first = tally(words, a, k);
-    first.beats
+    tally(words, a, k).beats
 }
 
 // The beats of all measures but so many at the end, where all of them were counted.
@@ -137,7 +132,7 @@ fn beats_but(words: &[u32], a: Arrangement, all: Counts, cut: usize) -> usize
     if cut == 0 {
         return all.beats;
     }
-    beats_before(words, a, minus(all.measures, cut))
+    beats_before(words, a, all.measures.saturating_sub(cut))
 }
 
 // The two cuts as two numbers.
@@ -147,16 +142,13 @@ pub fn planned(words: &[u32], a: Arrangement) -> Plan
     ensures skip { result.skip ≡ first_beat a.front (repeated_row words.now a) }
     ensures left { result.left ≡ last_beat a.back (repeated_row words.now a) - first_beat a.front (repeated_row words.now a) }
 {
-    let front = a.front;
-    let back = a.back;
     let all = tally(words, a, 65536);
-    let first = beats_before(words, a, least(front.measures.0, 65536)) + front.beats.0;
-    let last = beats_but(words, a, all, back.measures.0);
-    let left = minus(minus(last, back.beats.0), first);
+    let first = beats_before(words, a, a.front.measures.0.min(65536)) + a.front.beats.0;
+    let last = beats_but(words, a, all, a.back.measures.0);
     Plan {
         todo: all.measures,
         skip: first,
-        left,
+        left: last.saturating_sub(a.back.beats.0).saturating_sub(first),
     }
 }
 
@@ -178,10 +170,7 @@ pub fn opening(base: usize, skip: usize, left: usize) -> Pen
 fn looked_at(left: usize, todo: usize) -> usize
     ensures { (left ≢ 0) → result ≡ todo }
 {
-    if left == 0 {
-        return 0;
-    }
-    todo
+    if left == 0 { 0 } else { todo }
 }
 
 // The pen for the pattern, behind the lead-in: the plan passes over its beats and over those that the lead-in left.
@@ -192,14 +181,12 @@ fn at_pattern(plan: Plan, lead: Pen) -> Pen
     ensures left { result.left ≡ min lead.left (plan.left - lead.skip) }
     ensures todo { (result.left ≢ 0) → result.todo ≡ plan.todo }
 {
-    let left = least(lead.left, minus(plan.left, lead.skip));
+    let left = lead.left.min(plan.left.saturating_sub(lead.skip));
     Pen {
-        base: lead.base,
         todo: looked_at(left, plan.todo),
         skip: plan.skip + lead.skip,
         left,
-        m: lead.m,
-        b: lead.b,
+        ..lead
     }
 }
 
@@ -210,39 +197,34 @@ fn at_tail(plan: Plan, lead: Pen, pattern: Pen) -> Pen
     ensures left { result.left ≡ lead.left - (plan.left - lead.skip) }
     ensures todo { (result.left ≢ 0) → result.todo ≡ 65536 }
 {
-    let left = minus(lead.left, minus(plan.left, lead.skip));
+    let left = lead
+        .left
+        .saturating_sub(plan.left.saturating_sub(lead.skip));
     Pen {
-        base: pattern.base,
         todo: looked_at(left, 65536),
-        skip: minus(lead.skip, plan.left),
+        skip: lead.skip.saturating_sub(plan.left),
         left,
-        m: pattern.m,
-        b: pattern.b,
+        ..pattern
     }
 }
 
 // The lead-in, the pattern repeated less the two cuts, and the tail, on one page: as many beats as are to be written, behind those that are
 // passed over.
-pub fn play_cut(words: &[u32], a: Arrangement, p: Pen, ms: &mut [u32], bs: &mut [u32]) -> Counts
-    requires { PlaysWithin words.now a 0 × Opening p }
-    ensures { Plays (window p.skip p.left (arranged_row words.now a)) p.base result
-        ms.old bs.old ms.new bs.new }
+pub fn play_cut(words: &[u32], a: Arrangement, page: &mut Page) -> Counts
+    requires { PlaysWithin words.now a 0 × Opening page.old.pen }
+    ensures played { PlaysOn (window page.old.pen.skip page.old.pen.left (arranged_row words.now a)) result page.old page.new }
+    ensures tables { SameTables page.old page.new }
 {
     let plan = planned(words, a);
-    let led = rounds(words, a.n, a.lead, 1, p, ms, bs);
-    let kept = rounds(
-        words,
-        a.n,
-        a.pattern,
-        a.repeat,
-        at_pattern(plan, led),
-        ms,
-        bs,
-    );
-    let ended = rounds(words, a.n, a.tail, 1, at_tail(plan, led, kept), ms, bs);
+    rounds(words, a.n, a.lead, 1, page);
+    let led = page.pen;
+    page.pen = at_pattern(plan, led);
+    rounds(words, a.n, a.pattern, a.repeat, page);
+    page.pen = at_tail(plan, led, page.pen);
+    rounds(words, a.n, a.tail, 1, page);
     Counts {
-        measures: ended.m,
-        beats: ended.b,
+        measures: page.pen.m,
+        beats: page.pen.b,
     }
 }
 
@@ -250,41 +232,35 @@ pub fn play_cut(words: &[u32], a: Arrangement, p: Pen, ms: &mut [u32], bs: &mut 
 fn is_uncut(front: Cut, back: Cut) -> bool
     ensures { result ≡ true → (front.measures.0 ≡ 0) × (front.beats.0 ≡ 0) × (back.measures.0 ≡ 0) × (back.beats.0 ≡ 0) }
 {
-    if 0 < front.measures.0 || 0 < front.beats.0 {
-        return false;
-    }
-    if 0 < back.measures.0 || 0 < back.beats.0 {
-        return false;
-    }
-    true
+    front.measures.0 == 0 && front.beats.0 == 0 && back.measures.0 == 0 && back.beats.0 == 0
 }
 
 // The three texts behind one another, cuts aside, with one pen: nothing is counted beforehand.
-pub fn play_uncut(words: &[u32], a: Arrangement, p: Pen, ms: &mut [u32], bs: &mut [u32]) -> Pen
-    requires { Fine p × (a.n ≤ 32) }
-    ensures { ◌≡◌ {A = Page} (record { pen = result; ms = ms.new; bs = bs.new })
-        (play (row_of a.n words.now a.lead ++ (repeated_row words.now a ++ row_of a.n words.now a.tail))
-        (record { pen = p; ms = ms.old; bs = bs.old })) }
+pub fn play_uncut(words: &[u32], a: Arrangement, page: &mut Page)
+    requires { Fine page.old.pen × (a.n ≤ 32) }
+    ensures played { shown page.new
+        ≡ play (row_of a.n words.now a.lead ++ (repeated_row words.now a ++ row_of a.n words.now a.tail)) (shown page.old) }
+    ensures tables { SameTables page.old page.new }
 {
-    let led = rounds(words, a.n, a.lead, 1, p, ms, bs);
-    let kept = rounds(words, a.n, a.pattern, a.repeat, led, ms, bs);
-    rounds(words, a.n, a.tail, 1, kept, ms, bs)
+    rounds(words, a.n, a.lead, 1, page);
+    rounds(words, a.n, a.pattern, a.repeat, page);
+    rounds(words, a.n, a.tail, 1, page);
 }
 
 // The same for any cuts; only a pattern that is cut is counted beforehand. Each text may be an empty stretch.
-pub fn play_window(words: &[u32], a: Arrangement, p: Pen, ms: &mut [u32], bs: &mut [u32]) -> Counts
-    requires { PlaysWithin words.now a 0 × Opening p }
-    ensures { Plays (window p.skip p.left (arranged_row words.now a)) p.base result
-        ms.old bs.old ms.new bs.new }
+pub fn play_window(words: &[u32], a: Arrangement, page: &mut Page) -> Counts
+    requires { PlaysWithin words.now a 0 × Opening page.old.pen }
+    ensures played { PlaysOn (window page.old.pen.skip page.old.pen.left (arranged_row words.now a)) result page.old page.new }
+    ensures tables { SameTables page.old page.new }
 {
     if is_uncut(a.front, a.back) {
-        let q = play_uncut(words, a, p, ms, bs);
+        play_uncut(words, a, page);
         return Counts {
-            measures: q.m,
-            beats: q.b,
+            measures: page.pen.m,
+            beats: page.pen.b,
         };
     }
-    play_cut(words, a, p, ms, bs)
+    play_cut(words, a, page)
 }
 
 // A section, its first beat at `base`.
@@ -298,7 +274,12 @@ pub fn play_section(
     requires { PlaysWithin words.now a base }
     ensures { Plays (arranged_row words.now a) base result ms.old bs.old ms.new bs.new }
 {
-    play_window(words, a, opening(base, 0, 2097120 - base), ms, bs)
+    let mut page = Page {
+        pen: opening(base, 0, 2097120 - base),
+        measures: ms,
+        beats: bs,
+    };
+    play_window(words, a, &mut page)
 }
 
 // A part of a section: behind `from` of its beats, as many as the table of beats holds. Its measures name their beats in that table.
@@ -313,6 +294,10 @@ pub fn play_part(
     ensures { Plays (window from (length bs.old) (arranged_row words.now a)) 0 result
         ms.old bs.old ms.new bs.new }
 {
-    let left = least(bs.len(), 2097120);
-    play_window(words, a, opening(0, from, left), ms, bs)
+    let mut page = Page {
+        pen: opening(0, from, bs.len().min(2097120)),
+        measures: ms,
+        beats: bs,
+    };
+    play_window(words, a, &mut page)
 }

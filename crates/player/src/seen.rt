@@ -6,22 +6,18 @@ use super::playing::Arrangement;
 use score::{View, played_text};
 
 // Its lead-in, pattern and tail in its N, with its repeats and cuts; a pattern that names a definition plays the definition's words.
+#[tactic(auto, unfolding(crate::specs::Arrangements::arrangement_in))]
 pub fn arrangement_in(words: &[u32], v: View) -> Arrangement
     ensures { result ≡ arrangement_in words.now v }
 {
-    let lead = v.lead;
-    let tail = v.tail;
-    let front = v.front;
-    let back = v.back;
-    let pattern = played_text(words, v.pattern);
     Arrangement {
         n: v.meter,
-        lead,
-        pattern,
-        tail,
+        lead: v.lead,
+        pattern: played_text(words, v.pattern),
+        tail: v.tail,
         repeat: v.repeat,
-        front,
-        back,
+        front: v.front,
+        back: v.back,
         even: v.even,
     }
 }

@@ -3,29 +3,30 @@ use Prim.Native.Nat.{ℕ, ◌≤◌}
 use mathlib.Core.Path.{◌≡◌, refl, sym, ap, ◌∙◌}
 use mathlib.Core.List.{List, [], ◌∷◌}
 use mathlib.Core.Bool.{true, false}
-use borrow.Author.Tests.{eqb-true, eqb-false}
-use lib.Dec.{eqb}
+use Rattle.std.specs.Prelude.{Result, Ok, Err, IsErrAnd}
+use Rattle.refusals.specs.declared.Refusal.{Refusal}
+use Rattle.refusals.specs.Names.{number_of}
 use native.Mathlib.Omega.{arith}
 use lib.ListN.{length}
 use lib.Seq.{sets}
-use Rattle.songcode.specs.Lists.{provided◌then◌else◌, when}
+use Rattle.songcode.specs.Lists.{when}
 use Rattle.songcode.specs.Complaints.{complaint, complain_if, earlier, earliest}
 use Rattle.songcode.specs.Song.{Song}
 use Rattle.songcode.specs.Answer.Tables.{Tables, tables, key_words, key_order}
 use Rattle.songcode.specs.Answer.Answer as songcode
 use Rattle.songcode.specs.Answer.Answer.{Room, input_faults, blocks_of, song_of, room_faults, refused, accepted, answer_by, answer, song_answer}
 use Rattle.songcode.specs.Answer.SongText.{text_faults}
-use Rattle.songcode.proofs.ListLaws.{by_cases}
 use Rattle.songcode.specs.Description.Described.{HasRoom}
 use Rattle.songcode.proofs.SongAlone.{refused_with_tables, refused_without_tables, judged_by_room, accepted_with_room}
-use Rattle.judging.specs.Charts.{Writable, Judges}
+use Rattle.judging.specs.Charts.{Writable}
 use Rattle.judging.specs.declared.charts.Chart.{Chart}
-use Rattle.judging.proofs.VerdictLaws.{late_refused, song_accepted}
+use Rattle.judging.specs.Sums.{Holds}
+use Rattle.judging.proofs.VerdictLaws.{song_accepted}
 use Rattle.judging.specs.declared.sums.Totals.{Totals}
 use Rattle.reader.specs.declared.answers.Answer.{Answer}
 use Rattle.reader.specs.declared.answers.Room as code
 use Rattle.reader.specs.Answers.{answer_of, Lent, lent, room_of, stored, Promised, Counted}
-use Rattle.reader.specs.Room.{is_short, room_is, refused_with, accepted_with, counted_by, answered_by}
+use Rattle.reader.specs.Room.{is_short, room_is, refused_with, accepted_with, answered_by}
 
 -- Stage 8, for a song that the others accept.
 module _ (room : Room) (bs : List ℕ) (is : song_answer bs ≡ accepted (tables (song_of bs))) where
@@ -42,99 +43,57 @@ keys_eight : (song : Song) → length (tables song).keys ≡ 8
 unfolding tables key_words key_order
 keys_eight song = refl
 
-module _ (room : code.Room) (song : Song) (a : Answer) (e : a ≡ answer_of (accepted (tables song))) where
-  short_is : is_short a room ≡ true → room_faults (room_is room) (tables song) ≡ complaint 18 0 ∷ []
-  unfolding is_short room_faults complain_if when answer_of
-  short_is h = let f = rw (e, ← keys_eight song) at h in rw f refl
+module _ (room : code.Room) (song : Song) (t : Totals) (e : Holds (tables song) t) where
+  short_is : is_short t room ≡ true → room_faults (room_is room) (tables song) ≡ complaint 18 0 ∷ []
+  unfolding room_faults complain_if when
+  short_is h = let f = rw (e.sections, e.measures, e.beats, e.items, ← keys_eight song) at h in rw f refl
 
-  long_is : is_short a room ≡ false → room_faults (room_is room) (tables song) ≡ []
-  unfolding is_short room_faults complain_if when answer_of
-  long_is h = let f = rw (e, ← keys_eight song) at h in rw f refl
+  long_is : is_short t room ≡ false → room_faults (room_is room) (tables song) ≡ []
+  unfolding room_faults complain_if when
+  long_is h = let f = rw (e.sections, e.measures, e.beats, e.items, ← keys_eight song) at h in rw f refl
 
--- A chart that stages 1 and 2 have passed, as stages 3 to 7 judge it.
-module _ (bs ws : List ℕ) (chart : Chart) (input : input_faults bs ≡ []) (text : text_faults (blocks_of bs) ≡ []) (j : Judges bs ws chart) where
-  abbrev totals : Totals
-  totals = chart.totals
+-- A chart that can be written: the song is accepted, and where the tables have room, it is answered with its counts.
+module _ (bs ws : List ℕ) (chart : Chart) (input : input_faults bs ≡ []) (text : text_faults (blocks_of bs) ≡ []) (w : Writable bs ws chart) where
+  is_song : song_answer bs ≡ accepted (tables (song_of bs))
+  is_song = song_accepted bs input text w.laid.clear
 
-  module _ (z : totals.refusal.number ≡ 0) where
-    pub is_song : song_answer bs ≡ accepted (tables (song_of bs))
-    is_song = song_accepted bs input text (j.writable z).laid.clear
+  song_counts : accepted_with chart.totals ≡ answer_of (accepted (tables (song_of bs)))
+  unfolding answer_of
+  song_counts = let h = w.holds in rw (h.sections, h.measures, h.beats, h.items) refl
 
-    song_counts : accepted_with totals ≡ answer_of (accepted (tables (song_of bs)))
-    unfolding answer_of
-    song_counts = let h = (j.writable z).holds in rw (h.sections, h.measures, h.beats, h.items) refl
+  pub counted_is : Counted bs (accepted_with chart.totals)
+  counted_is = record { answer = song_counts ∙ sym (ap answer_of is_song) }
 
-  pub counted_is : Counted bs (counted_by totals)
-  unfolding counted_by provided◌then◌else◌ answer_of
-  counted_is = record {
-    answer =
-        by_cases (eqb totals.refusal.number 0)
-        (λ t. let z = eqb-true totals.refusal.number 0 t in rw t (song_counts z ∙ sym (ap answer_of (is_song z))))
-        (λ t. rw t (sym (ap answer_of (late_refused bs input text totals.refusal j.refusal (eqb-false totals.refusal.number 0 t)))));
-  }
-
-  -- By the room in the tables.
   module _ (room : code.Room) where
-    refused_anyway : ((counted_by totals).refusal ≡ 0 → ⊥) → counted_by totals ≡ answer_of (answer (room_is room) bs)
-    unfolding answer_of
-    refused_anyway n = go (song_answer bs) refl
-      where
-        go : (y : songcode.Answer) → song_answer bs ≡ y → counted_by totals ≡ answer_of (answer (room_is room) bs)
-        go (refused k l) e = counted_is.answer ∙ ap answer_of (e ∙ sym (refused_with_tables (room_is room) bs k l e))
-        go (accepted t) e = absurd (n (ap (λ (r : Answer). r.refusal) (counted_is.answer ∙ ap answer_of e)))
+    pub short_answer : is_short chart.totals room ≡ true → answer (room_is room) bs ≡ refused 18 0
+    short_answer h = short_refused (room_is room) bs is_song (short_is room (song_of bs) chart.totals w.holds h)
 
-    no_refusal : (counted_by totals).refusal ≡ 0 → totals.refusal.number ≡ 0
-    unfolding counted_by provided◌then◌else◌
-    no_refusal z =
-        by_cases (eqb totals.refusal.number 0) (λ t. eqb-true totals.refusal.number 0 t) (λ t. let y : totals.refusal.number ≡ 0 = rw t at z in y)
+    pub long_answer : is_short chart.totals room ≡ false → answer (room_is room) bs ≡ accepted (tables (song_of bs))
+    long_answer h = roomy_accepted (room_is room) bs is_song (long_is room (song_of bs) chart.totals w.holds h)
 
-    module _ (z : (counted_by totals).refusal ≡ 0) where
-      told : counted_by totals ≡ answer_of (accepted (tables (song_of bs)))
-      told = counted_is.answer ∙ ap answer_of (is_song (no_refusal z))
-
-      short : is_short (counted_by totals) room ≡ true → answer (room_is room) bs ≡ refused 18 0
-      short h = short_refused (room_is room) bs (is_song (no_refusal z)) (short_is room (song_of bs) (counted_by totals) told h)
-
-      long : is_short (counted_by totals) room ≡ false → answer (room_is room) bs ≡ accepted (tables (song_of bs))
-      long h = roomy_accepted (room_is room) bs (is_song (no_refusal z)) (long_is room (song_of bs) (counted_by totals) told h)
-
-    pub answered_is : answered_by totals room ≡ answer_of (answer (room_is room) bs)
-    unfolding answered_by provided◌then◌else◌ answer_of
-    answered_is =
-        by_cases (eqb (counted_by totals).refusal 0)
-        (λ t.
-        let z = eqb-true (counted_by totals).refusal 0 t in
-        by_cases (is_short (counted_by totals) room)
-        (λ h. rw (t, h) (sym (ap answer_of (short z h))))
-        (λ h. rw (t, h) (told z ∙ sym (ap answer_of (long z h)))))
-        (λ t. rw t (refused_anyway (eqb-false (counted_by totals).refusal 0 t)))
-
-    -- Where nothing is refused, the tables have room, and can be written.
-    pub answered_song : (answered_by totals room).refusal ≡ 0 → (answer (room_is room) bs ≡ accepted (tables (song_of bs))) × Writable bs ws chart
-    unfolding answered_by provided◌then◌else◌
-    answered_song e =
-        by_cases (eqb (counted_by totals).refusal 0)
-        (λ t.
-        let z = eqb-true (counted_by totals).refusal 0 t in
-        by_cases (is_short (counted_by totals) room)
-        (λ h. let y : 18 ≡ 0 = rw (t, h) at e in
-        let v : ⊥ = omega arith in absurd v)
-        (λ h. (long z h, j.writable (no_refusal z))))
-        (λ t. let y : (counted_by totals).refusal ≡ 0 = rw t at e in absurd (eqb-false (counted_by totals).refusal 0 t y))
+    pub long_counts : is_short chart.totals room ≡ false → accepted_with chart.totals ≡ answer_of (answer (room_is room) bs)
+    long_counts h = song_counts ∙ sym (ap answer_of (long_answer h))
 
 -- Where a song is stored, each table has room.
 pub keys_room : (room : Room) (song : Song) → HasRoom room (tables song) → 8 ≤ room.keys
 keys_room room song h = omega (arith, h.keys, keys_eight song)
 
 -- A refusal is promised where no table was written, and a song where all were.
-pub promised_refused : (text : List ℕ) (before : Lent) (r : Answer) → r ≡ answer_of (answer (room_of before) text) → (r.refusal ≡ 0 → ⊥)
-    → Promised text before r before
+pub promised_refused : (text : List ℕ) (before : Lent) (e : Refusal) (r : Result Totals Refusal) → IsErrAnd r (λ y. y ≡ e)
+    → answer (room_of before) text ≡ refused (number_of e.why) e.line → Promised text before (answered_by r) before
 unfolding answer_of stored
-promised_refused text before r e n = record { answer = e; tables = go (answer (room_of before) text) refl }
-  where
-    go : (y : songcode.Answer) → answer (room_of before) text ≡ y → before ≡ stored (answer (room_of before) text) before
-    go (refused k l) f = sym (ap (λ a. stored a before) f)
-    go (accepted t) f = absurd (n (ap (λ (a : Answer). a.refusal) (e ∙ ap answer_of f)))
+promised_refused text before e (Ok t) is a = absurd is
+promised_refused text before e (Err y) is a = rw is (record { answer = rw a refl; tables = rw a refl })
+
+-- One of the stages before the last, whatever the room.
+pub promised_early : (text : List ℕ) (before : Lent) (e : Refusal) (r : Result Totals Refusal) → IsErrAnd r (λ y. y ≡ e)
+    → song_answer text ≡ refused (number_of e.why) e.line → Promised text before (answered_by r) before
+promised_early text before e r is a = promised_refused text before e r is (refused_with_tables (room_of before) text (number_of e.why) e.line a)
+
+-- The last stage.
+pub promised_short : (text : List ℕ) (before : Lent) → answer (room_of before) text ≡ refused 18 0 → Promised text before (refused_with 18 0) before
+unfolding answer_of stored
+promised_short text before a = record { answer = rw a refl; tables = rw a refl }
 
 same_lent : {k s m b i x y z u v : List ℕ} → k ≡ x → s ≡ y → m ≡ z → b ≡ u → i ≡ v → lent k s m b i ≡ lent x y z u v
 same_lent p q r e f = rw (p, q, r, e, f) refl
@@ -153,10 +112,11 @@ pub one_outcome : (text : List ℕ) (before : Lent) (r q : Answer) (a b : Lent) 
 one_outcome text before r q a b x y = (x.answer ∙ sym y.answer, x.tables ∙ sym y.tables)
 
 -- The call without tables: what it answers.
-pub counted_refused : (text : List ℕ) (n l : ℕ) (r : Answer) → song_answer text ≡ refused n l
-    → r ≡ refused_with n l → Counted text r
+pub counted_refused : (text : List ℕ) (e : Refusal) (r : Result Totals Refusal) → IsErrAnd r (λ y. y ≡ e)
+    → song_answer text ≡ refused (number_of e.why) e.line → Counted text (answered_by r)
 unfolding answer_of
-counted_refused text n l r is e = record { answer = e ∙ sym (ap answer_of is) }
+counted_refused text e (Ok t) is a = absurd is
+counted_refused text e (Err y) is a = rw is (record { answer = rw a refl })
 
 -- No second answer meets its promise; it is the answer of `read` where the tables have room, and where `read` refuses with anything but 18.
 pub one_count : (text : List ℕ) (r q : Answer) → Counted text r → Counted text q → r ≡ q

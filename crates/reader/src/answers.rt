@@ -1,8 +1,10 @@
 // The answer to a chart: a refusal with its line, or the counts.
 ghost use Rattle.std.specs.Prelude.{◌≡◌};
-ghost use Rattle.reader.specs.Room.{refused_with, accepted_with, counted_by};
+ghost use Rattle.refusals.specs.Names.{number_of};
+ghost use Rattle.reader.specs.Room.{refused_with, accepted_with, answered_by};
 
 use judging::Totals;
+use refusals::Refusal;
 
 // Refusal and line, both 0 where the song is accepted, and how many words of each table are its own.
 #[derive(Clone, Copy)]
@@ -25,12 +27,12 @@ pub struct Room {
     pub items: usize,
 }
 
-pub fn refused(number: usize, line: usize) -> Answer
-    ensures { result ≡ refused_with number line }
+fn refused(e: Refusal) -> Answer
+    ensures { result ≡ refused_with (number_of e.why) e.line }
 {
     Answer {
-        refusal: number,
-        line,
+        refusal: usize::from(e.why),
+        line: e.line,
         sections: 0,
         measures: 0,
         beats: 0,
@@ -38,7 +40,7 @@ pub fn refused(number: usize, line: usize) -> Answer
     }
 }
 
-pub fn accepted(totals: Totals) -> Answer
+fn accepted(totals: Totals) -> Answer
     ensures { result ≡ accepted_with totals }
 {
     Answer {
@@ -51,13 +53,12 @@ pub fn accepted(totals: Totals) -> Answer
     }
 }
 
-// What stages 3 to 7 say of a chart, whatever the room for its tables.
-pub fn counted(t: Totals) -> Answer
-    ensures { result ≡ counted_by t }
+// The answer by what the stages give.
+pub fn answered(judged: Result<Totals, Refusal>) -> Answer
+    ensures { result ≡ answered_by judged }
 {
-    let late = t.refusal;
-    if late.number != 0 {
-        return refused(late.number, late.line);
+    match judged {
+        Ok(totals) => accepted(totals),
+        Err(refusal) => refused(refusal),
     }
-    accepted(t)
 }

@@ -1,53 +1,29 @@
 // A chart and five lent tables: one refusal and nothing stored, or every word of every table.
-ghost use Rattle.std.specs.Prelude.{◌≡◌, [], ◌+◌, ◌≤◌, length};
-ghost use Rattle.songcode.specs.Answer.SongText.{text_faults};
-ghost use Rattle.songcode.specs.Answer.Answer.{input_faults, blocks_of};
-ghost use Rattle.tokens.specs.Kept.{Unmarked, KeptFrom};
+ghost use Rattle.std.specs.Prelude.{◌≡◌, ◌+◌, ◌≤◌, length};
+ghost use Rattle.tokens.specs.Kept.{Unmarked};
 ghost use Rattle.reader.specs.Answers.{lent, Promised};
 ghost use Rattle.reader.specs.Room.{is_short, answered_by};
 
-use super::answers::{Answer, Room, counted, refused};
+use super::answers::{Answer, Room, answered};
 use judging::{
     LONG_ROW, SHORT_CHART, SHORT_ROW, SMALL_CHART, SMALL_ROW, Totals, first_stages, judge,
 };
-use refusals::TABLE_TOO_SHORT;
+use refusals::{Refusal, Why};
 use writing::write_tables;
 
 // "keys table under 8, or another table too short" for a song of these counts.
-fn is_short(a: Answer, room: Room) -> bool
-    ensures { result ≡ is_short a room }
+fn is_short(t: Totals, room: Room) -> bool
+    ensures { result ≡ is_short t room }
 {
-    if room.keys < 8 {
-        return true;
-    }
-    if room.sections < a.sections {
-        return true;
-    }
-    if room.measures < a.measures {
-        return true;
-    }
-    if room.beats < a.beats {
-        return true;
-    }
-    room.items < a.items
+    room.keys < 8
+        || room.sections < t.sections
+        || room.measures < t.measures
+        || room.beats < t.beats
+        || room.items < t.items
 }
 
-// A chart that stages 1 to 7 have judged, answered by the room in the tables.
-fn answer_for(t: Totals, room: Room) -> Answer
-    ensures { result ≡ answered_by t room }
-{
-    let a = counted(t);
-    if a.refusal != 0 {
-        return a;
-    }
-    if is_short(a, room) {
-        return refused(TABLE_TOO_SHORT, 0);
-    }
-    a
-}
-
-// A chart that stages 1 and 2 have passed; `words` is the row that its texts are laid into.
-fn read_song(
+// All eight stages; `words` is the row that stage 2 keeps tokens in and that the chart is laid into. A text that is longer than the row is refused by stage 1.
+fn stored(
     text: &[u8],
     words: &mut [u32],
     keys: &mut [u32],
@@ -55,13 +31,15 @@ fn read_song(
     measures: &mut [u32],
     beats: &mut [u32],
     items: &mut [u64],
-) -> Answer
-    requires { (input_faults text.now ≡ []) × (text_faults (blocks_of text.now) ≡ []) × KeptFrom text.now words.old 0 }
+) -> Result<Totals, Refusal>
+    requires { (length text.now ≤ 65536 → length text.now + 16 ≤ length words.old) × Unmarked words.old }
     ensures { Promised text.now
-        (lent keys.old sections.old measures.old beats.old items.old) result
+        (lent keys.old sections.old measures.old beats.old items.old) (answered_by result)
         (lent keys.new sections.new measures.new beats.new items.new) }
 {
-    let chart = judge(text, words);
+    first_stages(text, words)?;
+    let chart = judge(text, words)?;
+    let totals = chart.totals;
     let room = Room {
         keys: keys.len(),
         sections: sections.len(),
@@ -69,38 +47,18 @@ fn read_song(
         beats: beats.len(),
         items: items.len(),
     };
-    let answer = answer_for(chart.totals, room);
-    if answer.refusal != 0 {
-        return answer;
+    if is_short(totals, room) {
+        return Err(Refusal {
+            why: Why::TableTooShort,
+            line: 0,
+        });
     }
     write_tables(text, chart, words, keys, sections, measures, beats, items);
-    answer
+    Ok(totals)
 }
 
-// Every text that is not longer than the row, and every length of every table; longer texts are refused by stage 1.
-fn read_in(
-    text: &[u8],
-    words: &mut [u32],
-    keys: &mut [u32],
-    sections: &mut [u64],
-    measures: &mut [u32],
-    beats: &mut [u32],
-    items: &mut [u64],
-) -> Answer
-    requires { (length text.now ≤ 65536 → length text.now + 16 ≤ length words.old) × Unmarked words.old }
-    ensures { Promised text.now
-        (lent keys.old sections.old measures.old beats.old items.old) result
-        (lent keys.new sections.new measures.new beats.new items.new) }
-{
-    let early = first_stages(text, words);
-    if early.number != 0 {
-        return refused(early.number, early.line);
-    }
-    read_song(text, words, keys, sections, measures, beats, items)
-}
-
-// The same for a chart of at most 512 bytes: a small buffer is soon cleared.
-fn read_small(
+// With a row for a text of its size: a small one is soon cleared.
+fn read_with_row<const ROW: usize>(
     text: &[u8],
     keys: &mut [u32],
     sections: &mut [u64],
@@ -108,51 +66,16 @@ fn read_small(
     beats: &mut [u32],
     items: &mut [u64],
 ) -> Answer
-    requires { length text.now + 16 ≤ 528 }
+    requires { (length text.now ≤ 65536 → length text.now + 16 ≤ ROW) × (ROW ≤ 65552) }
     ensures { Promised text.now
         (lent keys.old sections.old measures.old beats.old items.old) result
         (lent keys.new sections.new measures.new beats.new items.new) }
 {
-    let mut words = [0u32; SMALL_ROW];
-    read_in(text, &mut words, keys, sections, measures, beats, items)
+    let mut words = [0u32; ROW];
+    answered(stored(text, &mut words, keys, sections, measures, beats, items))
 }
 
-// The same for a chart of at most 2,048 bytes, as nearly all are.
-fn read_short(
-    text: &[u8],
-    keys: &mut [u32],
-    sections: &mut [u64],
-    measures: &mut [u32],
-    beats: &mut [u32],
-    items: &mut [u64],
-) -> Answer
-    requires { length text.now + 16 ≤ 2064 }
-    ensures { Promised text.now
-        (lent keys.old sections.old measures.old beats.old items.old) result
-        (lent keys.new sections.new measures.new beats.new items.new) }
-{
-    let mut words = [0u32; SHORT_ROW];
-    read_in(text, &mut words, keys, sections, measures, beats, items)
-}
-
-// The same for any chart.
-fn read_long(
-    text: &[u8],
-    keys: &mut [u32],
-    sections: &mut [u64],
-    measures: &mut [u32],
-    beats: &mut [u32],
-    items: &mut [u64],
-) -> Answer
-    ensures { Promised text.now
-        (lent keys.old sections.old measures.old beats.old items.old) result
-        (lent keys.new sections.new measures.new beats.new items.new) }
-{
-    let mut words = [0u32; LONG_ROW];
-    read_in(text, &mut words, keys, sections, measures, beats, items)
-}
-
-// Every text of every length and every length of every table is answered.
+// Every text of every length and every length of every table is answered. Nearly all charts have at most 2,048 bytes.
 pub fn read(
     text: &[u8],
     keys: &mut [u32],
@@ -166,10 +89,10 @@ pub fn read(
         (lent keys.new sections.new measures.new beats.new items.new) }
 {
     if text.len() <= SMALL_CHART {
-        return read_small(text, keys, sections, measures, beats, items);
+        return read_with_row::<SMALL_ROW>(text, keys, sections, measures, beats, items);
     }
     if text.len() <= SHORT_CHART {
-        return read_short(text, keys, sections, measures, beats, items);
+        return read_with_row::<SHORT_ROW>(text, keys, sections, measures, beats, items);
     }
-    read_long(text, keys, sections, measures, beats, items)
+    read_with_row::<LONG_ROW>(text, keys, sections, measures, beats, items)
 }

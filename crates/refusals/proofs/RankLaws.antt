@@ -10,10 +10,10 @@ use borrow.Author.Tests.{ltb-true, ltb-false, leb-true, leb-false, eqb-true, eqb
 use lib.Dec.{eqb, leb, ltb}
 use Rattle.songcode.specs.Lists.{provided◌then◌else◌, is_empty, when}
 use Rattle.songcode.specs.Answer.Lines.{Block}
-use Rattle.songcode.specs.Complaints.{Complaint, complain_if, goes_first, earlier, earliest}
+use Rattle.songcode.specs.Complaints.{Complaint, complaint, complain_if, goes_first, earlier, earliest}
 use Rattle.songcode.specs.Answer.SongText.{or_no_section}
 use Rattle.songcode.proofs.ListLaws.{Each, by_cases}
-use Rattle.refusals.specs.Refusals.{refusal_of}
+use Rattle.refusals.specs.Names.{Numbered}
 use Rattle.refusals.specs.Ranks.{ranked, rank, no_section, none, Small, least, only_if, refusal_at}
 
 pub least_le : (cs : List Complaint) → least cs ≤ none
@@ -95,8 +95,8 @@ unfolding least earliest Each Says
 least_says [] h = refl
 least_says (c ∷ cs) h = says_earlier c (earliest cs) (least cs) h.0 (least_says cs h.1)
 
-refusal_said : (r : ℕ) (o : Option Complaint) → Says r o → refusal_at r ≡ refusal_of o
-unfolding Says refusal_at refusal_of ranked provided◌then◌else◌
+refusal_said : (r : ℕ) (o : Option Complaint) → Says r o → refusal_at r ≡ o
+unfolding Says refusal_at ranked provided◌then◌else◌
 refusal_said r option.none h = rw h refl
 refusal_said r (option.some c) h =
     let l : ltb r no_section ≡ true = lt-ltb r no_section (omega arith) in
@@ -104,7 +104,28 @@ refusal_said r (option.some c) h =
     let k : r / 32 ≡ c.line = omega arith in
     rw (l, n, k) refl
 
-pub earliest_least : (cs : List Complaint) → Each Small cs → refusal_at (least cs) ≡ refusal_of (earliest cs)
+-- A rank below that of "no section" holds a number that names something.
+says_numbered : (r : ℕ) (o : Option Complaint) → Says r o → r < no_section → Numbered (r % 32)
+unfolding Says ranked
+says_numbered r option.none h l = absurd (omega arith)
+says_numbered r (option.some c) h l = let n : r % 32 ≡ c.number = omega arith in (omega arith, omega arith)
+
+pub least_numbered : (cs : List Complaint) → Each Small cs → least cs < no_section → Numbered (least cs % 32)
+least_numbered cs h l = says_numbered (least cs) (earliest cs) (least_says cs h) l
+
+pub before_no_section : (cs : List Complaint) (t : Bool) → Each Small cs → min (least cs) (only_if t no_section) < no_section
+    → Numbered (min (least cs) (only_if t no_section) % 32)
+unfolding only_if provided◌then◌else◌
+before_no_section cs true h l =
+    let n = least_numbered cs h (omega arith) in
+    let k : min (least cs) no_section ≡ least cs = omega arith in
+    rw k n
+before_no_section cs false h l =
+    let n = least_numbered cs h (omega arith) in
+    let k : min (least cs) none ≡ least cs = omega arith in
+    rw k n
+
+pub earliest_least : (cs : List Complaint) → Each Small cs → refusal_at (least cs) ≡ earliest cs
 earliest_least cs h = refusal_said (least cs) (earliest cs) (least_says cs h)
 
 least_low : (c : Complaint) (cs : List Complaint) → Each Small (c ∷ cs) → least (c ∷ cs) ≤ no_section
@@ -116,8 +137,8 @@ unfolding only_if provided◌then◌else◌
 low_stays true r h = omega arith
 low_stays false r h = omega arith
 
-nothing_else : (t : Bool) → refusal_at (min (least []) (only_if t no_section)) ≡ refusal_of (earliest (complain_if t 9 0))
-unfolding least only_if provided◌then◌else◌ refusal_at refusal_of earliest earlier complain_if when
+nothing_else : (t : Bool) → refusal_at (min (least []) (only_if t no_section)) ≡ earliest (complain_if t 9 0)
+unfolding least only_if provided◌then◌else◌ refusal_at earliest earlier complain_if when
 nothing_else true = refl
 nothing_else false = refl
 
@@ -135,33 +156,27 @@ unfolding least Each Ranked ranked
 least_named c [] h = (omega arith, omega arith)
 least_named c (d ∷ cs) h = let k = least_named d cs h.1 in (omega arith, omega arith)
 
-pub least_clear : (cs : List Complaint) → Each Ranked cs → (refusal_at (least cs)).number ≡ 0 → cs ≡ []
+pub least_clear : (cs : List Complaint) → Each Ranked cs → refusal_at (least cs) ≡ option.none → cs ≡ []
 unfolding refusal_at provided◌then◌else◌
 least_clear [] h e = refl
 least_clear (c ∷ cs) h e =
     let k = least_named c cs h in
-    let z : least (c ∷ cs) % 32 ≡ 0 = rw (lt-ltb (least (c ∷ cs)) no_section k.1) at e in
-    let w : ⊥ = omega arith in
-    absurd w
+    let z : option.some (complaint (least (c ∷ cs) % 32) (least (c ∷ cs) / 32)) ≡ option.none = rw (lt-ltb (least (c ∷ cs)) no_section k.1) at e in
+    let w : ◌≡◌ {A = ℕ} 0 1 = cc in
+    absurd (omega arith)
 
 -- 9 is given where nothing else is.
 pub or_no_section_lem : (cs : List Complaint) (bs : List Block) → Each Small cs
-    → refusal_at (min (least cs) (only_if (is_empty bs) no_section)) ≡ refusal_of (earliest (or_no_section cs bs))
+    → refusal_at (min (least cs) (only_if (is_empty bs) no_section)) ≡ earliest (or_no_section cs bs)
 unfolding or_no_section
 or_no_section_lem [] bs h = nothing_else (is_empty bs)
 or_no_section_lem (c ∷ cs) bs h =
     ap refusal_at (low_stays (is_empty bs) (least (c ∷ cs)) (least_low c cs h)) ∙ earliest_least (c ∷ cs) h
 
-first_numbered : (c : Complaint) (cs : List Complaint) → Each Small (c ∷ cs) → 1 ≤ (earlier c (earliest cs)).number
-unfolding Says earliest
-first_numbered c cs h = (least_says (c ∷ cs) h).1.2
-
 -- Where no number is given nothing is complained of.
-pub clear_faults : (cs : List Complaint) (bs : List Block) → Each Small cs → (refusal_of (earliest (or_no_section cs bs))).number ≡ 0 → or_no_section cs bs ≡ []
-unfolding or_no_section complain_if when refusal_of earliest earlier
-clear_faults [] bs h e = by_cases (is_empty bs) (λ t. let z : 9 ≡ 0 = rw t at e in
-    let w : ⊥ = omega arith in absurd w) (λ t. rw t)
-clear_faults (c ∷ cs) bs h e =
-    let k = first_numbered c cs h in
-    let z : ⊥ = omega arith in
-    absurd z
+pub clear_faults : (cs : List Complaint) (bs : List Block) → Each Small cs → earliest (or_no_section cs bs) ≡ option.none → or_no_section cs bs ≡ []
+unfolding or_no_section complain_if when earliest earlier
+clear_faults [] bs h e =
+    by_cases (is_empty bs) (λ t. let z : option.some (complaint 9 0) ≡ option.none = rw t at e in
+    let w : ◌≡◌ {A = ℕ} 0 1 = cc in absurd (omega arith)) (λ t. rw t)
+clear_faults (c ∷ cs) bs h e = let w : ◌≡◌ {A = ℕ} 0 1 = cc in absurd (omega arith)

@@ -1,8 +1,9 @@
 -- A complaint as one number, so that the one that goes first is the least: by its line, on one line by its number.
-use Rattle.std.specs.Prelude.{ℕ, ◌+◌, ◌*◌, ◌/◌, ◌%◌, ◌<◌, ◌≤◌, min, List, [], ◌∷◌, Bool, eqb, ltb}
+use Rattle.std.specs.Prelude.{ℕ, ◌+◌, ◌*◌, ◌/◌, ◌%◌, ◌<◌, min, List, [], ◌∷◌, Bool, eqb, ltb}
 use Rattle.songcode.specs.Lists.{provided◌then◌else◌}
-use Rattle.songcode.specs.Complaints.{Complaint}
-use Rattle.refusals.specs.declared.Refusal.{Refusal}
+use Rattle.std.proofs.Math.Option as math
+use Rattle.songcode.specs.Complaints.{Complaint, complaint}
+use Rattle.refusals.specs.Names.{Numbered}
 
 -- A line past 131,071 counts as that one, behind every line of a text that is judged.
 unfoldable pub ranked : ℕ → ℕ → ℕ
@@ -18,9 +19,9 @@ no_section = 4194313
 abbrev pub none : ℕ
 none = 8388608
 
--- A complaint that a text may have: its number is from 1 to 31, its line below that of `no_section`.
+-- A complaint that a text may have: its number names what is refused, its line is below that of `no_section`.
 abbrev pub Small : Complaint → Type 0
-Small c = (c.number < 32) × (c.line < 131072) × (1 ≤ c.number)
+Small c = Numbered c.number × (c.line < 131072)
 
 unfoldable pub least : List Complaint → ℕ
 least [] = none
@@ -31,10 +32,10 @@ unfoldable pub only_if : Bool → ℕ → ℕ
 unfolding provided◌then◌else◌
 only_if t r = provided t then r else none
 
--- The refusal that a number says.
-unfoldable pub refusal_at : ℕ → Refusal
+-- The complaint that a number says.
+unfoldable pub refusal_at : ℕ → math.Option Complaint
 unfolding provided◌then◌else◌
 refusal_at r =
-    provided ltb r no_section then record { number = r % 32; line = r / 32 }
-    else provided eqb r no_section then record { number = 9; line = 0 }
-    else record { number = 0; line = 0 }
+    provided ltb r no_section then math.some (complaint (r % 32) (r / 32))
+    else provided eqb r no_section then math.some (complaint 9 0)
+    else math.none

@@ -18,7 +18,7 @@ const MOST: usize = 26;
 pub fn entry_at(words: &[u32], at: usize) -> u32
     ensures { result ≡ get_or words.now at 0 }
 {
-    if at < words.len() { words[at] } else { 0 }
+    words.get(at).copied().unwrap_or(0)
 }
 
 // The head of a definition of that length and number.
@@ -47,23 +47,19 @@ fn id_at(words: &[u32], at: usize) -> u32
 pub fn place_of(words: &[u32], x: u32) -> usize
     ensures { (result ≡ place_of words.now x) × (result ≤ 3407846) }
 {
-    let mut at: usize = 0;
-    let mut passed: usize = 0;
-    while passed < MOST {
+    let mut at = 0;
+    for _ in 0..MOST {
         let length = length_at(words, at);
-        if length == 0 {
-            return at;
-        }
-        if id_at(words, at) == x {
+        if length == 0 || id_at(words, at) == x {
             return at;
         }
         at += length;
-        passed += 1;
     }
     at
 }
 
 // Where the words of that definition's text stand; an empty stretch where there is none.
+#[tactic(auto, unfolding(crate::specs::Places::stretch_of))]
 pub fn stretch_of(words: &[u32], x: u32) -> Stretch
     ensures { result ≡ stretch_of words.now x }
 {
@@ -75,6 +71,7 @@ pub fn stretch_of(words: &[u32], x: u32) -> Stretch
 }
 
 // What is played of a text: where it begins with `$n`, the definition's words.
+#[tactic(auto, unfolding(crate::specs::Places::played_text))]
 pub fn played_text(words: &[u32], text: Stretch) -> Stretch
     ensures { result ≡ played_text words.now text }
 {

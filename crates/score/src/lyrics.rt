@@ -15,6 +15,7 @@ pub struct Lyric {
 }
 
 // The line whose two words stand at a place.
+#[tactic(auto, unfolding(crate::specs::LyricLines::lyric_at, crate::specs::LyricLines::lyric_in))]
 pub fn lyric_at(words: &[u32], at: usize) -> Lyric
     requires { at ≤ 1000000 }
     ensures value { result ≡ lyric_at words.now at }

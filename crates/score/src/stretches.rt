@@ -1,5 +1,5 @@
-// A text in the row: the stretch of its token words, and the word at a place of it. Both are safe on every content.
-ghost use Rattle.std.specs.Prelude.{◌≡◌, min, ◌-◌};
+// A text in the row: the stretch of its token words, those words, and the word at a place of it. All are safe on every content.
+ghost use Rattle.std.specs.Prelude.{◌≡◌, take, drop};
 ghost use Rattle.score.specs.Places.{word_of};
 
 use tokens::WRONG_WORD;
@@ -11,30 +11,21 @@ pub struct Stretch {
     pub to: usize,
 }
 
+impl Stretch {
+    // The words that stand there; of a row that ends before them none.
+    pub fn words(self, row: &[u32]) -> &[u32]
+        ensures { result.now ≡ drop self.from (take self.to row.now) }
+    {
+        let end = self.to.min(row.len());
+        &row[self.from.min(end)..end]
+    }
+}
+
 // The word at a place of the text that ends before `to`; past the end a wrong word, that of no token.
+#[tactic(auto, using(std::proofs::lemmas::List::take_min), unfolding(crate::specs::Places::word_of))]
 pub fn word_at(words: &[u32], to: usize, at: usize) -> u32
     ensures { result ≡ word_of words.now to at }
 {
-    if to <= at {
-        return WRONG_WORD;
-    }
-    if at < words.len() {
-        words[at]
-    } else {
-        WRONG_WORD
-    }
-}
-
-// The smaller of two numbers.
-pub fn least(a: usize, b: usize) -> usize
-    ensures { result ≡ min a b }
-{
-    if a < b { a } else { b }
-}
-
-// A difference, 0 where there is none.
-pub fn minus(a: usize, b: usize) -> usize
-    ensures { result ≡ a - b }
-{
-    if a < b { 0 } else { a - b }
+    let text = &words[..to.min(words.len())];
+    text.get(at).copied().unwrap_or(WRONG_WORD)
 }

@@ -3,7 +3,7 @@ ghost use Rattle.std.specs.Prelude.{◌≡◌, ◌≤◌, ◌/◌, ◌%◌, eqb}
 ghost use Rattle.score.specs.Views.{cut_in, cut_at, cuts_length, view_of};
 
 use super::definitions::entry_at;
-use super::stretches::{Stretch, minus};
+use super::stretches::Stretch;
 use cuts::{Beats, Cut, Measures};
 
 // The words about a section: how many words it takes 17, N 6, bpm 9; header's line less 1: 16, repeat 14, whether it is cut 1; the words of
@@ -33,6 +33,7 @@ pub struct View {
 }
 
 // A cut: measures 14, beats 14.
+#[tactic(auto, unfolding(crate::specs::Views::cut_in))]
 fn cut_in(w: u32) -> Cut
     ensures { result ≡ cut_in w }
 {
@@ -45,15 +46,14 @@ fn cut_in(w: u32) -> Cut
 }
 
 // The cut at a place, where there are any.
+#[tactic(auto, unfolding(crate::specs::Views::cut_at))]
 fn cut_at(words: &[u32], cut: bool, at: usize) -> Cut
     ensures { result ≡ cut_at words.now cut at }
 {
-    if cut {
-        return cut_in(entry_at(words, at));
-    }
-    cut_in(0)
+    cut_in(if cut { entry_at(words, at) } else { 0 })
 }
 
+#[tactic(auto, unfolding(crate::specs::Views::cuts_length))]
 fn cuts_length(cut: bool) -> usize
     ensures { (result ≡ cuts_length cut) × (result ≤ 2) }
 {
@@ -67,6 +67,7 @@ fn is_cut(w: u32) -> bool
 }
 
 // The section at a place.
+#[tactic(auto, unfolding(crate::specs::Views::view_of, crate::specs::Views::view_by))]
 pub fn section_at(words: &[u32], at: usize) -> View
     requires { at ≤ 1000000 }
     ensures { result ≡ view_of words.now at }
@@ -78,9 +79,9 @@ pub fn section_at(words: &[u32], at: usize) -> View
     let cut = is_cut(b);
     let first = at + SECTION_HEADS + cuts_length(cut);
     let next = at + (a / 32768) as usize;
-    let last = minus(next, LYRIC * (d / 65536) as usize);
+    let last = next.saturating_sub(LYRIC * (d / 65536) as usize);
     let begun = first + (c / 65536) as usize;
-    let ended = minus(last, (c % 65536) as usize);
+    let ended = last.saturating_sub((c % 65536) as usize);
     View {
         next,
         meter: (a / 512 % 64) as usize,

@@ -13,7 +13,7 @@ use Rattle.songcode.specs.Bytes as bytes
 use Rattle.songcode.specs.Answer.Numbers.{count_in}
 use Rattle.songcode.specs.Answer.SongText.{head_in}
 use Rattle.text.specs.Spans.{part, line_text, Found}
-use Rattle.tokens.specs.declared.numbers.Number.{Number}
+use Rattle.std.specs.Prelude as std
 use Rattle.tokens.specs.Decimals.{number_of}
 use Rattle.settings.proofs.OfLineLaws.{head_of_line}
 use Rattle.sections.specs.declared.runs.Run.{Run}
@@ -21,7 +21,6 @@ use Rattle.sections.specs.declared.runs.Test.{Test}
 use Rattle.sections.specs.declared.runs.Test.TheVariants.{Full, Body, Early, Pattern}
 use Rattle.sections.specs.Runs.{text_lines, passing, lines_of, lines_behind, Longest}
 use Rattle.sections.specs.BlockParts.{block_at, lines_past, Placed, early_lines, late_lines, behind_dashes, LyricsAt, PartsAt}
-use Rattle.sections.specs.Values.{number_or}
 use Rattle.sections.proofs.ValueLaws.{number_or_lem}
 use Rattle.sections.proofs.RunLaws.{lines_found}
 use Rattle.sections.proofs.PartLaws.{body_is, ending_is, past_is, early_is, pattern_is, late_is, all_left}
@@ -83,11 +82,11 @@ module _ (s : List ℕ) (n at : ℕ) (one : 1 ≤ n) (fits : n ≤ at + 1) (with
   unfolding lines_past
   past_are = rw (← f.is) refl
 
-  pub definition_id : {m : Number} {r : ℕ} → m ≡ number_of (count_in (behind_first (bytes.placed 0 (part h.start h.stop s)))) → r ≡ number_or m 0
+  pub definition_id : {m : std.Option ℕ} {r : ℕ} → m ≡ number_of (count_in (behind_first (bytes.placed 0 (part h.start h.stop s)))) → r ≡ std.unwrap_or m 0
       → r ≡ get_or (head_in (block_at s n at).first) 0
   unfolding block_at
   definition_id {m} e i =
-      i ∙ ap (λ (x : Number). number_or x 0) e ∙ number_or_lem (count_in (behind_first (bytes.placed 0 (part h.start h.stop s)))) 0
+      i ∙ ap (λ (x : std.Option ℕ). std.unwrap_or x 0) e ∙ number_or_lem (count_in (behind_first (bytes.placed 0 (part h.start h.stop s)))) 0
       ∙ rw (← f.is) (ap (λ (o : Option ℕ). get_or o 0) (sym (head_of_line h.number s h.start h.stop)))
 
   body_are : body (block_at s n at) ≡ taken (passing Body) rest

@@ -3,6 +3,7 @@ use Prim.Native.Nat.{ℕ, zero, suc, ◌+◌, ◌-◌, ◌<◌, ◌≤◌}
 use mathlib.Core.Path.{◌≡◌, refl, ap, ◌∙◌}
 use mathlib.Core.List.{List, [], ◌∷◌}
 use mathlib.Core.Option.{Option, none, some}
+use Rattle.std.specs.Prelude as std
 use native.Mathlib.Omega.{arith}
 use borrow.Author.Tests.{eq-eqb, ne_eqb}
 use lib.ListN.{length, take}
@@ -23,11 +24,11 @@ use Rattle.settings.proofs.ValueLaws.{kind_of_placeless}
 use Rattle.settings.proofs.OfLineLaws.{line_from, key_name_of_line, modifier_name_of_line, setting_of_line}
 use Rattle.sections.specs.declared.slots.Said.{Said}
 use Rattle.sections.specs.Runs.{text_lines}
-use Rattle.sections.specs.Slots.{key_number, modifier_number, slot_by, slot_of, setting_among, setting_at}
+use Rattle.sections.specs.Slots.{key_number, modifier_number, number_or, slot_by, slot_of, setting_among, setting_at}
 use Rattle.sections.proofs.RunLaws.{lines_found, lines_over}
 
 -- Names that were read have the numbers of the names that they are.
-key_number_lem : (o : Option song.KeyName) (m : Option modifiers.ModifierName) → key_number (key_is o) ≡ slot_by key_line o m
+key_number_lem : (o : Option song.KeyName) (m : Option modifiers.ModifierName) → number_or key_number (key_is o) ≡ slot_by key_line o m
 unfolding key_is slot_by key_place
 key_number_lem none m = refl
 key_number_lem (some song.name) m = refl
@@ -39,7 +40,7 @@ key_number_lem (some song.time) m = refl
 key_number_lem (some song.warning) m = refl
 key_number_lem (some song.end) m = refl
 
-modifier_number_lem : (k : Option song.KeyName) (o : Option modifiers.ModifierName) → modifier_number (modifier_is o) ≡ slot_by modifier_line k o
+modifier_number_lem : (k : Option song.KeyName) (o : Option modifiers.ModifierName) → number_or modifier_number (modifier_is o) ≡ slot_by modifier_line k o
 unfolding modifier_is slot_by modifier_place
 modifier_number_lem k none = refl
 modifier_number_lem k (some modifiers.of_repeat) = refl
@@ -62,37 +63,35 @@ module _ (n : ℕ) (s : List ℕ) (a e : ℕ) where
   slot_pattern h = rw (kind_of_line_lem, h)
 
   module _ (q : ℕ) (name : name_in (placed (a + 1) (part (a + 1) e s)) ≡ placed (a + 1) (part (a + 1) q s)) where
-    pub slot_key : {k : KeyName} {r : ℕ} → kind_of (placed 0 (part a e s)) ≡ key_line → k ≡ key_is (key_named (placed 0 (part (a + 1) q s)))
-        → r ≡ key_number k → r ≡ slot_of (line_from n s a e)
+    pub slot_key : {k : std.Option KeyName} {r : ℕ} → kind_of (placed 0 (part a e s)) ≡ key_line → k ≡ key_is (key_named (placed 0 (part (a + 1) q s)))
+        → r ≡ number_or key_number k → r ≡ slot_of (line_from n s a e)
     unfolding slot_of
     slot_key h i j =
-        j ∙ ap key_number i ∙ key_number_lem (key_named (placed 0 (part (a + 1) q s))) (modifier_name_of (line_from n s a e))
+        j ∙ ap (number_or key_number) i ∙ key_number_lem (key_named (placed 0 (part (a + 1) q s))) (modifier_name_of (line_from n s a e))
         ∙ rw (kind_of_line_lem, h, key_name_of_line n s a e q name)
 
-    pub slot_modifier : {m : ModifierName} {r : ℕ} → kind_of (placed 0 (part a e s)) ≡ modifier_line
-        → m ≡ modifier_is (modifier_named (placed 0 (part (a + 1) q s))) → r ≡ modifier_number m
+    pub slot_modifier : {m : std.Option ModifierName} {r : ℕ} → kind_of (placed 0 (part a e s)) ≡ modifier_line
+        → m ≡ modifier_is (modifier_named (placed 0 (part (a + 1) q s))) → r ≡ number_or modifier_number m
         → r ≡ slot_of (line_from n s a e)
     unfolding slot_of
     slot_modifier h i j =
-        j ∙ ap modifier_number i ∙ modifier_number_lem (key_name_of (line_from n s a e)) (modifier_named (placed 0 (part (a + 1) q s)))
+        j ∙ ap (number_or modifier_number) i ∙ modifier_number_lem (key_name_of (line_from n s a e)) (modifier_named (placed 0 (part (a + 1) q s)))
         ∙ rw (kind_of_line_lem, h, modifier_name_of_line n s a e q name)
 
--- The setting at its places; at no line there is none.
-module _ (s : List ℕ) (said : Said) where
-  pub setting_none : said.line ≡ 0 → setting_at s said ≡ none
-  unfolding setting_at provided◌then◌else◌
-  setting_none h = rw (eq-eqb _ _ h)
+-- The setting at its places.
+pub setting_none : (s : List ℕ) → setting_at s std.None ≡ none
+unfolding setting_at
+setting_none s = refl
 
-  pub setting_some : (said.line ≡ 0 → ⊥) → setting_at s said ≡ some (record
-      { line = said.line; text = placed said.start (part said.start said.stop s) })
-  unfolding setting_at provided◌then◌else◌
-  setting_some h = rw (ne_eqb _ _ h)
+pub setting_some : (s : List ℕ) (r : Said) → setting_at s (std.Some r) ≡ some (record { line = r.line; text = placed r.start (part r.start r.stop s) })
+unfolding setting_at
+setting_some s r = refl
 
 -- The setting at the places of a line's setting.
-pub says_line : (s : List ℕ) (n a e q : ℕ) → 1 ≤ n → setting_in (placed (a + 1) (part (a + 1) e s)) ≡ placed q (part q e s)
-    → setting_at s (record { line = n; start = q; stop = e }) ≡ some (record { line = n; text = setting_of (line_from n s a e) })
-says_line s n a e q one setting =
-    setting_some s (record { line = n; start = q; stop = e }) (λ (j : n ≡ 0). let w : ⊥ = omega arith in w)
+pub says_line : (s : List ℕ) (n a e q : ℕ) → setting_in (placed (a + 1) (part (a + 1) e s)) ≡ placed q (part q e s)
+    → setting_at s (std.Some (record { line = n; start = q; stop = e })) ≡ some (record { line = n; text = setting_of (line_from n s a e) })
+says_line s n a e q setting =
+    setting_some s (record { line = n; start = q; stop = e })
     ∙ rw (setting_of_line n s a e q setting)
 
 -- The first setting of a number, where the first line says it, and where it does not.
@@ -121,8 +120,8 @@ module _ (s : List ℕ) (n at left : ℕ) where
       nil zero = refl
       nil (suc k) = refl
 
-  pub left_found : {l : text.Line} → Found s n at l → at < length s → (left ≡ 0 → ⊥)
-      → take left (text_lines s n at) ≡ line_from n s l.start l.stop ∷ take (left - 1) (text_lines s (n + 1) l.next)
-  left_found f h some_left =
-      let e : left ≡ suc (left - 1) = omega arith in
+  pub left_found : {l : text.Line} (k : ℕ) → left ≡ k + 1 → Found s n at l → at < length s
+      → take left (text_lines s n at) ≡ line_from n s l.start l.stop ∷ take k (text_lines s (n + 1) l.next)
+  left_found k more f h =
+      let e : left ≡ suc k = omega arith in
       ap (λ (k : ℕ). take k (text_lines s n at)) e ∙ rw (lines_found f h, f.number)

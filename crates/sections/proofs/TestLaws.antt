@@ -41,6 +41,12 @@ modifier_read sections.key_line e h = let z : ◌≡◌ {A = ℕ} 0 1 = cc in ab
 modifier_read sections.modifier_line e h = refl
 modifier_read sections.pattern_line e h = let z : ◌≡◌ {A = ℕ} 0 1 = cc in absurd (omega arith)
 
+pub other_read : (k : sections.Kind) {r : Kind} → r ≡ kind_is k → (r ≡ kind.Pattern → ⊥) → false ≡ is_pattern_kind k
+unfolding kind_is is_pattern_kind
+other_read sections.key_line e n = refl
+other_read sections.modifier_line e n = refl
+other_read sections.pattern_line e n = absurd (n e)
+
 -- The test at hand.
 pub opens_by : {t : Test} (v : Test) (bs : List Byte) {r : Bool} → t ≡ v → r ≡ opens v bs → r ≡ opens t bs
 opens_by v bs e h = rw e h

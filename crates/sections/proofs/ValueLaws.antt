@@ -13,20 +13,20 @@ use Rattle.songcode.specs.Answer.Numbers.{repeat_in}
 use Rattle.songcode.specs.Answer.Modifiers.{cut_in}
 use Rattle.songcode.proofs.ListLaws.{by_cases}
 use Rattle.text.specs.Spans.{part}
-use Rattle.tokens.specs.declared.numbers.Number.{Number}
+use Rattle.std.specs.Prelude as std
 use Rattle.tokens.specs.Decimals.{number_of}
-use Rattle.settings.specs.declared.cutting.CutRead.{CutRead}
-use Rattle.settings.specs.declared.cutting.CutRead.TheVariants as read
+use Rattle.std.specs.Prelude as std
+use Rattle.cuts.specs.declared.Cut.{Cut}
+use Rattle.std.specs.Prelude.{Some, None}
 use Rattle.settings.specs.Cuts.{cut_is, CutFits}
 use Rattle.settings.proofs.PlaceLaws.{Placeless}
 use Rattle.settings.proofs.NumberLaws.{number_in_range}
 use Rattle.settings.proofs.CutLaws.{cut_in_placeless}
 use Rattle.sections.specs.declared.slots.Said.{Said}
 use Rattle.sections.specs.Slots.{setting_at}
-use Rattle.sections.specs.Values.{number_or, cut_said}
-use Rattle.sections.proofs.SlotLaws.{setting_none, setting_some}
+use Rattle.sections.specs.Values.{cut_said}
 
-pub number_or_lem : (o : Option ℕ) (d : ℕ) → number_or (number_of o) d ≡ get_or o d
+pub number_or_lem : (o : Option ℕ) (d : ℕ) → std.unwrap_or (number_of o) d ≡ get_or o d
 unfolding number_of
 number_or_lem none d = refl
 number_or_lem (some n) d = refl
@@ -36,31 +36,31 @@ or_holds : (P : ℕ → Type 0) (o : Option ℕ) (d : ℕ) → P d → ((n : ℕ
 or_holds P none d p f = p
 or_holds P (some n) d p f = f n refl
 
-module _ (s : List ℕ) (said : Said) where
+module _ (s : List ℕ) {said : std.Option Said} where
   module _ (f : List Byte → Option ℕ) (d : ℕ) where
-    pub said_otherwise : said.line ≡ 0 → d ≡ get_or (bind (setting_at s said) (λ x. f x.text)) d
-    unfolding bind
-    said_otherwise h = rw (setting_none s said h)
+    pub said_otherwise : said ≡ None → d ≡ get_or (bind (setting_at s said) (λ x. f x.text)) d
+    unfolding bind setting_at
+    said_otherwise is = rw is refl
 
-    pub said_number : (P : ℕ → Type 0) → Placeless f → P d → ((bs : List Byte) (n : ℕ) → f bs ≡ some n → P n) → (said.line ≡ 0 → ⊥) → {m : Number} {r : ℕ}
-        → m ≡ number_of (f (placed 0 (part said.start said.stop s))) → r ≡ number_or m d
+    pub said_number : (P : ℕ → Type 0) → Placeless f → P d → ((bs : List Byte) (n : ℕ) → f bs ≡ some n → P n) → {x : Said} → said ≡ Some x
+        → {m : std.Option ℕ} {r : ℕ} → m ≡ number_of (f (placed 0 (part x.start x.stop s))) → r ≡ std.unwrap_or m d
         → (r ≡ get_or (bind (setting_at s said) (λ x. f x.text)) d) × P r
-    unfolding bind
-    said_number P h p g line {m} {r} e i =
-        let o = f (placed 0 (part said.start said.stop s)) in
-        let k : r ≡ get_or o d = i ∙ ap (λ (x : Number). number_or x d) e ∙ number_or_lem o d in (
-          k ∙ rw (setting_some s said line, h said.start (part said.start said.stop s)),
+    unfolding bind setting_at
+    said_number P h p g {x} is {m} {r} e i =
+        let o = f (placed 0 (part x.start x.stop s)) in
+        let k : r ≡ get_or o d = i ∙ ap (λ (x : std.Option ℕ). std.unwrap_or x d) e ∙ number_or_lem o d in (
+          k ∙ rw (is, h x.start (part x.start x.stop s)),
           subst P (sym k)
-              (or_holds P o d p (g (placed 0 (part said.start said.stop s)))),
+              (or_holds P o d p (g (placed 0 (part x.start x.stop s)))),
         )
 
-  pub no_cut : said.line ≡ 0 → (read.Not ≡ cut_said (setting_at s said)) × CutFits read.Not
-  unfolding cut_said cut_is bind CutFits
-  no_cut h = (rw (setting_none s said h), tt)
+  pub no_cut : said ≡ None → (None ≡ cut_said (setting_at s said)) × CutFits None
+  unfolding cut_said cut_is bind CutFits setting_at
+  no_cut is = (rw is refl, tt)
 
-  pub a_cut : (said.line ≡ 0 → ⊥) → {r : CutRead} → r ≡ cut_is (cut_in (placed 0 (part said.start said.stop s))) → r ≡ cut_said (setting_at s said)
-  unfolding cut_said bind
-  a_cut line e = e ∙ rw (setting_some s said line, cut_in_placeless said.start (part said.start said.stop s))
+  pub a_cut : {x : Said} → said ≡ Some x → {r : std.Option Cut} → r ≡ cut_is (cut_in (placed 0 (part x.start x.stop s))) → r ≡ cut_said (setting_at s said)
+  unfolding cut_said bind setting_at
+  a_cut {x} is e = e ∙ rw (is, cut_in_placeless x.start (part x.start x.stop s))
 
 -- The ranges of what is read.
 pub time_range : (bs : List Byte) (n : ℕ) → time_in bs ≡ some n → n ≤ 32

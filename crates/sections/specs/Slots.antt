@@ -1,6 +1,7 @@
 -- The settings of key and modifier lines: which line says one, and its text.
 use Rattle.std.specs.Prelude.{ℕ, ◌+◌, ◌<◌, ◌≤◌, ◌≡◌, List, [], ◌∷◌, eqb, length}
 use Rattle.std.proofs.Math.Option.{Option, none, some}
+use Rattle.std.specs.Prelude as std
 use Rattle.songcode.specs.Lists.{provided◌then◌else◌}
 use Rattle.songcode.specs.Bytes.{Byte, placed}
 use Rattle.songcode.specs.Answer.Lines.{Line}
@@ -11,10 +12,8 @@ use Rattle.songcode.specs.Answer.Sections.{Kind, key_line, modifier_line, patter
 use Rattle.text.specs.Spans.{part}
 use Rattle.settings.specs.declared.keys.KeyName.{KeyName}
 use Rattle.settings.specs.declared.keys.KeyName.TheVariants.{Name, Artist, Original, Capo, Bpm, Time, Warning, End}
-use Rattle.settings.specs.declared.keys.KeyName.TheVariants as key
 use Rattle.settings.specs.declared.modifiers.ModifierName.{ModifierName}
 use Rattle.settings.specs.declared.modifiers.ModifierName.TheVariants.{Repeat, CutStart, CutEnd, Before, After}
-use Rattle.settings.specs.declared.modifiers.ModifierName.TheVariants as modifier
 use Rattle.sections.specs.declared.slots.Said.{Said}
 
 -- Keys are numbered in the order of the answer's table, modifiers behind them; any other line is 13.
@@ -45,7 +44,6 @@ key_number Bpm = 4
 key_number Time = 5
 key_number Warning = 6
 key_number End = 7
-key_number key.Unknown = 13
 
 abbrev pub modifier_number : ModifierName → ℕ
 modifier_number Repeat = 8
@@ -53,7 +51,11 @@ modifier_number CutStart = 9
 modifier_number CutEnd = 10
 modifier_number Before = 11
 modifier_number After = 12
-modifier_number modifier.Unknown = 13
+
+-- The number of a name that is there.
+abbrev pub number_or : {K : Type 0} → (K → ℕ) → std.Option K → ℕ
+number_or f std.None = 13
+number_or f (std.Some k) = f k
 
 -- A setting: the number of its line, and its text.
 pub record Setting : Type 0 where
@@ -66,13 +68,17 @@ unfolding provided◌then◌else◌ slot_of setting_of
 setting_among k [] = none
 setting_among k (l ∷ ls) = provided eqb (slot_of l) k then some (record { line = l.number; text = setting_of l }) else setting_among k ls
 
--- The setting at the places that the code answers; line 0 says that there is none.
-unfoldable pub setting_at : List ℕ → Said → Option Setting
-unfolding provided◌then◌else◌
-setting_at s r = provided eqb r.line 0 then none else some (record { line = r.line; text = placed r.start (part r.start r.stop s) })
+-- The setting at the places that the code answers.
+unfoldable pub setting_at : List ℕ → std.Option Said → Option Setting
+setting_at s std.None = none
+setting_at s (std.Some r) = some (record { line = r.line; text = placed r.start (part r.start r.stop s) })
+
+-- A setting that is said lies in the text.
+abbrev pub Inside : List ℕ → std.Option Said → Type 0
+Inside s std.None = Unit {0}
+Inside s (std.Some r) = (r.start ≤ r.stop) × (r.stop ≤ length s)
 
 -- The setting that a line of this number says; 13 and above say none.
-pub record SaysLine (s : List ℕ) (slot : ℕ) (l : Line) (r : Said) : Type 0 where
+pub record SaysLine (s : List ℕ) (slot : ℕ) (l : Line) (r : std.Option Said) : Type 0 where
   pub setting : slot < 13 → setting_at s r ≡ some (record { line = l.number; text = setting_of l })
-  pub start : r.start ≤ r.stop
-  pub stop : r.stop ≤ length s
+  pub inside : Inside s r

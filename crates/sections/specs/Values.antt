@@ -1,22 +1,16 @@
 -- What settings say, as numbers: of a section's keys and modifiers, where they are said, and otherwise.
-use Rattle.std.specs.Prelude.{ℕ, ◌≤◌, ◌≡◌, List, length}
+use Rattle.std.specs.Prelude.{ℕ, ◌≤◌, ◌≡◌, List}
 use Rattle.std.proofs.Math.Option.{Option, get_or, bind}
 use Rattle.songcode.specs.Answer.Keys.{time_in, bpm_in}
 use Rattle.songcode.specs.Answer.Numbers.{repeat_in}
 use Rattle.songcode.specs.Answer.Modifiers.{cut_in}
 use Rattle.songcode.specs.Answer.Lines.{Line}
-use Rattle.tokens.specs.declared.numbers.Number.{Number}
-use Rattle.tokens.specs.declared.numbers.Number.TheVariants.{Is, Not}
-use Rattle.settings.specs.declared.cutting.CutRead.{CutRead}
+use Rattle.std.specs.Prelude as std
+use Rattle.cuts.specs.declared.Cut.{Cut}
 use Rattle.settings.specs.Cuts.{cut_is, CutFits}
 use Rattle.sections.specs.declared.values.Keys.{Keys}
 use Rattle.sections.specs.declared.values.Modifiers.{Modifiers}
-use Rattle.sections.specs.declared.slots.Said.{Said}
-use Rattle.sections.specs.Slots.{Setting, setting_among, setting_at}
-
-abbrev pub number_or : Number → ℕ → ℕ
-number_or (Is n) d = n
-number_or Not d = d
+use Rattle.sections.specs.Slots.{Setting, Inside, setting_among, setting_at}
 
 -- 0 is no time, 511 no bpm; a section without a repeat is played once.
 unfoldable pub time_said : Option Setting → ℕ
@@ -31,14 +25,9 @@ unfoldable pub repeat_said : Option Setting → ℕ
 unfolding bind repeat_in
 repeat_said o = get_or (bind o (λ x. repeat_in x.text)) 1
 
-unfoldable pub cut_said : Option Setting → CutRead
+unfoldable pub cut_said : Option Setting → std.Option Cut
 unfolding cut_is bind cut_in
 cut_said o = cut_is (bind o (λ x. cut_in x.text))
-
--- A setting that is said lies in the text.
-pub record Inside (s : List ℕ) (r : Said) : Type 0 where
-  pub start : r.start ≤ r.stop
-  pub stop : r.stop ≤ length s
 
 -- The keys and the modifiers that lines say.
 pub record KeysAre (ls : List Line) (r : Keys) : Type 0 where

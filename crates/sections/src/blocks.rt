@@ -5,7 +5,7 @@ ghost use Rattle.settings.specs.Kinds.{block_kind_is};
 ghost use Rattle.sections.specs.BlockParts.{block_at, Placed, NextAt, LyricsAt, PartsAt, PartsRead, DefinitionAt};
 
 use super::runs::{Run, Test, run_of};
-use super::values::{Keys, Modifiers, keys_of, modifiers_of, number_or};
+use super::values::{Keys, Modifiers, keys_of, modifiers_of};
 use settings::{BlockKind, block_kind, head_in};
 use text::{line_at, line_start, past_blank};
 
@@ -55,10 +55,7 @@ pub fn next_block(s: &[u8], number: usize, at: usize) -> Place
     while next < s.len() {
         let behind = past_blank(s, next);
         if behind == next {
-            return Place {
-                number: number + lines,
-                at: next,
-            };
+            break;
         }
         lines += 1;
         next = behind;
@@ -74,8 +71,7 @@ pub fn kind_at(s: &[u8], number: usize, at: usize) -> BlockKind
     requires { at ≤ length s.now }
     ensures { result ≡ block_kind_is (block_kind (block_at s.now number at)) }
 {
-    let a = line_start(s, at);
-    block_kind(&s[a..])
+    block_kind(&s[line_start(s, at)..])
 }
 
 // The lyric lines of a block, from its `--` on.
@@ -120,16 +116,12 @@ pub fn read_parts(s: &[u8], parts: Parts) -> SectionRead
     requires { Placed s.now parts.early × Placed s.now parts.late }
     ensures { PartsRead s.now parts result }
 {
-    let early = parts.early;
-    let late = parts.late;
-    let pattern = parts.pattern;
-    let lyrics = parts.lyrics;
     SectionRead {
         header: parts.header,
-        keys: keys_of(s, early),
-        modifiers: modifiers_of(s, late),
-        pattern,
-        lyrics,
+        keys: keys_of(s, parts.early),
+        modifiers: modifiers_of(s, parts.late),
+        pattern: parts.pattern,
+        lyrics: parts.lyrics,
     }
 }
 
@@ -139,11 +131,9 @@ pub fn read_definition(s: &[u8], number: usize, at: usize) -> DefinitionRead
     ensures { DefinitionAt s.now number at result }
 {
     let head = line_at(s, number, at);
-    let a = head.start;
-    let e = head.stop;
     DefinitionRead {
         head: number,
-        id: number_or(head_in(&s[a..e]), 0),
+        id: head_in(&s[head.start..head.stop]).unwrap_or(0),
         pattern: run_of(s, Test::Full, number + 1, head.next),
     }
 }

@@ -12,9 +12,9 @@ mod walking;
 pub use blocks::{
     DefinitionRead, Parts, Place, SectionRead, kind_at, next_block, read_definition, section_parts,
 };
-pub use gathering::{SLOTS, gather, said_by};
+pub use gathering::{Gathered, gather};
 pub use lines::line_numbered;
 pub use runs::{Run, Test, run_of};
-pub use slots::{Said, find, slot_of};
-pub use values::{Keys, Modifiers, keys_by, keys_of};
+pub use slots::{SLOTS, Said, find, slot_of};
+pub use values::{Keys, Modifiers, keys_of};
 pub use walking::{Met, meet};

@@ -10,7 +10,7 @@ use settings::{Kind, is_dashes, kind_of};
 use text::{line_at, line_start, past_blank};
 
 // A line that is not blank; of those, one that is no `--`; of those, one of no pattern and one of a pattern.
-#[derive(Clone, Copy)]
+#[derive(Clone, Copy, PartialEq, Eq)]
 pub enum Test {
     Full,
     Body,
@@ -30,11 +30,7 @@ pub struct Run {
 fn is_pattern(w: &[u8]) -> bool
     ensures { result ≡ is_pattern_text (placed 0 w.now) }
 {
-    match kind_of(w) {
-        Kind::Key => false,
-        Kind::Modifier => false,
-        Kind::Pattern => true,
-    }
+    kind_of(w) == Kind::Pattern
 }
 
 // The line at a place is not blank.
@@ -50,8 +46,7 @@ fn is_pattern_at(s: &[u8], at: usize) -> bool
     requires { at < length s.now }
     ensures { result ≡ is_pattern_text (line_text s.now (line_at s.now 0 at)).text }
 {
-    let a = line_start(s, at);
-    is_pattern(&s[a..])
+    is_pattern(&s[line_start(s, at)..])
 }
 
 // What the first bytes of the line at a place say of a test.
@@ -60,8 +55,7 @@ fn opens(s: &[u8], test: Test, at: usize) -> bool
     ensures { result ≡ runs.opens test (line_text s.now (line_at s.now 0 at)).text }
 {
     match test {
-        Test::Full => is_full(s, at),
-        Test::Body => is_full(s, at),
+        Test::Full | Test::Body => is_full(s, at),
         Test::Early => !is_pattern_at(s, at),
         Test::Pattern => is_full(s, at) && is_pattern_at(s, at),
     }
@@ -72,10 +66,8 @@ fn is_parted(test: Test, w: &[u8]) -> bool
     ensures { result ≡ parted test (placed 0 w.now) }
 {
     match test {
-        Test::Full => false,
-        Test::Body => is_dashes(w),
-        Test::Early => false,
-        Test::Pattern => is_dashes(w),
+        Test::Body | Test::Pattern => is_dashes(w),
+        Test::Full | Test::Early => false,
     }
 }
 
@@ -88,23 +80,11 @@ pub fn run_of(s: &[u8], test: Test, number: usize, at: usize) -> Run
     let mut next = at;
     while next < s.len() {
         if !opens(s, test, next) {
-            return Run {
-                number,
-                at,
-                lines,
-                next,
-            };
+            break;
         }
         let line = line_at(s, number + lines, next);
-        let a = line.start;
-        let e = line.stop;
-        if is_parted(test, &s[a..e]) {
-            return Run {
-                number,
-                at,
-                lines,
-                next,
-            };
+        if is_parted(test, &s[line.start..line.stop]) {
+            break;
         }
         lines += 1;
         next = line.next;

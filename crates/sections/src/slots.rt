@@ -2,7 +2,7 @@
 ghost use Rattle.std.specs.Prelude.{◌≡◌, ◌+◌, ◌-◌, ◌*◌, ◌≤◌, ◌<◌, length};
 ghost use Rattle.settings.proofs.OfLineLaws.{line_from};
 ghost use Rattle.sections.specs.Runs.{lines_of};
-ghost use Rattle.sections.specs.Slots.{slot_of, key_number, modifier_number, SaysLine, setting_among, setting_at};
+ghost use Rattle.sections.specs.Slots.{slot_of, key_number, modifier_number, Inside, SaysLine, setting_among, setting_at};
 
 use super::runs::Run;
 use settings::{
@@ -10,7 +10,10 @@ use settings::{
 };
 use text::line_at;
 
-// A setting's line, and the places of its first byte and behind its last; line 0 where there is none.
+// Eight keys and five modifiers have a number each.
+pub const SLOTS: usize = 13;
+
+// A setting's line, and the places of its first byte and behind its last.
 #[derive(Clone, Copy)]
 pub struct Said {
     pub line: usize,
@@ -18,18 +21,7 @@ pub struct Said {
     pub stop: usize,
 }
 
-// No setting.
-pub fn nothing_said() -> Said
-    ensures { (result.line ≡ 0) × (result.start ≡ 0) × (result.stop ≡ 0) }
-{
-    Said {
-        line: 0,
-        start: 0,
-        stop: 0,
-    }
-}
-
-// Keys have the numbers of their places in the answer, modifiers those behind them; 13 is none.
+// Keys have the numbers of their places in the answer, modifiers those behind them.
 pub fn key_number(k: KeyName) -> usize
     ensures { result ≡ key_number k }
 {
@@ -42,7 +34,6 @@ pub fn key_number(k: KeyName) -> usize
         KeyName::Time => 5,
         KeyName::Warning => 6,
         KeyName::End => 7,
-        KeyName::Unknown => 13,
     }
 }
 
@@ -55,11 +46,10 @@ pub fn modifier_number(m: ModifierName) -> usize
         ModifierName::CutEnd => 10,
         ModifierName::Before => 11,
         ModifierName::After => 12,
-        ModifierName::Unknown => 13,
     }
 }
 
-// The number of the setting that a line says.
+// The number of the setting that a line says; 13 is none.
 pub fn slot_of(s: &[u8], n: usize, a: usize, e: usize) -> usize
     requires { (a ≤ e) × (e ≤ length s.now) }
     ensures { (result ≡ slot_of (line_from n s.now a e)) × (13 ≤ result + 13 * (e - a)) }
@@ -69,49 +59,44 @@ pub fn slot_of(s: &[u8], n: usize, a: usize, e: usize) -> usize
     }
     let q = name_end(s, a + 1, e);
     match kind_of(&s[a..e]) {
-        Kind::Key => key_number(key_named(&s[a + 1..q])),
-        Kind::Modifier => modifier_number(modifier_named(&s[a + 1..q])),
+        Kind::Key => key_named(&s[a + 1..q]).map_or(SLOTS, key_number),
+        Kind::Modifier => modifier_named(&s[a + 1..q]).map_or(SLOTS, modifier_number),
         Kind::Pattern => 13,
     }
 }
 
 // The setting that a line says whose number is `slot`; none where the number is 13.
-pub fn said_on(s: &[u8], n: usize, a: usize, e: usize, slot: usize) -> Said
+pub fn said_on(s: &[u8], n: usize, a: usize, e: usize, slot: usize) -> Option<Said>
     requires { (a ≤ e) × (e ≤ length s.now) × (1 ≤ n) × (13 ≤ slot + 13 * (e - a)) }
     ensures { SaysLine s.now slot (line_from n s.now a e) result }
 {
-    if 13 <= slot {
-        return nothing_said();
+    if SLOTS <= slot {
+        return None;
     }
-    Said {
+    Some(Said {
         line: n,
         start: setting_start(s, a + 1, e),
         stop: e,
-    }
+    })
 }
 
 // The first setting of a number among the lines of a run.
-pub fn find(s: &[u8], slot: usize, run: Run) -> Said
+pub fn find(s: &[u8], slot: usize, run: Run) -> Option<Said>
     requires { (1 ≤ run.number) × (run.number ≤ run.at + 1) × (run.at ≤ length s.now) × (slot < 13) }
-    ensures { (setting_at s.now result ≡ setting_among slot (lines_of s.now run)) × (result.start ≤ result.stop)
-        × (result.stop ≤ length s.now) }
+    ensures { (setting_at s.now result ≡ setting_among slot (lines_of s.now run)) × Inside s.now result }
 {
     let mut n = run.number;
     let mut at = run.at;
-    let mut left = run.lines;
-    while at < s.len() {
-        if left == 0 {
-            return nothing_said();
+    for _ in 0..run.lines {
+        if at == s.len() {
+            break;
         }
         let line = line_at(s, n, at);
-        let a = line.start;
-        let e = line.stop;
-        if slot_of(s, n, a, e) == slot {
-            return said_on(s, n, a, e, slot);
+        if slot_of(s, n, line.start, line.stop) == slot {
+            return said_on(s, n, line.start, line.stop, slot);
         }
         n += 1;
         at = line.next;
-        left -= 1;
     }
-    nothing_said()
+    None
 }

@@ -34,7 +34,8 @@ pub fn meet(s: &[u8], p: Place) -> Met
     ensures { Meets s.now p result }
 {
     let x = pass(s, p);
-    let section = read_parts(s, x.section);
-    let next = x.next;
-    Met { section, next }
+    Met {
+        section: read_parts(s, x.section),
+        next: x.next,
+    }
 }

@@ -5,6 +5,7 @@ use mathlib.Core.List.{List}
 use mathlib.Core.Option.{Option, none, some}
 use native.Mathlib.Omega.{arith}
 use lib.ListN.{length, get_or}
+use Rattle.std.specs.Prelude.{Some, None}
 use Rattle.songcode.specs.Description.Joined.{first_beat, end_beat}
 use Rattle.songcode.specs.Answer.Finding.{half, jump_to}
 use Rattle.songcode.specs.Jumps.{Holds, Halves, empty, held, before, past}
@@ -19,9 +20,6 @@ Left beat table start end probes = (found : Option ℕ) (more : ℕ) → Halves 
 module _ (beat : ℕ) (table : List ℕ) where
   abbrev At : Option ℕ → ℕ → Type 0
   At found probes = Halves beat table 0 (length table) found probes
-
-  pub left_all : Left beat table 0 (length table) 0
-  left_all found more h = subst (λ n. At found n) (omega arith) h
 
   module _ (start end probes : ℕ) (l : start < end) (left : Left beat table start end probes) where
     pub left_before : beat < first_beat (get_or table ((start + end) / 2) 0) → Left beat table start ((start + end) / 2) (probes + 1)
@@ -41,16 +39,16 @@ module _ (beat : ℕ) (table : List ℕ) where
   module _ (l : length table ≤ 65535) (start end probes : ℕ) (left : Left beat table start end probes) where
     -- The record in the middle holds the beat.
     pub found_there : start < end → Holds beat (get_or table ((start + end) / 2) 0)
-        → record { refusal = 0; place = (start + end) / 2; probes = probes + 1 } ≡ found_of (jump_to beat table)
+        → record { place = Some ((start + end) / 2); probes = probes + 1 } ≡ found_of (jump_to beat table)
     unfolding half found_as
     found_there m h = found_on l (some ((start + end) / 2)) (probes + 1) (left (some ((start + end) / 2)) 1 (held m (omega arith) h))
 
     -- The range is empty.
-    pub found_nowhere : end ≤ start → record { refusal = 19; place = 0; probes = probes } ≡ found_of (jump_to beat table)
+    pub found_nowhere : end ≤ start → record { place = None; probes = probes } ≡ found_of (jump_to beat table)
     unfolding found_as
     found_nowhere m = found_on l none probes (subst (λ n. At none n) (omega arith) (left none 0 (empty m)))
 
 -- More than 65,535 records are not searched.
-pub found_over : (beat : ℕ) (table : List ℕ) → 65535 < length table → record { refusal = 19; place = 0; probes = 0 } ≡ found_of (jump_to beat table)
+pub found_over : (beat : ℕ) (table : List ℕ) → 65535 < length table → record { place = None; probes = 0 } ≡ found_of (jump_to beat table)
 unfolding found_of found_as
 found_over beat table l = rw (jumps_proved.too_long beat table l)

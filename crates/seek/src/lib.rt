@@ -3,29 +3,39 @@
 
 ghost use Rattle.std.specs.Prelude.{◌≡◌};
 ghost use Rattle.songcode.specs.Answer.Finding.{jump_to};
-ghost use Rattle.seek.specs.Answers.{found_of};
+ghost use Rattle.seek.specs.Answers.{found_of, refused};
 
-use refusals::BEAT_NOT_FOUND;
+use refusals::Why;
 
 // "for a table over 65,535 records": more are not searched, so that 16 probes are enough.
 const MOST_RECORDS: usize = 65535;
 
-// Refusal 0 and the record's place, or refusal 19 and place 0; and how many records were read.
-#[derive(Drop)]
+// The record's place, if a record holds the beat; and how many records were read.
+#[derive(Clone, Copy, PartialEq, Eq)]
 pub struct Found {
-    pub refusal: usize,
-    pub place: usize,
+    pub place: Option<usize>,
     pub probes: usize,
 }
 
-// For any table and any beat.
+impl Found {
+    // What is said where no record holds the beat.
+    pub fn refused(&self) -> Option<Why>
+        ensures { result ≡ refused self.now.place }
+    {
+        match self.place {
+            Some(_) => None,
+            None => Some(Why::BeatNotFound),
+        }
+    }
+}
+
+// For any table and any beat. The promise counts the records that are read, so this is a loop of its own.
 pub fn find_measure(measures: &[u32], beat: u32) -> Found
     ensures { result ≡ found_of (jump_to beat measures.now) }
 {
-    if MOST_RECORDS < measures.len() {
+    if measures.len() > MOST_RECORDS {
         return Found {
-            refusal: BEAT_NOT_FOUND,
-            place: 0,
+            place: None,
             probes: 0,
         };
     }
@@ -39,20 +49,17 @@ pub fn find_measure(measures: &[u32], beat: u32) -> Found
         probes += 1;
         if wanted < record.first {
             end = place;
-            continue;
-        }
-        if wanted < record.first + record.beats {
+        } else if wanted < record.first + record.beats {
             return Found {
-                refusal: 0,
-                place,
+                place: Some(place),
                 probes,
             };
+        } else {
+            start = place + 1;
         }
-        start = place + 1;
     }
     Found {
-        refusal: BEAT_NOT_FOUND,
-        place: 0,
+        place: None,
         probes,
     }
 }

@@ -7,6 +7,7 @@ use mathlib.Core.Bool.{Bool, true, false}
 use mathlib.Core.Option.{Option, none, some}
 use lib.Dec.{eqb}
 use lib.ListN.{get_or}
+use Rattle.std.specs.Prelude as std
 use Rattle.songcode.specs.Lists.{provided◌then◌else◌}
 use Rattle.songcode.specs.Bytes.{Byte, placed, values, ascii, same, is}
 use Rattle.songcode.specs.Song.{KeyName, name, artist, original, capo, bpm, time, warning, end}
@@ -16,12 +17,10 @@ use Rattle.songcode.proofs.ByteLaws.{values_placed}
 use Rattle.songcode.proofs.ListLaws.{by_cases}
 use Rattle.songcode.proofs.Spellings.{same_true}
 use Rattle.settings.specs.declared.keys.KeyName as code
-use Rattle.settings.specs.declared.keys.KeyName.TheVariants.{Name, Artist, Original, Capo}
-use Rattle.settings.specs.declared.keys.KeyName.TheVariants as key
+use Rattle.settings.specs.declared.keys.KeyName.TheVariants.{Name, Artist, Original, Capo, Bpm, Time, Warning, End}
 use Rattle.settings.specs.declared.modifiers.ModifierName as codes
 use Rattle.settings.specs.declared.modifiers.ModifierName.TheVariants.{Repeat, CutStart, CutEnd, Before, After}
-use Rattle.settings.specs.declared.modifiers.ModifierName.TheVariants as modifier
-use Rattle.settings.specs.Names.{key_is, key_if, later_key, modifier_is, modifier_if}
+use Rattle.settings.specs.Names.{key_is, modifier_is, if_named}
 
 -- Whether a text is a word, wherever it stands, by what a comparison says.
 pub is_by : (word : String) (a : ℕ) (w : List ℕ) {r t : Bool} → r ≡ same (ascii word) w → r ≡ t → is word (placed a w) ≡ t
@@ -66,14 +65,18 @@ either true x = refl
 either false x = refl
 
 -- The name that a text is, looked for by its first byte.
-unfoldable pub key_lettered : ℕ → List ℕ → code.KeyName
-unfolding provided◌then◌else◌ later_key
+unfoldable pub key_lettered : ℕ → List ℕ → std.Option code.KeyName
+unfolding provided◌then◌else◌
 key_lettered b w =
-    provided eqb b 110 then key_if (same (ascii "name") w) Name
-    else provided eqb b 97 then key_if (same (ascii "artist") w) Artist
-    else provided eqb b 111 then key_if (same (ascii "original") w) Original
-    else provided eqb b 99 then key_if (same (ascii "capo") w) Capo
-    else later_key b w
+    provided eqb b 110 then if_named (same (ascii "name") w) Name
+    else provided eqb b 97 then if_named (same (ascii "artist") w) Artist
+    else provided eqb b 111 then if_named (same (ascii "original") w) Original
+    else provided eqb b 99 then if_named (same (ascii "capo") w) Capo
+    else provided eqb b 98 then if_named (same (ascii "bpm") w) Bpm
+    else provided eqb b 116 then if_named (same (ascii "time") w) Time
+    else provided eqb b 119 then if_named (same (ascii "warning") w) Warning
+    else provided eqb b 101 then if_named (same (ascii "end") w) End
+    else std.None
 
 module _ (w : List ℕ) where
   abbrev KeyFound : List ℕ → Type 0
@@ -106,14 +109,14 @@ module _ (w : List ℕ) where
         u,
         v,
         x,
-        either (eqb b 101) key.Unknown,
-        either (eqb b 119) key.Unknown,
-        either (eqb b 116) key.Unknown,
-        either (eqb b 98) key.Unknown,
-        either (eqb b 99) key.Unknown,
-        either (eqb b 111) key.Unknown,
-        either (eqb b 97) key.Unknown,
-        either (eqb b 110) key.Unknown,
+        either {A = std.Option code.KeyName} (eqb b 101) std.None,
+        either {A = std.Option code.KeyName} (eqb b 119) std.None,
+        either {A = std.Option code.KeyName} (eqb b 116) std.None,
+        either {A = std.Option code.KeyName} (eqb b 98) std.None,
+        either {A = std.Option code.KeyName} (eqb b 99) std.None,
+        either {A = std.Option code.KeyName} (eqb b 111) std.None,
+        either {A = std.Option code.KeyName} (eqb b 97) std.None,
+        either {A = std.Option code.KeyName} (eqb b 110) std.None,
       ) refl
 
   key_lettered_lem : KeyFound w
@@ -132,14 +135,14 @@ module _ (w : List ℕ) where
   key_by_letter b h = rw (← h) key_lettered_lem
 
 -- By its sixth.
-unfoldable pub modifier_lettered : ℕ → List ℕ → codes.ModifierName
+unfoldable pub modifier_lettered : ℕ → List ℕ → std.Option codes.ModifierName
 unfolding provided◌then◌else◌
 modifier_lettered b w =
-    provided eqb b 116 then modifier_if (same (ascii "repeat") w) Repeat
-    else provided eqb b 97 then modifier_if (same (ascii "cutStart") w) CutStart
-    else provided eqb b 100 then modifier_if (same (ascii "cutEnd") w) CutEnd
-    else provided eqb b 101 then modifier_if (same (ascii "before") w) Before
-    else modifier_if (same (ascii "after") w) After
+    provided eqb b 116 then if_named (same (ascii "repeat") w) Repeat
+    else provided eqb b 97 then if_named (same (ascii "cutStart") w) CutStart
+    else provided eqb b 100 then if_named (same (ascii "cutEnd") w) CutEnd
+    else provided eqb b 101 then if_named (same (ascii "before") w) Before
+    else if_named (same (ascii "after") w) After
 
 module _ (w : List ℕ) where
   abbrev ModifierFound : List ℕ → Type 0
@@ -164,10 +167,10 @@ module _ (w : List ℕ) where
         r,
         s,
         t,
-        either (eqb b 101) modifier.Unknown,
-        either (eqb b 100) modifier.Unknown,
-        either (eqb b 97) modifier.Unknown,
-        either (eqb b 116) modifier.Unknown,
+        either {A = std.Option codes.ModifierName} (eqb b 101) std.None,
+        either {A = std.Option codes.ModifierName} (eqb b 100) std.None,
+        either {A = std.Option codes.ModifierName} (eqb b 97) std.None,
+        either {A = std.Option codes.ModifierName} (eqb b 116) std.None,
       ) refl
 
   modifier_lettered_lem : ModifierFound w

@@ -2,14 +2,17 @@
 use Prim.Native.Nat.{ℕ, suc, ◌+◌, ◌-◌, ◌<◌, ◌≤◌}
 use mathlib.Core.Path.{◌≡◌, refl, sym, ap, ◌∙◌}
 use mathlib.Core.List.{List, [], ◌∷◌}
-use mathlib.Core.Bool.{Bool, true, false, not}
+use mathlib.Core.Bool.{Bool, true, false, not, ◌&&◌}
 use native.Mathlib.Omega.{arith}
-use native.Mathlib.Numerals.{add-one}
 use native.Mathlib.Nat.{add-zero}
-use borrow.Author.Tests.{eq-eqb, ne_eqb}
 use lib.Dec.{eqb}
-use lib.ListN.{length, get_or, take, drop, drop_of_length-le}
-use lib.Seq.{drop-cons, take-take, drop-drop}
+use lib.ListN.{length, take, drop}
+use lib.Seq.{take-take, drop-drop}
+use Rattle.std.proofs.Common.{Option}
+use Rattle.std.specs.List.{AllWithin, HoldsAt}
+use Rattle.std.specs.Option.{MatchOption, unwrap_or}
+use Rattle.std.specs.Str.{bytes_eq}
+use Rattle.std.proofs.lemmas.Iterator.{index_from_first}
 use Rattle.songcode.specs.Lists.{provided◌then◌else◌, taken, left}
 use Rattle.songcode.specs.Bytes.{Byte, placed, same, is_blank, not_blank}
 use Rattle.songcode.specs.Answer.Keys.{name_in, setting_in}
@@ -17,18 +20,13 @@ use Rattle.text.specs.Spans.{blank, part, front_blanks}
 use Rattle.songcode.proofs.ListLaws.{drop_take, by_cases}
 use Rattle.settings.specs.Parts.{passing, word_length}
 
-module _ (p : ℕ → Bool) where
-  pub passing_stop : (w : List ℕ) (i : ℕ) → i < length w → p (get_or w i 0) ≡ false → passing p (drop i w) ≡ 0
-  unfolding passing provided◌then◌else◌
-  passing_stop w i h e = rw (drop-cons w i 0 h, e)
-
-  pub passing_more : (w : List ℕ) (i : ℕ) → i < length w → p (get_or w i 0) ≡ true → passing p (drop i w) ≡ 1 + passing p (drop (i + 1) w)
-  unfolding passing provided◌then◌else◌
-  passing_more w i h e = rw (add-one i, drop-cons w i 0 h, e) (omega arith)
-
-  pub passing_over : (w : List ℕ) (i : ℕ) → length w ≤ i → passing p (drop i w) ≡ 0
-  unfolding passing
-  passing_over w i h = rw (drop_of_length-le w h)
+-- How far bytes pass a test: up to the first that does not, or to the end.
+pub passing_found : (p : ℕ → Bool) (w : List ℕ) (r : Option ℕ)
+    → MatchOption r (AllWithin (λ b. p b ≡ true) w 0 (length w)) (λ i. (i < length w) × HoldsAt (λ b. p b ≡ false) w i × AllWithin (λ b. p b ≡ true) w 0 i)
+    → passing p w ≡ unwrap_or r (length w)
+unfolding passing provided◌then◌else◌
+passing_found p w r first =
+    index_from_first (passing p) (λ b. p b ≡ false) (λ b. p b ≡ true) refl (λ b bs e. rw e) (λ b bs e. rw e (omega arith)) w r first
 
 -- A test of bytes that looks at their values alone.
 abbrev pub OfValues : (Byte → Bool) → (ℕ → Bool) → Type 0
@@ -79,19 +77,13 @@ setting_part s a e n m h k =
     rw (left_placed not_blank (λ b. not (blank b)) not_blank_values a (part a e s), sym h, part_back s a e n)
     (left_placed is_blank blank blank_values (a + n) (part (a + n) e s) ∙ rw (sym (front_blanks_passing (part (a + n) e s)), sym k, part_back s (a + n) e m))
 
--- Two texts of one length are the same as far as their rests are.
-pub same_stop : (v w : List ℕ) (i : ℕ) → i < length v → i < length w → (get_or w i 0 ≡ get_or v i 0 → ⊥) → same (drop i v) (drop i w) ≡ false
+-- Two texts are the same where slices compare so; texts of two lengths differ.
+pub same_is : (v w : List ℕ) → bytes_eq v w ≡ same v w
 unfolding same
-same_stop v w i h k n = rw (drop-cons v i 0 h, drop-cons w i 0 k, ne_eqb (get_or v i 0) (get_or w i 0) (λ e. n (sym e)))
-
-pub same_more : (v w : List ℕ) (i : ℕ) → i < length v → i < length w → get_or w i 0 ≡ get_or v i 0
-    → same (drop i v) (drop i w) ≡ same (drop (i + 1) v) (drop (i + 1) w)
-unfolding same
-same_more v w i h k e = rw (add-one i, drop-cons v i 0 h, drop-cons w i 0 k, eq-eqb (get_or v i 0) (get_or w i 0) (sym e))
-
-pub same_over : (v w : List ℕ) (i : ℕ) → length v ≤ i → length w ≤ i → same (drop i v) (drop i w) ≡ true
-unfolding same
-same_over v w i h k = rw (drop_of_length-le v h, drop_of_length-le w k)
+same_is [] [] = refl
+same_is [] (y ∷ w) = refl
+same_is (x ∷ v) [] = refl
+same_is (x ∷ v) (y ∷ w) = ap (λ b. eqb x y && b) (same_is v w)
 
 pub same_lengths : (v w : List ℕ) → (length w ≡ length v → ⊥) → same v w ≡ false
 unfolding same

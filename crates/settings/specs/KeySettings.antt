@@ -1,16 +1,10 @@
 -- The settings of keys, by the names that the code answers.
-use Rattle.std.specs.Prelude.{List, Bool, true, false}
+use Rattle.std.specs.Prelude.{List, Bool}
 use Rattle.songcode.specs.Bytes.{Byte}
 use Rattle.songcode.specs.Song as song
 use Rattle.songcode.specs.Answer.Keys.{is_setting}
-use Rattle.tokens.specs.declared.numbers.Number.{Number}
-use Rattle.tokens.specs.declared.numbers.Number.TheVariants.{Is, Not}
 use Rattle.settings.specs.declared.keys.KeyName.{KeyName}
-use Rattle.settings.specs.declared.keys.KeyName.TheVariants.{Name, Artist, Original, Capo, Bpm, Time, Warning, End, Unknown}
-
-abbrev pub is_number : Number → Bool
-is_number (Is n) = true
-is_number Not = false
+use Rattle.settings.specs.declared.keys.KeyName.TheVariants.{Name, Artist, Original, Capo, Bpm, Time, Warning, End}
 
 unfoldable pub is_setting_of : KeyName → List Byte → Bool
 is_setting_of Name bs = is_setting song.name bs
@@ -21,4 +15,3 @@ is_setting_of Bpm bs = is_setting song.bpm bs
 is_setting_of Time bs = is_setting song.time bs
 is_setting_of Warning bs = is_setting song.warning bs
 is_setting_of End bs = is_setting song.end bs
-is_setting_of Unknown bs = false

@@ -1,17 +1,17 @@
 // The names of keys, and their settings.
 ghost use Rattle.std.specs.Prelude.{◌≡◌};
-ghost use Rattle.songcode.specs.Bytes.{placed, same};
+ghost use Rattle.songcode.specs.Bytes.{placed};
 ghost use Rattle.songcode.specs.Answer.Keys.{key_named, bpm_in, time_in};
-ghost use Rattle.settings.specs.Names.{key_is, key_if, later_key};
-ghost use Rattle.settings.specs.KeySettings.{is_number, is_setting_of};
+ghost use Rattle.settings.specs.Names.{key_is};
+ghost use Rattle.settings.specs.KeySettings.{is_setting_of};
 ghost use Rattle.tokens.specs.Decimals.{number_of};
 
-use super::parts::{length_before, same_text};
+use super::parts::{if_named, length_before, same_text};
 use super::phrases::is_phrase;
 use text::byte_at;
-use tokens::{Number, is_base, number_in};
+use tokens::{is_base, number_in};
 
-#[derive(Clone, Copy)]
+#[derive(Clone, Copy, PartialEq, Eq)]
 pub enum KeyName {
     Name,
     Artist,
@@ -21,87 +21,52 @@ pub enum KeyName {
     Time,
     Warning,
     End,
-    Unknown,
-}
-
-// The key of that name, if the text is it.
-fn key_if(name: &[u8], w: &[u8], key: KeyName) -> KeyName
-    ensures { result ≡ key_if (same name.now w.now) key }
-{
-    if same_text(name, w) {
-        key
-    } else {
-        KeyName::Unknown
-    }
-}
-
-// The keys whose names begin with one of four letters.
-fn later_key(b: u8, w: &[u8]) -> KeyName
-    ensures { result ≡ later_key b w.now }
-{
-    match b {
-        b'b' => key_if(b"bpm", w, KeyName::Bpm),
-        b't' => key_if(b"time", w, KeyName::Time),
-        b'w' => key_if(b"warning", w, KeyName::Warning),
-        b'e' => key_if(b"end", w, KeyName::End),
-        _ => KeyName::Unknown,
-    }
 }
 
 // Each name has a first letter of its own.
-pub fn key_named(w: &[u8]) -> KeyName
+pub fn key_named(w: &[u8]) -> Option<KeyName>
     ensures { result ≡ key_is (key_named (placed 0 w.now)) }
 {
-    let b = byte_at(w, 0);
-    match b {
-        b'n' => key_if(b"name", w, KeyName::Name),
-        b'a' => key_if(b"artist", w, KeyName::Artist),
-        b'o' => key_if(b"original", w, KeyName::Original),
-        b'c' => key_if(b"capo", w, KeyName::Capo),
-        _ => later_key(b, w),
+    match byte_at(w, 0) {
+        b'n' => if_named(b"name", w, KeyName::Name),
+        b'a' => if_named(b"artist", w, KeyName::Artist),
+        b'o' => if_named(b"original", w, KeyName::Original),
+        b'c' => if_named(b"capo", w, KeyName::Capo),
+        b'b' => if_named(b"bpm", w, KeyName::Bpm),
+        b't' => if_named(b"time", w, KeyName::Time),
+        b'w' => if_named(b"warning", w, KeyName::Warning),
+        b'e' => if_named(b"end", w, KeyName::End),
+        _ => None,
     }
 }
 
 // A bpm is 0 to 400.
-pub fn bpm_in(w: &[u8]) -> Number
+pub fn bpm_in(w: &[u8]) -> Option<usize>
     ensures { result ≡ number_of (bpm_in (placed 0 w.now)) }
 {
     number_in(0, 400, w)
 }
 
 // A time is `n/4`, n from 1 to 32.
-pub fn time_in(w: &[u8]) -> Number
+pub fn time_in(w: &[u8]) -> Option<usize>
     ensures { result ≡ number_of (time_in (placed 0 w.now)) }
 {
     let q = length_before(b'/', w);
     if !same_text(b"/4", &w[q..]) {
-        return Number::Not;
+        return None;
     }
     number_in(1, 32, &w[..q])
 }
 
-pub fn is_number(n: Number) -> bool
-    ensures { result ≡ is_number n }
-{
-    match n {
-        Number::Is(_) => true,
-        Number::Not => false,
-    }
-}
-
-// The text is a setting of the key; an unknown key has none.
+// The text is a setting of the key.
 pub fn is_setting(k: KeyName, w: &[u8]) -> bool
     ensures { result ≡ is_setting_of k (placed 0 w.now) }
 {
     match k {
-        KeyName::Name => is_phrase(w),
-        KeyName::Artist => is_phrase(w),
+        KeyName::Name | KeyName::Artist | KeyName::Warning | KeyName::End => is_phrase(w),
         KeyName::Original => is_base(w),
-        KeyName::Capo => is_number(number_in(1, 20, w)),
-        KeyName::Bpm => is_number(bpm_in(w)),
-        KeyName::Time => is_number(time_in(w)),
-        KeyName::Warning => is_phrase(w),
-        KeyName::End => is_phrase(w),
-        KeyName::Unknown => false,
+        KeyName::Capo => number_in(1, 20, w).is_some(),
+        KeyName::Bpm => bpm_in(w).is_some(),
+        KeyName::Time => time_in(w).is_some(),
     }
 }

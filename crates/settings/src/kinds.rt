@@ -9,10 +9,10 @@ ghost use Rattle.settings.specs.Kinds.{letter, kind_is, block_kind_is};
 
 use super::parts::same_text;
 use text::byte_at;
-use tokens::{Number, number_in};
+use tokens::number_in;
 
 // A line between the header and the `--`.
-#[derive(Drop)]
+#[derive(Clone, Copy, PartialEq, Eq)]
 pub enum Kind {
     Key,
     Modifier,
@@ -20,7 +20,7 @@ pub enum Kind {
 }
 
 // A block, by its first line.
-#[derive(Drop)]
+#[derive(Clone, Copy, PartialEq, Eq)]
 pub enum BlockKind {
     Metadata,
     Definition,
@@ -31,43 +31,26 @@ pub enum BlockKind {
 fn is_letter(b: u8) -> bool
     ensures { result ≡ letter b }
 {
-    if b < b'A' {
-        return false;
-    }
-    if b <= b'Z' {
-        return true;
-    }
-    b'a' <= b && b <= b'z'
+    b.is_ascii_alphabetic()
 }
 
 pub fn kind_of(w: &[u8]) -> Kind
     ensures { result ≡ kind_is (kind_of (placed 0 w.now)) }
 {
-    let b = byte_at(w, 0);
-    if b == b'@' {
-        return Kind::Key;
-    }
-    if b != b'_' {
-        return Kind::Pattern;
-    }
-    if is_letter(byte_at(w, 1)) {
-        Kind::Modifier
-    } else {
-        Kind::Pattern
+    match byte_at(w, 0) {
+        b'@' => Kind::Key,
+        b'_' if is_letter(byte_at(w, 1)) => Kind::Modifier,
+        _ => Kind::Pattern,
     }
 }
 
 pub fn block_kind(w: &[u8]) -> BlockKind
     ensures { result ≡ block_kind_is (kind_of_text (placed 0 w.now)) }
 {
-    let b = byte_at(w, 0);
-    if b == b'@' {
-        return BlockKind::Metadata;
-    }
-    if b == b'$' {
-        BlockKind::Definition
-    } else {
-        BlockKind::Section
+    match byte_at(w, 0) {
+        b'@' => BlockKind::Metadata,
+        b'$' => BlockKind::Definition,
+        _ => BlockKind::Section,
     }
 }
 
@@ -79,11 +62,8 @@ pub fn is_dashes(w: &[u8]) -> bool
 }
 
 // The number of a definition, behind the `$` of its head.
-pub fn head_in(w: &[u8]) -> Number
+pub fn head_in(w: &[u8]) -> Option<usize>
     ensures { result ≡ number_of (count_in (behind_first (placed 0 w.now))) }
 {
-    if w.len() == 0 {
-        return Number::Not;
-    }
-    number_in(1, 9999, &w[1..])
+    number_in(1, 9999, w.get(1..)?)
 }

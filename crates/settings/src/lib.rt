@@ -9,8 +9,8 @@ mod modifiers;
 mod parts;
 mod phrases;
 
-pub use cutting::{CutRead, cut_in};
-pub use keys::{KeyName, bpm_in, is_number, is_setting, key_named, time_in};
+pub use cutting::cut_in;
+pub use keys::{KeyName, bpm_in, is_setting, key_named, time_in};
 pub use kinds::{BlockKind, Kind, block_kind, head_in, is_dashes, kind_of};
 pub use lyrics::{Styled, Words, lyric_words, style_of};
 pub use modifiers::{ModifierName, modifier_named, repeat_in};

@@ -7,8 +7,8 @@ ghost use Rattle.text.specs.Spans.{part};
 ghost use Rattle.settings.specs.LyricParts.{styled_from, words_from};
 ghost use Rattle.tokens.specs.Decimals.{number_of};
 
-use text::{byte_at, is_blank, solid_len};
-use tokens::{Number, number_in};
+use text::{is_blank, solid_len};
+use tokens::number_in;
 
 // Where a lyric line's text without its count ends, and the count; 0 where it has none.
 #[derive(Drop)]
@@ -30,24 +30,17 @@ fn word_start(s: &[u8], a: usize, e: usize) -> usize
     requires { (a ≤ e) × (e ≤ length s.now) }
     ensures { (left not_blank (reverse (placed a (part a e s.now))) ≡ reverse (placed a (part a result s.now))) × (a ≤ result) × (result ≤ e) }
 {
-    let mut z = e;
-    while a < z {
-        if is_blank(s[z - 1]) {
-            return z;
-        }
-        z -= 1;
-    }
-    z
+    let word = &s[a..e];
+    word.iter()
+        .rposition(|b| is_blank(*b))
+        .map_or(a, |i| a + i + 1)
 }
 
 // The count that a word is: a number behind `_`.
-fn count_behind(w: &[u8]) -> Number
+fn count_behind(w: &[u8]) -> Option<usize>
     ensures { result ≡ number_of (count_behind (placed 0 w.now)) }
 {
-    if byte_at(w, 0) != b'_' {
-        return Number::Not;
-    }
-    number_in(1, 9999, &w[1..])
+    number_in(1, 9999, w.strip_prefix(b"_")?)
 }
 
 // The text and the count of a lyric line: a count is its last word, with something before.
@@ -60,11 +53,11 @@ pub fn lyric_words(s: &[u8], a: usize, e: usize) -> Words
         return Words { stop: e, count: 0 };
     }
     match count_behind(&s[k..e]) {
-        Number::Is(n) => Words {
+        Some(n) => Words {
             stop: a + solid_len(&s[a..k]),
             count: n,
         },
-        Number::Not => Words { stop: e, count: 0 },
+        None => Words { stop: e, count: 0 },
     }
 }
 
@@ -72,13 +65,7 @@ pub fn lyric_words(s: &[u8], a: usize, e: usize) -> Words
 fn is_thrice(m: u8, x: u8, y: u8, z: u8) -> bool
     ensures { result ≡ begins (m ∷ m ∷ m ∷ []) (x ∷ y ∷ z ∷ []) }
 {
-    if m != x {
-        return false;
-    }
-    if m != y {
-        return false;
-    }
-    m == z
+    m == x && m == y && m == z
 }
 
 // The byte m three times at both ends of at least 7 bytes.
@@ -89,10 +76,7 @@ fn is_marked(m: u8, w: &[u8]) -> bool
     if n < 7 {
         return false;
     }
-    if !is_thrice(m, w[0], w[1], w[2]) {
-        return false;
-    }
-    is_thrice(m, w[n - 1], w[n - 2], w[n - 3])
+    is_thrice(m, w[0], w[1], w[2]) && is_thrice(m, w[n - 1], w[n - 2], w[n - 3])
 }
 
 // The style of a text, and what lies between its marks.

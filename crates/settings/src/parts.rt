@@ -3,6 +3,7 @@ ghost use Rattle.std.specs.Prelude.{◌≡◌, ◌≤◌, length};
 ghost use Rattle.songcode.specs.Bytes.{placed, same};
 ghost use Rattle.songcode.specs.Answer.Keys.{name_in, setting_in};
 ghost use Rattle.text.specs.Spans.{part};
+ghost use Rattle.settings.specs.Names.{if_named};
 ghost use Rattle.settings.specs.Parts.{word_length, length_before};
 
 use text::{front_blanks, is_blank};
@@ -11,45 +12,28 @@ use text::{front_blanks, is_blank};
 pub fn same_text(word: &[u8], w: &[u8]) -> bool
     ensures { result ≡ same word.now w.now }
 {
-    if w.len() != word.len() {
-        return false;
-    }
-    let mut i = 0;
-    while i < w.len() {
-        if w[i] != word[i] {
-            return false;
-        }
-        i += 1;
-    }
-    true
+    word == w
+}
+
+// A name's value, if the text is the name.
+pub fn if_named<K: Copy>(name: &[u8], w: &[u8], value: K) -> Option<K>
+    ensures { result ≡ if_named (same name.now w.now) value }
+{
+    same_text(name, w).then_some(value)
 }
 
 // How many bytes stand before the first blank, or before the end.
 pub fn word_length(w: &[u8]) -> usize
     ensures { (result ≡ word_length w.now) × (result ≤ length w.now) }
 {
-    let mut i = 0;
-    while i < w.len() {
-        if is_blank(w[i]) {
-            return i;
-        }
-        i += 1;
-    }
-    i
+    w.iter().position(|b| is_blank(*b)).unwrap_or(w.len())
 }
 
 // How many bytes stand before the first one of this value, or before the end.
 pub fn length_before(c: u8, w: &[u8]) -> usize
     ensures { (result ≡ length_before c w.now) × (result ≤ length w.now) }
 {
-    let mut i = 0;
-    while i < w.len() {
-        if w[i] == c {
-            return i;
-        }
-        i += 1;
-    }
-    i
+    w.iter().position(|b| *b == c).unwrap_or(w.len())
 }
 
 // Where the name ends that begins at a place.

@@ -12,15 +12,7 @@ use text::is_tail;
 pub fn characters(w: &[u8]) -> usize
     ensures { (result ≡ songcode.characters (placed 0 w.now)) × (result ≤ length w.now) }
 {
-    let mut n = 0;
-    let mut i = 0;
-    while i < w.len() {
-        if !is_tail(w[i]) {
-            n += 1;
-        }
-        i += 1;
-    }
-    n
+    w.iter().filter(|b| !is_tail(**b)).count()
 }
 
 // 1 to 100 characters.
@@ -28,10 +20,7 @@ pub fn is_phrase(w: &[u8]) -> bool
     ensures { result ≡ is_phrase (placed 0 w.now) }
 {
     let n = characters(w);
-    if n == 0 {
-        return false;
-    }
-    n <= 100
+    1 <= n && n <= 100
 }
 
 // A header whose name, up to the first `!`, has 1 to 50 characters.
@@ -40,8 +29,5 @@ pub fn header_ok(w: &[u8]) -> bool
 {
     let q = length_before(b'!', w);
     let n = characters(&w[..q]);
-    if n == 0 {
-        return false;
-    }
-    n <= 50
+    1 <= n && n <= 50
 }

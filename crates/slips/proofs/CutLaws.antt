@@ -9,7 +9,8 @@ use Rattle.songcode.specs.Answer.Tokens.{Token, line_end, tokens, tokens_of}
 use Rattle.tokens.specs.Lexing.{tokens_from}
 use Rattle.tokens.proofs.LexLaws.{tokens_over}
 use Rattle.slips.specs.declared.patterns.Whose.{Whose}
-use Rattle.slips.specs.declared.patterns.Reading.{Reading}
+use Rattle.slips.specs.declared.patterns.Stop.{Stop}
+use Rattle.slips.specs.Clauses.{number_of}
 use Rattle.slips.specs.Rules.{Right, text_tokens, piece, CutAt, before, onward, Back, Latest, Stuck, StopsAt, Told, RuledIn}
 use Rattle.slips.specs.RulesRead.{up_to, Refuses}
 use Rattle.slips.proofs.ReadingLaws.{told_near}
@@ -88,7 +89,7 @@ module _ (s : List ℕ) (w : Whose) (passed rest : List Line) (n from to : ℕ) 
         }
 
     pub refuses_token : (ts : List Token) → ts ≡ up_to passed ++ tokens_from from at s → (t : Token) (us : List Token) → tokens_from at to s ≡ t ∷ us
-        → at < length s → (x : Reading) (back : Back) → Latest s lines ts back → Refuses w ts t at back x → RuledIn s w lines x.clause x.spot
+        → at < length s → (x : Stop) (back : Back) → Latest s lines ts back → Refuses w ts t at back x → RuledIn s w lines (number_of x.clause) x.from
     unfolding text_tokens
     refuses_token ts e t us h i x back l r =
         let f = first_of s n at to rest t us h in
@@ -101,9 +102,9 @@ module _ (s : List ℕ) (w : Whose) (passed rest : List Line) (n from to : ℕ) 
 
 module _ (s : List ℕ) (w : Whose) (passed : List Line) (n from to : ℕ) (a : from ≤ to) (ts : List Token) (e : ts ≡ up_to passed ++ tokens_from from to s) where
   -- Another line follows, and may not.
-  pub refuses_line_end : (m : Line) (ms : List Line) → to < length s → (x : Reading) (back : Back)
+  pub refuses_line_end : (m : Line) (ms : List Line) → to < length s → (x : Stop) (back : Back)
       → Latest s (passed ++ (piece s n from to ∷ (m ∷ ms))) ts back → Refuses w ts line_end to back x
-      → RuledIn s w (passed ++ (piece s n from to ∷ (m ∷ ms))) x.clause x.spot
+      → RuledIn s w (passed ++ (piece s n from to ∷ (m ∷ ms))) (number_of x.clause) x.from
   unfolding text_tokens tokens_of
   refuses_line_end m ms i x back l r =
       let o : tokens_from to to s ++ (line_end ∷ tokens_of m ms) ≡ line_end ∷ tokens_of m ms =
@@ -119,9 +120,9 @@ module _ (s : List ℕ) (w : Whose) (passed : List Line) (n from to : ℕ) (a : 
       }
 
   -- The text ends, and is not right.
-  pub refuses_end : (x : Reading) → ((more : List Token) × Right w (ts ++ more)) → (Right w (text_tokens (passed ++ (piece s n from to ∷ []))) → ⊥)
-      → (back : Back) → Latest s (passed ++ (piece s n from to ∷ [])) ts back → Told to back x.clause x.spot → x.spot ≤ length s
-      → RuledIn s w (passed ++ (piece s n from to ∷ [])) x.clause x.spot
+  pub refuses_end : (x : Stop) → ((more : List Token) × Right w (ts ++ more)) → (Right w (text_tokens (passed ++ (piece s n from to ∷ []))) → ⊥)
+      → (back : Back) → Latest s (passed ++ (piece s n from to ∷ [])) ts back → Told to back (number_of x.clause) x.from → x.from ≤ length s
+      → RuledIn s w (passed ++ (piece s n from to ∷ [])) (number_of x.clause) x.from
   unfolding text_tokens tokens_of Stuck
   refuses_end x y z back l k i =
       let split = at_end s w passed [] n from to a in

@@ -1,6 +1,7 @@
 -- A line of pattern text, read token by token.
 use Prim.Native.Nat.{ℕ, ◌<◌, ◌≤◌}
-use mathlib.Core.Path.{◌≡◌, refl, sym, ap, subst, ◌∙◌}
+use Rattle.std.specs.Prelude.{Result, Ok, Err}
+use mathlib.Core.Path.{◌≡◌, sym, ap, subst, ◌∙◌}
 use mathlib.Core.Logic.{inl, inr}
 use mathlib.Core.List.Memᴰ
 use mathlib.Core.List.{List, [], ◌∷◌, ◌++◌, append-nil, append_assoc}
@@ -15,28 +16,27 @@ use Rattle.tokens.specs.Lexing.{tokens_from}
 use Rattle.tokens.proofs.LexLaws.{tokens_over}
 use Rattle.slips.specs.declared.patterns.Whose.{Whose}
 use Rattle.slips.specs.declared.patterns.Reading.{Reading}
+use Rattle.slips.specs.declared.patterns.Stop.{Stop}
 use Rattle.slips.specs.declared.signs.Token.{Token}
 use Rattle.slips.specs.Taken.{TokenAt}
-use Rattle.slips.specs.Rules.{CutAt, before, OnlyEnds, LastAt, OpenAt, Latest, RuledIn}
-use Rattle.slips.specs.RulesRead.{up_to, back_of, Opened, Going, Steps, Reads}
+use Rattle.slips.specs.Rules.{CutAt, before, OnlyEnds, LastAt, OpenAt, Latest}
+use Rattle.slips.specs.RulesRead.{up_to, back_of, Opened, Going, Steps, GoesOn, Stopped}
 use Rattle.slips.proofs.CutLaws.{lines, cut, front, refuses_token}
 
--- The line up to a place: no word is cut there, and the reading has come so far, or has stopped.
+-- The line up to a place: no word is cut there, and the reading goes on so far.
 pub record InLine (s : List ℕ) (w : Whose) (from to : ℕ) (r₀ r : Reading) (at : ℕ) : Type 0 where
   pub begins : from ≤ at
   pub ends : at ≤ to
   pub split : (k : ℕ) → at ≤ k → k ≤ to → tokens_from from k s ≡ tokens_from from at s ++ tokens_from at k s
-  pub kept : (r₀.clause ≡ 0 → ⊥) → r ≡ r₀
   pub read : (passed rest : List Line) (n : ℕ) → Going w (up_to passed) from r₀
       → Latest s (lines s w passed rest n from to) (up_to passed) (back_of r₀)
-      → Reads s w (lines s w passed rest n from to) (up_to passed ++ tokens_from from at s) at r
+      → GoesOn s w (lines s w passed rest n from to) (up_to passed ++ tokens_from from at s) at r
 
 -- A reading that goes on does so at every later place, and with the same tokens told otherwise.
 pub later : {w : Whose} {ts us : List songcode.Token} {at to : ℕ} {r : Reading} → ts ≡ us → at ≤ to → Going w ts at r → Going w us to r
 later {w} {ts} {us} {at} {to} {r} e h g =
     subst (λ (vs : List songcode.Token). Going w vs to r) e
     (record {
-      unblamed = g.unblamed;
       check = g.check;
       free = g.free;
       unbarred = g.unbarred;
@@ -52,19 +52,22 @@ module _ (s : List ℕ) (w : Whose) (from to : ℕ) (h : from ≤ to) (r : Readi
         begins = omega arith;
         ends = h;
         split = λ k i j. sym (ap (λ (ts : List songcode.Token). ts ++ tokens_from from k s) none);
-        kept = λ n. refl;
         read =
             λ passed rest n g l.
             let e : up_to passed ≡ up_to passed ++ tokens_from from from s =
             sym (append-nil (up_to passed)) ∙ ap (λ (ts : List songcode.Token). up_to passed ++ ts) (sym none) in
-            inl (later e (omega arith) g, subst (λ (ts : List songcode.Token). Latest s (lines s w passed rest n from to) ts (back_of r)) e l);
+            (later e (omega arith) g, subst (λ (ts : List songcode.Token). Latest s (lines s w passed rest n from to) ts (back_of r)) e l);
       }
 
 module _ {s : List ℕ} {w : Whose} {from to : ℕ} {r₀ r : Reading} {at : ℕ} (i : InLine s w from to r₀ r at) where
   -- One more token.
-  module _ (inside : to ≤ length s) (tok : Token) (t : TokenAt s at to tok) (e : tok.next ≤ to) (x : Reading) (kept : (r.clause ≡ 0 → ⊥) → x ≡ r)
-      (step : (ts : List songcode.Token) (a : ℕ) (u : songcode.Token) → Fit u → tok.word ≡ token_word u → a ≤ tok.from → Going w ts a r
-      → Steps w ts u tok.from tok.next (back_of r) tok.from x) where
+  module _ (inside : to ≤ length s) (tok : Token) (t : TokenAt s at to tok) (e : tok.next ≤ to) where
+    -- What is known of one that reads it.
+    abbrev Read : Result Reading Stop → Type 0
+    Read y =
+        (ts : List songcode.Token) (a : ℕ) (u : songcode.Token) → Fit u → tok.word ≡ token_word u → a ≤ tok.from → Going w ts a r
+        → Steps w ts u tok.from tok.next (back_of r) tok.from y
+
     abbrev here : ℕ
     here = tok.from
 
@@ -140,9 +143,9 @@ module _ {s : List ℕ} {w : Whose} {from to : ℕ} {r₀ r : Reading} {at : ℕ
       last_here = record { cut = cut_here; token = t.token; ends = []; read = read_here; only = tt }
 
       -- The last `[` is this token, or the one of before.
-      open_here : Latest s whole so_far (back_of r) → Opened t.token here r.open x.open → 0 < x.open
+      open_here : (x : Reading) → Latest s whole so_far (back_of r) → Opened t.token here r.open x.open → 0 < x.open
           → OpenAt s whole (up_to passed ++ tokens_from from next s) x.open
-      open_here l (inl o) z =
+      open_here x l (inl o) z =
           subst (λ (k : ℕ). OpenAt s whole (up_to passed ++ tokens_from from next s) k) (sym o.1)
           (record {
             cut = cut_here;
@@ -150,7 +153,7 @@ module _ {s : List ℕ} {w : Whose} {from to : ℕ} {r₀ r : Reading} {at : ℕ
             read = read_here ∙ ap (λ (u : songcode.Token). before cut_here ++ (u ∷ [])) o.0;
             none = λ m. Memᴰ.not-nil m;
           })
-      open_here l (inr o) z =
+      open_here x l (inr o) z =
           let k = o.1 in
           let p = l.loop (omega arith) in
           subst (λ (k : ℕ). OpenAt s whole (up_to passed ++ tokens_from from next s) k) (sym o.1)
@@ -162,34 +165,28 @@ module _ {s : List ℕ} {w : Whose} {from to : ℕ} {r₀ r : Reading} {at : ℕ
             none = λ m. either p.behind p.none (λ q. o.0 (sym (only_one q))) m;
           })
 
-      stepped : Latest s whole so_far (back_of r) → Steps w so_far t.token here next (back_of r) here x
-          → Reads s w whole (up_to passed ++ tokens_from from next s) next x
-      stepped l (inl g) =
-          inl (
+      passes : (x : Reading) → Read (Ok x) → GoesOn s w whole so_far at r → GoesOn s w whole (up_to passed ++ tokens_from from next s) next x
+      passes x step (o, l) =
+          let a = t.begins in
+          let g = step so_far at t.token t.fits t.word (omega arith) o in (
             later more (omega arith) g.0,
             record {
               token = inr (subst (λ (k : ℕ). LastAt s whole (up_to passed ++ tokens_from from next s) k) (sym g.1) last_here);
-              loop = open_here l g.2;
+              loop = open_here x l g.2;
             },
           )
-      stepped l (inr f) =
+
+      refuses : (x : Stop) → Read (Err x) → GoesOn s w whole so_far at r → Stopped s w whole x
+      refuses x step (o, l) =
           let a = i.begins in
           let b = t.begins in
           let c = t.solid in
-          inr
-          (refuses_token s w passed rest n from to here (omega arith) (omega arith) split_here so_far
-          (ap (λ (ts : List songcode.Token). up_to passed ++ ts) (sym up_to_here)) t.token (tokens_from next to s) token_here (omega arith) x (back_of r) l f)
+          refuses_token s w passed rest n from to here (omega arith) (omega arith) split_here so_far
+          (ap (λ (ts : List songcode.Token). up_to passed ++ ts) (sym up_to_here)) t.token (tokens_from next to s) token_here (omega arith) x (back_of r) l
+          (step so_far at t.token t.fits t.word (omega arith) o)
 
-      read_next : Reads s w (lines s w passed rest n from to) so_far at r
-          → Reads s w (lines s w passed rest n from to) (up_to passed ++ tokens_from from next s) next x
-      read_next (inl g) = let a = t.begins in stepped g.1 (step so_far at t.token t.fits t.word (omega arith) g.0)
-      read_next (inr f) =
-          let same : x ≡ r = kept (λ z. let m = f.told.named.0 in
-          let y : ⊥ = omega arith in y) in
-          inr (subst (λ (y : Reading). RuledIn s w (lines s w passed rest n from to) y.clause y.spot) (sym same) f)
-
-    pub line_more : InLine s w from to r₀ x next
-    line_more =
+    pub line_more : (x : Reading) → Read (Ok x) → InLine s w from to r₀ x next
+    line_more x step =
         let a = i.begins in
         let b = t.begins in
         let c = t.solid in
@@ -197,29 +194,21 @@ module _ {s : List ℕ} {w : Whose} {from to : ℕ} {r₀ r : Reading} {at : ℕ
           begins = omega arith;
           ends = e;
           split = split_next;
-          kept = λ z. kept (subst (λ (y : Reading). y.clause ≡ 0 → ⊥) (sym (i.kept z)) z) ∙ i.kept z;
-          read = λ passed rest n g l. read_next passed rest n (i.read passed rest n g l);
+          read = λ passed rest n g l. passes passed rest n x step (i.read passed rest n g l);
         }
 
-  -- No token is left.
-  abbrev pub Done : Type 0
-  Done = ((r₀.clause ≡ 0 → ⊥) → r ≡ r₀)
-      × ((passed rest : List Line) (n : ℕ) → Going w (up_to passed) from r₀
-      → Latest s (lines s w passed rest n from to) (up_to passed) (back_of r₀)
-      → Reads s w (lines s w passed rest n from to) (up_to passed ++ tokens_from from to s) to r)
+    pub line_stops : (x : Stop) → Read (Err x) → (passed rest : List Line) (n : ℕ) → Going w (up_to passed) from r₀
+        → Latest s (lines s w passed rest n from to) (up_to passed) (back_of r₀) → Stopped s w (lines s w passed rest n from to) x
+    line_stops x step passed rest n g l = refuses passed rest n x step (i.read passed rest n g l)
 
-  pub line_done : tokens_from at to s ≡ [] → Done
-  line_done e = (i.kept, λ passed rest n g l. go passed rest n (i.read passed rest n g l))
+  -- No token is left.
+  pub line_done : tokens_from at to s ≡ [] → (passed rest : List Line) (n : ℕ) → Going w (up_to passed) from r₀
+      → Latest s (lines s w passed rest n from to) (up_to passed) (back_of r₀)
+      → GoesOn s w (lines s w passed rest n from to) (up_to passed ++ tokens_from from to s) to r
+  line_done none passed rest n g l =
+      let f = i.read passed rest n g l in
+      let e = ap (λ (ts : List songcode.Token). up_to passed ++ ts) (sym whole) in
+      (later e i.ends f.0, subst (λ (ts : List songcode.Token). Latest s (lines s w passed rest n from to) ts (back_of r)) e f.1)
     where
       whole : tokens_from from to s ≡ tokens_from from at s
-      whole = i.split to i.ends (omega arith) ∙ (ap (λ (ts : List songcode.Token). tokens_from from at s ++ ts) e ∙ append-nil (tokens_from from at s))
-
-      go : (passed rest : List Line) (n : ℕ) → Reads s w (lines s w passed rest n from to) (up_to passed ++ tokens_from from at s) at r
-          → Reads s w (lines s w passed rest n from to) (up_to passed ++ tokens_from from to s) to r
-      go passed rest n (inl g) =
-          let e = ap (λ (ts : List songcode.Token). up_to passed ++ ts) (sym whole) in
-          inl (later e i.ends g.0, subst (λ (ts : List songcode.Token). Latest s (lines s w passed rest n from to) ts (back_of r)) e g.1)
-      go passed rest n (inr f) = inr f
-
-  pub line_over : to ≤ at → Done
-  line_over h = line_done (tokens_over s at to h)
+      whole = i.split to i.ends (omega arith) ∙ (ap (λ (ts : List songcode.Token). tokens_from from at s ++ ts) none ∙ append-nil (tokens_from from at s))

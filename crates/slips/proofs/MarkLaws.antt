@@ -94,14 +94,13 @@ lines_past_lem s n at left h = subst (λ (ls : List Line). MarkedLines s ls []) 
     take_nothing (suc k) = refl
 
 -- One more line.
-lines_more : (s : List ℕ) (n at left : ℕ) {l : Line} → Found s n at l → at < length s → (left ≡ 0 → ⊥) → (here rest : List Mark)
-    → MarksFrom s l.start l.stop here → MarkedLines s (take (left - 1) (From s (n + 1) l.next)) rest
+lines_more : (s : List ℕ) (n at left k : ℕ) {l : Line} → Found s n at l → at < length s → left ≡ suc k → (here rest : List Mark)
+    → MarksFrom s l.start l.stop here → MarkedLines s (take k (From s (n + 1) l.next)) rest
     → MarkedLines s (take left (From s n at)) (here ++ (end_mark l.stop ∷ rest))
 unfolding MarkedLines
-lines_more s n at left {l} f h z here rest m r =
-    let e : left ≡ suc (left - 1) = omega arith in
+lines_more s n at left k {l} f h e here rest m r =
     let whole = subst (Whole s) (sym f.is) (whole_line s n at h) in
-    let all : take left (From s n at) ≡ l ∷ take (left - 1) (From s (n + 1) l.next) =
+    let all : take left (From s n at) ≡ l ∷ take k (From s (n + 1) l.next) =
     ap (take left) (spans_found f h) ∙ ap (λ (k : ℕ). take k (l ∷ From s (n + 1) l.next)) e in
     subst (λ (ls : List Line). MarkedLines s ls (here ++ (end_mark l.stop ∷ rest))) (sym all) (here, rest, whole, m, r, refl)
 
@@ -113,6 +112,13 @@ regroup done here ms m = append_assoc done (here ++ (m ∷ [])) ms ∙ ap (λ (n
 abbrev pub Within : (List Mark → Type 0) → List ℕ → List Line → ℕ → ℕ → ℕ → Type 0
 Within F s all n at left = (done : List Mark) × F done × ((ms : List Mark) → MarkedLines s (take left (From s n at)) ms → MarkedLines s all (done ++ ms))
 
+-- Nothing is read yet.
+pub within_first : (F : List Mark → Type 0) (s : List ℕ) (n at k : ℕ) → F [] → Within F s (take k (From s n at)) (n + 0) at (k - 0)
+within_first F s n at k h =
+    let e : n + 0 ≡ n = omega arith in
+    let f : k - 0 ≡ k = omega arith in
+    rw (e, f) ([], h, λ ms m. m)
+
 module _ (F : List Mark → Type 0) (s : List ℕ) (all : List Line) (n at left : ℕ) (w : Within F s all n at left) where
   ended : MarkedLines s (take left (From s n at)) [] → (marks : List Mark) × MarkedLines s all marks × F marks
   ended m = (w.0, subst (MarkedLines s all) (append-nil w.0) (w.2 [] m), w.1)
@@ -123,13 +129,14 @@ module _ (F : List Mark → Type 0) (s : List ℕ) (all : List Line) (n at left 
   pub within_past : length s ≤ at → (marks : List Mark) × MarkedLines s all marks × F marks
   within_past h = ended (lines_past_lem s n at left h)
 
-  pub within_next : (G : List Mark → Type 0) {l : Line} → Found s n at l → at < length s → (left ≡ 0 → ⊥) → (here : List Mark)
+  pub within_next : (G : List Mark → Type 0) {l : Line} → Found s n at l → at < length s → (m k : ℕ) → m ≡ n + 1 → left ≡ suc k → (here : List Mark)
       → MarksFrom s l.start l.stop here → ((done : List Mark) → F done → G (done ++ (here ++ (end_mark l.stop ∷ []))))
-      → Within G s all (n + 1) l.next (left - 1)
-  within_next G {l} f h z here m g = (
+      → Within G s all m l.next k
+  within_next G {l} f h m k d e here i g = (
     w.0 ++ (here ++ (end_mark l.stop ∷ [])),
     g w.0 w.1,
-    λ ms k.
+    λ ms r.
+        let r' = subst (λ (j : ℕ). MarkedLines s (take k (From s j l.next)) ms) d r in
         subst (MarkedLines s all) (sym (regroup w.0 here ms (end_mark l.stop)))
-        (w.2 (here ++ (end_mark l.stop ∷ ms)) (lines_more s n at left f h z here ms m k)),
+        (w.2 (here ++ (end_mark l.stop ∷ ms)) (lines_more s n at left k f h e here ms i r')),
   )

@@ -1,11 +1,12 @@
 -- A text read with references put in: token by token, and what each of them means.
+use Rattle.std.specs.Prelude.{Option}
 use Prim.Native.Nat.{ℕ, ◌/◌, ◌%◌, ◌≤◌}
 use mathlib.Core.Path.{◌≡◌, refl, sym, ap, ◌∙◌, subst}
 use mathlib.Core.Logic.{inl, inr}
 use mathlib.Core.List.{List, [], ◌∷◌, ◌++◌}
 use native.Mathlib.Omega.{arith}
 use lib.Dec.{eqb}
-use lib.ListN.{length, get_or}
+use lib.ListN.{length}
 use borrow.Author.Tests.{eqb-true, eqb-false}
 use Rattle.songcode.specs.Answer.Lines.{Line}
 use Rattle.songcode.specs.Answer.Tokens.{reference}
@@ -18,6 +19,7 @@ use Rattle.sections.specs.declared.runs.Run.{Run}
 use Rattle.sections.specs.Runs.{text_lines, lines_of}
 use Rattle.slips.specs.declared.readings.Reading.{Reading}
 use Rattle.slips.specs.declared.referring.Referring.{Referring}
+use Rattle.slips.specs.declared.referring.Meant.{Meant}
 use Rattle.slips.specs.declared.signs.Token as slips
 use Rattle.slips.specs.Taken.{TokenAt}
 use Rattle.slips.specs.Marks.{Mark, end_mark, MarkedLines, named_in, PlainText}
@@ -37,8 +39,8 @@ run_text s run ls e ms m = record { lines = _; same = map_take (line_text s) run
 -- A definition is read: for the first time, or again.
 module _ (s : List ℕ) (n : ℕ) (x r : Referring) (k : Known s x) (c : Closed x.reading.misfit) where
   pub means_new : length s ≤ 65536 → (run : Run) → lines_of s run ≡ definition_lines n (blocks_of s) → (y : Reading) → ReadsRun s run x.reading y
-      → (w : Referring) → (w.reading ≡ y) × (w.numbers ≡ x.numbers)
-      → (r.reading ≡ w.reading) × ((j : ℕ) → Remembers r.numbers j → (j ≡ n → ⊥) → (j ≡ 0 → ⊥) → Remembers w.numbers j) → MeansRead s n x r
+      → (w : Referring) → (w.reading ≡ y) × (w.meant ≡ x.meant)
+      → (r.reading ≡ w.reading) × ((j : ℕ) → Remembers r.meant j → (j ≡ n → ⊥) → Remembers w.meant j) → MeansRead s n x r
   means_new small run e y h w f g =
       let text = run_text s run (definition_lines n (blocks_of s)) e h.marks h.marked in
       let follows = subst (Follows x.reading h.marks) (sym (g.0 ∙ f.0)) h.follows in
@@ -47,17 +49,17 @@ module _ (s : List ℕ) (n : ℕ) (x r : Referring) (k : Known s x) (c : Closed 
         marks = h.marks;
         text = text;
         follows = follows;
-        known = known_more k follows (λ j i z.
+        known = known_more k follows (λ j i.
             by_cases (eqb j n)
             (λ t. inr (h.marks, subst (λ (m : ℕ). PlainText s (definition_lines m (blocks_of s)) h.marks) (sym (eqb-true j n t)) text, passed))
-            (λ t. inl (subst (λ (ns : List ℕ). Remembers ns j) f.1 (g.1 j i (eqb-false j n t) z))));
+            (λ t. inl (subst (λ (ns : List (Option Meant)). Remembers ns j) f.1 (g.1 j i (eqb-false j n t)))));
       }
 
-  pub means_again : (i : ℕ) → get_or x.numbers i 0 ≡ n → (n ≡ 0 → ⊥) → (y : Reading)
+  pub means_again : Remembers x.meant n → (y : Reading)
       → (y.stray ≡ x.reading.stray) × (y.time ≡ x.reading.time) × (y.misfit ≡ x.reading.misfit)
-      → (r.reading ≡ y) × (r.numbers ≡ x.numbers) → MeansRead s n x r
-  means_again i e z y same f =
-      let p = k.passed n (i, e) z in
+      → (r.reading ≡ y) × (r.meant ≡ x.meant) → MeansRead s n x r
+  means_again i y same f =
+      let p = k.passed n i in
       let follows = subst (Follows x.reading p.0) (sym f.0) (passed_again same c p.2) in
       record { marks = p.0; text = p.1; follows = follows; known = known_on k follows f.1 }
 
@@ -74,7 +76,7 @@ read_both {s} {ms} {ns} p q =
       known = q.known;
     }
 
-module _ (s : List ℕ) (x y : Referring) (k : Known s x) (z : Reading) (w : (y.reading ≡ z) × (y.numbers ≡ x.numbers)) where
+module _ (s : List ℕ) (x y : Referring) (k : Known s x) (z : Reading) (w : (y.reading ≡ z) × (y.meant ≡ x.meant)) where
   -- A token is read that means nothing beside itself.
   alone : (m : Mark) → Means s m.token [] → Follows x.reading (m ∷ []) z → PutRead s (m ∷ []) x y
   alone m h f =

@@ -3,7 +3,7 @@ use Prim.Native.Nat.{ℕ, ◌+◌, ◌/◌, ◌^◌, ◌≤◌}
 use mathlib.Core.Path.{◌≡◌, refl, sym, ap, subst, ◌∙◌}
 use mathlib.Core.Logic.{◌⊎◌, inl, inr}
 use mathlib.Core.List.{List, [], ◌∷◌, ◌++◌}
-use mathlib.Core.Bool.{true, false, ◌||◌}
+use mathlib.Core.Bool.{true, false}
 use native.Mathlib.Omega.{arith}
 use borrow.Author.Tests.{eqb-true, eqb-false}
 use lib.Dec.{eqb}
@@ -19,43 +19,63 @@ use Rattle.grammar.specs.Kinds.{kind_of, kinds_of, word_kind}
 use Rattle.grammar.specs.Checks.{first, check_step, check_run}
 use Rattle.grammar.proofs.WordLaws.{word_kind_lem}
 use Rattle.grammar.proofs.BeginningLaws.{or_true, run_on}
+use Rattle.std.specs.Prelude.{Ok, Err}
 use Rattle.slips.specs.declared.patterns.Whose.{Whose}
 use Rattle.slips.specs.declared.patterns.Whose.TheVariants.{Definition, Section, Side}
 use Rattle.slips.specs.declared.patterns.Reading.{Reading}
+use Rattle.slips.specs.declared.patterns.Stop.{Stop}
+use Rattle.slips.specs.declared.faults.Clause.{Clause}
+use Rattle.slips.specs.declared.faults.Clause.TheVariants.{NoChord, ExtensionLong, ReferenceMalformed, SeparatorFirst, SeparatorDoubled}
+use Rattle.slips.specs.declared.faults.Clause.TheVariants.{SeparatorLast, SeparatorLineEnd, SeparatorLineStart, RemoverFirst, RemoverInside}
+use Rattle.slips.specs.declared.faults.Clause.TheVariants.{LoopEmpty, LoopCountMissing, LoopCountWrong, LoopInLoop, LoopOpen}
+use Rattle.slips.specs.declared.faults.Clause.TheVariants.{LoopNotOpen, LoopLineEnd, NotParted, ReferenceNotHere, ColonNotHere}
+use Rattle.slips.specs.declared.faults.Clause.TheVariants.{SideEmpty, ExtensionSign}
+use Rattle.slips.specs.Clauses.{number_of}
 use Rattle.slips.specs.Rules.{is_colon, Right, is_count, is_earlier, Earlier, Back, Told}
 use Rattle.slips.specs.RulesRead.{is_stuck, is_side, barred_token, back_of, Opened, Going, Refuses, Steps}
 use Rattle.slips.proofs.RuleLaws.{free_begins, stuck_never, barred_never}
 
--- The places of clauses.
-module _ {at : ℕ} {b : Back} {clause from : ℕ} (n : (1 ≤ clause) × (clause ≤ 22)) where
-  pub told_here : is_count clause ≡ false → from ≡ at → Told at b clause from
-  told_here c e =
-      record { named = n; placed = record { here = λ _. e; count = λ d. true_is_not_false d c; earlier = λ _. (omega arith, inr (inl e)) } }
+-- Every clause has a number from 1 to 22.
+numbered : (c : Clause) → (1 ≤ number_of c) × (number_of c ≤ 22)
+numbered NoChord = (omega arith, omega arith)
+numbered ExtensionLong = (omega arith, omega arith)
+numbered ReferenceMalformed = (omega arith, omega arith)
+numbered SeparatorFirst = (omega arith, omega arith)
+numbered SeparatorDoubled = (omega arith, omega arith)
+numbered SeparatorLast = (omega arith, omega arith)
+numbered SeparatorLineEnd = (omega arith, omega arith)
+numbered SeparatorLineStart = (omega arith, omega arith)
+numbered RemoverFirst = (omega arith, omega arith)
+numbered RemoverInside = (omega arith, omega arith)
+numbered LoopEmpty = (omega arith, omega arith)
+numbered LoopCountMissing = (omega arith, omega arith)
+numbered LoopCountWrong = (omega arith, omega arith)
+numbered LoopInLoop = (omega arith, omega arith)
+numbered LoopOpen = (omega arith, omega arith)
+numbered LoopNotOpen = (omega arith, omega arith)
+numbered LoopLineEnd = (omega arith, omega arith)
+numbered NotParted = (omega arith, omega arith)
+numbered ReferenceNotHere = (omega arith, omega arith)
+numbered ColonNotHere = (omega arith, omega arith)
+numbered SideEmpty = (omega arith, omega arith)
+numbered ExtensionSign = (omega arith, omega arith)
 
-  pub told_count : clause ≡ 13 → from ≡ at + 1 → Told at b clause from
-  told_count c e =
-      record {
-        named = n;
-        placed =
-            record {
-              here = λ h. let z : (true || is_earlier clause) ≡ false = rw c at h in true_is_not_false refl z;
-              count = λ _. e;
-              earlier = λ h. let z : is_earlier 13 ≡ true = rw c at h in true_is_not_false z refl;
-            };
-      }
-
-  pub told_earlier : is_earlier clause ≡ true → from ≤ at → Earlier clause at b from → Told at b clause from
-  told_earlier y l o =
-      record {
-        named = n;
-        placed =
-            record {
-              here = λ h. true_is_not_false (rw y (or_true (is_count clause))) h;
-              count = λ d. let e = eqb-true clause 13 d in
-                  let z : is_earlier 13 ≡ true = rw e at y in true_is_not_false z refl;
-              earlier = λ _. (l, o);
-            };
-      }
+-- A clause that may name the token before.
+pub told_earlier : (at : ℕ) (b : Back) (x : Stop) {clause : Clause} {from : ℕ} → (x.clause ≡ clause) × (x.from ≡ from)
+    → is_earlier (number_of clause) ≡ true → from ≤ at → Earlier (number_of clause) at b from → Told at b (number_of x.clause) x.from
+told_earlier at b x {clause} {from} e y l o =
+    let t : Told at b (number_of clause) from =
+    record {
+      named = numbered clause;
+      placed =
+          record {
+            here = λ h. true_is_not_false (rw y (or_true (is_count (number_of clause)))) h;
+            count = λ d. let k = eqb-true (number_of clause) 13 d in
+                let z : is_earlier 13 ≡ true = rw k at y in true_is_not_false z refl;
+            earlier = λ _. (l, o);
+          };
+    } in
+    rw (e.0, e.1) t
 
 -- At most one byte behind.
 pub told_near : {at : ℕ} {b : Back} {clause from : ℕ} → Told at b clause from → from ≤ at + 1
@@ -66,10 +86,6 @@ told_near {at} {b} {clause} {from} t =
     by_cases (is_count clause)
     (λ c. let h = t.placed.count c in omega arith)
     (λ c. let h = t.placed.here (rw (c, e) refl) in omega arith))
-
-pub told_as : (at : ℕ) (b : Back) (x : Reading) {clause from to : ℕ} → (x.clause ≡ clause) × (x.spot ≡ from) × (x.past ≡ to) → Told at b clause from
-    → Told at b x.clause x.spot
-told_as at b x e t = rw (e.0, e.1) t
 
 -- The sign of a word tells a `:`.
 sign_colon : (t : Token) → Fit t → kind t ≡ 59 → is_colon t ≡ true
@@ -145,23 +161,22 @@ module _ (w : Whose) (ts : List Token) (at : ℕ) (r : Reading) (g : Going w ts 
   begins : (more : List Token) × Right w (ts ++ more)
   begins = free_begins ts w (subst (λ (c : Check). is_stuck w c ≡ false) g.check g.free) g.unbarred
 
-  pub stops_before : (x : Reading) (from : ℕ) → is_stuck w d ≡ true → Told from (back_of r) x.clause x.spot → Refuses w ts t from (back_of r) x
+  pub stops_before : (x : Stop) (from : ℕ) → is_stuck w d ≡ true → Told from (back_of r) (number_of x.clause) x.from → Refuses w ts t from (back_of r) x
   stops_before x from h k =
       record { begun = begins; never = λ more. stuck_never ts t more w (subst (λ (c : Check). is_stuck w c ≡ true) same_step h); told = k }
 
-  pub barred_before : (x : Reading) (from : ℕ) → barred_token w t ≡ true → Told from (back_of r) x.clause x.spot → Refuses w ts t from (back_of r) x
+  pub barred_before : (x : Stop) (from : ℕ) → barred_token w t ≡ true → Told from (back_of r) (number_of x.clause) x.from → Refuses w ts t from (back_of r) x
   barred_before x from h k = record { begun = begins; never = λ more. barred_never ts t more w h; told = k }
 
   run_one : check_run first (kinds_of (ts ++ (t ∷ []))) ≡ check_step (check_run first (kinds_of ts)) (kind_of t)
   unfolding check_run kinds_of
   run_one = run_on ts (t ∷ [])
 
-  pub goes_on : (x : Reading) (to : ℕ) → is_stuck w d ≡ false → barred_token w t ≡ false → x.check ≡ d → x.clause ≡ 0 → x.from ≤ to → x.open ≤ to
+  pub goes_on : (x : Reading) (to : ℕ) → is_stuck w d ≡ false → barred_token w t ≡ false → x.check ≡ d → x.from ≤ to → x.open ≤ to
       → Going w (ts ++ (t ∷ [])) to x
   unfolding any
-  goes_on x to h b c z f o =
+  goes_on x to h b c f o =
       record {
-        unblamed = z;
         check = c ∙ same_step ∙ sym run_one;
         free = subst (λ (q : Check). is_stuck w q ≡ false) (sym c) h;
         unbarred = any_append (barred_token w) ts (t ∷ []) ∙ rw (g.unbarred, b) refl;
@@ -169,24 +184,29 @@ module _ (w : Whose) (ts : List Token) (at : ℕ) (r : Reading) (g : Going w ts 
         opened = o;
       }
 
+-- The sign that is tested is that of the word.
+pub barred_or_not : (w : Whose) (sign : ℕ) {n : ℕ} → sign ≡ n → (is_side w ≡ false) ⊎ (sign ≡ 59 → ⊥) → (is_side w ≡ false) ⊎ (n ≡ 59 → ⊥)
+barred_or_not w sign e h = rw (← e) h
+
 -- A token, by its word.
 module _ (w : Whose) (ts : List Token) (at : ℕ) (r : Reading) (g : Going w ts at r) (t : Token) (fit : Fit t) (word : ℕ) (v : word ≡ token_word t)
-    (d : Check) (e : d ≡ check_step r.check (word_kind word)) (from to : ℕ) (x : Reading) where
+    (d : Check) (e : d ≡ check_step r.check (word_kind word)) (from to : ℕ) where
   by_kind : d ≡ check_step r.check (kind_of t)
   by_kind = e ∙ ap (check_step r.check) (ap word_kind v ∙ word_kind_lem t fit)
 
   sign_is : word / 2 ^ 26 ≡ kind t
   sign_is = rw v (words.word_kind_lem t fit)
 
-  pub token_stuck : is_stuck w d ≡ true → Told from (back_of r) x.clause x.spot → Steps w ts t from to (back_of r) from x
-  token_stuck h k = inr (stops_before w ts at r g t d by_kind x from h k)
+  pub token_stuck : (x : Stop) → is_stuck w d ≡ true → Told from (back_of r) (number_of x.clause) x.from → Steps w ts t from to (back_of r) from (Err x)
+  token_stuck x h k = stops_before w ts at r g t d by_kind x from h k
 
-  pub token_colon : is_side w ≡ true → word / 2 ^ 26 ≡ 59 → Told from (back_of r) x.clause x.spot → Steps w ts t from to (back_of r) from x
-  token_colon s h k = inr (barred_before w ts at r g t d by_kind x from (side_barred w t s (sign_colon t fit (sym sign_is ∙ h))) k)
+  pub token_colon : (x : Stop) → is_side w ≡ true → word / 2 ^ 26 ≡ 59 → Told from (back_of r) (number_of x.clause) x.from
+      → Steps w ts t from to (back_of r) from (Err x)
+  token_colon x s h k = barred_before w ts at r g t d by_kind x from (side_barred w t s (sign_colon t fit (sym sign_is ∙ h))) k
 
-  pub token_passed : is_stuck w d ≡ false → (is_side w ≡ false) ⊎ (word / 2 ^ 26 ≡ 59 → ⊥) → x.check ≡ d → x.clause ≡ 0 → x.from ≡ from → x.from ≤ to
-      → x.open ≤ to → (word / 2 ^ 26 ≡ 57 → x.open ≡ from) → ((word / 2 ^ 26 ≡ 57 → ⊥) → x.open ≡ r.open) → Steps w ts t from to (back_of r) from x
-  token_passed h b c z k f o p q = inl (goes_on w ts at r g t d by_kind x to h (unbarred b) c z f o, k, opened)
+  pub token_passed : (x : Reading) → is_stuck w d ≡ false → (is_side w ≡ false) ⊎ (word / 2 ^ 26 ≡ 59 → ⊥) → x.check ≡ d → x.from ≡ from → x.from ≤ to
+      → x.open ≤ to → (word / 2 ^ 26 ≡ 57 → x.open ≡ from) → ((word / 2 ^ 26 ≡ 57 → ⊥) → x.open ≡ r.open) → Steps w ts t from to (back_of r) from (Ok x)
+  token_passed x h b c k f o p q = (goes_on w ts at r g t d by_kind x to h (unbarred b) c f o, k, opened)
     where
       unbarred : (is_side w ≡ false) ⊎ (word / 2 ^ 26 ≡ 59 → ⊥) → barred_token w t ≡ false
       unbarred (inl s) = no_side w t s

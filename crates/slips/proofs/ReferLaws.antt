@@ -1,4 +1,6 @@
 -- A text read with references put in: what is remembered of a definition stays so, and read again it changes nothing.
+use Rattle.std.specs.Prelude.{Option, Some, None}
+use Rattle.std.proofs.lemmas.Option.{none-some}
 use Prim.Native.Nat.{ℕ, zero, suc, ◌+◌, ◌%◌, ◌≤◌}
 use mathlib.Core.Path.{◌≡◌, refl, sym, ap, ◌∙◌, subst}
 use mathlib.Core.Logic.{◌⊎◌, inl, inr, ⊎_elim}
@@ -16,6 +18,7 @@ use Rattle.text.specs.declared.lines.Line.{Line}
 use Rattle.slips.specs.declared.readings.Misfit.{Misfit}
 use Rattle.slips.specs.declared.readings.Reading.{Reading}
 use Rattle.slips.specs.declared.referring.Referring.{Referring}
+use Rattle.slips.specs.declared.referring.Meant.{Meant}
 use Rattle.slips.specs.Marks.{Mark, MarkedLines, PlainText}
 use Rattle.slips.specs.PatternText.{definition_lines}
 use Rattle.slips.specs.Misfits.{is_position, no_measure, one_more, closing, beginning, fitting_if, fitted}
@@ -128,40 +131,47 @@ abbrev Held : List ℕ → Referring → ℕ → Type 0
 Held s r n = (ms : List Mark) × PlainText s (definition_lines n (blocks_of s)) ms × Passed ms r.reading
 
 pub known_more : {s : List ℕ} {x r : Referring} {ms : List Mark} → Known s x → Follows x.reading ms r.reading
-    → ((n : ℕ) → Remembers r.numbers n → (n ≡ 0 → ⊥) → Remembers x.numbers n ⊎ Held s r n) → Known s r
+    → ((n : ℕ) → Remembers r.meant n → Remembers x.meant n ⊎ Held s r n) → Known s r
 known_more {s} {x} {r} {ms} k f more =
     record {
       fresh = subst Fresh (sym f.misfit) (fresh_all x.reading.time x.reading.misfit ms k.fresh);
-      passed = λ n i z.
-          ⊎_elim (λ j. let p = k.passed n j z in (p.0, p.1, passed_on f p.2)) (λ h. h) (more n i z);
+      passed = λ n i.
+          ⊎_elim (λ j. let p = k.passed n j in (p.0, p.1, passed_on f p.2)) (λ h. h) (more n i);
     }
 
-pub known_on : {s : List ℕ} {x r : Referring} {ms : List Mark} → Known s x → Follows x.reading ms r.reading → r.numbers ≡ x.numbers → Known s r
-known_on {s} {x} {r} k f e = known_more k f (λ n i z. inl (subst (λ (ns : List ℕ). Remembers ns n) e i))
+pub known_on : {s : List ℕ} {x r : Referring} {ms : List Mark} → Known s x → Follows x.reading ms r.reading → r.meant ≡ x.meant → Known s r
+known_on {s} {x} {r} k f e = known_more k f (λ n i. inl (subst (λ (ns : List (Option Meant)). Remembers ns n) e i))
 
-pub known_none : (s : List ℕ) (r : Referring) → r.reading.misfit ≡ no_measure → ((n : ℕ) → Remembers r.numbers n → n ≡ 0) → Known s r
-known_none s r e none = record { fresh = λ _. e; passed = λ n i z. absurd (z (none n i)) }
+pub known_none : (s : List ℕ) (r : Referring) → r.reading.misfit ≡ no_measure → ((n : ℕ) → Remembers r.meant n → ⊥) → Known s r
+known_none s r e none = record { fresh = λ _. e; passed = λ n i. absurd (none n i) }
 
--- The numbers: none at first, and one more.
-all_zero : (k i : ℕ) → ◌≡◌ {A = ℕ} (get_or (replicate k 0) i 0) 0
-all_zero zero i = refl
-all_zero (suc k) zero = refl
-all_zero (suc k) (suc i) = all_zero k i
+-- The definitions: none at first, and one more.
+all_none : (k i : ℕ) → ◌≡◌ {A = Option Meant} (get_or (replicate k None) i None) None
+all_none zero i = refl
+all_none (suc k) zero = refl
+all_none (suc k) (suc i) = all_none k i
 
-pub none_remembered : (k n : ℕ) → Remembers (replicate k 0) n → n ≡ 0
-none_remembered k n (i, e) = sym e ∙ all_zero k i
+pub none_remembered : (k n : ℕ) → Remembers (replicate k None) n → ⊥
+none_remembered k n (i, m, e, f) = none-some m (sym (all_none k i) ∙ e)
 
-past_end : (xs : List ℕ) (i : ℕ) → length xs ≤ i → get_or xs i 0 ≡ 0
+past_end : (xs : List (Option Meant)) (i : ℕ) → length xs ≤ i → ◌≡◌ {A = Option Meant} (get_or xs i None) None
 past_end [] i h = refl
 past_end (x ∷ xs) zero h = let z : ⊥ = omega arith in absurd z
 past_end (x ∷ xs) (suc i) h = past_end xs i (omega arith)
 
-pub one_remembered : (xs : List ℕ) (i v n : ℕ) → Remembers (set xs i v) n → (n ≡ v → ⊥) → (n ≡ 0 → ⊥) → Remembers xs n
-one_remembered xs i v n (j, e) a z =
+abbrev number_in : Option Meant → ℕ → ℕ
+number_in None n = n
+number_in (Some m) n = m.number
+
+pub one_remembered : (xs : List (Option Meant)) (i : ℕ) (v : Meant) (n : ℕ) → Remembers (set xs i (Some v)) n → (n ≡ v.number → ⊥) → Remembers xs n
+one_remembered xs i v n (j, m, e, f) a =
     by_cases (eqb j i)
     (λ h.
     let same = eqb-true j i h in
     by_cases (ltb i (length xs))
-    (λ l. absurd (a (sym e ∙ ap (λ (k : ℕ). get_or (set xs i v) k 0) same ∙ get_or-set_same xs i v 0 (ltb-true i (length xs) l))))
-    (λ l. absurd (z (sym e ∙ past_end (set xs i v) j (let g = ltb-false i (length xs) l in simp length-set (omega arith))))))
-    (λ h. (j, sym (get_or-set_other xs i j v 0 (eqb-false j i h)) ∙ e))
+    (λ l.
+    let is : Some v ≡ Some m =
+    sym (get_or-set_same xs i (Some v) None (ltb-true i (length xs) l)) ∙ ap (λ (k : ℕ). get_or (set xs i (Some v)) k None) (sym same) ∙ e in
+    absurd (a (sym f ∙ sym (ap (λ (o : Option Meant). number_in o n) is))))
+    (λ l. absurd (none-some m (sym (past_end (set xs i (Some v)) j (let g = ltb-false i (length xs) l in simp length-set (omega arith))) ∙ e))))
+    (λ h. (j, m, sym (get_or-set_other xs i j (Some v) None (eqb-false j i h)) ∙ e, f))

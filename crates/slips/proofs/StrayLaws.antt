@@ -3,7 +3,7 @@ use Prim.Native.Nat.{ℕ, ◌≤◌, ◌<◌}
 use mathlib.Core.Path.{◌≡◌, refl, sym, ap, ◌∙◌, subst}
 use mathlib.Core.Logic.{◌⊎◌, inl, inr, ⊎_elim}
 use mathlib.Core.List.{List, [], ◌∷◌, ◌++◌, head-eq_of_cons-eq, tail-eq_of_cons-eq}
-use mathlib.Core.Bool.{true, false, ◌||◌}
+use mathlib.Core.Bool.{true, false}
 use native.Mathlib.Omega.{arith}
 use lib.Dec.{ltb, eqb}
 use borrow.Author.Tests.{lt-ltb, le-ltb, ne_eqb}
@@ -14,61 +14,57 @@ use Rattle.songcode.specs.Answer.Tokens.{Token, sound, remover, reference, semic
 use Rattle.songcode.proofs.ListLaws.{by_cases, true_is_not_false}
 use Rattle.tokens.specs.Fitting.{Fit, kind}
 use Rattle.slips.specs.declared.readings.Stray.{Stray}
+use Rattle.slips.specs.declared.readings.Stray.TheVariants.{Unheard, Sounded, Found}
 use Rattle.slips.specs.Marks.{Mark}
-use Rattle.slips.specs.Strays.{Silent, AllSilent, StrayAt, unheard, settling, hearing, heard, hearing_sign}
+use Rattle.slips.specs.Strays.{Silent, AllSilent, StrayAt, is_settled, is_found, stray_place, settling, hearing, heard, hearing_sign}
 
 -- A token's kind says as much as the token.
-settling_sign : (x : Stray) (t : Token) (from : ℕ) → Fit t → (x.chord || x.found) ≡ false → hearing_sign x (kind t) from ≡ settling x t from
+settling_sign : (t : Token) (from : ℕ) → Fit t → hearing_sign Unheard (kind t) from ≡ settling t from
 unfolding hearing_sign settling kind provided◌then◌else◌ Fit
-settling_sign x (sound (chord c)) from f h = rw (h, lt-ltb c.base 34 (omega (arith, f.0)))
-settling_sign x (sound again) from f h = rw h
-settling_sign x (sound silence) from f h = rw h
-settling_sign x remover from f h = rw h
-settling_sign x (reference n) from f h = rw h
-settling_sign x semicolon from f h = rw h
-settling_sign x colon from f h = rw h
-settling_sign x line_end from f h = rw h
-settling_sign x opens from f h = rw h
-settling_sign x (closes n) from f h = rw h
-settling_sign x wrong from f h = rw h
+settling_sign (sound (chord c)) from f = rw (lt-ltb c.base 34 (omega (arith, f.0)))
+settling_sign (sound again) from f = refl
+settling_sign (sound silence) from f = refl
+settling_sign remover from f = refl
+settling_sign (reference n) from f = refl
+settling_sign semicolon from f = refl
+settling_sign colon from f = refl
+settling_sign line_end from f = refl
+settling_sign opens from f = refl
+settling_sign (closes n) from f = refl
+settling_sign wrong from f = refl
 
 pub hearing_sign_lem : (x : Stray) (t : Token) (from : ℕ) → Fit t → hearing_sign x (kind t) from ≡ hearing x t from
-unfolding hearing hearing_sign provided◌then◌else◌
-hearing_sign_lem x t from f =
-    by_cases (x.chord || x.found)
-    (λ h. rw h)
-    (λ h. settling_sign x t from f h ∙ rw h)
+unfolding hearing hearing_sign
+hearing_sign_lem Unheard t from f = settling_sign t from f
+hearing_sign_lem Sounded t from f = refl
+hearing_sign_lem (Found p) t from f = refl
 
-pub sign_within : (x : Stray) (k from : ℕ) → from ≤ 65536 → x.from ≤ 65536 → (hearing_sign x k from).from ≤ 65536
+pub sign_within : (x : Stray) (k from : ℕ) → from ≤ 65536 → stray_place x ≤ 65536 → stray_place (hearing_sign x k from) ≤ 65536
 unfolding hearing_sign provided◌then◌else◌
-sign_within x k from a b =
-    by_cases (x.chord || x.found)
-    (λ h. rw h b)
-    (λ h. by_cases (ltb k 34) (λ i. rw (h, i) (omega arith)) (λ i. by_cases (eqb k 62) (λ j. rw (h, i, j) a) (λ j. rw (h, i, j) b)))
+sign_within Unheard k from a b =
+    by_cases (ltb k 34) (λ i. rw i (omega arith)) (λ i. by_cases (eqb k 62) (λ j. rw (i, j) a) (λ j. rw (i, j) (omega arith)))
+sign_within Sounded k from a b = b
+sign_within (Found p) k from a b = b
 
 -- The same case by case, as the code tells them apart.
-module _ (x : Stray) (k from : ℕ) where
-  pub sign_chord : x.chord ≡ true → x ≡ hearing_sign x k from
+pub sign_kept : (x : Stray) (k from : ℕ) → (x ≡ Unheard → ⊥) → x ≡ hearing_sign x k from
+unfolding hearing_sign
+sign_kept Unheard k from h = absurd (h refl)
+sign_kept Sounded k from h = refl
+sign_kept (Found p) k from h = refl
+
+module _ (k from : ℕ) where
+  pub sign_heard : k < 34 → Sounded ≡ hearing_sign Unheard k from
   unfolding hearing_sign provided◌then◌else◌
-  sign_chord c = rw c refl
+  sign_heard l = rw (lt-ltb k 34 l) refl
 
-  module _ (c : x.chord ≡ false) where
-    pub sign_found : x.found ≡ true → x ≡ hearing_sign x k from
-    unfolding hearing_sign provided◌then◌else◌
-    sign_found f = rw (c, f) refl
+  pub sign_again : k ≡ 62 → Found from ≡ hearing_sign Unheard k from
+  unfolding hearing_sign provided◌then◌else◌
+  sign_again e = rw e refl
 
-    module _ (f : x.found ≡ false) where
-      pub sign_heard : k < 34 → record { chord = true; found = false; from = 0 } ≡ hearing_sign x k from
-      unfolding hearing_sign provided◌then◌else◌
-      sign_heard l = rw (c, f, lt-ltb k 34 l) refl
-
-      pub sign_again : (k < 34 → ⊥) → k ≡ 62 → record { chord = false; found = true; from = from } ≡ hearing_sign x k from
-      unfolding hearing_sign provided◌then◌else◌
-      sign_again l e = rw (c, f, e) refl
-
-      pub sign_other : 34 ≤ k → (k ≡ 62 → ⊥) → x ≡ hearing_sign x k from
-      unfolding hearing_sign provided◌then◌else◌
-      sign_other l e = rw (c, f, le-ltb k 34 l, ne_eqb k 62 e) refl
+  pub sign_other : 34 ≤ k → (k ≡ 62 → ⊥) → Unheard ≡ hearing_sign Unheard k from
+  unfolding hearing_sign provided◌then◌else◌
+  sign_other l e = rw (le-ltb k 34 l, ne_eqb k 62 e) refl
 
 pub heard_behind : (x : Stray) (ms ns : List Mark) → heard x (ms ++ ns) ≡ heard (heard x ms) ns
 unfolding heard
@@ -76,28 +72,32 @@ heard_behind x [] ns = refl
 heard_behind x (m ∷ ms) ns = heard_behind (hearing x m.token m.from) ms ns
 
 -- Once it is settled nothing changes.
-pub settled : (x : Stray) (ms : List Mark) → (x.chord || x.found) ≡ true → heard x ms ≡ x
-unfolding heard hearing provided◌then◌else◌
+pub settled : (x : Stray) (ms : List Mark) → is_settled x ≡ true → heard x ms ≡ x
+unfolding heard hearing
 settled x [] h = refl
-settled x (m ∷ ms) h = rw h (settled x ms h)
+settled Unheard (m ∷ ms) h = true_is_not_false h refl
+settled Sounded (m ∷ ms) h = settled Sounded ms h
+settled (Found p) (m ∷ ms) h = settled (Found p) ms h
 
-quiet : (x : Stray) (t : Token) (from : ℕ) → Silent t → settling x t from ≡ x
+quiet : (t : Token) (from : ℕ) → Silent t → settling t from ≡ Unheard
 unfolding settling Silent
-quiet x (sound (chord c)) from h = absurd h
-quiet x (sound again) from h = absurd h
-quiet x (sound silence) from h = refl
-quiet x remover from h = refl
-quiet x (reference n) from h = refl
-quiet x semicolon from h = refl
-quiet x colon from h = refl
-quiet x line_end from h = refl
-quiet x opens from h = refl
-quiet x (closes n) from h = refl
-quiet x wrong from h = refl
+quiet (sound (chord c)) from h = absurd h
+quiet (sound again) from h = absurd h
+quiet (sound silence) from h = refl
+quiet remover from h = refl
+quiet (reference n) from h = refl
+quiet semicolon from h = refl
+quiet colon from h = refl
+quiet line_end from h = refl
+quiet opens from h = refl
+quiet (closes n) from h = refl
+quiet wrong from h = refl
 
 still : (x : Stray) (t : Token) (from : ℕ) → Silent t → hearing x t from ≡ x
-unfolding hearing provided◌then◌else◌
-still x t from h = by_cases (x.chord || x.found) (λ e. rw e) (λ e. rw e (quiet x t from h))
+unfolding hearing
+still Unheard t from h = quiet t from h
+still Sounded t from h = refl
+still (Found p) t from h = refl
 
 pub all_still : (x : Stray) (ms : List Mark) → AllSilent ms → heard x ms ≡ x
 unfolding heard AllSilent
@@ -123,11 +123,13 @@ sorted wrong = inl tt
 
 -- A chord or a `%` settles it; other tokens change nothing.
 abbrev pub Settled : Stray → Type 0
-Settled x = (x.chord || x.found) ≡ true
+Settled x = is_settled x ≡ true
 
-settles : (x : Stray) (t : Token) (from : ℕ) → Settled (settling x t from) → Settled (hearing x t from)
-unfolding hearing provided◌then◌else◌
-settles x t from h = by_cases (x.chord || x.found) (λ e. rw e e) (λ e. rw e h)
+settles : (x : Stray) (t : Token) (from : ℕ) → Settled (settling t from) → Settled (hearing x t from)
+unfolding hearing
+settles Unheard t from h = h
+settles Sounded t from h = refl
+settles (Found p) t from h = refl
 
 pub settled_or_silent : (x : Stray) (ms : List Mark) → Settled (heard x ms) ⊎ AllSilent ms
 unfolding heard AllSilent settling
@@ -205,7 +207,7 @@ module _ (m : Mark) (ms : List Mark) where
       go (k ∷ front) e s = chord_not_silent k.token c (ap (λ (j : Mark). j.token) (sym (head-eq_of_cons-eq e)) ∙ t) s.0
 
 abbrev pub Outcome : List Mark → Stray → Type 0
-Outcome ms y = (y.found ≡ true → StrayAt ms y.from) × (y.found ≡ false → (from : ℕ) → StrayAt ms from → ⊥)
+Outcome ms y = (is_found y ≡ true → StrayAt ms (stray_place y)) × (is_found y ≡ false → (from : ℕ) → StrayAt ms from → ⊥)
 
 nowhere : (from : ℕ) → StrayAt [] from → ⊥
 nowhere from x = go x.front x.text
@@ -220,14 +222,14 @@ nowhere from x = go x.front x.text
         let y : ⊥ = omega arith in
         y
 
-pub stray_heard : (ms : List Mark) → Outcome ms (heard unheard ms)
-unfolding heard
+pub stray_heard : (ms : List Mark) → Outcome ms (heard Unheard ms)
+unfolding heard hearing settling
 stray_heard [] = (λ e. true_is_not_false e refl, λ e from x. nowhere from x)
 stray_heard (m ∷ ms) =
     ⊎_elim
     (λ h.
     let i = stray_heard ms in
-    let e : heard (hearing unheard m.token m.from) ms ≡ heard unheard ms = ap (λ (y : Stray). heard y ms) (still unheard m.token m.from h) in
+    let e : heard (hearing Unheard m.token m.from) ms ≡ heard Unheard ms = ap (λ (y : Stray). heard y ms) (still Unheard m.token m.from h) in
     subst (Outcome (m ∷ ms)) (sym e) (λ f. further m ms _ h (i.0 f), λ f from x. i.1 f from (nearer m ms from h x)))
     (λ r.
     ⊎_elim
@@ -236,14 +238,14 @@ stray_heard (m ∷ ms) =
     r)
     (sorted m.token)
   where
-    sounded : m.token ≡ sound again → Outcome (m ∷ ms) (heard (hearing unheard m.token m.from) ms)
+    sounded : m.token ≡ sound again → Outcome (m ∷ ms) (heard (hearing Unheard m.token m.from) ms)
     sounded h =
-        let y : Stray = record { chord = false; found = true; from = m.from } in
-        let e : heard (hearing unheard m.token m.from) ms ≡ y = ap (λ (t : Token). heard (hearing unheard t m.from) ms) h ∙ settled y ms refl in
+        let y : Stray = Found m.from in
+        let e : heard (hearing Unheard m.token m.from) ms ≡ y = ap (λ (t : Token). heard (hearing Unheard t m.from) ms) h ∙ settled y ms refl in
         subst (Outcome (m ∷ ms)) (sym e) (λ _. at_once m ms h, λ f. true_is_not_false (sym f) refl)
 
-    charmed : (c : Chord) → m.token ≡ sound (chord c) → Outcome (m ∷ ms) (heard (hearing unheard m.token m.from) ms)
+    charmed : (c : Chord) → m.token ≡ sound (chord c) → Outcome (m ∷ ms) (heard (hearing Unheard m.token m.from) ms)
     charmed c h =
-        let y : Stray = record { chord = true; found = false; from = 0 } in
-        let e : heard (hearing unheard m.token m.from) ms ≡ y = ap (λ (t : Token). heard (hearing unheard t m.from) ms) h ∙ settled y ms refl in
+        let y : Stray = Sounded in
+        let e : heard (hearing Unheard m.token m.from) ms ≡ y = ap (λ (t : Token). heard (hearing Unheard t m.from) ms) h ∙ settled y ms refl in
         subst (Outcome (m ∷ ms)) (sym e) (λ f. true_is_not_false f refl, λ _ from x. not_behind m ms c h from x)

@@ -32,7 +32,8 @@ use Rattle.slips.specs.declared.signs.Token as slips
 use Rattle.slips.specs.Taken.{TokenAt}
 use Rattle.slips.specs.PatternText.{PatternText}
 use Rattle.slips.specs.Marks.{Mark, named_by, named_in, SideText}
-use Rattle.slips.specs.Strays.{StrayAt, TellsStray, StrayTold, unheard, heard}
+use Rattle.slips.specs.Strays.{StrayAt, TellsStray, StrayTold, is_found, heard}
+use Rattle.slips.specs.declared.readings.Stray.TheVariants.{Unheard}
 use Rattle.slips.specs.Readings.{Follows, ReadsPattern, ReadsSide, ToldStray}
 use Rattle.slips.specs.BlocksMet.{BlockOf}
 use Rattle.slips.specs.MeterTold.{MeterTold}
@@ -46,17 +47,17 @@ map_take f zero xs = refl
 map_take f (suc k) [] = refl
 map_take f (suc k) (x ∷ xs) = ap (λ ys. f x ∷ ys) (map_take f k xs)
 
-module _ (x r : Reading) (e : x.stray ≡ unheard) (y : Slip) (t : ToldStray r y) where
+module _ (x r : Reading) (e : x.stray ≡ Unheard) (y : Slip) (t : ToldStray r y) where
   told_of : (ms : List Mark) → Follows x ms r → TellsStray ms y.clause y.from y.to
-  told_of ms f = go r.stray.found refl
+  told_of ms f = go (is_found r.stray) refl
     where
-      is : r.stray ≡ heard unheard ms
+      is : r.stray ≡ heard Unheard ms
       is = f.stray ∙ ap (λ (v : Stray). heard v ms) e
 
       o : Outcome ms r.stray
       o = subst (Outcome ms) (sym is) (stray_heard ms)
 
-      go : (b : Bool) → r.stray.found ≡ b → TellsStray ms y.clause y.from y.to
+      go : (b : Bool) → is_found r.stray ≡ b → TellsStray ms y.clause y.from y.to
       go true h =
           let w = f.within (rw e (omega arith)) in
           let k = t.told h w in
@@ -180,7 +181,7 @@ module _ (s : List ℕ) (line : ℕ) (l : Line) {p : Place} (o : BlockOf s line 
       }
 
   pub meter_header : p.number ≡ line → (run : Run) → lines_of s run ≡ pattern_run (body (block_at s p.number p.at))
-      → (x r : Reading) → x.stray ≡ unheard → ReadsPattern s run x r → (y : Slip) → ToldStray r y
+      → (x r : Reading) → x.stray ≡ Unheard → ReadsPattern s run x r → (y : Slip) → ToldStray r y
       → MeterTold s line l y.clause y.from y.to
   meter_header n run q x r e h y t =
       record {
@@ -195,7 +196,7 @@ module _ (s : List ℕ) (line : ℕ) (l : Line) {p : Place} (o : BlockOf s line 
             absurd z;
       }
 
-  pub meter_side : (p.number ≡ line → ⊥) → (x r : Reading) → x.stray ≡ unheard → ReadsSide s l x r → (y : Slip) → ToldStray r y
+  pub meter_side : (p.number ≡ line → ⊥) → (x r : Reading) → x.stray ≡ Unheard → ReadsSide s l x r → (y : Slip) → ToldStray r y
       → MeterTold s line l y.clause y.from y.to
   unfolding block_at line_of
   meter_side n x r e h y t =

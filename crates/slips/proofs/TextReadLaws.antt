@@ -1,4 +1,5 @@
 -- The lines of a text, read one behind the other.
+use Rattle.std.specs.Prelude.{Result, Ok, Err, MatchResult}
 use Prim.Native.Nat.{ℕ, zero, suc, ◌+◌, ◌-◌, ◌<◌, ◌≤◌}
 use mathlib.Core.Path.{◌≡◌, refl, sym, ap, subst, ◌∙◌}
 use mathlib.Core.Bool.{false}
@@ -23,18 +24,21 @@ use Rattle.sections.specs.declared.runs.Run.{Run}
 use Rattle.sections.proofs.RunLaws.{lines_next, lines_over}
 use Rattle.slips.specs.declared.patterns.Whose.{Whose}
 use Rattle.slips.specs.declared.patterns.Reading.{Reading}
-use Rattle.slips.specs.Rules.{Right, text_tokens, piece, before, OnlyEnds, LastAt, Back, Latest, Told, RuledIn, Ruled}
-use Rattle.slips.specs.RulesRead.{up_to, back_of, Opened, is_stuck, misnamed, Going, Steps, Reads, ReadAll}
+use Rattle.slips.specs.declared.patterns.Stop.{Stop}
+use Rattle.slips.specs.declared.slip.Slip.{Slip}
+use Rattle.slips.specs.Clauses.{number_of}
+use Rattle.slips.specs.Rules.{Right, text_tokens, piece, before, OnlyEnds, LastAt, Back, Latest, Told, Ruled}
+use Rattle.slips.specs.RulesRead.{up_to, back_of, Opened, is_stuck, misnamed, Going, Steps, GoesOn, Stopped, Reads, ReadUp, ReadAll}
 use Rattle.slips.proofs.RuleLaws.{free_begins}
 use Rattle.slips.proofs.ReadingLaws.{no_opens}
 use Rattle.slips.proofs.CutLaws.{up_to_more, refuses_line_end, refuses_end}
 use Rattle.slips.proofs.LineReadLaws.{later}
 
 -- Nothing is read yet.
-pub going_from : (w : Whose) (at : ℕ) (r : Reading) → (r.check ≡ first) × (r.clause ≡ 0) × (r.from ≡ at) × (r.open ≡ 0) → Going w [] at r
+pub going_from : (w : Whose) (at : ℕ) (r : Reading) → (r.check ≡ first) × (r.from ≡ at) × (r.open ≡ 0) → Going w [] at r
 unfolding check_run kinds_of is_stuck misnamed any
 going_from w at r e =
-    record { unblamed = e.1; check = e.0; free = rw e.0 refl; unbarred = refl; behind = rw e.2 (omega arith); opened = rw e.3 (omega arith) }
+    record { check = e.0; free = rw e.0 refl; unbarred = refl; behind = rw e.1 (omega arith); opened = rw e.2 (omega arith) }
 
 -- A line end behind them: the last token is the same.
 ends_ended : (ts : List Token) → OnlyEnds ts → OnlyEnds (ts ++ (line_end ∷ []))
@@ -95,9 +99,9 @@ module _ (s : List ℕ) (w : Whose) (lines : List Line) where
     pub ordered : start ≤ stop
     pub onward : stop ≤ at
     pub inside : stop ≤ length s
-    pub read : Reads s w lines (up_to passed ++ tokens_from start stop s) stop r
+    pub read : GoesOn s w lines (up_to passed ++ tokens_from start stop s) stop r
 
-  pub text_done : {r : Reading} {at left : ℕ} → (i : InText r at left) → take left (text_lines s (i.number + 1) at) ≡ [] → ReadAll s w lines r
+  pub text_done : {r : Reading} {at left : ℕ} → (i : InText r at left) → take left (text_lines s (i.number + 1) at) ≡ [] → ReadUp s w lines r
   text_done i e =
       record {
         passed = i.passed;
@@ -110,10 +114,10 @@ module _ (s : List ℕ) (w : Whose) (lines : List Line) where
         read = i.read;
       }
 
-  pub text_none : {r : Reading} {at left : ℕ} → InText r at left → left ≡ 0 → ReadAll s w lines r
+  pub text_none : {r : Reading} {at left : ℕ} → InText r at left → left ≡ 0 → ReadUp s w lines r
   text_none {at = at} i e = text_done i (ap (λ (k : ℕ). take k (text_lines s (i.number + 1) at)) e)
 
-  pub text_over : {r : Reading} {at left : ℕ} → InText r at left → length s ≤ at → ReadAll s w lines r
+  pub text_over : {r : Reading} {at left : ℕ} → InText r at left → length s ≤ at → ReadUp s w lines r
   text_over {at = at} {left = left} i h = text_done i (ap (take left) (lines_over s (i.number + 1) at h) ∙ take_none left)
 
   -- The line at a place is a piece of the text, whatever its number.
@@ -134,41 +138,51 @@ module _ (s : List ℕ) (w : Whose) (lines : List Line) where
       ∙ (ap (λ (m : Line). m ∷ take (left - 1) (text_lines s (n + 1) (line_at s n at).next)) (line_piece n at f)
       ∙ ap (λ (k : ℕ). piece s n l.start l.stop ∷ take (left - 1) (text_lines s (n + 1) k)) (line_next n at f)))
 
-  -- The first line.
-  pub text_begun : (n at k : ℕ) {l : text.Line} (f : Found s 0 at l) → lines ≡ take k (text_lines s n at) → at < length s → (k ≡ 0 → ⊥)
-      → (r x : Reading) → Going w [] l.start r → r.open ≡ 0
-      → ((passed rest : List Line) (m : ℕ) → Going w (up_to passed) l.start r
+  -- What is known of a reading of a line, from one that goes on up to it.
+  abbrev pub ReadLine : text.Line → Reading → Result Reading Stop → Type 0
+  ReadLine l r x =
+      (passed rest : List Line) (m : ℕ) → Going w (up_to passed) l.start r
       → Latest s (passed ++ (piece s m l.start l.stop ∷ rest)) (up_to passed) (back_of r)
-      → Reads s w (passed ++ (piece s m l.start l.stop ∷ rest)) (up_to passed ++ tokens_from l.start l.stop s) l.stop x)
-      → InText x l.next (k - 1)
-  unfolding up_to OnlyEnds
-  text_begun n at k {l} f e h z r x g none step =
-      let whole : lines ≡ piece s n l.start l.stop ∷ take (k - 1) (text_lines s (n + 1) l.next) = e ∙ ahead n at k f h z in
-      record {
-        passed = [];
-        number = n;
-        start = l.start;
-        stop = l.stop;
-        written = whole;
-        ordered = f.stop;
-        onward = f.next;
-        inside =
-            let a = f.next in
-            let b = f.over in
-            omega arith;
-        read =
-            subst (λ (ls : List Line). Reads s w ls (tokens_from l.start l.stop s) l.stop x) (sym whole)
-            (step [] (take (k - 1) (text_lines s (n + 1) l.next)) n g (latest_none r none));
-      }
+      → Reads s w (passed ++ (piece s m l.start l.stop ∷ rest)) (up_to passed ++ tokens_from l.start l.stop s) l.stop x
+
+  -- The first line.
+  module _ (n at k : ℕ) {l : text.Line} (f : Found s 0 at l) (e : lines ≡ take k (text_lines s n at)) (h : at < length s) (z : k ≡ 0 → ⊥)
+      (r : Reading) (g : Going w [] l.start r) (none : r.open ≡ 0) where
+    abbrev first_rest : List Line
+    first_rest = take (k - 1) (text_lines s (n + 1) l.next)
+
+    first_whole : lines ≡ piece s n l.start l.stop ∷ first_rest
+    first_whole = e ∙ ahead n at k f h z
+
+    pub text_begun : (x : Reading) → ReadLine l r (Ok x) → InText x l.next (k - 1)
+    unfolding up_to OnlyEnds
+    text_begun x step =
+        record {
+          passed = [];
+          number = n;
+          start = l.start;
+          stop = l.stop;
+          written = first_whole;
+          ordered = f.stop;
+          onward = f.next;
+          inside =
+              let a = f.next in
+              let b = f.over in
+              omega arith;
+          read =
+              subst (λ (ls : List Line). GoesOn s w ls (tokens_from l.start l.stop s) l.stop x) (sym first_whole)
+              (step [] first_rest n g (latest_none r none));
+        }
+
+    pub text_stops : (x : Stop) → ReadLine l r (Err x) → Stopped s w lines x
+    unfolding up_to OnlyEnds
+    text_stops x step = subst (λ (ls : List Line). Stopped s w ls x) (sym first_whole) (step [] first_rest n g (latest_none r none))
 
   -- One more line.
-  module _ {r : Reading} {at left : ℕ} (i : InText r at left) {l : text.Line} (f : Found s 0 at l) (h : at < length s) (z : left ≡ 0 → ⊥)
-      (y : Reading) (kept : (r.clause ≡ 0 → ⊥) → y ≡ r)
-      (ended : (ts : List Token) (a : ℕ) → Going w ts a r → Steps w ts line_end a a (back_of r) r.from y)
-      (x : Reading) (held : (y.clause ≡ 0 → ⊥) → x ≡ y)
-      (step : (passed rest : List Line) (n : ℕ) → Going w (up_to passed) l.start y
-      → Latest s (passed ++ (piece s n l.start l.stop ∷ rest)) (up_to passed) (back_of y)
-      → Reads s w (passed ++ (piece s n l.start l.stop ∷ rest)) (up_to passed ++ tokens_from l.start l.stop s) l.stop x) where
+  module _ {r : Reading} {at left : ℕ} (i : InText r at left) {l : text.Line} (f : Found s 0 at l) (h : at < length s) (z : left ≡ 0 → ⊥) where
+    abbrev Ended : Result Reading Stop → Type 0
+    Ended y = (ts : List Token) (a : ℕ) → Going w ts a r → Steps w ts line_end a a (back_of r) r.from y
+
     abbrev now : Line
     now = piece s i.number i.start i.stop
 
@@ -190,124 +204,140 @@ module _ (s : List ℕ) (w : Whose) (lines : List Line) where
     whole : lines ≡ passed ++ (this ∷ rest)
     whole = split ∙ sym (append_assoc i.passed (now ∷ []) (this ∷ rest))
 
-    abbrev Now : Reading → Type 0
-    Now q = Reads s w lines (up_to passed ++ tokens_from l.start l.stop s) l.stop q
-
-    keeps : RuledIn s w lines y.clause y.spot → Now x
-    keeps q =
-        let same : x ≡ y = held (λ e. let m = q.told.named.0 in
-        let v : ⊥ = omega arith in v) in
-        inr (subst (λ (u : Reading). RuledIn s w lines u.clause u.spot) (sym same) q)
-
     abbrev so_far : List Token
     so_far = up_to i.passed ++ tokens_from i.start i.stop s
 
     ended_as : so_far ++ (line_end ∷ []) ≡ up_to passed
     ended_as = sym (up_to_more i.passed now)
 
-    same_back : y.from ≡ r.from → y.open ≡ r.open → back_of r ≡ back_of y
-    same_back e f = ap (λ (n : ℕ). record { last = n; bracket = r.open }) (sym e) ∙ ap (λ (n : ℕ). record { last = y.from; bracket = n }) (sym f)
-
-    stepped : Latest s lines so_far (back_of r) → Steps w so_far line_end i.stop i.stop (back_of r) r.from y → Now x
-    stepped k (inl g) =
+    -- The line end may not stand.
+    pub text_ends_not : (y : Stop) → Ended (Err y) → Stopped s w lines y
+    text_ends_not y ended =
         let a = i.onward in
         let b = f.start in
-        subst (λ (ls : List Line). Reads s w ls (up_to passed ++ tokens_from l.start l.stop s) l.stop x) (sym whole)
-        (step passed rest n (later ended_as (omega arith) g.0)
-        (subst (λ (ls : List Line). Latest s ls (up_to passed) (back_of y)) whole
-        (subst (λ (ts : List Token). Latest s lines ts (back_of y)) ended_as
-        (subst (λ (b : Back). Latest s lines (so_far ++ (line_end ∷ [])) b) (same_back g.1 (opened_ended g.2)) (latest_ended k)))))
-    stepped k (inr q) =
-        let a = i.onward in
-        keeps
-        (subst (λ (ls : List Line). RuledIn s w ls y.clause y.spot) (sym split)
+        let c = f.over in
+        let d = f.next in
+        subst (λ (ls : List Line). Stopped s w ls y) (sym split)
         (refuses_line_end s w i.passed i.number i.start i.stop i.ordered so_far refl this rest (omega arith) y (back_of r)
-        (subst (λ (ls : List Line). Latest s ls so_far (back_of r)) split k) q))
+        (subst (λ (ls : List Line). Latest s ls so_far (back_of r)) split i.read.1) (ended so_far i.stop i.read.0))
 
-    go : Reads s w lines so_far i.stop r → Now x
-    go (inl g) = stepped g.1 (ended so_far i.stop g.0)
-    go (inr q) =
-        let same : y ≡ r = kept (λ e. let m = q.told.named.0 in
-        let v : ⊥ = omega arith in v) in
-        keeps (subst (λ (u : Reading). RuledIn s w lines u.clause u.spot) (sym same) q)
+    -- It may, and the line is read.
+    module _ (y : Reading) (ended : Ended (Ok y)) where
+      same_back : y.from ≡ r.from → y.open ≡ r.open → back_of r ≡ back_of y
+      same_back e f = ap (λ (n : ℕ). record { last = n; bracket = r.open }) (sym e) ∙ ap (λ (n : ℕ). record { last = y.from; bracket = n }) (sym f)
 
-    pub text_more_line : InText x l.next (left - 1)
-    text_more_line =
-        record {
-          passed = passed;
-          number = n;
-          start = l.start;
-          stop = l.stop;
-          written = whole;
-          ordered = f.stop;
-          onward = f.next;
-          inside =
-              let a = f.next in
-              let b = f.over in
-              omega arith;
-          read = go i.read;
-        }
+      begun : Going w (up_to passed) l.start y × Latest s (passed ++ (this ∷ rest)) (up_to passed) (back_of y)
+      begun =
+          let a = i.onward in
+          let b = f.start in
+          let g = ended so_far i.stop i.read.0 in (
+            later ended_as (omega arith) g.0,
+            subst (λ (ls : List Line). Latest s ls (up_to passed) (back_of y)) whole
+                (subst (λ (ts : List Token). Latest s lines ts (back_of y)) ended_as
+                (subst (λ (b : Back). Latest s lines (so_far ++ (line_end ∷ [])) b) (same_back g.1 (opened_ended g.2)) (latest_ended i.read.1))),
+          )
 
-  -- The end.
-  pub text_ends : (r x : Reading) → ReadAll s w lines r → ((r.clause ≡ 0 → ⊥) → x ≡ r)
-      → ((at : ℕ) → r.clause ≡ 0 → r.from ≤ at → r.open ≤ at → Told at (back_of r) x.clause x.spot × (x.spot ≤ at))
-      → Ruled s w lines x.clause x.spot
-  text_ends r x a kept told wrong = go a.read
-    where
-      go : Reads s w lines (up_to a.passed ++ tokens_from a.start a.stop s) a.stop r → RuledIn s w lines x.clause x.spot
-      go (inl q) =
-          let g = q.0 in
-          let k = told a.stop g.unblamed g.behind g.opened in
-          let i = k.1 in
-          let j = a.inside in
-          subst (λ (ls : List Line). RuledIn s w ls x.clause x.spot) (sym a.written)
-          (refuses_end s w a.passed a.number a.start a.stop a.ordered (up_to a.passed ++ tokens_from a.start a.stop s) refl x
-          (free_begins (up_to a.passed ++ tokens_from a.start a.stop s) w (subst (λ c. is_stuck w c ≡ false) g.check g.free) g.unbarred)
-          (λ q. wrong (subst (λ (ls : List Line). Right w (text_tokens ls)) (sym a.written) q))
-          (back_of r) (subst (λ (ls : List Line). Latest s ls (up_to a.passed ++ tokens_from a.start a.stop s) (back_of r)) a.written q.1)
-          k.0 (omega arith))
-      go (inr q) =
-          let same : x ≡ r = kept (λ e. let m = q.told.named.0 in
-          let v : ⊥ = omega arith in v) in
-          subst (λ (u : Reading). RuledIn s w lines u.clause u.spot) (sym same) q
+      pub text_more_line : (x : Reading) → ReadLine l y (Ok x) → InText x l.next (left - 1)
+      text_more_line x step =
+          record {
+            passed = passed;
+            number = n;
+            start = l.start;
+            stop = l.stop;
+            written = whole;
+            ordered = f.stop;
+            onward = f.next;
+            inside =
+                let a = f.next in
+                let b = f.over in
+                omega arith;
+            read =
+                subst (λ (ls : List Line). GoesOn s w ls (up_to passed ++ tokens_from l.start l.stop s) l.stop x) (sym whole)
+                (step passed rest n begun.0 begun.1);
+          }
+
+      pub text_stops_later : (x : Stop) → ReadLine l y (Err x) → Stopped s w lines x
+      text_stops_later x step = subst (λ (ls : List Line). Stopped s w ls x) (sym whole) (step passed rest n begun.0 begun.1)
+
+  -- The end: what is told there, or where it has stopped before.
+  abbrev Ends : Stop → Reading → Type 0
+  Ends e r = (at : ℕ) → r.from ≤ at → r.open ≤ at → Told at (back_of r) (number_of e.clause) e.from × (e.from ≤ at)
+
+  text_ends : (r : Reading) (e : Stop) → ReadUp s w lines r → Ends e r → (Right w (text_tokens lines) → ⊥) → Stopped s w lines e
+  text_ends r e a told wrong =
+      let g = a.read.0 in
+      let k = told a.stop g.behind g.opened in
+      let i = k.1 in
+      let j = a.inside in
+      subst (λ (ls : List Line). Stopped s w ls e) (sym a.written)
+      (refuses_end s w a.passed a.number a.start a.stop a.ordered (up_to a.passed ++ tokens_from a.start a.stop s) refl e
+      (free_begins (up_to a.passed ++ tokens_from a.start a.stop s) w (subst (λ c. is_stuck w c ≡ false) g.check g.free) g.unbarred)
+      (λ q. wrong (subst (λ (ls : List Line). Right w (text_tokens ls)) (sym a.written) q))
+      (back_of r) (subst (λ (ls : List Line). Latest s ls (up_to a.passed ++ tokens_from a.start a.stop s) (back_of r)) a.written a.read.1)
+      k.0 (omega arith))
+
+  pub text_told : (r : Result Reading Stop) (e : Stop) → ReadAll s w lines r → MatchResult r (λ x. Ends e x) (λ y. e ≡ y) → (x : Slip)
+      → (x.clause ≡ number_of e.clause) × (x.from ≡ e.from) → Ruled s w lines x.clause x.from
+  text_told (Ok r) e a told x p wrong = rw (p.0, p.1) (text_ends r e a told wrong)
+  text_told (Err y) e a same x p wrong = rw (p.0, p.1) (subst (λ (z : Stop). Stopped s w lines z) (sym same) a)
 
 -- Some lines are there: the text goes on at their first one.
 some_lines : {A : Type 0} {x : A} {xs : List A} {X : Type 0} → [] ≡ x ∷ xs → X
 some_lines {xs = xs} e = let z : 0 ≡ suc (length xs) = ap length e in absurd (omega arith)
 
 module _ (s : List ℕ) (w : Whose) where
-  pub text_start : (run : Run) (l : text.Line) → Found s 0 run.at l → (m : Line) (ms : List Line) → lines_of s run ≡ m ∷ ms
-      → (r x : Reading) → (r.check ≡ first) × (r.clause ≡ 0) × (r.from ≡ run.at) × (r.open ≡ 0)
-      → ((passed rest : List Line) (n : ℕ) → Going w (up_to passed) l.start r
-      → Latest s (passed ++ (piece s n l.start l.stop ∷ rest)) (up_to passed) (back_of r)
-      → Reads s w (passed ++ (piece s n l.start l.stop ∷ rest)) (up_to passed ++ tokens_from l.start l.stop s) l.stop x)
-      → (left : ℕ) → left ≡ run.lines - 1 → InText s w (lines_of s run) x l.next left
-  unfolding lines_of
-  text_start run l f m ms e r x g step left d =
-      subst (λ (k : ℕ). InText s w (lines_of s run) x l.next k) (sym d)
-      (text_begun s w (lines_of s run) run.number run.at run.lines f refl
-      (by_cases (ltb run.at (length s))
-      (λ t. ltb-true run.at (length s) t)
-      (λ t. some_lines (sym (ap (take run.lines) (lines_over s run.number run.at (ltb-false run.at (length s) t)) ∙ take_none run.lines) ∙ e)))
-      (λ z. some_lines (sym (ap (λ (k : ℕ). take k (text_lines s run.number run.at)) z) ∙ e))
-      r x (later refl f.start (going_from w run.at r g)) g.3 step)
+  module _ (run : Run) (l : text.Line) (f : Found s 0 run.at l) (m : Line) (ms : List Line) (e : lines_of s run ≡ m ∷ ms)
+      (r : Reading) (g : (r.check ≡ first) × (r.from ≡ run.at) × (r.open ≡ 0)) where
+    here : run.at < length s
+    unfolding lines_of
+    here =
+        by_cases (ltb run.at (length s))
+        (λ t. ltb-true run.at (length s) t)
+        (λ t. some_lines (sym (ap (take run.lines) (lines_over s run.number run.at (ltb-false run.at (length s) t)) ∙ take_none run.lines) ∙ e))
+
+    some : run.lines ≡ 0 → ⊥
+    unfolding lines_of
+    some z = some_lines (sym (ap (λ (k : ℕ). take k (text_lines s run.number run.at)) z) ∙ e)
+
+    abbrev Read : Result Reading Stop → Type 0
+    Read x = ReadLine s w (lines_of s run) l r x
+
+    pub text_start : (x : Reading) → Read (Ok x) → InText s w (lines_of s run) x l.next (run.lines - 1)
+    unfolding lines_of
+    text_start x step =
+        text_begun s w (lines_of s run) run.number run.at run.lines f refl here some r (later refl f.start (going_from w run.at r g)) g.2 x step
+
+    pub text_stuck : (x : Stop) → Read (Err x) → Stopped s w (lines_of s run) x
+    unfolding lines_of
+    text_stuck x step =
+        text_stops s w (lines_of s run) run.number run.at run.lines f refl here some r (later refl f.start (going_from w run.at r g)) g.2 x step
 
   -- A text of one line from a place on.
-  pub line_read : (n q stop : ℕ) → q ≤ stop → stop ≤ length s → (lines : List Line) → lines ≡ piece s n q stop ∷ [] → (r x : Reading)
-      → (r.check ≡ first) × (r.clause ≡ 0) × (r.from ≡ q) × (r.open ≡ 0)
-      → ((passed rest : List Line) (m : ℕ) → Going w (up_to passed) q r
-      → Latest s (passed ++ (piece s m q stop ∷ rest)) (up_to passed) (back_of r)
-      → Reads s w (passed ++ (piece s m q stop ∷ rest)) (up_to passed ++ tokens_from q stop s) stop x)
-      → ReadAll s w lines x
-  unfolding up_to OnlyEnds
-  line_read n q stop h i lines e r x g step =
-      record {
-        passed = [];
-        number = n;
-        start = q;
-        stop = stop;
-        written = e;
-        ordered = h;
-        inside = i;
-        read = subst (λ (ls : List Line). Reads s w ls (tokens_from q stop s) stop x) (sym e) (step [] [] n (going_from w q r g) (latest_none r g.3));
-      }
+  module _ (n q stop : ℕ) (h : q ≤ stop) (i : stop ≤ length s) (lines : List Line) (e : lines ≡ piece s n q stop ∷ []) (r : Reading)
+      (g : (r.check ≡ first) × (r.from ≡ q) × (r.open ≡ 0)) where
+    abbrev ReadAlone : Result Reading Stop → Type 0
+    ReadAlone x =
+        (passed rest : List Line) (m : ℕ) → Going w (up_to passed) q r → Latest s (passed ++ (piece s m q stop ∷ rest)) (up_to passed) (back_of r)
+        → Reads s w (passed ++ (piece s m q stop ∷ rest)) (up_to passed ++ tokens_from q stop s) stop x
+
+    alone_read : (x : Reading) → ReadAlone (Ok x) → ReadUp s w lines x
+    unfolding up_to OnlyEnds
+    alone_read x step =
+        record {
+          passed = [];
+          number = n;
+          start = q;
+          stop = stop;
+          written = e;
+          ordered = h;
+          inside = i;
+          read = subst (λ (ls : List Line). GoesOn s w ls (tokens_from q stop s) stop x) (sym e) (step [] [] n (going_from w q r g) (latest_none r g.2));
+        }
+
+    alone_stuck : (x : Stop) → ReadAlone (Err x) → Stopped s w lines x
+    unfolding up_to OnlyEnds
+    alone_stuck x step = subst (λ (ls : List Line). Stopped s w ls x) (sym e) (step [] [] n (going_from w q r g) (latest_none r g.2))
+
+    pub line_read : (x : Result Reading Stop) → ReadAlone x → ReadAll s w lines x
+    line_read (Ok x) step = alone_read x step
+    line_read (Err x) step = alone_stuck x step

@@ -1,6 +1,8 @@
 -- What the finders promise.
 pub mod Places
+pub mod Standing
 pub mod Taken
+pub mod Clauses
 pub mod Rules
 pub mod RulesRead
 pub mod Marks

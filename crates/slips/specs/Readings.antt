@@ -10,13 +10,13 @@ use Rattle.slips.specs.declared.readings.Reading.{Reading}
 use Rattle.slips.specs.declared.slip.Slip.{Slip}
 use Rattle.slips.specs.Marks.{Mark, MarksFrom, end_mark, MarkedLines}
 use Rattle.slips.specs.PatternText.{PatternText}
-use Rattle.slips.specs.Strays.{heard}
+use Rattle.slips.specs.Strays.{heard, is_found, stray_place}
 use Rattle.slips.specs.Misfits.{fitted}
 
 -- What is found behind some tokens.
 pub record Follows (x : Reading) (ms : List Mark) (r : Reading) : Type 0 where
   pub stray : r.stray ≡ heard x.stray ms
-  pub within : x.stray.from ≤ 65536 → r.stray.from ≤ 65536
+  pub within : stray_place x.stray ≤ 65536 → stray_place r.stray ≤ 65536
   pub time : r.time ≡ x.time
   pub misfit : r.misfit ≡ fitted x.time x.misfit ms
 
@@ -45,8 +45,8 @@ pub record ReadsSide (s : List ℕ) (l : Line) (x r : Reading) : Type 0 where
 
 -- A slip that tells of the stray `%`.
 pub record ToldStray (x : Reading) (r : Slip) : Type 0 where
-  pub told : x.stray.found ≡ true → x.stray.from ≤ 65536 → (r.clause ≡ 1) × (r.from ≡ x.stray.from) × (r.to ≡ r.from + 1)
-  pub none : x.stray.found ≡ false → r.clause ≡ 0
+  pub told : is_found x.stray ≡ true → stray_place x.stray ≤ 65536 → (r.clause ≡ 1) × (r.from ≡ stray_place x.stray) × (r.to ≡ r.from + 1)
+  pub none : is_found x.stray ≡ false → r.clause ≡ 0
 
 -- A slip that tells of the measure that does not fit.
 pub record ToldMisfit (x : Reading) (time : ℕ) (r : Slip) : Type 0 where

@@ -1,21 +1,22 @@
 -- A text read with references put in, and what is remembered of the definitions that were read.
-use Rattle.std.specs.Prelude.{ℕ, ◌≤◌, ◌≡◌, ◌⊎◌, List, [], ◌∷◌, ◌++◌, true, ◌||◌, length, get_or}
+use Rattle.std.specs.Prelude.{ℕ, ◌≤◌, ◌≡◌, ◌⊎◌, List, [], ◌∷◌, ◌++◌, true, length, get_or, Option, Some, None}
 use Rattle.songcode.specs.Answer.Answer.{blocks_of}
 use Rattle.sections.specs.declared.runs.Run.{Run}
 use Rattle.slips.specs.declared.readings.Misfit.{Misfit}
 use Rattle.slips.specs.declared.readings.Reading.{Reading}
 use Rattle.slips.specs.declared.referring.Referring.{Referring}
+use Rattle.slips.specs.declared.referring.Meant.{Meant}
 use Rattle.slips.specs.declared.signs.Token.{Token}
 use Rattle.slips.specs.Taken.{TokenAt}
 use Rattle.slips.specs.Marks.{Mark, MarksFrom, end_mark, MarkedLines, PlainText}
 use Rattle.slips.specs.PatternText.{definition_lines, PutIn}
-use Rattle.slips.specs.Strays.{AllSilent}
+use Rattle.slips.specs.Strays.{AllSilent, is_settled}
 use Rattle.slips.specs.Misfits.{no_measure, fitted}
 use Rattle.slips.specs.Readings.{Follows, lines_in}
 
--- A number is among those that are remembered.
-abbrev pub Remembers : List ℕ → ℕ → Type 0
-Remembers numbers n = (i : ℕ) × (get_or numbers i 0 ≡ n)
+-- The definition of a number is among those that are remembered.
+abbrev pub Remembers : List (Option Meant) → ℕ → Type 0
+Remembers meant n = (i : ℕ) × (m : Meant) × (get_or meant i None ≡ Some m) × (m.number ≡ n)
 
 -- No measure is open: one that does not fit is found, or none is begun.
 abbrev pub Closed : Misfit → Type 0
@@ -23,14 +24,13 @@ Closed x = (x.found ≡ true) ⊎ (x ≡ no_measure)
 
 -- Nothing more would be found in these tokens.
 pub record Passed (ms : List Mark) (x : Reading) : Type 0 where
-  pub stray : ((x.stray.chord || x.stray.found) ≡ true) ⊎ AllSilent ms
+  pub stray : (is_settled x.stray ≡ true) ⊎ AllSilent ms
   pub misfit : (x.misfit.found ≡ true) ⊎ (fitted x.time no_measure ms ≡ no_measure)
 
 -- So it is with the text of each definition that is remembered.
 pub record Known (s : List ℕ) (x : Referring) : Type 0 where
   pub fresh : x.reading.misfit.positions ≡ 0 → x.reading.misfit ≡ no_measure
-  pub passed : (n : ℕ) → Remembers x.numbers n → (n ≡ 0 → ⊥)
-      → (ms : List Mark) × PlainText s (definition_lines n (blocks_of s)) ms × Passed ms x.reading
+  pub passed : (n : ℕ) → Remembers x.meant n → (ms : List Mark) × PlainText s (definition_lines n (blocks_of s)) ms × Passed ms x.reading
 
 -- The text of a definition is read.
 pub record MeansRead (s : List ℕ) (n : ℕ) (x r : Referring) : Type 0 where

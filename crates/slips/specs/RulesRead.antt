@@ -1,5 +1,5 @@
 -- A pattern text read token by token, up to where it stops being right: refusal 7.
-use Rattle.std.specs.Prelude.{ℕ, ◌<◌, ◌≤◌, length, ◌≡◌, List, [], ◌∷◌, ◌++◌, Bool, true, false, ◌||◌, ◌&&◌, not, ◌⊎◌}
+use Rattle.std.specs.Prelude.{ℕ, ◌<◌, ◌≤◌, length, ◌≡◌, List, [], ◌∷◌, ◌++◌, Bool, true, false, ◌||◌, ◌&&◌, not, ◌⊎◌, Result, MatchResult}
 use Rattle.songcode.specs.Lists.{any}
 use Rattle.songcode.specs.Answer.Lines.{Line}
 use Rattle.songcode.specs.Answer.Tokens.{Token, line_end, opens, tokens_of}
@@ -17,8 +17,10 @@ use Rattle.grammar.specs.Checks.{first, is_bad, check_run}
 use Rattle.grammar.specs.Verdicts.{is_alone}
 use Rattle.slips.specs.declared.slip.Slip.{Slip}
 use Rattle.slips.specs.declared.patterns.Reading.{Reading}
+use Rattle.slips.specs.declared.patterns.Stop.{Stop}
 use Rattle.slips.specs.declared.patterns.Whose.{Whose}
 use Rattle.slips.specs.declared.patterns.Whose.TheVariants.{Definition, Section, Side}
+use Rattle.slips.specs.Clauses.{number_of}
 use Rattle.slips.specs.Rules.{is_colon, Right, piece, Back, Latest, Told, RuledIn, Ruled}
 
 -- The tokens in front of a line behind others.
@@ -68,7 +70,6 @@ barred_token Side t = is_colon t
 
 -- A reading that goes on: the tokens so far are the beginning of a right text.
 pub record Going (w : Whose) (ts : List Token) (at : ℕ) (r : Reading) : Type 0 where
-  pub unblamed : r.clause ≡ 0
   pub check : r.check ≡ check_run first (kinds_of ts)
   pub free : is_stuck w r.check ≡ false
   pub unbarred : any (barred_token w) ts ≡ false
@@ -80,25 +81,32 @@ abbrev pub back_of : Reading → Back
 back_of r = record { last = r.from; bracket = r.open }
 
 -- One that has stopped in front of a token.
-pub record Refuses (w : Whose) (ts : List Token) (t : Token) (at : ℕ) (b : Back) (r : Reading) : Type 0 where
+pub record Refuses (w : Whose) (ts : List Token) (t : Token) (at : ℕ) (b : Back) (x : Stop) : Type 0 where
   pub begun : (more : List Token) × Right w (ts ++ more)
   pub never : (more : List Token) → Right w (ts ++ (t ∷ more)) → ⊥
-  pub told : Told at b r.clause r.spot
+  pub told : Told at b (number_of x.clause) x.from
 
 -- The last `[` behind one more token.
 abbrev pub Opened : Token → ℕ → ℕ → ℕ → Type 0
 Opened t at old new = ((t ≡ opens) × (new ≡ at)) ⊎ ((t ≡ opens → ⊥) × (new ≡ old))
 
 -- A token is read, or a line end: the reading goes on behind it, its last token at a place, or has stopped in front of it.
-abbrev pub Steps : Whose → List Token → Token → ℕ → ℕ → Back → ℕ → Reading → Type 0
-Steps w ts t at next b from r = (Going w (ts ++ (t ∷ [])) next r × (r.from ≡ from) × Opened t at b.bracket r.open) ⊎ Refuses w ts t at b r
+abbrev pub Steps : Whose → List Token → Token → ℕ → ℕ → Back → ℕ → Result Reading Stop → Type 0
+Steps w ts t at next b from r =
+    MatchResult r (λ x. Going w (ts ++ (t ∷ [])) next x × (x.from ≡ from) × Opened t at b.bracket x.open) (λ e. Refuses w ts t at b e)
 
 -- A reading of a text, up to a place on a line of it or stopped before.
-abbrev pub Reads : List ℕ → Whose → List Line → List Token → ℕ → Reading → Type 0
-Reads s w lines ts at r = (Going w ts at r × Latest s lines ts (back_of r)) ⊎ RuledIn s w lines r.clause r.spot
+abbrev pub GoesOn : List ℕ → Whose → List Line → List Token → ℕ → Reading → Type 0
+GoesOn s w lines ts at r = Going w ts at r × Latest s lines ts (back_of r)
 
--- All lines are read: the last one is known.
-pub record ReadAll (s : List ℕ) (w : Whose) (lines : List Line) (r : Reading) : Type 0 where
+abbrev pub Stopped : List ℕ → Whose → List Line → Stop → Type 0
+Stopped s w lines x = RuledIn s w lines (number_of x.clause) x.from
+
+abbrev pub Reads : List ℕ → Whose → List Line → List Token → ℕ → Result Reading Stop → Type 0
+Reads s w lines ts at r = MatchResult r (λ x. GoesOn s w lines ts at x) (λ e. Stopped s w lines e)
+
+-- All lines are read up to the end of the last one.
+pub record ReadUp (s : List ℕ) (w : Whose) (lines : List Line) (r : Reading) : Type 0 where
   pub passed : List Line
   pub number : ℕ
   pub start : ℕ
@@ -106,4 +114,8 @@ pub record ReadAll (s : List ℕ) (w : Whose) (lines : List Line) (r : Reading) 
   pub written : lines ≡ passed ++ (piece s number start stop ∷ [])
   pub ordered : start ≤ stop
   pub inside : stop ≤ length s
-  pub read : Reads s w lines (up_to passed ++ tokens_from start stop s) stop r
+  pub read : GoesOn s w lines (up_to passed ++ tokens_from start stop s) stop r
+
+-- So they are, or the reading has stopped before.
+abbrev pub ReadAll : List ℕ → Whose → List Line → Result Reading Stop → Type 0
+ReadAll s w lines r = MatchResult r (λ x. ReadUp s w lines x) (λ e. Stopped s w lines e)

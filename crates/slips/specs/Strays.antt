@@ -1,9 +1,10 @@
 -- Refusal 13: the first `%` before every chord.
-use Rattle.std.specs.Prelude.{ℕ, ◌+◌, ◌<◌, ◌≤◌, ◌≡◌, List, [], ◌∷◌, ◌++◌, true, false, ◌||◌, length, get_or}
+use Rattle.std.specs.Prelude.{ℕ, ◌+◌, ◌<◌, ◌≤◌, ◌≡◌, List, [], ◌∷◌, ◌++◌, Bool, true, false, length, get_or}
 use Rattle.songcode.specs.Lists.{provided◌then◌else◌}
 use Rattle.songcode.specs.Song.{chord, again, silence}
 use Rattle.songcode.specs.Answer.Tokens.{Token, sound, remover, reference, semicolon, colon, line_end, opens, closes, wrong}
 use Rattle.slips.specs.declared.readings.Stray.{Stray}
+use Rattle.slips.specs.declared.readings.Stray.TheVariants.{Unheard, Sounded, Found}
 use Rattle.slips.specs.Marks.{Mark}
 use Rattle.tokens.specs.Signs.{is_chord, is_again}
 
@@ -48,27 +49,41 @@ pub record StrayTold (s : List ℕ) (Text : List Mark → Type 0) (clause from t
   pub tells : TellsStray marks clause from to
   pub byte : clause ≡ 1 → (from < length s) × (get_or s from 0 ≡ 37)
 
--- The start of a text: neither was heard.
-abbrev pub unheard : Stray
-unheard = record { chord = false; found = false; from = 0 }
+-- Whether a chord or a `%` was heard; whether a `%` was first, and where.
+abbrev pub is_settled : Stray → Bool
+is_settled Unheard = false
+is_settled Sounded = true
+is_settled (Found p) = true
+
+abbrev pub is_found : Stray → Bool
+is_found Unheard = false
+is_found Sounded = false
+is_found (Found p) = true
+
+abbrev pub stray_place : Stray → ℕ
+stray_place Unheard = 0
+stray_place Sounded = 0
+stray_place (Found p) = p
 
 -- The first chord or `%` settles it.
-unfoldable pub settling : Stray → Token → ℕ → Stray
-settling x (sound (chord c)) from = record { chord = true; found = false; from = 0 }
-settling x (sound again) from = record { chord = false; found = true; from = from }
-settling x (sound silence) from = x
-settling x remover from = x
-settling x (reference n) from = x
-settling x semicolon from = x
-settling x colon from = x
-settling x line_end from = x
-settling x opens from = x
-settling x (closes n) from = x
-settling x wrong from = x
+unfoldable pub settling : Token → ℕ → Stray
+settling (sound (chord c)) from = Sounded
+settling (sound again) from = Found from
+settling (sound silence) from = Unheard
+settling remover from = Unheard
+settling (reference n) from = Unheard
+settling semicolon from = Unheard
+settling colon from = Unheard
+settling line_end from = Unheard
+settling opens from = Unheard
+settling (closes n) from = Unheard
+settling wrong from = Unheard
 
 unfoldable pub hearing : Stray → Token → ℕ → Stray
-unfolding provided◌then◌else◌ settling
-hearing x t from = provided x.chord || x.found then x else settling x t from
+unfolding settling
+hearing Unheard t from = settling t from
+hearing Sounded t from = Sounded
+hearing (Found p) t from = Found p
 
 unfoldable pub heard : Stray → List Mark → Stray
 unfolding hearing
@@ -78,8 +93,6 @@ heard x (m ∷ ms) = heard (hearing x m.token m.from) ms
 -- The same by the kind of a token's word.
 unfoldable pub hearing_sign : Stray → ℕ → ℕ → Stray
 unfolding provided◌then◌else◌
-hearing_sign x k from =
-    provided x.chord || x.found then x
-    else provided is_chord k then record { chord = true; found = false; from = 0 }
-    else provided is_again k then record { chord = false; found = true; from = from }
-    else x
+hearing_sign Unheard k from = provided is_chord k then Sounded else provided is_again k then Found from else Unheard
+hearing_sign Sounded k from = Sounded
+hearing_sign (Found p) k from = Found p

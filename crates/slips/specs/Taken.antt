@@ -1,5 +1,5 @@
 -- What is found of a line's tokens at a place.
-use Rattle.std.specs.Prelude.{ℕ, ◌+◌, ◌<◌, ◌≤◌, ◌≡◌, List, [], ◌∷◌}
+use Rattle.std.specs.Prelude.{ℕ, ◌+◌, ◌<◌, ◌≤◌, ◌≡◌, List, [], ◌∷◌, Option, MatchOption}
 use Rattle.songcode.specs.Answer.Tokens as songcode
 use Rattle.text.specs.Spans.{part, front_blanks}
 use Rattle.tokens.specs.TokenWords.{token_word}
@@ -18,6 +18,5 @@ pub record TokenAt (s : List ℕ) (at to : ℕ) (r : Token) : Type 0 where
   pub first : (k : ℕ) → r.next ≤ k → k ≤ to → tokens_from at k s ≡ token ∷ tokens_from r.next k s
 
 -- It, or that there is none.
-pub record Takes (s : List ℕ) (at to : ℕ) (r : Token) : Type 0 where
-  pub over : r.next ≡ at → tokens_from at to s ≡ []
-  pub there : at < r.next → TokenAt s at to r
+abbrev pub Takes : List ℕ → ℕ → ℕ → Option Token → Type 0
+Takes s at to r = MatchOption r (tokens_from at to s ≡ []) (λ t. TokenAt s at to t)

@@ -1,7 +1,6 @@
 // How many bytes of a word that is wrong, or may not stand where it stands, are the beginning of a right one.
 ghost use Rattle.std.specs.Prelude.{◌≤◌, length};
 
-use super::signs::capped;
 use grammar::Kind;
 use text::byte_at;
 use tokens::longest_base;
@@ -13,49 +12,31 @@ const DIGITS_MOST: usize = 4;
 
 // A `$` or, where all are asked for, a sign that no extension holds.
 fn is_sign(b: u8, all: bool) -> bool {
-    match b {
-        b'$' => true,
-        b'%' => all,
-        b'_' => all,
-        b'=' => all,
-        _ => false,
-    }
+    b == b'$' || all && matches!(b, b'%' | b'_' | b'=')
 }
 
 // Where the first such sign of a word stands, or its end.
 pub fn sign_at(w: &[u8], all: bool) -> usize
     ensures { result ≤ length w.now }
 {
-    let mut i = 0;
-    while i < w.len() {
-        if is_sign(w[i], all) {
-            return i;
-        }
-        i += 1;
-    }
-    i
+    w.iter().position(|b| is_sign(*b, all)).unwrap_or(w.len())
 }
 
 // Whether a byte may follow so many digits of a number: no zero comes first.
 fn is_digit_behind(n: usize, b: u8) -> bool {
-    if b == b'0' {
-        return 0 < n;
-    }
-    b'0' < b && b <= b'9'
+    matches!(b, b'1'..=b'9') || b == b'0' && 0 < n
 }
 
 // How many digits behind the first byte begin a number, at most four.
 fn digits_behind(w: &[u8]) -> usize
     ensures { result ≤ 4 }
 {
-    let mut n = 0;
-    while n < DIGITS_MOST {
+    for n in 0..DIGITS_MOST {
         if !is_digit_behind(n, byte_at(w, n + 1)) {
             return n;
         }
-        n += 1;
     }
-    n
+    DIGITS_MOST
 }
 
 // What a word with this first byte would be: a reference, a loop's end, a remover, or a chord, `%` or `_`.
@@ -78,9 +59,7 @@ pub fn bytes_begun(w: &[u8]) -> usize {
             if base.length == 0 {
                 return 0;
             }
-            let most = capped(base.length, EXTENSION_MOST);
-            let sign = sign_at(w, true);
-            if sign < most { sign } else { most }
+            sign_at(w, true).min(base.length.saturating_add(EXTENSION_MOST))
         }
     }
 }

@@ -1,17 +1,16 @@
 // Slips in the order of blocks and lines: refusals 3, 6 and 8.
-ghost use Rattle.std.specs.Prelude.{◌+◌, ◌≤◌, ◌<◌, ◌≡◌, length, get_or};
+ghost use Rattle.std.specs.Prelude.{◌≤◌, ◌<◌, ◌≡◌, length, get_or};
+ghost use Rattle.slips.specs.Standing.{LineIn, Counted};
 ghost use Rattle.slips.specs.Finds.{Without};
 
 use super::definitions::definition_lines;
 use super::keys::{in_metadata, modifier_slip, whole_line};
-use super::signs::minus;
 use super::slip::{Slip, noted};
 use super::spots::Spot;
 use super::survey::body_line;
 use sections::{Place, section_parts};
 use settings::{Kind, characters, head_in, is_dashes, kind_of};
 use text::{Line, byte_at, is_tail};
-use tokens::Number;
 
 // The clauses of refusal 3.
 const METADATA_LATE: usize = 1;
@@ -44,23 +43,21 @@ const NAME_MOST: usize = 50;
 // Refusal 3.
 pub fn order_slip(s: &[u8], l: Line) -> Slip {
     if byte_at(s, l.start) == b'@' {
-        return whole_line(METADATA_LATE, l, body_line(s, true));
+        return whole_line(METADATA_LATE, l, body_line(s, true).unwrap_or(0));
     }
-    whole_line(DEFINITION_LATE, l, body_line(s, false))
+    whole_line(DEFINITION_LATE, l, body_line(s, false).unwrap_or(0))
 }
 
 // Refusal 6: the number of a head that is well formed is that of its own definition or of an earlier one.
 pub fn head_slip(s: &[u8], l: Line) -> Slip
-    requires { (l.start ≤ l.stop) × (l.stop ≤ length s.now) }
+    requires { LineIn s.now l }
 {
-    let a = l.start;
-    let e = l.stop;
-    let Number::Is(n) = head_in(&s[a..e]) else {
+    let Some(n) = head_in(&s[l.start..l.stop]) else {
         return whole_line(HEAD_MALFORMED, l, 0);
     };
     let d = definition_lines(s, n);
     if d.number <= l.number {
-        return noted(HEAD_TWICE, a, e, minus(d.number, 1), n);
+        return noted(HEAD_TWICE, l.start, l.stop, d.number.saturating_sub(1), n);
     }
     whole_line(HEAD_TOO_MANY, l, 0)
 }
@@ -70,70 +67,66 @@ pub fn name_stop(s: &[u8], from: usize, to: usize) -> usize
     requires { (from ≤ to) × (to ≤ length s.now) }
     ensures { (from ≤ result) × (result ≤ to) × Without 33 s.now from result × (result < to → get_or s.now result 0 ≡ 33) }
 {
-    let mut i = from;
-    while i < to {
+    for i in from..to {
         if s[i] == b'!' {
             return i;
         }
-        i += 1;
     }
-    i
+    to
 }
 
 // Where the character behind the first n begins, or the end.
 fn behind_characters(s: &[u8], from: usize, to: usize, n: usize) -> usize
     requires { (from ≤ to) × (to ≤ length s.now) }
 {
-    let mut i = from;
     let mut left = n;
-    while i < to {
+    for i in from..to {
         if !is_tail(s[i]) {
             if left == 0 {
                 return i;
             }
             left -= 1;
         }
-        i += 1;
     }
-    i
+    to
 }
 
 // Refusal 8 on a header.
 fn header_slip(s: &[u8], l: Line) -> Slip
-    requires { (l.start ≤ l.stop) × (l.stop ≤ length s.now) }
+    requires { LineIn s.now l }
 {
-    let a = l.start;
-    let q = name_stop(s, a, l.stop);
-    let n = characters(&s[a..q]);
+    let q = name_stop(s, l.start, l.stop);
+    let n = characters(&s[l.start..q]);
     if n == 0 {
         return whole_line(NAME_EMPTY, l, 0);
     }
     if NAME_MOST < n {
-        return noted(NAME_LONG, behind_characters(s, a, q, NAME_MOST), q, 0, n);
+        return noted(
+            NAME_LONG,
+            behind_characters(s, l.start, q, NAME_MOST),
+            q,
+            0,
+            n,
+        );
     }
     whole_line(NO_PATTERN, l, 0)
 }
 
 // The line behind the pattern of the section that begins at a place.
 fn line_behind_pattern(s: &[u8], p: Place) -> usize
-    requires { (1 ≤ p.number) × (p.number ≤ p.at + 1) }
+    requires { Counted p }
 {
     if s.len() <= p.at {
         return 0;
     }
-    let parts = section_parts(s, p.number, p.at);
-    let late = parts.late;
-    late.number
+    section_parts(s, p.number, p.at).late.number
 }
 
 // Refusal 8 on a line of a section behind its header.
 fn body_slip(s: &[u8], p: Spot) -> Slip
-    requires { (p.line.start ≤ p.line.stop) × (p.line.stop ≤ length s.now) × (1 ≤ p.block.number)
-        × (p.block.number ≤ p.block.at + 1) × (p.block.at ≤ length s.now) }
+    requires { LineIn s.now p.line × Counted p.block × (p.block.at ≤ length s.now) }
 {
-    let a = p.line.start;
-    let e = p.line.stop;
-    let w = &s[a..e];
+    let w = &s[p.line.start..p.line.stop];
     if is_dashes(w) {
         return whole_line(DASHES_BARE, p.line, p.block.number);
     }
@@ -145,8 +138,7 @@ fn body_slip(s: &[u8], p: Spot) -> Slip
 
 // Refusal 8.
 pub fn line_slip(s: &[u8], p: Spot) -> Slip
-    requires { (p.line.start ≤ p.line.stop) × (p.line.stop ≤ length s.now) × (1 ≤ p.block.number)
-        × (p.block.number ≤ p.block.at + 1) × (p.block.at ≤ length s.now) }
+    requires { LineIn s.now p.line × Counted p.block × (p.block.at ≤ length s.now) }
 {
     if in_metadata(s, p.block) {
         return whole_line(LINE_IN_METADATA, p.line, p.block.number);

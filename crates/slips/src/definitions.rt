@@ -3,6 +3,7 @@ ghost use Rattle.std.specs.Prelude.{◌≡◌, ◌+◌, ◌≤◌, ◌<◌, leng
 ghost use Rattle.songcode.specs.Answer.Answer.{blocks_of};
 ghost use Rattle.sections.specs.Runs.{lines_of};
 ghost use Rattle.sections.specs.BlockParts.{block_at};
+ghost use Rattle.slips.specs.Standing.{Counted};
 ghost use Rattle.slips.specs.PatternText.{defines, definition_lines};
 
 use super::survey::{NO_RUN, block_behind};
@@ -11,7 +12,7 @@ use settings::BlockKind;
 
 // Whether the definition of this number begins at a place.
 fn is_defined_at(s: &[u8], p: Place, number: usize) -> bool
-    requires { (1 ≤ p.number) × (p.number ≤ p.at + 1) × (p.at < length s.now) }
+    requires { Counted p × (p.at < length s.now) }
     ensures { result ≡ defines number (block_at s.now p.number p.at) }
 {
     match kind_at(s, p.number, p.at) {

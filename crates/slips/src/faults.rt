@@ -1,186 +1,134 @@
 // Which clause of refusal 7 holds where a pattern text stops being right.
-ghost use Rattle.std.specs.Prelude.{◌≡◌, true, ◌≤◌, length};
+ghost use Rattle.std.specs.Prelude.{◌≡◌, true};
+ghost use Rattle.slips.specs.Clauses.{number_of};
 ghost use Rattle.slips.specs.Rules.{is_earlier};
 
-use super::signs::{CLOSES, COLON, OPENS, REFERENCE, REMOVER, SEMICOLON, WRONG};
-use grammar::{Check, row};
+use grammar::{Check, Place};
 use text::byte_at;
-use tokens::{has_slip, longest_base};
+use tokens::{CLOSES, COLON, OPENS, REFERENCE, REMOVER, SEMICOLON, WRONG, has_slip, longest_base};
 
-pub const NO_CHORD: usize = 1;
+// The clauses, by their numbers.
+#[derive(Clone, Copy, PartialEq, Eq)]
+pub enum Clause {
+    NoChord = 1,
+    ExtensionLong,
+    ReferenceMalformed,
+    SeparatorFirst,
+    SeparatorDoubled,
+    SeparatorLast,
+    SeparatorLineEnd,
+    SeparatorLineStart,
+    RemoverFirst,
+    RemoverInside,
+    LoopEmpty,
+    LoopCountMissing,
+    LoopCountWrong,
+    LoopInLoop,
+    LoopOpen,
+    LoopNotOpen,
+    LoopLineEnd,
+    NotParted,
+    ReferenceNotHere,
+    ColonNotHere,
+    SideEmpty,
+    ExtensionSign,
+}
 
-pub const EXTENSION_LONG: usize = 2;
+impl From<Clause> for usize {
+    ghost from_gives = { λ clause number. number ≡ number_of clause };
 
-pub const REFERENCE_MALFORMED: usize = 3;
-
-pub const SEPARATOR_FIRST: usize = 4;
-
-pub const SEPARATOR_DOUBLED: usize = 5;
-
-pub const SEPARATOR_LAST: usize = 6;
-
-pub const SEPARATOR_LINE_END: usize = 7;
-
-pub const SEPARATOR_LINE_START: usize = 8;
-
-pub const REMOVER_FIRST: usize = 9;
-
-pub const REMOVER_INSIDE: usize = 10;
-
-pub const LOOP_EMPTY: usize = 11;
-
-pub const LOOP_COUNT_MISSING: usize = 12;
-
-pub const LOOP_COUNT_WRONG: usize = 13;
-
-pub const LOOP_IN_LOOP: usize = 14;
-
-pub const LOOP_OPEN: usize = 15;
-
-pub const LOOP_NOT_OPEN: usize = 16;
-
-pub const LOOP_LINE_END: usize = 17;
-
-pub const NOT_PARTED: usize = 18;
-
-pub const REFERENCE_NOT_HERE: usize = 19;
-
-pub const COLON_NOT_HERE: usize = 20;
-
-pub const SIDE_EMPTY: usize = 21;
-
-pub const EXTENSION_SIGN: usize = 22;
-
-// The places of the grammar by their rows: an item is to come in the first three, and behind a line end.
-const FRESH: usize = 0;
-
-const JOINS: usize = 2;
-
-const REMOVED: usize = 4;
-
-const ENDED: usize = 7;
+    fn from(clause: Clause) -> usize {
+        clause as usize
+    }
+}
 
 // Whether an item is to come.
-fn wants(place: usize) -> bool {
-    place <= JOINS || place == ENDED
+fn wants(place: Place) -> bool {
+    matches!(
+        place,
+        Place::Fresh | Place::Wants | Place::Joins | Place::Ended
+    )
 }
 
 // A word that is no token.
-fn wrong_clause(w: &[u8]) -> usize
-    ensures { (1 ≤ result) × (result ≤ 22) }
-{
+fn wrong_clause(w: &[u8]) -> Clause {
     match byte_at(w, 0) {
-        b'$' => REFERENCE_MALFORMED,
-        b']' => {
-            if w.len() == 1 {
-                LOOP_COUNT_MISSING
-            } else {
-                LOOP_COUNT_WRONG
-            }
-        }
-        _ => {
-            let base = longest_base(w);
-            if base.length == 0 {
-                NO_CHORD
-            } else if has_slip(w) {
-                EXTENSION_SIGN
-            } else {
-                EXTENSION_LONG
-            }
-        }
+        b'$' => Clause::ReferenceMalformed,
+        b']' if w.len() == 1 => Clause::LoopCountMissing,
+        b']' => Clause::LoopCountWrong,
+        _ if longest_base(w).length == 0 => Clause::NoChord,
+        _ if has_slip(w) => Clause::ExtensionSign,
+        _ => Clause::ExtensionLong,
     }
 }
 
 // A `;` or `:`; the sign of the token before it.
-fn separator_clause(place: usize, last: u32) -> usize
-    ensures { (1 ≤ result) × (result ≤ 22) }
-{
-    if place == FRESH || last == OPENS {
-        return SEPARATOR_FIRST;
-    }
-    if place == ENDED {
-        SEPARATOR_LINE_START
-    } else {
-        SEPARATOR_DOUBLED
+fn separator_clause(place: Place, last: u32) -> Clause {
+    match place {
+        _ if last == OPENS => Clause::SeparatorFirst,
+        Place::Fresh => Clause::SeparatorFirst,
+        Place::Ended => Clause::SeparatorLineStart,
+        _ => Clause::SeparatorDoubled,
     }
 }
 
 // A `]` with its count.
-fn closing_clause(place: usize, last: u32, loops: usize) -> usize
-    ensures { (1 ≤ result) × (result ≤ 22) }
-{
-    if loops == 0 {
-        return LOOP_NOT_OPEN;
-    }
-    if last == OPENS {
-        return LOOP_EMPTY;
-    }
-    if place == ENDED {
-        LOOP_LINE_END
-    } else {
-        SEPARATOR_LAST
+fn closing_clause(place: Place, last: u32, loops: usize) -> Clause {
+    match place {
+        _ if loops == 0 => Clause::LoopNotOpen,
+        _ if last == OPENS => Clause::LoopEmpty,
+        Place::Ended => Clause::LoopLineEnd,
+        _ => Clause::SeparatorLast,
     }
 }
 
 // A `[` or a remover: a clause of its own where an item is to come.
-fn wanted_clause(place: usize, clause: usize) -> usize
-    requires { (1 ≤ clause) × (clause ≤ 22) }
-    ensures { (1 ≤ result) × (result ≤ 22) }
-{
-    if wants(place) { clause } else { NOT_PARTED }
+fn wanted_clause(place: Place, clause: Clause) -> Clause {
+    if wants(place) {
+        clause
+    } else {
+        Clause::NotParted
+    }
 }
 
 // A reference, or a token that sounds: this may not stand behind removers.
-fn sound_clause(place: usize, sign: u32) -> usize
-    ensures { (1 ≤ result) × (result ≤ 22) }
-{
-    if sign != REFERENCE && place == REMOVED {
-        REMOVER_INSIDE
-    } else {
-        NOT_PARTED
+fn sound_clause(place: Place, sign: u32) -> Clause {
+    match place {
+        Place::Removed if sign != REFERENCE => Clause::RemoverInside,
+        _ => Clause::NotParted,
     }
 }
 
 // A token behind a text that was right so far.
-pub fn token_clause(c: Check, last: u32, sign: u32, w: &[u8]) -> usize
-    ensures { (1 ≤ result) × (result ≤ 22) }
-{
-    let at = c.place;
-    let place = row(at);
+pub fn token_clause(c: Check, last: u32, sign: u32, w: &[u8]) -> Clause {
     match sign {
         WRONG => wrong_clause(w),
-        CLOSES => closing_clause(place, last, c.loops),
-        OPENS => wanted_clause(place, LOOP_IN_LOOP),
-        COLON => separator_clause(place, last),
-        SEMICOLON => separator_clause(place, last),
-        REMOVER => wanted_clause(place, REMOVER_FIRST),
-        _ => sound_clause(place, sign),
+        CLOSES => closing_clause(c.place, last, c.loops),
+        OPENS => wanted_clause(c.place, Clause::LoopInLoop),
+        COLON | SEMICOLON => separator_clause(c.place, last),
+        REMOVER => wanted_clause(c.place, Clause::RemoverFirst),
+        _ => sound_clause(c.place, sign),
     }
 }
 
 // A line end behind it.
-pub fn line_end_clause(last: u32) -> usize
-    ensures { (1 ≤ result) × (result ≤ 22) × (is_earlier result ≡ true) }
+pub fn line_end_clause(last: u32) -> Clause
+    ensures { is_earlier (number_of result) ≡ true }
 {
     if last == OPENS {
-        LOOP_LINE_END
+        Clause::LoopLineEnd
     } else {
-        SEPARATOR_LINE_END
+        Clause::SeparatorLineEnd
     }
 }
 
 // The end of the text behind it.
-pub fn end_clause(c: Check) -> usize
-    ensures { (1 ≤ result) × (result ≤ 22) × (is_earlier result ≡ true) }
+pub fn end_clause(c: Check) -> Clause
+    ensures { is_earlier (number_of result) ≡ true }
 {
-    let at = c.place;
-    let place = row(at);
-    if place == FRESH {
-        return SIDE_EMPTY;
-    }
-    if wants(place) {
-        SEPARATOR_LAST
-    } else {
-        LOOP_OPEN
+    match c.place {
+        Place::Fresh => Clause::SideEmpty,
+        place if wants(place) => Clause::SeparatorLast,
+        _ => Clause::LoopOpen,
     }
 }

@@ -1,9 +1,11 @@
 // Slips in key and modifier lines: refusals 4 and 5, and those of 8 that are about modifiers.
 ghost use Rattle.std.specs.Prelude.{◌+◌, ◌≤◌, ◌<◌, length};
+ghost use Rattle.slips.specs.Standing.{LineIn};
 
 use super::slip::{Slip, noted};
 use super::spots::Spot;
-use sections::{Place, Run, find, slot_of};
+use super::survey::NO_RUN;
+use sections::{Place, Run, SLOTS, find, slot_of};
 use settings::{name_end, setting_start};
 use text::{Line, byte_at, line_at};
 
@@ -28,9 +30,7 @@ const MODIFIER_TWICE: usize = 4;
 
 const MODIFIER_EARLY: usize = 5;
 
-// Keys and modifiers are numbered up to here (`slot_of`); a section's own keys are bpm and time.
-const SLOTS: usize = 13;
-
+// A section's own keys are bpm and time.
 const BPM: usize = 4;
 
 const TIME: usize = 5;
@@ -50,7 +50,7 @@ pub fn whole_line(clause: usize, l: Line, other: usize) -> Slip {
 
 // The name with the sign before it, one more line, and the number of what is named.
 fn name_of(clause: usize, s: &[u8], l: Line, other: usize, slot: usize) -> Slip
-    requires { (l.start ≤ l.stop) × (l.stop ≤ length s.now) }
+    requires { LineIn s.now l }
 {
     noted(clause, l.start, name_end(s, l.start, l.stop), other, slot)
 }
@@ -62,12 +62,7 @@ fn lines_above(s: &[u8], p: Place, lines: usize) -> Run
 {
     let header = line_at(s, p.number, p.at);
     if s.len() <= p.at || in_metadata(s, p) {
-        return Run {
-            number: 1,
-            at: 0,
-            lines,
-            next: 0,
-        };
+        return Run { lines, ..NO_RUN };
     }
     Run {
         number: p.number + 1,
@@ -77,18 +72,21 @@ fn lines_above(s: &[u8], p: Place, lines: usize) -> Run
     }
 }
 
-// The first line before this one, in its section or in all metadata, that says the same; 0 where there is none.
-fn earlier(s: &[u8], p: Spot, slot: usize) -> usize
+// The first line before this one, in its section or in all metadata, that says the same.
+fn earlier(s: &[u8], p: Spot, slot: usize) -> Option<usize>
     requires { (p.block.number ≤ p.block.at + 1) × (p.block.at ≤ length s.now) × (slot < 13) }
 {
-    let l = p.line;
-    let said = find(s, slot, lines_above(s, p.block, l.number));
-    if said.line < l.number { said.line } else { 0 }
+    let said = find(s, slot, lines_above(s, p.block, p.line.number))?;
+    if said.line < p.line.number {
+        Some(said.line)
+    } else {
+        None
+    }
 }
 
 // Refusal 4.
 pub fn key_slip(s: &[u8], p: Spot) -> Slip
-    requires { (p.line.start ≤ p.line.stop) × (p.line.stop ≤ length s.now) × (p.block.number ≤ p.block.at + 1)
+    requires { LineIn s.now p.line × (p.block.number ≤ p.block.at + 1)
         × (p.block.at ≤ length s.now) }
 {
     let slot = slot_of(s, p.line.number, p.line.start, p.line.stop);
@@ -98,8 +96,7 @@ pub fn key_slip(s: &[u8], p: Spot) -> Slip
     if slot != BPM && slot != TIME && !in_metadata(s, p.block) {
         return name_of(KEY_NOT_HERE, s, p.line, p.block.number, slot);
     }
-    let before = earlier(s, p, slot);
-    if before != 0 {
+    if let Some(before) = earlier(s, p, slot) {
         return name_of(KEY_TWICE, s, p.line, before, slot);
     }
     noted(KEY_LATE, p.line.start, p.line.stop, p.block.number, slot)
@@ -107,7 +104,7 @@ pub fn key_slip(s: &[u8], p: Spot) -> Slip
 
 // Refusal 5.
 pub fn setting_slip(s: &[u8], l: Line) -> Slip
-    requires { (l.start ≤ l.stop) × (l.stop ≤ length s.now) }
+    requires { LineIn s.now l }
 {
     let slot = slot_of(s, l.number, l.start, l.stop);
     let q = setting_start(s, l.start, l.stop);
@@ -119,15 +116,14 @@ pub fn setting_slip(s: &[u8], l: Line) -> Slip
 
 // Refusal 8 on a modifier line.
 pub fn modifier_slip(s: &[u8], p: Spot) -> Slip
-    requires { (p.line.start ≤ p.line.stop) × (p.line.stop ≤ length s.now) × (p.block.number ≤ p.block.at + 1)
+    requires { LineIn s.now p.line × (p.block.number ≤ p.block.at + 1)
         × (p.block.at ≤ length s.now) }
 {
     let slot = slot_of(s, p.line.number, p.line.start, p.line.stop);
     if SLOTS <= slot {
         return name_of(MODIFIER_UNKNOWN, s, p.line, 0, 0);
     }
-    let before = earlier(s, p, slot);
-    if before != 0 {
+    if let Some(before) = earlier(s, p, slot) {
         return name_of(MODIFIER_TWICE, s, p.line, before, slot);
     }
     whole_line(MODIFIER_EARLY, p.line, p.block.number)

@@ -19,34 +19,25 @@ fn end_on_line(s: &[u8], from: usize, to: usize) -> usize
     ensures lower_bound { (from ≤ result) × (result ≤ length s.now) × (line_of_place result s.now ≡ line_of_place from s.now) }
     ensures value { from ≤ to → to ≤ length s.now → Unended s.now from to → result ≡ to }
 {
-    let mut i = from;
-    while i < s.len() {
+    for i in from..s.len() {
         if to <= i {
             return i;
         }
-        if s[i] == 10 {
+        if s[i] == b'\n' {
             return i;
         }
-        if s[i] == 13 {
+        if s[i] == b'\r' {
             return i;
         }
-        i += 1;
     }
-    i
-}
-
-// A place, or the end of the text where it stands past that.
-fn within(s: &[u8], place: usize) -> usize
-    ensures { (result ≤ length s.now) × (place ≤ length s.now → result ≡ place) }
-{
-    if s.len() < place { s.len() } else { place }
+    s.len()
 }
 
 // The bytes from one place up to another, as far as they stand on the line of the first.
 pub fn place_at(s: &[u8], from: usize, to: usize) -> Place
     ensures { OnLine s.now result × Covers s.now from to result × (from ≤ length s.now → result.offset ≡ from) }
 {
-    let offset = within(s, from);
+    let offset = from.min(s.len());
     let end = end_on_line(s, offset, to);
     Place {
         line: line_of(s, offset),

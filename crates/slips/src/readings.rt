@@ -1,22 +1,36 @@
 // A text read token by token: its first `%` before every chord, and its first measure that does not fit.
-ghost use Rattle.std.specs.Prelude.{◌≡◌, ◌+◌, ◌≤◌, length};
-ghost use Rattle.slips.specs.Strays.{unheard, hearing_sign};
-ghost use Rattle.slips.specs.Misfits.{no_measure, is_position_sign, one_more, closing, beginning, fitting_sign};
+ghost use Rattle.std.specs.Prelude.{◌≡◌, ◌+◌, ◌≤◌, true, false, length, MatchOption};
+ghost use Rattle.slips.specs.declared.readings.Stray.TheVariants.{Unheard};
+ghost use Rattle.slips.specs.Strays.{hearing_sign, is_found, stray_place};
+ghost use Rattle.slips.specs.Misfits.{no_measure, one_more, closing, beginning, fitting_sign};
 ghost use Rattle.slips.specs.Readings.{ReadsLine, ReadsRun};
 
-use super::signs::{AGAIN, CHORDS, LINE_END, REMOVER, capped, sign_of, token_from};
+use super::signs::token_from;
 use sections::Run;
 use text::line_at;
+use tokens::{AGAIN, CHORDS, LINE_END, is_position, kind};
 
 // No line is longer.
 const LINE_MOST: usize = 65536;
 
-// Whether a chord was heard before any `%`; whether a `%` was, and where it stands.
+// What was heard first: nothing yet, a chord, or a `%` at a place.
 #[derive(Clone, Copy)]
-pub struct Stray {
-    pub chord: bool,
-    pub found: bool,
-    pub from: usize,
+pub enum Stray {
+    Unheard,
+    Sounded,
+    Found(usize),
+}
+
+impl Stray {
+    // The place of the `%`.
+    pub fn found(self) -> Option<usize>
+        ensures { MatchOption result (is_found self ≡ false) (λ p. (is_found self ≡ true) × (p ≡ stray_place self)) }
+    {
+        match self {
+            Stray::Found(from) => Some(from),
+            _ => None,
+        }
+    }
 }
 
 // The measure at hand: how many positions it has so far, where the first begins and the last ends. It is kept once one does not fit.
@@ -39,15 +53,11 @@ pub struct Reading {
 }
 
 pub fn reading_in(time: usize) -> Reading
-    ensures { (result.time ≡ time) × (result.stray ≡ unheard) × (result.misfit ≡ no_measure) }
+    ensures { (result.time ≡ time) × (result.stray ≡ Unheard) × (result.misfit ≡ no_measure) }
 {
     Reading {
         time,
-        stray: Stray {
-            chord: false,
-            found: false,
-            from: 0,
-        },
+        stray: Stray::Unheard,
         misfit: NO_MEASURE,
         measures: 0,
         before: 0,
@@ -66,37 +76,16 @@ const NO_MEASURE: Misfit = Misfit {
 fn hear(x: Stray, sign: u32, from: usize) -> Stray
     ensures { result ≡ hearing_sign x sign from }
 {
-    if x.chord {
+    let Stray::Unheard = x else {
         return x;
-    }
-    if x.found {
-        return x;
-    }
+    };
     if sign < CHORDS {
-        return Stray {
-            chord: true,
-            found: false,
-            from: 0,
-        };
+        return Stray::Sounded;
     }
     if sign == AGAIN {
-        return Stray {
-            chord: false,
-            found: true,
-            from,
-        };
+        return Stray::Found(from);
     }
     x
-}
-
-// A chord, `%`, `_` or `=`.
-fn is_position(sign: u32) -> bool
-    ensures { result ≡ is_position_sign sign }
-{
-    if CHORDS > sign {
-        return true;
-    }
-    REMOVER <= sign
 }
 
 // A line has at most 65,536 bytes, and so many positions.
@@ -104,9 +93,10 @@ fn one_more(positions: usize) -> usize
     ensures { result ≡ one_more positions }
 {
     if positions < LINE_MOST {
-        return positions + 1;
+        positions + 1
+    } else {
+        positions
     }
-    positions
 }
 
 // The measure is over, if one was begun.
@@ -119,30 +109,16 @@ fn close(x: Misfit, time: usize) -> Misfit
     if time % x.positions == 0 {
         return NO_MEASURE;
     }
-    Misfit {
-        positions: x.positions,
-        from: x.from,
-        to: x.to,
-        found: true,
-    }
+    Misfit { found: true, ..x }
 }
 
 // One more position.
 fn begun(x: Misfit, from: usize, to: usize) -> Misfit
     ensures { result ≡ beginning x from to }
 {
-    let positions = one_more(x.positions);
-    if x.positions == 0 {
-        return Misfit {
-            positions,
-            from,
-            to,
-            found: false,
-        };
-    }
     Misfit {
-        positions,
-        from: x.from,
+        positions: one_more(x.positions),
+        from: if x.positions == 0 { from } else { x.from },
         to,
         found: false,
     }
@@ -163,21 +139,19 @@ fn fit(x: Misfit, time: usize, sign: u32, from: usize, to: usize) -> Misfit
 
 // How many measures are closed with one more token.
 fn measures_with(x: Misfit, measures: usize, sign: u32) -> usize {
-    if x.found {
+    if x.found || x.positions == 0 || is_position(sign) {
         return measures;
     }
-    if is_position(sign) {
-        return measures;
-    }
-    if x.positions == 0 {
-        return measures;
-    }
-    capped(measures, 1)
+    measures.saturating_add(1)
 }
 
 // How many were closed before the stray `%`.
 fn before_stray(x: Stray, measures: usize, before: usize) -> usize {
-    if x.found { before } else { measures }
+    if x.found().is_some() {
+        before
+    } else {
+        measures
+    }
 }
 
 // One more token.
@@ -187,13 +161,12 @@ pub fn read_token(x: Reading, sign: u32, from: usize, to: usize) -> Reading
     let stray = hear(x.stray, sign, from);
     let misfit = fit(x.misfit, x.time, sign, from, to);
     let measures = measures_with(x.misfit, x.measures, sign);
-    let before = before_stray(stray, measures, x.before);
     Reading {
         time: x.time,
         stray,
         misfit,
         measures,
-        before,
+        before: before_stray(stray, measures, x.before),
     }
 }
 
@@ -201,20 +174,15 @@ pub fn read_token(x: Reading, sign: u32, from: usize, to: usize) -> Reading
 pub fn with_measures(x: Reading, more: usize) -> Reading
     ensures { (result.stray ≡ x.stray) × (result.time ≡ x.time) × (result.misfit ≡ x.misfit) }
 {
-    let stray = x.stray;
-    let misfit = x.misfit;
-    let measures = if misfit.found {
+    let measures = if x.misfit.found {
         x.measures
     } else {
-        capped(x.measures, more)
+        x.measures.saturating_add(more)
     };
-    let before = before_stray(x.stray, measures, x.before);
     Reading {
-        time: x.time,
-        stray,
-        misfit,
         measures,
-        before,
+        before: before_stray(x.stray, measures, x.before),
+        ..x
     }
 }
 
@@ -225,12 +193,8 @@ pub fn read_plain_line(s: &[u8], x: Reading, from: usize, to: usize) -> Reading
 {
     let mut reading = x;
     let mut at = from;
-    while at < to {
-        let t = token_from(s, at, to);
-        if t.next == at {
-            return read_token(reading, LINE_END, to, to);
-        }
-        reading = read_token(reading, sign_of(t.word), t.from, t.next);
+    while let Some(t) = token_from(s, at, to) {
+        reading = read_token(reading, kind(t.word), t.from, t.next);
         at = t.next;
     }
     read_token(reading, LINE_END, to, to)
@@ -242,18 +206,14 @@ pub fn read_plain(s: &[u8], x: Reading, run: Run) -> Reading
     ensures { ReadsRun s.now run x result }
 {
     let mut reading = x;
-    let mut number = run.number;
     let mut at = run.at;
-    let mut left = run.lines;
-    while at < s.len() {
-        if left == 0 {
+    for i in 0..run.lines {
+        if s.len() <= at {
             return reading;
         }
-        let l = line_at(s, number, at);
+        let l = line_at(s, run.number + i, at);
         reading = read_plain_line(s, reading, l.start, l.stop);
-        number += 1;
         at = l.next;
-        left -= 1;
     }
     reading
 }

@@ -18,34 +18,13 @@ pub struct Slip {
 pub fn at_place(clause: usize, from: usize, to: usize) -> Slip
     ensures { (result.clause ≡ clause) × (result.from ≡ from) × (result.to ≡ to) }
 {
-    Slip {
-        clause,
-        from,
-        to,
-        other: 0,
-        first: 0,
-        second: 0,
-        third: 0,
-    }
-}
-
-// A slip with one more line.
-pub fn beside(x: Slip, other: usize) -> Slip
-    ensures { (result.clause ≡ x.clause) × (result.from ≡ x.from) × (result.to ≡ x.to) }
-{
-    Slip {
-        clause: x.clause,
-        from: x.from,
-        to: x.to,
-        other,
-        first: x.first,
-        second: x.second,
-        third: x.third,
-    }
+    noted(clause, from, to, 0, 0)
 }
 
 // A clause and its place, one more line and a number.
-pub fn noted(clause: usize, from: usize, to: usize, other: usize, first: usize) -> Slip {
+pub fn noted(clause: usize, from: usize, to: usize, other: usize, first: usize) -> Slip
+    ensures { (result.clause ≡ clause) × (result.from ≡ from) × (result.to ≡ to) }
+{
     Slip {
         clause,
         from,

@@ -1,5 +1,6 @@
 // The blocks of a chart, one behind the other.
 ghost use Rattle.std.specs.Prelude.{◌+◌, ◌≤◌, ◌<◌, length};
+ghost use Rattle.slips.specs.Standing.{Counted};
 ghost use Rattle.slips.specs.BlocksMet.{Behind, BlockOf};
 
 use sections::{Place, Run, Test, kind_at, next_block, run_of};
@@ -8,7 +9,7 @@ use text::line_at;
 
 // Behind the block that begins at a place: the next one, or the end of the text.
 pub fn block_behind(s: &[u8], p: Place) -> Place
-    requires { (1 ≤ p.number) × (p.number ≤ p.at + 1) × (p.at < length s.now) }
+    requires { Counted p × (p.at < length s.now) }
     ensures { (1 ≤ result.number) × (result.number ≤ result.at + 1) × (p.at < result.at) × (result.at ≤ length s.now)
         × Behind s.now p result }
 {
@@ -44,16 +45,16 @@ fn is_body(kind: BlockKind, definitions: bool) -> bool {
     }
 }
 
-// The first line of the first such block, 0 where there is none.
-pub fn body_line(s: &[u8], definitions: bool) -> usize {
+// The first line of the first such block.
+pub fn body_line(s: &[u8], definitions: bool) -> Option<usize> {
     let mut p = next_block(s, 1, 0);
     while p.at < s.len() {
         if is_body(kind_at(s, p.number, p.at), definitions) {
-            return p.number;
+            return Some(p.number);
         }
         p = block_behind(s, p);
     }
-    0
+    None
 }
 
 // No line.

@@ -9,7 +9,7 @@ use native.Mathlib.Nat.{zero-add}
 use borrow.Rule.Slice.PartMut.{put_mid}
 use lib.ListN.{length, take, drop, set, get_or, length-append, length-set, length-take, length-drop, take-append-drop, drop_of_length-le}
 use lib.Seq.{sets, sets-eq, length-sets, set_out, set_comm, get_or-set_same, get_or-set_other, get_or-drop, take-set-le, drop-set-lt, drop-set-add}
-use lib.Seq.{take-suc, take_all, drop_at, drop-drop, take-append_seam, length-take-le}
+use lib.Seq.{take_all, drop_at, drop-drop, take-append_seam, length-take-le}
 use Rattle.songcode.proofs.ListLaws.{drop_take}
 
 -- Words behind words that were stored.
@@ -122,20 +122,6 @@ module _ (xs ys : List ℕ) (end : ℕ) (same : drop end xs ≡ drop end ys) whe
       let f : drop (end + (i - end)) xs ≡ drop (end + (i - end)) ys =
       sym (drop-drop (i - end) end xs) ∙ ap (drop (i - end)) same ∙ drop-drop (i - end) end ys in
       rw e at f
-
--- Words of the memory itself are stored further in front: one more is stored, and those that are left stand where they stood.
-pub sets_moved : (from to i : ℕ) (words held : List ℕ) → to ≤ from → from + i < length held → words ≡ sets held to (take i (drop from held))
-    → set words (to + i) (get_or words (from + i) 0) ≡ sets held to (take (i + 1) (drop from held))
-sets_moved from to i words held h k e =
-    let done = take i (drop from held) in
-    let left = length-drop from held in
-    let size : length done ≡ i = length-take-le i (drop from held) (omega arith) in
-    let there : get_or (sets held to done) (from + i) 0 ≡ get_or (drop from held) i 0 =
-    word_same (sets held to done) held (to + i) (sets_behind to done held (to + i) (omega arith)) (from + i) (omega arith) ∙ sym (get_or-drop from held i 0) in
-    let next = sets_next to (to + i) (get_or (drop from held) i 0) words held done e (omega arith) in
-    let one : take (i + 1) (drop from held) ≡ done ++ (get_or (drop from held) i 0 ∷ []) = rw (add-one i) (take-suc (drop from held) i 0 (omega arith)) in
-    let v : get_or words (from + i) 0 ≡ get_or (drop from held) i 0 = ap (λ (l : List ℕ). get_or l (from + i) 0) e ∙ there in
-    rw (v, one) next.0
 
 -- Memory from a place on was lent, and came back with new words at its front.
 drop_sets : (n i : ℕ) (new held : List ℕ) → drop n (sets held (n + i) new) ≡ sets (drop n held) i new

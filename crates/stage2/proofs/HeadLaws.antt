@@ -19,7 +19,8 @@ use Rattle.songcode.specs.Answer.SongText.{head_in}
 use Rattle.songcode.proofs.ListLaws.{any_append, both_pass, by_cases}
 use Rattle.tokens.specs.Decimals.{number_of}
 use Rattle.refusals.specs.Ranks.{least}
-use Rattle.stage2.specs.Heads.{has_head, head_again, head_judged, or_zero, with_head}
+use Rattle.std.specs.Prelude as std
+use Rattle.stage2.specs.Heads.{has_head, head_again, head_judged, with_head}
 use Rattle.stage2.proofs.MarkLaws.{said}
 
 -- A count is at least 1.
@@ -82,8 +83,8 @@ module _ (m : ℕ) (ids : List ℕ) (n : ℕ) (seen : List ℕ) (a : HeadsAgree 
       rw (add-one m, take-suc (set ids m v) m 0 long2, take-set-le m ids m v (omega arith), get_or-set_same ids m v 0 long)
       (any_append (λ y. eqb y x) (take m ids) (v ∷ []))
 
-  said_more : (o : Option ℕ) (x : ℕ) → Counts o → 1 ≤ x → (said x seen || (eqb (or_zero (number_of o)) x || false)) ≡ said x (prepend o seen)
-  unfolding any prepend or_zero number_of Counts
+  said_more : (o : Option ℕ) (x : ℕ) → Counts o → 1 ≤ x → (said x seen || (eqb (std.unwrap_or (number_of o) 0) x || false)) ≡ said x (prepend o seen)
+  unfolding any prepend number_of Counts
   said_more none x c p = rw (ne_eqb 0 x (λ z. omega arith)) (or_false (said x seen))
     where
       or_false : (b : Bool) → (b || false) ≡ b
@@ -107,7 +108,7 @@ module _ (m : ℕ) (ids : List ℕ) (n : ℕ) (seen : List ℕ) (a : HeadsAgree 
       let k : min m 25 ≡ m = omega arith in
       rw (e, k) (
         omega arith,
-        length-set ids m (or_zero (number_of o)) ∙ a.1,
-        λ z x p. one_more_lem x (or_zero (number_of o)) (omega arith)
-            ∙ (ap (λ (b : Bool). b || (eqb (or_zero (number_of o)) x || false)) (a.2 (omega arith) x p) ∙ said_more o x c p),
+        length-set ids m (std.unwrap_or (number_of o) 0) ∙ a.1,
+        λ z x p. one_more_lem x (std.unwrap_or (number_of o) 0) (omega arith)
+            ∙ (ap (λ (b : Bool). b || (eqb (std.unwrap_or (number_of o) 0) x || false)) (a.2 (omega arith) x p) ∙ said_more o x c p),
       ))

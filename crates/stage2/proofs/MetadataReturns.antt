@@ -4,6 +4,7 @@ use mathlib.Core.Path.{◌≡◌, refl, ◌∙◌}
 use mathlib.Core.List.{List}
 use mathlib.Core.Bool.{Bool, true, false}
 use native.Mathlib.Omega.{arith}
+use Rattle.std.specs.Prelude as std
 use Rattle.songcode.specs.Lists.{provided◌then◌else◌}
 use Rattle.songcode.specs.Answer.Lines.{Line}
 use Rattle.songcode.specs.Complaints.{complain_if}
@@ -29,7 +30,8 @@ module _ (l : Line) (marks : List Bool) where
   abbrev Noted : ℕ → List Bool → Type 0
   Noted note m = (note ≡ key_judged marks l) × (m ≡ marked (key_of l) marks)
 
-  pub key_alone_lem : (k : KeyName) (n twice own note : ℕ) (m : List Bool) → k ≡ key_is (key_name_of l) → n ≡ key_number k → twice ≡ again 4 n marks l.number
+  pub key_alone_lem : (k : std.Option KeyName) (n twice own note : ℕ) (m : List Bool) → k ≡ key_is (key_name_of l) → n ≡ key_number k
+      → twice ≡ again 4 n marks l.number
       → own ≡ key_note false k (setting_of l) l.number → note ≡ min twice own → m ≡ marked n marks → (note ≡ key_alone marks l)
       × (m ≡ marked (key_number (key_is (key_name_of l))) marks)
   unfolding key_alone
@@ -52,7 +54,7 @@ module _ (l : Line) (marks : List Bool) where
   metadata_pattern note e p = other note (pattern_no_key l e) (pattern_in_metadata l e) p
 
 module _ (p : Part) (c : State) (l : Line) where
-  pub key_judged_lem : (k : KeyName) (n out twice own some note : ℕ) (past : Bool) (keys : List Bool) (q : Part) → k ≡ key_is (key_name_of l)
+  pub key_judged_lem : (k : std.Option KeyName) (n out twice own some note : ℕ) (past : Bool) (keys : List Bool) (q : Part) → k ≡ key_is (key_name_of l)
       → n ≡ key_number k → past ≡ past_keys p → out ≡ least (complain_if past 4 l.number)
       → twice ≡ again 4 n c.keys l.number → own ≡ key_note true k (setting_of l) l.number → some ≡ min out twice → note ≡ min some own
       → keys ≡ marked n c.keys → q ≡ after_key p
@@ -61,7 +63,7 @@ module _ (p : Part) (c : State) (l : Line) where
   key_judged_lem k n out twice own some note past keys q a b d e f g h i j x =
       rw (j, x, i, h, e, f, g, d, b, a) refl
 
-  pub modifier_judged : (m : ModifierName) (n out twice own some note : ℕ) (before : Bool) (marks : List Bool) (q : Part)
+  pub modifier_judged : (m : std.Option ModifierName) (n out twice own some note : ℕ) (before : Bool) (marks : List Bool) (q : Part)
       → m ≡ modifier_is (modifier_name_of l) → n ≡ modifier_number m → before ≡ before_pattern p → out ≡ least (complain_if before 8 l.number)
       → twice ≡ again 8 n c.modifiers l.number → own ≡ modifier_note m (setting_of l) l.number → some ≡ min out twice → note ≡ min some own
       → marks ≡ marked n c.modifiers → q ≡ after_modifier p

@@ -5,9 +5,8 @@ use Rattle.songcode.specs.Answer.Lines.{Line}
 use Rattle.songcode.specs.Answer.SongText.{head_in}
 use Rattle.songcode.specs.Complaints.{complain_if}
 use Rattle.tokens.specs.Decimals.{number_of}
-use Rattle.tokens.specs.declared.numbers.Number.{Number}
-use Rattle.tokens.specs.declared.numbers.Number.TheVariants.{Is, Not}
-use Rattle.settings.specs.KeySettings.{is_number}
+use Rattle.std.specs.Prelude as std
+use Rattle.std.specs.Prelude.{Some, None}
 use Rattle.stage2.specs.declared.states.Place.{Place}
 use Rattle.stage2.specs.declared.states.Place.TheVariants.{Between, Metadata, Head, Definition, Body, Lyrics}
 use Rattle.refusals.specs.Ranks.{none, least}
@@ -15,21 +14,17 @@ use Rattle.refusals.specs.Ranks.{none, least}
 unfoldable pub has_head : ℕ → List ℕ → ℕ → Bool
 has_head n ids x = any (λ y. eqb y x) (take n ids)
 
-unfoldable pub head_again : Number → ℕ → List ℕ → ℕ → ℕ
-head_again Not n ids line = none
-head_again (Is x) n ids line = least (complain_if (has_head n ids x) 6 line)
+unfoldable pub head_again : std.Option ℕ → ℕ → List ℕ → ℕ → ℕ
+head_again None n ids line = none
+head_again (Some x) n ids line = least (complain_if (has_head n ids x) 6 line)
 
-unfoldable pub head_judged : Number → ℕ → List ℕ → ℕ → ℕ
-head_judged o n ids line = min (least (complain_if (not (is_number o) || leb 26 n) 6 line)) (head_again o n ids line)
+unfoldable pub head_judged : std.Option ℕ → ℕ → List ℕ → ℕ → ℕ
+head_judged o n ids line = min (least (complain_if (not (std.is_some o) || leb 26 n) 6 line)) (head_again o n ids line)
 
 -- One more; beyond 26 none is remembered, as every further one is complained of.
-abbrev pub or_zero : Number → ℕ
-or_zero Not = 0
-or_zero (Is x) = x
-
-unfoldable pub with_head : Number → ℕ → List ℕ → List ℕ
-unfolding provided◌then◌else◌ or_zero
-with_head o n ids = provided leb 26 n then ids else set ids n (or_zero o)
+unfoldable pub with_head : std.Option ℕ → ℕ → List ℕ → List ℕ
+unfolding provided◌then◌else◌
+with_head o n ids = provided leb 26 n then ids else set ids n (std.unwrap_or o 0)
 
 -- A line behind which the walk stands at a place is a head there.
 abbrev pub is_head : Place → Bool

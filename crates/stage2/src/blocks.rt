@@ -10,11 +10,11 @@ ghost use Rattle.stage2.specs.declared.states.Place.TheVariants.{Metadata};
 
 use super::heads::DEFINITIONS;
 use super::lines::metadata_line;
-use super::notes::{most_of, none_if};
+use super::notes::none_if;
 use super::patterns::no_pending;
 use super::states::{Carried, Judged, Part, Pending, Place, State};
 use grammar::{Check, definition_fine, section_fine, start};
-use refusals::{BAD_LINE, BLOCK_ORDER, NO_COMPLAINT, complain_if, least_of, rank};
+use refusals::{NO_COMPLAINT, Why, complain_if, rank};
 use settings::{BlockKind, block_kind, header_ok};
 use text::Line;
 
@@ -64,10 +64,10 @@ fn open_metadata(s: &[u8], k: Carried, l: Line) -> Judged
     requires { (l.start < l.stop) × (l.stop ≤ length s.now) }
     ensures { result ≡ opening metadata k (line_text s.now l) }
 {
-    let late = complain_if(0 < k.turn, BLOCK_ORDER, l.number);
+    let late = complain_if(0 < k.turn, Why::BlockOrder, l.number);
     let marks = k.metadata;
     let noted = metadata_line(s, marks, l);
-    let note = least_of(late, noted.note);
+    let note = late.min(noted.note);
     let metadata = noted.marks;
     let state = metadata_state(k, metadata);
     Judged { note, state }
@@ -77,10 +77,10 @@ fn open_metadata(s: &[u8], k: Carried, l: Line) -> Judged
 fn open_definition(k: Carried, l: Line) -> Judged
     ensures { result ≡ judged (least (complain_if (ltb 1 k.turn) 3 l.number)) (head_state (max k.turn 1) k) }
 {
-    let note = complain_if(1 < k.turn, BLOCK_ORDER, l.number);
-    let turn = most_of(k.turn, 1);
+    let note = complain_if(1 < k.turn, Why::BlockOrder, l.number);
+    let turn = k.turn.max(1);
     let metadata = k.metadata;
-    let count = least_of(k.count, DEFINITIONS - 1) + 1;
+    let count = k.count.min(DEFINITIONS - 1) + 1;
     let carried = Carried {
         turn,
         metadata,
@@ -95,20 +95,20 @@ fn open_section(s: &[u8], k: Carried, l: Line) -> Judged
     requires { (l.start < l.stop) × (l.stop ≤ length s.now) }
     ensures { result ≡ opening section k (line_text s.now l) }
 {
-    let late = complain_if(2 < k.turn, BLOCK_ORDER, l.number);
+    let late = complain_if(2 < k.turn, Why::BlockOrder, l.number);
     let a = l.start;
     let e = l.stop;
     let good = header_ok(&s[a..e]);
-    let eight = complain_if(!good, BAD_LINE, l.number);
-    let note = least_of(late, eight);
-    let turn = most_of(k.turn, 2);
+    let eight = complain_if(!good, Why::BadLine, l.number);
+    let note = late.min(eight);
+    let turn = k.turn.max(2);
     let metadata = k.metadata;
     let carried = Carried {
         turn,
         metadata,
         count: k.count,
     };
-    let want = rank(BAD_LINE, l.number);
+    let want = rank(Why::BadLine, l.number);
     let check = start();
     let pending = Pending {
         want,
@@ -168,5 +168,5 @@ pub fn close_block(c: State) -> usize
     let check = q.check;
     let fine = fine_for(place, check);
     let seven = none_if(fine, q.bad);
-    least_of(q.want, least_of(q.bare, seven))
+    q.want.min(q.bare.min(seven))
 }

@@ -3,13 +3,12 @@ ghost use Rattle.std.specs.Prelude.{◌≡◌, ◌≤◌, length};
 ghost use Rattle.songcode.specs.Answer.SongText.{head_in};
 ghost use Rattle.text.specs.Spans.{line_text};
 ghost use Rattle.tokens.specs.Decimals.{number_of};
-ghost use Rattle.stage2.specs.Heads.{has_head, head_judged, or_zero, with_head, is_head, head_noted, heads_after};
+ghost use Rattle.stage2.specs.Heads.{has_head, head_judged, with_head, is_head, head_noted, heads_after};
 
 use super::states::Place;
-use refusals::{BAD_HEAD, NO_COMPLAINT, complain_if, least_of};
+use refusals::{NO_COMPLAINT, Why, complain_if};
 use settings::head_in;
 use text::Line;
-use tokens::Number;
 
 // "At most 26 definitions."
 pub const DEFINITIONS: usize = 26;
@@ -30,33 +29,24 @@ fn has_head(ids: &[usize], n: usize, x: usize) -> bool
 }
 
 // 6 where the head is malformed, the 27th or later, or said before.
-fn head_note(ids: &[usize], n: usize, head: Number, line: usize) -> usize
+fn head_note(ids: &[usize], n: usize, head: Option<usize>, line: usize) -> usize
     requires { n ≤ length ids.now }
     ensures { result ≡ head_judged head n ids.now line }
 {
-    let Number::Is(x) = head else {
-        return complain_if(true, BAD_HEAD, line);
+    let Some(x) = head else {
+        return complain_if(true, Why::BadHead, line);
     };
-    let many = complain_if(DEFINITIONS <= n, BAD_HEAD, line);
-    least_of(many, complain_if(has_head(ids, n, x), BAD_HEAD, line))
-}
-
-fn or_zero(n: Number) -> usize
-    ensures { result ≡ or_zero n }
-{
-    match n {
-        Number::Is(x) => x,
-        Number::Not => 0,
-    }
+    let many = complain_if(DEFINITIONS <= n, Why::BadHead, line);
+    many.min(complain_if(has_head(ids, n, x), Why::BadHead, line))
 }
 
 // One more definition, 0 for one whose head is malformed; past 26 none is remembered, as every further one is complained of.
-fn put_head(ids: &mut [usize], n: usize, head: Number)
+fn put_head(ids: &mut [usize], n: usize, head: Option<usize>)
     requires { length ids.old ≡ 26 }
     ensures { ids.new ≡ with_head head n ids.old }
 {
     if n < DEFINITIONS {
-        ids[n] = or_zero(head);
+        ids[n] = head.unwrap_or(0);
     }
 }
 

@@ -17,7 +17,7 @@ use super::parts::{
 };
 use super::patterns::pattern_pending;
 use super::states::{Judged, Part, Place, State};
-use refusals::{BAD_KEY, BAD_LINE, complain_if, least_of};
+use refusals::{Why, complain_if};
 use settings::{Kind, kind_of};
 use text::Line;
 
@@ -45,9 +45,9 @@ fn metadata_key(s: &[u8], marks: [bool; 8], l: Line) -> Noted
 {
     let k = key_at(s, l);
     let n = key_number(k);
-    let twice = again_note(BAD_KEY, n, marks, l.number);
+    let twice = again_note(Why::BadKey, n, marks, l.number);
     let own = key_note(s, l, k, false);
-    let note = least_of(twice, own);
+    let note = twice.min(own);
     Noted {
         note,
         marks: put_mark(n, marks),
@@ -63,11 +63,11 @@ pub fn metadata_line(s: &[u8], marks: [bool; 8], l: Line) -> Noted
     match kind {
         Kind::Key => metadata_key(s, marks, l),
         Kind::Modifier => Noted {
-            note: complain_if(true, BAD_LINE, l.number),
+            note: complain_if(true, Why::BadLine, l.number),
             marks,
         },
         Kind::Pattern => Noted {
-            note: complain_if(true, BAD_LINE, l.number),
+            note: complain_if(true, Why::BadLine, l.number),
             marks,
         },
     }
@@ -80,11 +80,11 @@ pub fn key_line(s: &[u8], c: State, p: Part, l: Line) -> Judged
 {
     let k = key_at(s, l);
     let n = key_number(k);
-    let out = complain_if(past_keys(p), BAD_KEY, l.number);
+    let out = complain_if(past_keys(p), Why::BadKey, l.number);
     let marks = c.keys;
-    let twice = again_note(BAD_KEY, n, marks, l.number);
+    let twice = again_note(Why::BadKey, n, marks, l.number);
     let own = key_note(s, l, k, true);
-    let note = least_of(least_of(out, twice), own);
+    let note = out.min(twice).min(own);
     let keys = put_mark(n, marks);
     let modifiers = c.modifiers;
     let carried = c.carried;
@@ -107,11 +107,11 @@ pub fn modifier_line(s: &[u8], c: State, p: Part, l: Line) -> Judged
 {
     let m = modifier_at(s, l);
     let n = modifier_number(m);
-    let out = complain_if(before_pattern(p), BAD_LINE, l.number);
+    let out = complain_if(before_pattern(p), Why::BadLine, l.number);
     let marks = c.modifiers;
-    let twice = again_note(BAD_LINE, n, marks, l.number);
+    let twice = again_note(Why::BadLine, n, marks, l.number);
     let own = modifier_note(s, l, m);
-    let note = least_of(least_of(out, twice), own);
+    let note = out.min(twice).min(own);
     let modifiers = put_mark(n, marks);
     let keys = c.keys;
     let carried = c.carried;
@@ -133,7 +133,7 @@ pub fn pattern_line(s: &[u8], words: &mut [u32], c: State, p: Part, l: Line) -> 
     ensures value { result ≡ on_pattern p c (line_text s.now l) }
     ensures keeps { Keeps s.now l.start l.stop words.old words.new }
 {
-    let note = complain_if(past_pattern(p), BAD_LINE, l.number);
+    let note = complain_if(past_pattern(p), Why::BadLine, l.number);
     let pending = pattern_pending(s, words, p, c.pending, l);
     let keys = c.keys;
     let modifiers = c.modifiers;

@@ -1,16 +1,16 @@
 // What was said once: eight marks for keys or modifiers.
-ghost use Rattle.std.specs.Prelude.{◌≡◌, ◌<◌};
+ghost use Rattle.std.specs.Prelude.{◌≡◌};
+ghost use Rattle.refusals.specs.Names.{number_of};
 ghost use Rattle.stage2.specs.States.{again, marked};
 
-use refusals::{NO_COMPLAINT, complain_if};
+use refusals::{NO_COMPLAINT, Why, complain_if};
 
 // Complained of if the mark is there already; 8 is nothing.
-pub fn again_note(number: usize, k: usize, marks: [bool; 8], line: usize) -> usize
-    requires { number < 32 }
-    ensures { result ≡ again number k marks line }
+pub fn again_note(why: Why, k: usize, marks: [bool; 8], line: usize) -> usize
+    ensures { result ≡ again (number_of why) k marks line }
 {
     if k < 8 {
-        complain_if(marks[k], number, line)
+        complain_if(marks[k], why, line)
     } else {
         NO_COMPLAINT
     }

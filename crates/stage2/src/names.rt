@@ -5,11 +5,11 @@ ghost use Rattle.text.specs.Spans.{line_text};
 ghost use Rattle.settings.specs.Names.{key_is};
 ghost use Rattle.stage2.specs.LineNotes.{key_number, allowed_in, key_note};
 
-use refusals::{BAD_KEY, BAD_SETTING, complain_if, least_of};
+use refusals::{Why, complain_if};
 use settings::{KeyName, is_setting, key_named, name_end, setting_start};
 use text::Line;
 
-pub fn key_at(s: &[u8], l: Line) -> KeyName
+pub fn key_at(s: &[u8], l: Line) -> Option<KeyName>
     requires { (l.start < l.stop) × (l.stop ≤ length s.now) }
     ensures { result ≡ key_is (key_name_of (line_text s.now l)) }
 {
@@ -19,19 +19,19 @@ pub fn key_at(s: &[u8], l: Line) -> KeyName
 }
 
 // The place of a key's name, 8 for an unknown one.
-pub fn key_number(k: KeyName) -> usize
+pub fn key_number(k: Option<KeyName>) -> usize
     ensures { result ≡ key_number k }
 {
     match k {
-        KeyName::Name => 0,
-        KeyName::Artist => 1,
-        KeyName::Original => 2,
-        KeyName::Capo => 3,
-        KeyName::Bpm => 4,
-        KeyName::Time => 5,
-        KeyName::Warning => 6,
-        KeyName::End => 7,
-        KeyName::Unknown => 8,
+        Some(KeyName::Name) => 0,
+        Some(KeyName::Artist) => 1,
+        Some(KeyName::Original) => 2,
+        Some(KeyName::Capo) => 3,
+        Some(KeyName::Bpm) => 4,
+        Some(KeyName::Time) => 5,
+        Some(KeyName::Warning) => 6,
+        Some(KeyName::End) => 7,
+        None => 8,
     }
 }
 
@@ -39,29 +39,22 @@ pub fn key_number(k: KeyName) -> usize
 fn is_allowed(section: bool, k: KeyName) -> bool
     ensures { result ≡ allowed_in section k }
 {
-    match k {
-        KeyName::Name => !section,
-        KeyName::Artist => !section,
-        KeyName::Original => !section,
-        KeyName::Capo => !section,
-        KeyName::Bpm => true,
-        KeyName::Time => true,
-        KeyName::Warning => !section,
-        KeyName::End => !section,
-        KeyName::Unknown => false,
-    }
+    matches!(k, KeyName::Bpm | KeyName::Time) || !section
 }
 
 // 4 where the key is unknown or not allowed, 5 where its setting is malformed.
-pub fn key_note(s: &[u8], l: Line, k: KeyName, section: bool) -> usize
+pub fn key_note(s: &[u8], l: Line, k: Option<KeyName>, section: bool) -> usize
     requires { (l.start < l.stop) × (l.stop ≤ length s.now) }
     ensures { result ≡ key_note section k (setting_of (line_text s.now l)) l.number }
 {
+    let Some(key) = k else {
+        return complain_if(true, Why::BadKey, l.number);
+    };
     let e = l.stop;
     let q = setting_start(s, l.start + 1, e);
-    let allowed = is_allowed(section, k);
-    let four = complain_if(!allowed, BAD_KEY, l.number);
-    let good = is_setting(k, &s[q..e]);
-    let five = complain_if(!good, BAD_SETTING, l.number);
-    least_of(four, five)
+    let allowed = is_allowed(section, key);
+    let four = complain_if(!allowed, Why::BadKey, l.number);
+    let good = is_setting(key, &s[q..e]);
+    let five = complain_if(!good, Why::BadSetting, l.number);
+    four.min(five)
 }

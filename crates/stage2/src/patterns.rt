@@ -6,7 +6,7 @@ ghost use Rattle.stage2.specs.Walk.{nothing_pending, pattern_begun, pattern_more
 
 use super::states::{Part, Pending};
 use grammar::{check_kept, line_between, start};
-use refusals::{BAD_PATTERN, NO_COMPLAINT, rank};
+use refusals::{NO_COMPLAINT, Why, rank};
 use text::Line;
 
 // Nothing is pending.
@@ -29,7 +29,7 @@ fn first_line(s: &[u8], words: &mut [u32], q: Pending, l: Line) -> Pending
     ensures keeps { Keeps s.now l.start l.stop words.old words.new }
 {
     let check = check_kept(s, l.start, l.stop, words, start());
-    let bad = rank(BAD_PATTERN, l.number);
+    let bad = rank(Why::BadPattern, l.number);
     Pending {
         want: NO_COMPLAINT,
         bare: q.bare,

@@ -3,7 +3,7 @@ ghost use Rattle.std.specs.Prelude.{◌≡◌, ◌+◌, ◌<◌, ◌≤◌, leng
 ghost use Rattle.songcode.specs.Complaints.{earliest};
 ghost use Rattle.songcode.specs.Answer.SongText.{text_faults};
 ghost use Rattle.songcode.specs.Answer.Answer.{blocks_of};
-ghost use Rattle.refusals.specs.Refusals.{refusal_of};
+ghost use Rattle.refusals.specs.Refusals.{told};
 ghost use Rattle.text.specs.Spans.{line_text};
 ghost use Rattle.tokens.specs.Kept.{Keeps, KeptFrom, Unmarked};
 ghost use Rattle.stage2.specs.declared.states.Place.TheVariants.{Body};
@@ -16,7 +16,7 @@ use super::lines::body_line;
 use super::notes::none_if;
 use super::patterns::{no_pending, pattern_pending};
 use super::states::{Carried, Judged, Part, Pending, Place, State};
-use refusals::{BAD_LINE, NO_COMPLAINT, NO_SECTION_RANK, Refusal, least_of, rank, refusal_at};
+use refusals::{NO_COMPLAINT, NO_SECTION_RANK, Refusal, Why, rank, refusal_at};
 use settings::is_dashes;
 use text::{Line, line_at};
 
@@ -74,7 +74,7 @@ fn in_body(s: &[u8], words: &mut [u32], c: State, p: Part, l: Line) -> Judged
     let a = l.start;
     let e = l.stop;
     if is_dashes(&s[a..e]) {
-        return in_lyrics(c, rank(BAD_LINE, l.number));
+        return in_lyrics(c, rank(Why::BadLine, l.number));
     }
     body_line(s, words, c, p, l)
 }
@@ -131,13 +131,13 @@ fn end_text(c: State) -> usize
     let k = c.carried;
     let nine = none_if(2 <= k.turn, NO_SECTION_RANK);
     let closing = close_block(c);
-    least_of(closing, nine)
+    closing.min(nine)
 }
 
 // Stage 2: the refusal of the complaint that goes first. The words of each pattern line are kept in the row.
-pub fn stage_two(s: &[u8], words: &mut [u32]) -> Refusal
+pub fn stage_two(s: &[u8], words: &mut [u32]) -> Option<Refusal>
     requires { (length s.now ≤ 65536) × (length s.now + 16 ≤ length words.old) × Unmarked words.old }
-    ensures value { result ≡ refusal_of (earliest (text_faults (blocks_of s.now))) }
+    ensures value { told result ≡ earliest (text_faults (blocks_of s.now)) }
     ensures kept { KeptFrom s.now words.new 0 × (length words.new ≡ length words.old) }
 {
     let mut c = first_state();
@@ -152,11 +152,11 @@ pub fn stage_two(s: &[u8], words: &mut [u32]) -> Refusal
         let place = d.place;
         let k = c.carried;
         let six = note_head(s, &mut ids, k.count, place, l);
-        best = least_of(best, least_of(j.note, six));
+        best = best.min(j.note.min(six));
         c = d;
         at = l.next;
         n += 1;
     }
     let last = end_text(c);
-    refusal_at(least_of(best, last))
+    refusal_at(best.min(last))
 }

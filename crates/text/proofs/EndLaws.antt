@@ -8,7 +8,7 @@ use native.Mathlib.Nat.{add-zero}
 use native.Mathlib.Numerals.{add-one}
 use lib.Dec.{eqb}
 use lib.ListN.{length, get_or, take, drop, drop_of_length-le}
-use lib.Seq.{drop-cons, get_or-drop, take_all}
+use lib.Seq.{drop-cons, get_or-drop}
 use Rattle.songcode.specs.Lists.{provided◌then◌else◌}
 use Rattle.songcode.specs.Bytes.{Byte, placed}
 use Rattle.songcode.specs.Answer.Lines.{ending, ending_of, LineCut, put, cut_lines}
@@ -78,10 +78,7 @@ pub ends_over : (s : List ℕ) (i : ℕ) → length s ≤ i → line_ends (drop 
 unfolding cut_lines placed
 ends_over s i h = rw (drop_of_length-le s h)
 
--- The line of a place, from the line ends before it; a place past the text has them all before it.
+-- The line of a place, from the line ends before it.
 pub line_within : (s : List ℕ) (at : ℕ) {n : ℕ} → n ≡ line_ends (take at s) → n + 1 ≡ line_of_place at s
 unfolding line_of_place
 line_within s at {n} e = rw (add-one n) (ap suc e)
-
-pub line_past : (s : List ℕ) (at : ℕ) {n : ℕ} → length s < at → n ≡ line_ends s → n + 1 ≡ line_of_place at s
-line_past s at h e = line_within s at (rw (take_all at s (omega arith)) e)

@@ -6,6 +6,8 @@ pub mod GoodLaws
 pub mod EndLaws
 pub mod InputLaws
 pub mod SpanLaws
+pub mod FirstLaws
+pub mod SolidLaws
 pub mod WalkLaws
 pub mod StartLaws
 pub mod CutLaws

@@ -9,13 +9,7 @@ use super::byte_at;
 fn ends_line(b: u8, next: u8) -> bool
     ensures { result ≡ ends_line b next }
 {
-    if b == 10 {
-        return true;
-    }
-    if b != 13 {
-        return false;
-    }
-    next != 10
+    b == b'\n' || b == b'\r' && next != b'\n'
 }
 
 // How many line ends a text holds.
@@ -23,12 +17,10 @@ fn line_ends(t: &[u8]) -> usize
     ensures { (result ≡ line_ends t.now) × (result ≤ length t.now) }
 {
     let mut n = 0;
-    let mut i = 0;
-    while i < t.len() {
-        if ends_line(t[i], byte_at(t, i + 1)) {
+    for (i, b) in t.iter().enumerate() {
+        if ends_line(*b, byte_at(t, i + 1)) {
             n += 1;
         }
-        i += 1;
     }
     n
 }
@@ -37,8 +29,5 @@ fn line_ends(t: &[u8]) -> usize
 pub fn line_of(s: &[u8], place: usize) -> usize
     ensures { result ≡ line_of_place place s.now }
 {
-    if s.len() < place {
-        return line_ends(s) + 1;
-    }
-    line_ends(&s[..place]) + 1
+    line_ends(&s[..place.min(s.len())]) + 1
 }

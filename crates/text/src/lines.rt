@@ -17,76 +17,48 @@ pub struct Line {
 pub fn is_blank(b: u8) -> bool
     ensures { result ≡ blank b }
 {
-    b == 32 || b == 9
+    matches!(b, b' ' | b'\t')
 }
 
-// An LF or a CR; most bytes are above both.
+// An LF or a CR; most bytes are above both, and one test passes them.
 fn is_end(b: u8) -> bool
     ensures { result ≡ ends (end b) }
 {
-    if 13 < b {
-        return false;
-    }
-    if b == 13 {
-        return true;
-    }
-    b == 10
+    b <= b'\r' && matches!(b, b'\n' | b'\r')
 }
 
 // The end of the line that holds a place: its CR or LF, or the end of the text.
 fn line_end(s: &[u8], at: usize) -> usize
     ensures { (result ≡ at + line_length (drop at s.now)) × (at ≤ result) × (result ≤ max at (length s.now)) }
 {
-    let mut i = at;
-    while i < s.len() {
-        if is_end(s[i]) {
-            return i;
-        }
-        i += 1;
-    }
-    i
+    let rest = &s[at.min(s.len())..];
+    at + rest.iter().position(|b| is_end(*b)).unwrap_or(rest.len())
 }
 
 // How many blanks stand in front.
 pub fn front_blanks(t: &[u8]) -> usize
     ensures { (result ≡ front_blanks t.now) × (result ≤ length t.now) }
 {
-    let mut i = 0;
-    while i < t.len() {
-        if !is_blank(t[i]) {
-            return i;
-        }
-        i += 1;
-    }
-    i
+    t.iter().position(|b| !is_blank(*b)).unwrap_or(t.len())
 }
 
 // The length without the blanks at the end.
 pub fn solid_len(t: &[u8]) -> usize
     ensures { (result ≡ solid_length t.now) × (result ≤ length t.now) }
 {
-    let mut z = t.len();
-    while 0 < z {
-        if !is_blank(t[z - 1]) {
-            return z;
-        }
-        z -= 1;
-    }
-    z
+    t.iter().rposition(|b| !is_blank(*b)).map_or(0, |i| i + 1)
 }
 
 // How many bytes the line end at a place has: CR LF two, CR or LF one, none 0.
 fn break_len(s: &[u8], e: usize) -> usize
     ensures { (result ≡ break_length (drop e s.now)) × (e + result ≤ max e (length s.now)) }
 {
-    let b = byte_at(s, e);
-    if b == 10 {
-        return 1;
+    match byte_at(s, e) {
+        b'\n' => 1,
+        b'\r' if byte_at(s, e + 1) == b'\n' => 2,
+        b'\r' => 1,
+        _ => 0,
     }
-    if b != 13 {
-        return 0;
-    }
-    if byte_at(s, e + 1) == 10 { 2 } else { 1 }
 }
 
 // The line that begins at a place, as the n-th.
@@ -117,14 +89,7 @@ pub fn line_at(s: &[u8], n: usize, at: usize) -> Line
 pub fn line_start(s: &[u8], at: usize) -> usize
     ensures { (result ≡ at + front_blanks (drop at s.now)) × (at ≤ result) × (result ≤ max at (length s.now)) }
 {
-    let mut i = at;
-    while i < s.len() {
-        if !is_blank(s[i]) {
-            return i;
-        }
-        i += 1;
-    }
-    i
+    at + front_blanks(&s[at.min(s.len())..])
 }
 
 // The place behind the blank line that begins at a place; the place itself where the line there is not blank.
@@ -132,12 +97,8 @@ pub fn past_blank(s: &[u8], at: usize) -> usize
     ensures { (result ≡ past_blank s.now at) × (at ≤ result) × (result ≤ max at (length s.now)) }
 {
     let a = line_start(s, at);
-    if s.len() <= a {
-        return a;
-    }
-    if is_end(s[a]) {
-        a + break_len(s, a)
-    } else {
-        at
+    match s.get(a) {
+        Some(b) if !is_end(*b) => at,
+        _ => a + break_len(s, a),
     }
 }

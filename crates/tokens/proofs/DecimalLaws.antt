@@ -14,7 +14,7 @@ use Rattle.songcode.specs.Lists.{provided◌then◌else◌}
 use Rattle.songcode.specs.Bytes.{Byte, placed}
 use Rattle.songcode.specs.Answer.Numbers.{is_digit, digits, is_decimal, value_from, number_in}
 use Rattle.songcode.proofs.NumbersAgree.{number_exact}
-use Rattle.tokens.specs.declared.numbers.Number.TheVariants.{Is, Not}
+use Rattle.std.specs.Prelude.{Some, None}
 use Rattle.tokens.specs.Decimals.{number_of, digits_from}
 
 value_grows : (v : ℕ) (bs : List Byte) → v ≤ value_from v bs
@@ -23,20 +23,16 @@ value_grows v [] = omega arith
 value_grows v (b ∷ bs) = let h = value_grows (v * 10 + (b.value - 48)) bs in omega arith
 
 module _ (w : List ℕ) (i v : ℕ) where
-  pub digits_over : length w ≤ i → v ≤ 9999 → digits_from v (placed i (drop i w)) ≡ Is v
+  pub digits_over : length w ≤ i → v ≤ 9999 → digits_from v (placed i (drop i w)) ≡ Some v
   unfolding digits_from placed digits value_from provided◌then◌else◌
   digits_over h l = rw (drop_of_length-le w h, le-leb v 9999 l)
 
   module _ (h : i < length w) where
-    pub digits_low : get_or w i 0 < 48 → digits_from v (placed i (drop i w)) ≡ Not
+    pub digits_other : (leb 48 (get_or w i 0) && leb (get_or w i 0) 57) ≡ false → digits_from v (placed i (drop i w)) ≡ None
     unfolding digits_from placed digits is_digit provided◌then◌else◌
-    digits_low l = rw (drop-cons w i 0 h, lt-leb 48 (get_or w i 0) l)
+    digits_other e = rw (drop-cons w i 0 h, e)
 
-    pub digits_high : 57 < get_or w i 0 → digits_from v (placed i (drop i w)) ≡ Not
-    unfolding digits_from placed digits is_digit provided◌then◌else◌
-    digits_high l = rw (drop-cons w i 0 h, lt-leb (get_or w i 0) 57 l, and-false)
-
-    pub digits_past : 999 < v → digits_from v (placed i (drop i w)) ≡ Not
+    pub digits_past : 999 < v → digits_from v (placed i (drop i w)) ≡ None
     unfolding digits_from placed value_from provided◌then◌else◌
     digits_past l =
         let d = v * 10 + (get_or w i 0 - 48) in
@@ -55,12 +51,12 @@ decimal_is bs e =
     let v = value_from 0 bs in
     rw (e, le-leb 0 v (omega arith)) (choice (digits bs) (leb v 9999) v)
   where
-    choice : (s t : Bool) (v : ℕ) → (provided s && t then Is v else Not) ≡ number_of (provided s && true && t then some v else none)
+    choice : (s t : Bool) (v : ℕ) → (provided s && t then Some v else None) ≡ number_of (provided s && true && t then some v else none)
     choice true true v = refl
     choice true false v = refl
     choice false t v = refl
 
-pub decimal_empty : (w : List ℕ) → length w ≡ 0 → Not ≡ number_of (number_in 0 9999 (placed 0 w))
+pub decimal_empty : (w : List ℕ) → length w ≡ 0 → None ≡ number_of (number_in 0 9999 (placed 0 w))
 unfolding number_in is_decimal placed provided◌then◌else◌ number_of
 decimal_empty [] h = refl
 decimal_empty (b ∷ w) h = absurd (omega arith)
@@ -75,7 +71,7 @@ decimal_single (b ∷ []) h = decimal_is (placed 0 (b ∷ [])) (and_true (is_dig
     and_true false = refl
 decimal_single (b ∷ c ∷ w) h = absurd (omega arith)
 
-pub decimal_zero : (w : List ℕ) → (length w ≡ 0 → ⊥) → (length w ≡ 1 → ⊥) → get_or w 0 0 ≡ 48 → Not ≡ number_of (number_in 0 9999 (placed 0 w))
+pub decimal_zero : (w : List ℕ) → (length w ≡ 0 → ⊥) → (length w ≡ 1 → ⊥) → get_or w 0 0 ≡ 48 → None ≡ number_of (number_in 0 9999 (placed 0 w))
 unfolding number_in is_decimal placed provided◌then◌else◌ number_of
 decimal_zero [] h g e = absurd (h refl)
 decimal_zero (b ∷ []) h g e = absurd (g refl)
@@ -90,27 +86,28 @@ decimal_more (b ∷ c ∷ w) h g e = decimal_is (placed 0 (b ∷ c ∷ w)) (rw (
 
 -- A number's range inside 0 to 9,999.
 module _ (low high : ℕ) (bs : List Byte) where
-  pub number_not : high ≤ 9999 → Not ≡ number_of (number_in 0 9999 bs) → Not ≡ number_of (number_in low high bs)
+  pub number_not : high ≤ 9999 → None ≡ number_of (number_in 0 9999 bs) → None ≡ number_of (number_in low high bs)
   unfolding number_of
   number_not h e = go (number_in low high bs) refl
     where
-      go : (o : Option ℕ) → number_in low high bs ≡ o → Not ≡ number_of o
+      go : (o : Option ℕ) → number_in low high bs ≡ o → None ≡ number_of o
       go none f = refl
       go (some n) f =
           let d = (number_exact low high bs n).0 f in
           let g = (number_exact 0 9999 bs n).1 (record { decimal = d.decimal; says = d.says; at_least = omega arith; at_most = omega arith }) in
           rw g at e
 
-  pub number_is : (n : ℕ) → Is n ≡ number_of (number_in 0 9999 bs) → number_of (number_in low high bs) ≡ (provided leb low n && leb n high then Is n else Not)
+  pub number_is : (n : ℕ) → Some n ≡ number_of (number_in 0 9999 bs)
+      → number_of (number_in low high bs) ≡ (provided leb low n && leb n high then Some n else None)
   unfolding number_of number_in provided◌then◌else◌
   number_is n e = go (number_in 0 9999 bs) refl e
     where
-      choice : (t : Bool) → number_of (provided t then some n else none) ≡ (provided t then Is n else Not)
+      choice : (t : Bool) → number_of (provided t then some n else none) ≡ (provided t then Some n else None)
       choice true = refl
       choice false = refl
 
-      go : (o : Option ℕ) → number_in 0 9999 bs ≡ o → Is n ≡ number_of o
-          → number_of (number_in low high bs) ≡ (provided leb low n && leb n high then Is n else Not)
+      go : (o : Option ℕ) → number_in 0 9999 bs ≡ o → Some n ≡ number_of o
+          → number_of (number_in low high bs) ≡ (provided leb low n && leb n high then Some n else None)
       go none f e = let z : ◌≡◌ {A = ℕ} 0 1 = cc in absurd (omega arith)
       go (some m) f e =
           let k : m ≡ n = cc in

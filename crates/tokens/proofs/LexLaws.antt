@@ -2,7 +2,7 @@
 use Prim.Native.Nat.{ℕ, zero, suc, ◌+◌, ◌-◌, ◌<◌, ◌≤◌}
 use mathlib.Core.Path.{◌≡◌, refl, sym, ap, ◌∙◌}
 use mathlib.Core.List.{List, [], ◌∷◌, ◌++◌}
-use mathlib.Core.Bool.{true, false, not}
+use mathlib.Core.Bool.{Bool, true, false, not}
 use native.Mathlib.Omega.{arith}
 use native.Mathlib.Numerals.{add-one}
 use native.Mathlib.Nat.{add-zero, add-suc, suc-add}
@@ -10,6 +10,10 @@ use borrow.Author.Tests.{ne_eqb, eqb-true, eqb-false, lt-ltb}
 use lib.Dec.{eqb, ltb}
 use lib.ListN.{length, get_or, take, drop, take-append-drop}
 use lib.Seq.{take-take, get_or-drop, get_or-take, length-take-le}
+use Rattle.std.proofs.Common.{Option}
+use Rattle.std.specs.List.{position}
+use Rattle.std.specs.Option.{unwrap_or}
+use Rattle.text.proofs.FirstLaws.{counted}
 use Rattle.songcode.specs.Lists.{provided◌then◌else◌}
 use Rattle.songcode.specs.Bytes.{Byte, placed, is_blank, is_byte}
 use Rattle.songcode.specs.Answer.Numbers.{repeat_in}
@@ -278,10 +282,18 @@ blank_not_plain b e = rw e
 pub sign_not_plain : (b sign : ℕ) → is_plain sign ≡ false → b ≡ sign → is_plain b ≡ false
 sign_not_plain b sign p e = rw e p
 
-pub last_sign : (b : ℕ) → text.blank b ≡ false → (b ≡ 59 → ⊥) → (b ≡ 58 → ⊥) → (b ≡ 91 → ⊥) → not (eqb b 93) ≡ is_plain b
+pub colons_not_plain : (b : ℕ) → 58 ≤ b → b ≤ 59 → is_plain b ≡ false
 unfolding is_plain
-last_sign b e p q r =
+colons_not_plain b p q =
     by_cases
-    (eqb b 93)
-    (λ t. ap not t ∙ sym (sign_not_plain b 93 refl (eqb-true b 93 t)))
-    (λ t. ap not t ∙ sym (plain_byte b e p q r (eqb-false b 93 t)))
+    (eqb b 58)
+    (λ t. sign_not_plain b 58 refl (eqb-true b 58 t))
+    (λ t. let n = eqb-false b 58 t in sign_not_plain b 59 refl (omega arith))
+
+-- How many plain bytes stand in front, as the place of the first byte that is none.
+abbrev pub is_ending : ℕ → Bool
+is_ending b = not (is_plain b)
+
+pub plain_found : (bs : List ℕ) {r : Option ℕ} → r ≡ position is_ending bs → unwrap_or r (length bs) ≡ plain_length bs
+unfolding plain_length provided◌then◌else◌
+plain_found bs = counted plain_length is_ending refl (λ b bs. by_cases (is_plain b) (λ e. rw e (omega arith)) (λ e. rw e)) bs

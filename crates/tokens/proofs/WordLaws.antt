@@ -2,12 +2,13 @@
 use Prim.Native.Nat.{ℕ, suc, ◌+◌, ◌*◌, ◌-◌, ◌^◌, ◌<◌, ◌≤◌}
 use mathlib.Core.Path.{◌≡◌, refl, sym, ap, ◌∙◌}
 use mathlib.Core.List.{List, [], ◌∷◌}
-use mathlib.Core.Bool.{true, false}
+use mathlib.Core.Bool.{true, false, and-false}
 use mathlib.Core.Option.{Option, none, some}
 use native.Mathlib.Omega.{arith}
 use borrow.Author.Tests.{le-leb, lt-leb, eq-eqb, ne_eqb, eqb-true, eqb-false}
+use lib.Pointwise.{pointwise}
 use lib.Dec.{eqb}
-use lib.ListN.{length, get_or, drop, length-drop}
+use lib.ListN.{length, drop, length-drop}
 use Rattle.songcode.specs.Lists.{provided◌then◌else◌, any}
 use Rattle.songcode.specs.Bytes.{Byte, placed, ascii, same, is, is_byte}
 use Rattle.songcode.specs.Answer.Numbers.{is_digit, digits, is_decimal, value_from, number_in, count_in, repeat_in}
@@ -21,7 +22,7 @@ use Rattle.songcode.proofs.NumbersAgree.{number_exact}
 use Rattle.text.specs.Spans.{part}
 use Rattle.text.proofs.WalkLaws.{part_length}
 use Rattle.tokens.specs.declared.bases.Base.{Base}
-use Rattle.tokens.specs.declared.numbers.Number.TheVariants.{Is, Not}
+use Rattle.std.specs.Prelude.{Some, None}
 use Rattle.tokens.specs.Bases.{base_of, is_letter}
 use Rattle.tokens.specs.Decimals.{number_of}
 use Rattle.tokens.specs.TokenWords.{token_word, chord_word}
@@ -54,19 +55,19 @@ number_placed low high a b bs = rw (decimal_placed a b bs, value_placed a b 0 bs
 
 -- A number as it was read: the one that stands there, and in its range.
 module _ (low high : ℕ) (bs : List Byte) where
-  pub number_there : (n : ℕ) → Is n ≡ number_of (number_in low high bs) → number_in low high bs ≡ some n
+  pub number_there : (n : ℕ) → Some n ≡ number_of (number_in low high bs) → number_in low high bs ≡ some n
   unfolding number_of
   number_there n e = go (number_in low high bs) e
     where
-      go : (o : Option ℕ) → Is n ≡ number_of o → o ≡ some n
+      go : (o : Option ℕ) → Some n ≡ number_of o → o ≡ some n
       go none e = let z : ◌≡◌ {A = ℕ} 0 1 = cc in absurd (omega arith)
       go (some m) e = let z : m ≡ n = cc in ap some z
 
-  pub number_none : Not ≡ number_of (number_in low high bs) → number_in low high bs ≡ none
+  pub number_none : None ≡ number_of (number_in low high bs) → number_in low high bs ≡ none
   unfolding number_of
   number_none e = go (number_in low high bs) e
     where
-      go : (o : Option ℕ) → Not ≡ number_of o → o ≡ none
+      go : (o : Option ℕ) → None ≡ number_of o → o ≡ none
       go none e = refl
       go (some m) e = let z : ◌≡◌ {A = ℕ} 0 1 = cc in absurd (omega arith)
 
@@ -74,20 +75,21 @@ module _ (low high : ℕ) (bs : List Byte) where
   number_high n e = ((number_exact low high bs n).0 e).at_most
 
 -- The token of a count, by the number read.
-pub reference_is : (w : List ℕ) (n : ℕ) → Is n ≡ number_of (number_in 1 9999 (placed 0 w))
+pub reference_is : (w : List ℕ) (n : ℕ) → Some n ≡ number_of (number_in 1 9999 (placed 0 w))
     → 55 * 2 ^ 26 + n ≡ token_word (reference_token (count_in (placed 0 w)))
 unfolding token_word reference_token count_in
 reference_is w n e = rw (number_there 1 9999 (placed 0 w) n e)
 
-pub reference_wrong : (w : List ℕ) → Not ≡ number_of (number_in 1 9999 (placed 0 w)) → 54 * 2 ^ 26 ≡ token_word (reference_token (count_in (placed 0 w)))
+pub reference_wrong : (w : List ℕ) → None ≡ number_of (number_in 1 9999 (placed 0 w)) → 54 * 2 ^ 26 ≡ token_word (reference_token (count_in (placed 0 w)))
 unfolding token_word reference_token count_in
 reference_wrong w e = rw (number_none 1 9999 (placed 0 w) e)
 
-pub closing_is : (w : List ℕ) (n : ℕ) → Is n ≡ number_of (number_in 2 9999 (placed 0 w)) → 56 * 2 ^ 26 + n ≡ token_word (closing_token (repeat_in (placed 0 w)))
+pub closing_is : (w : List ℕ) (n : ℕ) → Some n ≡ number_of (number_in 2 9999 (placed 0 w))
+    → 56 * 2 ^ 26 + n ≡ token_word (closing_token (repeat_in (placed 0 w)))
 unfolding token_word closing_token repeat_in
 closing_is w n e = rw (number_there 2 9999 (placed 0 w) n e)
 
-pub closing_wrong : (w : List ℕ) → Not ≡ number_of (number_in 2 9999 (placed 0 w)) → 54 * 2 ^ 26 ≡ token_word (closing_token (repeat_in (placed 0 w)))
+pub closing_wrong : (w : List ℕ) → None ≡ number_of (number_in 2 9999 (placed 0 w)) → 54 * 2 ^ 26 ≡ token_word (closing_token (repeat_in (placed 0 w)))
 unfolding token_word closing_token repeat_in
 closing_wrong w e = rw (number_none 2 9999 (placed 0 w) e)
 
@@ -225,21 +227,15 @@ unfolding base_of
 chord_no_letter a b v w e l = rw e (chord_none a (b ∷ v) _ (ap base_of (sym (no_row (b ∷ v) (not_letter b l)))) refl)
 
 -- A word of one byte.
-pub sign_long : (sign : ℕ) (w : List ℕ) → (length w ≡ 1 → ⊥) → false ≡ same (sign ∷ []) w
+pub sign_same : (sign : ℕ) (w : List ℕ) → pointwise eqb w (sign ∷ []) ≡ same (sign ∷ []) w
 unfolding same
-sign_long sign [] h = refl
-sign_long sign (b ∷ []) h = absurd (h refl)
-sign_long sign (b ∷ c ∷ w) h = by_cases (eqb sign b) (λ e. rw e) (λ e. rw e)
-
-pub sign_single : (sign : ℕ) (w : List ℕ) → length w ≡ 1 → eqb (get_or w 0 0) sign ≡ same (sign ∷ []) w
-unfolding same
-sign_single sign [] h = absurd (omega arith)
-sign_single sign (b ∷ []) h =
+sign_same sign [] = refl
+sign_same sign (b ∷ []) =
     by_cases
     (eqb b sign)
     (λ e. rw (e, eq-eqb sign b (sym (eqb-true b sign e))))
     (λ e. rw (e, ne_eqb sign b (λ z. eqb-false b sign e (sym z))))
-sign_single sign (b ∷ c ∷ w) h = absurd (omega arith)
+sign_same sign (b ∷ c ∷ w) = rw (and-false (eqb b sign), and-false (eqb sign b)) refl
 
 -- A base of a part of a text lies in the part.
 pub base_inside : (s : List ℕ) (a e : ℕ) (b : Base) → b ≡ base_of (longest_from is_taken 0 bases (part a e s) none) → e ≤ length s → (b.length ≡ 0 → ⊥)

@@ -1,5 +1,5 @@
 -- What the code finds of a line's tokens: plain bytes, and the token at a place.
-use Rattle.std.specs.Prelude.{ℕ, suc, ◌/◌, ◌%◌, ◌<◌, ◌≤◌, ◌≡◌, List, [], ◌∷◌, Bool, true, false}
+use Rattle.std.specs.Prelude.{ℕ, suc, ◌<◌, ◌≤◌, ◌≡◌, List, [], ◌∷◌, Bool, true, false}
 use Rattle.songcode.specs.Lists.{provided◌then◌else◌}
 use Rattle.songcode.specs.Bytes.{placed}
 use Rattle.songcode.specs.Answer.Chords.{is_slip}
@@ -7,7 +7,8 @@ use Rattle.songcode.specs.Answer.Tokens.{Class, blank, semi, double, bracket, cl
 use Rattle.songcode.specs.Answer.Tokens as songcode
 use Rattle.text.specs.Spans.{part}
 use Rattle.tokens.specs.declared.lexing.Lexed.{Lexed}
-use Rattle.tokens.specs.declared.lexing.Lexed.TheVariants.{Token, End}
+use Rattle.std.specs.Prelude as std
+use Rattle.std.specs.Prelude.{Some, None}
 use Rattle.tokens.specs.TokenWords.{token_word}
 
 unfoldable pub plain_class : Class → Bool
@@ -40,12 +41,8 @@ tokens_from at stop s = tokens (placed at (part at stop s))
 
 -- What the code finds at a place: the word of the first token and where the next may begin, or that no token is left. Wherever the part ends, from
 -- there on, the token is the same.
-unfoldable pub Reads : List ℕ → ℕ → ℕ → Lexed → Type 0
-Reads s at stop (Token w n) =
-    (t : songcode.Token) × (at < n) × (n ≤ stop) × (w ≡ token_word t)
-    × ((to : ℕ) → n ≤ to → to ≤ stop → tokens_from at to s ≡ t ∷ tokens_from n to s)
-Reads s at stop End = tokens_from at stop s ≡ []
-
--- What is found, taken from one number: a word, and below it the place behind the token.
-abbrev pub lexed_of : ℕ → Lexed
-lexed_of p = Token (p / 131072) (p % 131072)
+unfoldable pub Reads : List ℕ → ℕ → ℕ → std.Option Lexed → Type 0
+Reads s at stop (Some l) =
+    (t : songcode.Token) × (at < l.next) × (l.next ≤ stop) × (l.word ≡ token_word t)
+    × ((to : ℕ) → l.next ≤ to → to ≤ stop → tokens_from at to s ≡ t ∷ tokens_from l.next to s)
+Reads s at stop None = tokens_from at stop s ≡ []

@@ -31,11 +31,7 @@ fn move_words(words: &mut [u32], from: usize, count: usize, to: usize)
     requires { (to ≤ from) × (from + count ≤ length words.old) }
     ensures { words.new ≡ sets words.old to (take count (drop from words.old)) }
 {
-    let mut i = 0;
-    while i < count {
-        words[to + i] = words[from + i];
-        i += 1;
-    }
+    words.copy_within(from..from + count, to);
 }
 
 // The words of a line's tokens, laid into the buffer from n on, as `lex_line` lays them: those that are kept, where they are not laid over yet.

@@ -12,7 +12,7 @@ ghost use Rattle.tokens.specs.TokenWords.{token_word};
 ghost use Rattle.tokens.specs.Lexing.{is_slip_byte};
 
 use super::bases::{Base, first_of};
-use super::numbers::{Number, number_in};
+use super::numbers::number_in;
 use super::signs::{AGAIN_WORD, CLOSES, KIND, REFERENCE, REMOVER_WORD, SILENCE_WORD, WRONG_WORD};
 
 // What a kind weighs, and the words of a reference and of a closing bracket before their counts.
@@ -26,17 +26,14 @@ const CLOSINGS: usize = CLOSES as usize * WEIGHT;
 fn is_sign(sign: u8, w: &[u8]) -> bool
     ensures { result ≡ same (sign ∷ []) w.now }
 {
-    if w.len() != 1 {
-        return false;
-    }
-    w[0] == sign
+    w == [sign].as_slice()
 }
 
 // The token of the count behind a `$`.
 fn reference_token(w: &[u8]) -> u32
     ensures { result ≡ token_word (reference_token (count_in (placed 0 w.now))) }
 {
-    let Number::Is(n) = number_in(1, 9999, w) else {
+    let Some(n) = number_in(1, 9999, w) else {
         return WRONG_WORD;
     };
     (REFERENCES + n) as u32
@@ -46,7 +43,7 @@ fn reference_token(w: &[u8]) -> u32
 pub fn closing_token(w: &[u8]) -> u32
     ensures { result ≡ token_word (closing_token (repeat_in (placed 0 w.now))) }
 {
-    let Number::Is(n) = number_in(2, 9999, w) else {
+    let Some(n) = number_in(2, 9999, w) else {
         return WRONG_WORD;
     };
     (CLOSINGS + n) as u32
@@ -56,30 +53,14 @@ pub fn closing_token(w: &[u8]) -> u32
 fn is_slip(b: u8) -> bool
     ensures { result ≡ is_slip_byte b }
 {
-    if b == b'%' {
-        return true;
-    }
-    if b == b'_' {
-        return true;
-    }
-    if b == b'=' {
-        return true;
-    }
-    b == b'$'
+    matches!(b, b'%' | b'_' | b'=' | b'$')
 }
 
 // A text holds one.
 pub fn has_slip(w: &[u8]) -> bool
     ensures { result ≡ any is_slip_byte w.now }
 {
-    let mut i = 0;
-    while i < w.len() {
-        if is_slip(w[i]) {
-            return true;
-        }
-        i += 1;
-    }
-    false
+    w.iter().any(|b| is_slip(*b))
 }
 
 // The token of a chord that is a letter alone.

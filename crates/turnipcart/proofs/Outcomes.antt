@@ -1,16 +1,23 @@
 -- The outcomes of the exported calls: the text and the lent memory fix the refusal that is returned, the six numbers and every lent word.
 use Prim.Native.Nat.{ℕ}
-use mathlib.Core.Path.{◌≡◌, refl, sym, ap, subst, ◌∙◌}
+use mathlib.Core.Path.{◌≡◌, refl, sym, ap, ◌∙◌}
 use mathlib.Core.List.{List, [], ◌∷◌}
 use lib.IntN.{ℤ}
 use Rattle.reader.specs.declared.answers.Answer.{Answer}
 use Rattle.reader.specs.Answers.{Lent, Promised, Counted}
 use Rattle.reader.proofs.AnswerLaws.{one_outcome, one_count}
-use Rattle.concert.specs.Promises.{Moves}
-use Rattle.concert.proofs.Demanded.{demanded}
-use Rattle.cues.specs.declared.Lit.{Lit}
-use Rattle.seek.specs.declared.Found.{Found}
-use Rattle.turnipcart.specs.Answers.{answer_in, found_in, explained_in, ReadsChart, CountsChart, FindsBeat, LightsCues, ExplainsChart}
+use Rattle.turnipcart.specs.Answers.{
+  answer_in,
+  FoundNumbers,
+  found_in,
+  explained_in,
+  ReadsChart,
+  CountsChart,
+  FindsBeat,
+  LightsCues,
+  Moves,
+  ExplainsChart,
+}
 use Rattle.turnipcart.specs.OneOutcome.{OneOutcome}
 use Rattle.turnipcart.proofs.PaperLaws.{one_copy}
 
@@ -25,10 +32,6 @@ read_laid text before a after p = record { returned = refl; promised = p }
 pub count_laid : (text : List ℕ) (a : Answer) → Counted text a → CountsChart text a.refusal (laid a)
 unfolding answer_in
 count_laid text a c = record { given = refl; counted = c }
-
--- The move that is handed over is the move.
-pub same_move : {a b : ℤ} (beats before : List ℕ) (r : ℕ) (after : List ℕ) → a ≡ b → Moves a beats before r after → Moves b beats before r after
-same_move beats before r after e m = subst (λ (z : ℤ). Moves z beats before r after) e m
 
 -- And nothing else is.
 pub one_read : (text : List ℕ) (before : Lent) (r q : ℕ) (x y : List ℕ) (a b : Lent) → ReadsChart text before r x a → ReadsChart text before q y b
@@ -45,12 +48,14 @@ one_counted text r q x y f g =
 one_found : (measures : List ℕ) (beat r q : ℕ) (x y : List ℕ) → FindsBeat measures beat r x → FindsBeat measures beat q y
     → (r ≡ q) × (found_in x ≡ found_in y)
 one_found measures beat r q x y f g =
-    let same = f.halved ∙ sym g.halved in (f.refused ∙ ap (λ (z : Found). z.refusal) same ∙ sym g.refused, same)
+    let same = f.halved ∙ sym g.halved in (f.refused ∙ ap (λ (z : FoundNumbers). z.refusal) same ∙ sym g.refused, same)
 
 one_lit : (sections measures before : List ℕ) (r q d e : ℕ) (x y : List ℕ) → LightsCues sections measures before r d x
     → LightsCues sections measures before q e y → (r ≡ q) × (d ≡ e) × (x ≡ y)
-one_lit sections measures before r q d e x y f g =
-    let same = f.lit ∙ sym g.lit in (ap (λ (z : Lit). z.refusal) same, ap (λ (z : Lit). z.end) same, f.cues ∙ sym g.cues)
+one_lit sections measures before r q d e x y f g = (f.refused ∙ sym g.refused, f.lit ∙ sym g.lit, f.cues ∙ sym g.cues)
+
+one_moved : (z : ℤ) (beats before : List ℕ) (r q : ℕ) (x y : List ℕ) → Moves z beats before r x → Moves z beats before q y → (r ≡ q) × (x ≡ y)
+one_moved z beats before r q x y m n = (m.refused ∙ sym n.refused, m.second ∙ sym n.second)
 
 one_explained : (text : List ℕ) (r q : ℕ) (x y : List ℕ) → ExplainsChart text r x → ExplainsChart text q y
     → (r ≡ q) × ((explained_in x).refusal ≡ (explained_in y).refusal) × ((explained_in x).line ≡ (explained_in y).line)
@@ -65,7 +70,7 @@ outcomes =
       counted = one_counted;
       found = one_found;
       lit = one_lit;
-      moved = demanded.one_outcome;
+      moved = one_moved;
       copied = one_copy;
       explained = one_explained;
     }

@@ -1,17 +1,26 @@
 -- The answers of the calls as numbers in a row; and what the calls promise.
-use Rattle.std.specs.Prelude.{ℕ, ◌≡◌, List, length, get_or}
+use Rattle.std.specs.Prelude.{ℕ, ◌≡◌, List, length, get_or, ℤ, Option, Some, None, unwrap_or}
+use Rattle.std.specs.Result.{result_unwrap_or}
 use Rattle.songcode.specs.Answer.Finding.{jump_to}
 use Rattle.reader.specs.declared.answers.Answer.{Answer}
 use Rattle.reader.specs.Answers.{Lent, Promised, Counted}
 use Rattle.explain.specs.declared.Explained.{Explained}
 use Rattle.explain.specs.Explained.{Explains}
+use Rattle.refusals.specs.declared.names.Why.{Why}
+use Rattle.refusals.specs.Names.{number_of}
 use Rattle.seek.specs.declared.Found.{Found}
-use Rattle.seek.specs.Answers.{found_of}
-use Rattle.flat.specs.declared.answers.Copied.{Copied}
+use Rattle.seek.specs.Answers.{found_of, refused}
+use Rattle.flat.specs.Answers.{Copied}
 use Rattle.flat.specs.Answers.{Flattened}
-use Rattle.cues.specs.declared.Lit.{Lit}
-use Rattle.cues.specs.Cues.{refusal_of}
+use Rattle.cues.specs.Cues as light_cues
 use Rattle.cues.specs.Answers.{lit_by, cues_by}
+use Rattle.concert.specs.Moves as concert_pitch
+use Rattle.concert.specs.Promises.{second_table}
+
+-- What is refused, as the number that a call returns: 0 where nothing is.
+abbrev pub refusal_number : Option Why → ℕ
+refusal_number None = 0
+refusal_number (Some why) = number_of why
 
 -- Refusal, line, and the counts of sections, measures, beats and items.
 unfoldable pub answer_in : List ℕ → Answer
@@ -19,8 +28,17 @@ answer_in xs =
     record { refusal = get_or xs 0 0; line = get_or xs 1 0; sections = get_or xs 2 0; measures = get_or xs 3 0; beats = get_or xs 4 0; items = get_or xs 5 0 }
 
 -- Refusal, place and probes.
-unfoldable pub found_in : List ℕ → Found
+pub record FoundNumbers : Type 0 where
+  pub refusal : ℕ
+  pub place : ℕ
+  pub probes : ℕ
+
+unfoldable pub found_in : List ℕ → FoundNumbers
 found_in xs = record { refusal = get_or xs 0 0; place = get_or xs 1 0; probes = get_or xs 2 0 }
+
+-- Place 0 where no record holds the beat.
+unfoldable pub found_told : Found → FoundNumbers
+found_told f = record { refusal = refusal_number (refused f.place); place = unwrap_or f.place 0; probes = f.probes }
 
 -- A chart read: the refusal of the answer is returned, and answer and tables are as promised. "Lent memory past what a call writes keeps what it held":
 -- `Promised`, `Flattened` and `cues_by` say so with `sets`: from the first place on the new words, behind them what memory held.
@@ -36,12 +54,18 @@ pub record CountsChart (text : List ℕ) (refusal : ℕ) (answer : List ℕ) : T
 -- A beat found: the refusal is returned, and the three numbers are those of the halving rule.
 pub record FindsBeat (measures : List ℕ) (beat : ℕ) (refusal : ℕ) (found : List ℕ) : Type 0 where
   pub refused : refusal ≡ (found_in found).refusal
-  pub halved : found_in found ≡ found_of (jump_to beat measures)
+  pub halved : found_in found ≡ found_told (found_of (jump_to beat measures))
 
--- The cues of three tables: the refusal that is returned, the song's end, and every word of the cue table.
+-- The cues of three tables: the refusal that is returned, the song's end or 0, and every word of the cue table.
 pub record LightsCues (sections measures before : List ℕ) (refusal end : ℕ) (after : List ℕ) : Type 0 where
-  pub lit : ◌≡◌ {A = Lit} (record { refusal = refusal; end = end }) (lit_by (refusal_of sections measures (length before)) sections measures)
-  pub cues : after ≡ cues_by (refusal_of sections measures (length before)) sections measures before
+  pub refused : refusal ≡ refusal_number (light_cues.refusal_of sections measures (length before))
+  pub lit : end ≡ result_unwrap_or (lit_by (light_cues.refusal_of sections measures (length before)) sections measures) 0
+  pub cues : after ≡ cues_by (light_cues.refusal_of sections measures (length before)) sections measures before
+
+-- A beat table moved: the refusal that is returned, and every word of the second table.
+pub record Moves (move : ℤ) (beats before : List ℕ) (refusal : ℕ) (after : List ℕ) : Type 0 where
+  pub refused : refusal ≡ refusal_number (concert_pitch.refusal_of move beats (length before))
+  pub second : after ≡ second_table move beats before
 
 -- Refusal, line and cause; the line, the first byte and the length of the place; one more line; three numbers.
 unfoldable pub explained_in : List ℕ → Explained

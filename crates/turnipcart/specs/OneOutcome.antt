@@ -2,8 +2,8 @@
 -- explanation the verdict is fixed; its cause and its place are bounded.
 use Rattle.std.specs.Prelude.{ℕ, ◌≡◌, List, ℤ}
 use Rattle.reader.specs.Answers.{Lent}
-use Rattle.concert.specs.Promises.{Moves}
-use Rattle.turnipcart.specs.Answers.{answer_in, found_in, explained_in, copied_in, ReadsChart, CountsChart, FindsBeat, LightsCues, ExplainsChart, CopiesChart}
+use Rattle.turnipcart.specs.Answers.{answer_in, found_in, explained_in, copied_in}
+use Rattle.turnipcart.specs.Answers.{ReadsChart, CountsChart, FindsBeat, LightsCues, Moves, ExplainsChart, CopiesChart}
 
 pub record OneOutcome : Type 0 where
   pub read : (text : List ℕ) (before : Lent) (r q : ℕ) (x y : List ℕ) (a b : Lent) → ReadsChart text before r x a → ReadsChart text before q y b

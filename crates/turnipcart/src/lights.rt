@@ -12,6 +12,6 @@ pub extern "C" fn turnipcart_cues(
     ensures { LightsCues sections.now measures.now starts.old result end.new starts.new }
 {
     let lit = cues::light_cues(sections, measures, starts);
-    *end = lit.end;
-    lit.refusal
+    *end = lit.unwrap_or(0);
+    lit.err().map_or(0, usize::from)
 }

@@ -1,5 +1,5 @@
 // A beat table at concert pitch.
-ghost use Rattle.concert.specs.Promises.{Moves};
+ghost use Rattle.turnipcart.specs.Answers.{Moves};
 
 // Every table, every move and every length of the second table are answered: the refusal is returned, and the moved words stand in
 // `second`, with what it held behind them.
@@ -8,4 +8,6 @@ pub extern "C" fn turnipcart_concert(beats: &[u32], shift: i32, second: &mut [u3
     ensures { Moves shift beats.now second.old result second.new }
 {
     concert::concert_pitch(beats, shift, second)
+        .err()
+        .map_or(0, usize::from)
 }

@@ -13,7 +13,7 @@ use Rattle.songcode.specs.Song.{LyricLine, Section, Song}
 use Rattle.songcode.specs.Answer.Playing.{played}
 use Rattle.songcode.specs.Answer.Lyrics.{count_of, is_counted, is_played, lines_taken, has_counts, counted, sum_fault, sum_faults, has_items, prompts_from}
 use Rattle.songcode.specs.Answer.Lyrics.{prompts, styled, words_of}
-use Rattle.songcode.specs.Answer.Tables.{offset, item_word, tables}
+use Rattle.songcode.specs.Answer.Tables.{item_word, tables}
 use Rattle.songcode.specs.Description.WrittenTables.{lyrics_of}
 use Rattle.songcode.proofs.ListLaws.{by_cases, both_pass, pass_both, every_append, gather_nil, Each, complain_if_nil}
 use Rattle.packing.specs.Fields.{packed_item}

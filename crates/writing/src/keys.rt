@@ -9,9 +9,5 @@ pub fn write_keys(words: &[u32], at: usize, keys: &mut [u32])
     requires { (at + 8 ≤ length words.now) × (8 ≤ length keys.old) }
     ensures { keys.new ≡ sets keys.old 0 (take 8 (drop at words.now)) }
 {
-    let mut k = 0;
-    while k < KEYS {
-        keys[k] = words[at + k];
-        k += 1;
-    }
+    keys[..KEYS].copy_from_slice(&words[at..at + KEYS]);
 }

@@ -33,14 +33,12 @@ pub fn write_tables(
     ensures beats { beats.new ≡ sets beats.old 0 (tables (song_of s.now)).beats }
     ensures items { items.new ≡ sets items.old 0 (tables (song_of s.now)).items }
 {
-    let totals = chart.totals;
-    let rows = chart.rows;
-    write_keys(words, rows.to, keys);
+    write_keys(words, chart.rows.to, keys);
     write_song(
         s,
         words,
-        rows,
-        totals.items,
+        chart.rows,
+        chart.totals.items,
         sections,
         measures,
         beats,

@@ -8,24 +8,24 @@ use Rattle.grammar.specs.Checks.{check_text}
 use Rattle.grammar.proofs.LineLaws.{line_token, line_over}
 use Rattle.grammar.proofs.check_line.Goals as goal
 
-pub returns-in_default : goal.returns-in_default
-returns-in_default c =
-    let l = c.loop-word in
+pub returns : goal.returns
+returns c =
+    let l = c.loop-token in
     sym (line_over l.check c.args.s.now l.at c.args.to l.invariant.0 c.requires.1 c.requires.2 c.next_token.ensures
     c.in_default.is) ∙ l.invariant.1
 
-pub loop-word-smaller : goal.loop-word-smaller
-loop-word-smaller c =
-    let l = c.loop-word in
+pub loop-token-smaller : goal.loop-token-smaller
+loop-token-smaller c =
+    let l = c.loop-token in
     let t = line_token l.check c.args.s.now l.at c.args.to l.invariant.0 c.requires.1 c.requires.2
-    c.next_token.ensures c.in-Token.is in
+    c.next_token.ensures c.in-Some.is in
     let a = t.0 in
     let b = t.1 in omega arith
 
-pub loop-word-preserved : goal.loop-word-preserved
-loop-word-preserved c =
-    let l = c.loop-word in
+pub loop-token-preserved : goal.loop-token-preserved
+loop-token-preserved c =
+    let l = c.loop-token in
     let t = line_token l.check c.args.s.now l.at c.args.to l.invariant.0 c.requires.1 c.requires.2
-    c.next_token.ensures c.in-Token.is in
-    let n = c.in-Token.next in
+    c.next_token.ensures c.in-Some.is in
+    let n = c.in-Some.token.next in
     (t.1, ap (λ (d : Check). check_text d (placed n (part n c.args.to c.args.s.now))) c.step_check-check.ensures ∙ (sym t.2 ∙ l.invariant.1))

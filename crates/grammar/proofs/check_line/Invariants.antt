@@ -6,9 +6,9 @@ use Rattle.text.specs.Spans.{part}
 use Rattle.grammar.specs.Checks.{check_text}
 use Rattle.grammar.proofs.check_line.Given as goal
 
-abbrev pub invariant-loop-word : goal.invariant-loop-word
-invariant-loop-word l = (l.at ≤ l.to)
+abbrev pub invariant-loop-token : goal.invariant-loop-token
+invariant-loop-token l = (l.at ≤ l.to)
     × (check_text l.check (placed l.at (part l.at l.to l.s)) ≡ check_text l.initial.check (placed l.from (part l.from l.to l.s)))
 
-abbrev pub decreases-loop-word : goal.decreases-loop-word
-decreases-loop-word l = l.to - l.at
+abbrev pub decreases-loop-token : goal.decreases-loop-token
+decreases-loop-token l = l.to - l.at

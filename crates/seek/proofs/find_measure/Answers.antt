@@ -3,21 +3,12 @@ use native.Mathlib.Omega.{arith}
 use Rattle.songcode.specs.Description.Joined.{end_beat}
 use Rattle.songcode.specs.Jumps.{Holds}
 use Rattle.packing.proofs.RoundTrips.{measure_fields}
-use Rattle.seek.proofs.Laws.{left_all, left_before, left_past, found_there, found_nowhere, found_over}
+use Rattle.seek.proofs.Laws.{left_before, left_past, found_there, found_nowhere, found_over}
 use borrow.Author.Rules.{rules}
 use Rattle.seek.proofs.find_measure.Goals as goal
 
 pub returns-then-measures-gt-MOST_RECORDS : goal.returns-then-measures-gt-MOST_RECORDS
 returns-then-measures-gt-MOST_RECORDS c = found_over c.args.beat c.args.measures.now c.if-measures-gt-MOST_RECORDS.true
-
-pub loop-start-init : goal.loop-start-init
-loop-start-init c = (
-  search rules,
-  search rules,
-  search rules,
-  search rules,
-  left_all c.args.beat c.args.measures.now,
-)
 
 pub loop-start-preserved-then-wanted-record : goal.loop-start-preserved-then-wanted-record
 loop-start-preserved-then-wanted-record c =

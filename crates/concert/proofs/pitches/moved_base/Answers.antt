@@ -12,33 +12,17 @@ pub returns-then-root-lt12 : goal.returns-then-root-lt12
 returns-then-root-lt12 c =
     let a = c.args in
     major_moved a.shift a.base c.moved_root.result c.requires.base_bound c.if-root-lt12.true
-    (c.moved_root.ensures ∙ ap (λ (z : ℤ). moved_root z (root_at a.base)) (to_z-of_z c.ranges.shift))
+    (c.moved_root.ensures.value ∙ ap (λ (z : ℤ). moved_root z (root_at a.base)) (to_z-of_z c.ranges.shift))
 
-pub moved_root-requires-2 : goal.moved_root-requires-2
-moved_root-requires-2 c =
+pub moved_root-requires-else-root-lt12 : goal.moved_root-requires-else-root-lt12
+moved_root-requires-else-root-lt12 c =
     let s = (base_rooted c.args.base c.requires.base_bound).small in record {
       root_bound = omega arith;
       shift_value = rw (to_z-of_z c.ranges.shift) c.requires.shift_value;
     }
 
-pub returns : goal.returns
-returns c =
+pub returns-else-root-lt12 : goal.returns-else-root-lt12
+returns-else-root-lt12 c =
     let a = c.args in
-    minor_moved a.shift a.base c.moved_root-2.result c.requires.base_bound c.if-root-lt12.false
-    (c.moved_root-2.ensures ∙ ap (λ (z : ℤ). moved_root z (root_at a.base - 12)) (to_z-of_z c.ranges.shift))
-
-pub offset_bounds-moved_root : goal.offset_bounds-moved_root
-unfolding moved_root
-offset_bounds-moved_root c = let e = c.moved_root.ensures in omega arith
-
-pub bounds-moved_root : goal.bounds-moved_root
-unfolding moved_root
-bounds-moved_root c = let e = c.moved_root.ensures in omega arith
-
-pub offset_bounds-moved_root-2 : goal.offset_bounds-moved_root-2
-unfolding moved_root
-offset_bounds-moved_root-2 c = let e = c.moved_root-2.ensures in omega arith
-
-pub bounds-moved_root-else-root-lt12 : goal.bounds-moved_root-else-root-lt12
-unfolding moved_root
-bounds-moved_root-else-root-lt12 c = let e = c.moved_root-2.ensures in omega arith
+    minor_moved a.shift a.base c.moved_root-else-root-lt12.result c.requires.base_bound c.if-root-lt12.false
+    (c.moved_root-else-root-lt12.ensures.value ∙ ap (λ (z : ℤ). moved_root z (root_at a.base - 12)) (to_z-of_z c.ranges.shift))

@@ -1,19 +1,13 @@
--- A spare bit makes it odd; without one a base below 34 does not, and from there to 63, the most that six bits hold, all but 63 do.
-use mathlib.Core.Path.{ap, ◌∙◌}
-use mathlib.Core.Bool.{not}
-use lib.Dec.{eqb}
-use Rattle.concert.proofs.WordLaws.{spare_odd, chord_even, silence_even}
+-- A spare bit makes it odd; without one a base from 34 on does that is below 63, the most that six bits hold.
+use native.Mathlib.Omega.{arith}
+use Rattle.std.proofs.lemmas.Grind.{common_steps}
+use Rattle.concert.specs.Moves.{base_in, is_odd}
 use Rattle.concert.proofs.tables.is_odd.Goals as goal
 
 pub returns-then-beat_spare-ne0 : goal.returns-then-beat_spare-ne0
-returns-then-beat_spare-ne0 c = spare_odd c.args.word (rw c.beat_spare.ensures at c.if-beat_spare-ne0.true)
+unfolding is_odd base_in
+returns-then-beat_spare-ne0 c = grind (arith, common_steps)
 
-pub returns-then-base-lt-BASES : goal.returns-then-base-lt-BASES
-returns-then-base-lt-BASES c =
-    chord_even c.args.word (rw c.beat_spare.ensures at c.if-beat_spare-ne0.false) (rw c.beat_base-base.ensures at c.if-base-lt-BASES.true)
-
-pub returns : goal.returns
-returns c =
-    ap (λ k. not (eqb k 63)) c.beat_base-base.ensures
-    ∙ silence_even c.args.word c.ranges.word.fits (rw c.beat_spare.ensures at c.if-beat_spare-ne0.false)
-    (rw c.beat_base-base.ensures at c.if-base-lt-BASES.false)
+pub returns-else-beat_spare-ne0 : goal.returns-else-beat_spare-ne0
+unfolding is_odd base_in
+returns-else-beat_spare-ne0 c = grind (arith, common_steps)

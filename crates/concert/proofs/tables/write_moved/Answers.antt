@@ -8,12 +8,10 @@ use mathlib.Core.Path.{refl, ap, ◌∙◌}
 use mir.Syntax.{w32}
 use mir.Val.{to_z, of_z}
 use mir.Facts.{to_z-of_z}
-use native.Mathlib.Omega.{arith}
-use borrow.Author.Rules.{rules}
 use Rattle.concert.proofs.tables.write_moved.Goals as goal
 
 pub loop-i-init : goal.loop-i-init
-loop-i-init c = (omega arith, refl, refl)
+loop-i-init c = (refl, refl)
 
 pub moved_word-requires : goal.moved_word-requires
 moved_word-requires c =
@@ -28,8 +26,8 @@ loop-i-preserved c =
     let l = c.loop-i in
     let f = moved_word (to_z w32 (of_z w32 a.shift)) in
     let test = c.loop-i-test.true in
-    let more = filled_more f a.beats.now a.second.now l.second l.i c.moved_word.result test l.invariant.2 in
-    (search rules, simp length-set l.invariant.1, more c.moved_word.ensures)
+    let more = filled_more f a.beats.now a.second.now l.second l.i c.moved_word.result test l.invariant.1 in
+    (simp length-set l.invariant.0, more c.moved_word.ensures)
 
 pub returns : goal.returns
 unfolding moved_table
@@ -38,5 +36,5 @@ returns c =
     let beats = c.args.beats.now in
     let second = c.args.second.now in
     let f = moved_word (to_z w32 (of_z w32 c.args.shift)) in
-    l.invariant.2 ∙ filled_all f beats second l.i c.loop-i-test.false
+    l.invariant.1 ∙ filled_all f beats second l.i c.loop-i-test.false
     ∙ ap (λ (z : ℤ). sets second 0 (moved_table z beats)) (to_z-of_z c.ranges.shift)

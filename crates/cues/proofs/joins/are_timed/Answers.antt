@@ -1,28 +1,11 @@
--- Section by section: all that were passed are timed, so every one is if those that are left are.
-use mathlib.Core.Path.{refl, sym, ◌∙◌}
-use Rattle.cues.specs.Cues.{is_timed}
-use Rattle.cues.proofs.JoinLaws.{every_next, every_stops, every_over}
+-- Every section is timed exactly if each passes the test.
+use mathlib.Core.Path.{refl}
 use borrow.Author.Rules.{rules}
+use Rattle.std.proofs.lemmas.List.Recursion.{and_is}
+use Rattle.songcode.specs.Lists.{every}
+use Rattle.cues.specs.Cues.{is_timed}
 use Rattle.cues.proofs.joins.are_timed.Goals as goal
 
-pub loop-i-init : goal.loop-i-init
-loop-i-init c = (search rules, refl)
-
-pub returns-then-not-is_timed : goal.returns-then-not-is_timed
-returns-then-not-is_timed c =
-    let l = c.loop-i in
-    sym (every_stops is_timed l.i _ c.loop-i-test.true
-    (sym c.is_timed.ensures ∙ c.if-not-is_timed.true)) ∙ l.invariant.1
-
-pub loop-i-preserved : goal.loop-i-preserved
-loop-i-preserved c =
-    let l = c.loop-i in (
-      search rules,
-      sym (every_next is_timed l.i _ c.loop-i-test.true
-          (sym c.is_timed.ensures ∙ c.if-not-is_timed.false)) ∙ l.invariant.1,
-    )
-
 pub returns : goal.returns
-returns c =
-    let l = c.loop-i in
-    sym (every_over is_timed l.i _ c.loop-i-test.false) ∙ l.invariant.1
+unfolding every
+returns c = and_is (every is_timed) is_timed refl (λ _ _. refl) c.args.sections.now 0 _ (search rules) (search rules)

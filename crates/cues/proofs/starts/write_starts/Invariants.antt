@@ -1,5 +1,5 @@
 -- Section by section: the starts written so far and those of the sections that are left are the starts of all measures.
-use Prim.Native.Nat.{◌+◌, ◌-◌, ◌*◌, ◌^◌, ◌≤◌}
+use Prim.Native.Nat.{◌+◌, ◌*◌, ◌^◌, ◌≤◌}
 use mathlib.Core.Path.{◌≡◌}
 use mathlib.Core.Bool.{true}
 use lib.ListN.{length, drop}
@@ -10,19 +10,16 @@ use Rattle.cues.specs.Cues.{lengths, starts, is_timed}
 use Rattle.cues.specs.Table.{IsTable}
 use Rattle.cues.proofs.starts.write_starts.Given as goal
 
-abbrev pub invariant-loop-i : goal.invariant-loop-i
-invariant-loop-i l =
-    (l.i ≤ length l.sections)
-    × (length l.cues ≡ length l.initial.cues)
+abbrev pub invariant-loop-word : goal.invariant-loop-word
+invariant-loop-word l =
+    (length l.cues ≡ length l.initial.cues)
     × (l.first ≤ length l.measures)
     × (l.time ≤ l.first * 3780000000)
-    × (covers l.first (length l.measures) (drop l.i l.sections) ≡ true)
-    × (every is_timed (drop l.i l.sections) ≡ true)
+    × (covers l.first (length l.measures) (drop l.word-index l.sections) ≡ true)
+    × (every is_timed (drop l.word-index l.sections) ≡ true)
     × IsTable l.table
     × (length l.measures ≤ 2 ^ 21)
     × (length l.measures ≤ length l.initial.cues)
-    × (l.time + sum (lengths (drop l.i l.sections) (drop l.first l.measures)) ≡ sum (lengths l.sections l.measures))
-    × Wrote l.initial.cues l.first l.cues (starts l.time (lengths (drop l.i l.sections) (drop l.first l.measures))) (starts 0 (lengths l.sections l.measures))
-
-abbrev pub decreases-loop-i : goal.decreases-loop-i
-decreases-loop-i l = length l.sections - l.i
+    × (l.time + sum (lengths (drop l.word-index l.sections) (drop l.first l.measures)) ≡ sum (lengths l.sections l.measures))
+    × Wrote l.initial.cues l.first l.cues (starts l.time (lengths (drop l.word-index l.sections) (drop l.first l.measures)))
+    (starts 0 (lengths l.sections l.measures))

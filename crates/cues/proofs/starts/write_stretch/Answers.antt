@@ -7,7 +7,7 @@ use borrow.Author.Rules.{rules}
 use Rattle.cues.proofs.starts.write_stretch.Goals as goal
 
 pub loop-i-init : goal.loop-i-init
-loop-i-init c = (search rules, search rules, search rules, refl, wrote_start _ _)
+loop-i-init c = (search rules, search rules, refl, wrote_start _ _)
 
 pub length_of-at-requires : goal.length_of-at-requires
 length_of-at-requires c =
@@ -32,10 +32,9 @@ loop-i-preserved c =
     let e = c.length_of-at.ensures.0 in
     let b = c.length_of-at.ensures.1 in (
       search rules,
-      search rules,
-      omega (arith, b, l.invariant.2),
-      rw e (sym (sum_next a.bpm l.i l.at a.measures.now t) ∙ l.invariant.3),
-      rw e (starts_next a.bpm l.i l.at a.measures.now t _ l.cues _ l.invariant.4),
+      omega (arith, b, l.invariant.1),
+      rw e (sym (sum_next a.bpm l.i l.at a.measures.now t) ∙ l.invariant.2),
+      rw e (starts_next a.bpm l.i l.at a.measures.now t _ l.cues _ l.invariant.3),
     )
 
 pub returns : goal.returns
@@ -43,6 +42,6 @@ returns c =
     let l = c.loop-i in
     let a = c.args in
     let e = c.loop-i-test.false in record {
-      value = (sym (sum_over a.bpm l.i l.at a.measures.now e) ∙ l.invariant.3, omega (arith, l.invariant.0, l.invariant.2));
-      cues_after = wrote_end _ l.i l.cues _ (starts_over a.bpm l.i l.at a.measures.now e _ l.cues _ l.invariant.4);
+      value = (sym (sum_over a.bpm l.i l.at a.measures.now e) ∙ l.invariant.2, omega (arith, l.invariant.1));
+      cues_after = wrote_end _ l.i l.cues _ (starts_over a.bpm l.i l.at a.measures.now e _ l.cues _ l.invariant.3);
     }

@@ -1,5 +1,5 @@
 -- Measure by measure: the starts written so far and those of the measures that are left are the starts of the section.
-use Prim.Native.Nat.{◌+◌, ◌-◌, ◌*◌, ◌≤◌}
+use Prim.Native.Nat.{◌+◌, ◌*◌, ◌≤◌}
 use mathlib.Core.Path.{◌≡◌}
 use lib.ListN.{length, drop}
 use Rattle.songcode.specs.Lists.{sum}
@@ -9,11 +9,7 @@ use Rattle.cues.proofs.starts.write_stretch.Given as goal
 
 abbrev pub invariant-loop-i : goal.invariant-loop-i
 invariant-loop-i l =
-    (l.i ≤ length l.measures)
-    × (length l.cues ≡ length l.initial.cues)
+    (length l.cues ≡ length l.initial.cues)
     × (l.at ≤ l.time + l.i * 3780000000)
     × (l.at + sum (lengths_at l.bpm (drop l.i l.measures)) ≡ l.time + sum (lengths_at l.bpm l.measures))
     × Wrote l.initial.cues l.i l.cues (starts l.at (lengths_at l.bpm (drop l.i l.measures))) (starts l.time (lengths_at l.bpm l.measures))
-
-abbrev pub decreases-loop-i : goal.decreases-loop-i
-decreases-loop-i l = length l.measures - l.i

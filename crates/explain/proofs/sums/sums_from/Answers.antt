@@ -2,7 +2,6 @@
 use mathlib.Core.Path.{refl, sym, ◌∙◌, subst}
 use mathlib.Core.List.{List, Memᴰ}
 use native.Mathlib.Omega.{arith}
-use lib.ListN.{length}
 use Rattle.songcode.specs.Song.{Section}
 use Rattle.judging.proofs.RowIsLaws.{row_is_start, row_before, row_is_next}
 use Rattle.explain.proofs.SumLaws.{unrefused_start, laid_summable, unrefused_next}
@@ -30,15 +29,11 @@ section_counts-counts-requires c =
     let i = c.loop-place.invariant in
     (_, laid_summable c.lay_section-x.result i.3 i.1 c.lay_section-x.ensures.lays c.lay_section-x.ensures.length)
 
-pub shape_of-words-then-section-line : goal.shape_of-words-then-section-line
-shape_of-words-then-section-line c =
-    c.lay_section-x.ensures.length ∙ c.loop-place.invariant.2
-
-pub returns-then-section-line : goal.returns-then-section-line
-returns-then-section-line c =
+pub returns-then-x-line : goal.returns-then-x-line
+returns-then-x-line c =
     let i = c.loop-place.invariant in
     let counts = c.section_counts-counts in
-    sums_found c.lay_section-x.result c.lay_section-x.ensures.lays.opens c.args.line i.4 c.if-section-line.true counts.result
+    sums_found c.lay_section-x.result c.lay_section-x.ensures.lays.opens c.args.line i.4 c.if-x-line.true counts.result
     (counts.ensures _ (laid_summable c.lay_section-x.result i.3 i.1 c.lay_section-x.ensures.lays c.lay_section-x.ensures.length))
 
 pub loop-place-smaller : goal.loop-place-smaller
@@ -52,7 +47,7 @@ loop-place-preserved c =
       row_is_next c.lay_section-x.result i.1 c.lay_section-x.ensures.lays c.lay_section-x.ensures.length,
       c.lay_section-x.ensures.length ∙ i.2,
       unrefused_next c.lay_section-x.result i.3 i.1 c.lay_section-x.ensures.lays c.lay_section-x.ensures.length,
-      still_ahead c.lay_section-x.result c.lay_section-x.ensures.lays.opens c.args.line i.4 c.if-section-line.false,
+      still_ahead c.lay_section-x.result c.lay_section-x.ensures.lays.opens c.args.line i.4 c.if-x-line.false,
     )
 
 pub returns : goal.returns

@@ -5,21 +5,25 @@ use Rattle.flat.proofs.MeasureLaws.{spelling_short, base_next, base_done, base_o
 use borrow.Author.Rules.{rules}
 use Rattle.flat.proofs.measures.put_base.Goals as goal
 
-pub loop-k-init : goal.loop-k-init
-loop-k-init c =
+pub loop-letter-init : goal.loop-letter-init
+loop-letter-init c =
     let e = c.spelling_of-name.ensures in
     let h = spelling_short c.args.number in
     (refl, rw e (omega arith), rw e refl)
 
-pub returns-then-name-k-eq0 : goal.returns-then-name-k-eq0
-returns-then-name-k-eq0 c = let l = c.loop-k in base_done c.spelling_of-name.result l.k _ _ c.if-name-k-eq0.true l.invariant.2
-
-pub loop-k-preserved : goal.loop-k-preserved
-loop-k-preserved c =
-    let l = c.loop-k in
+pub loop-letter-preserved : goal.loop-letter-preserved
+loop-letter-preserved c =
+    let l = c.loop-letter in
     let w = c.put-out.ensures in
-    let e = base_next c.spelling_of-name.result l.k _ _ _ c.if-name-k-eq0.false w (l.invariant.1, l.invariant.2) in
+    let e = base_next c.spelling_of-name.result l.letter-index _ _ _ c.if-letter-eq0.false w (l.invariant.1, l.invariant.2) in
     (search rules, e.0, e.1)
 
-pub returns : goal.returns
-returns c = let l = c.loop-k in base_over c.spelling_of-name.result l.k _ _ c.loop-k-test.false l.invariant.1 l.invariant.2
+pub returns-then-letter-eq0 : goal.returns-then-letter-eq0
+returns-then-letter-eq0 c =
+    let l = c.loop-letter in
+    base_done c.spelling_of-name.result l.letter-index _ _ c.if-letter-eq0.true l.invariant.2
+
+pub returns-after-loop-letter : goal.returns-after-loop-letter
+returns-after-loop-letter c =
+    let l = c.loop-letter in
+    base_over c.spelling_of-name.result l.letter-index _ _ c.loop-letter-test.false l.invariant.1 l.invariant.2

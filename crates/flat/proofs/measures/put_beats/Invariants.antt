@@ -1,5 +1,4 @@
 -- Beat by beat: the positions from i on, put on the sheet so far, give what the whole line gives; a gap and the letters make one position.
-use Prim.Native.Nat.{◌-◌}
 use mathlib.Core.Path.{◌≡◌}
 use mathlib.Core.List.{map}
 use lib.ListN.{length, drop}
@@ -13,6 +12,3 @@ invariant-loop-i l =
     (length l.copy ≡ length l.initial.copy)
     × (puts (positions l.i (map (letters_at l.s) (drop l.i l.beats))) (record { copy = l.copy; at = l.out })
     ≡ puts (spaced (map (letters_at l.s) l.beats)) (record { copy = l.initial.copy; at = l.initial.out }))
-
-abbrev pub decreases-loop-i : goal.decreases-loop-i
-decreases-loop-i l = length l.beats - l.i

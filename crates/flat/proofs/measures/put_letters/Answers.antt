@@ -12,5 +12,5 @@ pub returns : goal.returns
 returns c =
     let b = c.beat_of-beat in
     let a = c.args in
-    letters_are a.s.now a.word b.result c.least-start.result c.least-stop.result _ _ _ b.ensures c.if-beat-gt33.false
-    c.least-start.ensures c.least-stop.ensures c.put_base-named.ensures c.put_part.ensures
+    letters_are a.s.now a.word b.result c.min-start.result c.min-stop.result _ _ _ b.ensures c.if-beat-gt33.false
+    c.min-start.ensures c.min-stop.ensures c.put_base-named.ensures c.put_part.ensures

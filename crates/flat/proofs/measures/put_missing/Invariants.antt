@@ -11,7 +11,4 @@ abbrev pub invariant-loop-i : goal.invariant-loop-i
 invariant-loop-i l =
     (length l.copy ≡ length l.initial.copy)
     × (puts (positions l.i (replicate (l.n - l.i) (ascii "="))) (record { copy = l.copy; at = l.out })
-    ≡ puts (positions l.initial.i (replicate (l.n - l.initial.i) (ascii "="))) (record { copy = l.initial.copy; at = l.initial.out }))
-
-abbrev pub decreases-loop-i : goal.decreases-loop-i
-decreases-loop-i l = l.n - l.i
+    ≡ puts (positions l.from (replicate (l.n - l.from) (ascii "="))) (record { copy = l.initial.copy; at = l.initial.out }))

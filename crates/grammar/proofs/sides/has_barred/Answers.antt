@@ -1,25 +1,16 @@
--- Byte by byte: what is asked of the bytes from here on is what was asked of all, until one is barred or none is left.
-use mathlib.Core.Path.{sym, ◌∙◌}
-use native.Mathlib.Omega.{arith}
-use Rattle.grammar.proofs.PartLaws.{barred_here, barred_further, barred_nowhere}
+-- Any byte of the part.
+use mathlib.Core.Path.{◌∙◌}
+use borrow.Author.Tests.{tests}
+use Rattle.std.proofs.Common.{rules}
+use Rattle.std.proofs.lemmas.Iterator.{YieldsList-from_slice}
+use Rattle.std.proofs.lemmas.Iterator.Search.{any_from_yields_List}
+use Rattle.text.specs.Spans.{part}
+use Rattle.grammar.specs.Sides.{barred_byte}
+use Rattle.grammar.proofs.PartLaws.{barred_among}
 use Rattle.grammar.proofs.sides.has_barred.Goals as goal
-
-pub returns-then-is_barred : goal.returns-then-is_barred
-returns-then-is_barred c =
-    let l = c.loop-i in
-    sym (sym l.invariant.1 ∙ barred_here c.args.s.now l.i c.args.to c.loop-i-test.true c.requires.1
-    (sym c.is_barred.ensures ∙ c.if-is_barred.true))
-
-pub loop-i-preserved : goal.loop-i-preserved
-loop-i-preserved c =
-    let l = c.loop-i in (
-      omega arith,
-      sym (barred_further c.args.s.now l.i c.args.to c.loop-i-test.true c.requires.1
-          (sym c.is_barred.ensures ∙ c.if-is_barred.false)) ∙ l.invariant.1,
-    )
 
 pub returns : goal.returns
 returns c =
-    let l = c.loop-i in
-    sym
-    (sym l.invariant.1 ∙ barred_nowhere c.args.s.now l.i c.args.to c.loop-i-test.false)
+    let bytes = part c.args.from c.args.to c.args.s.now in
+    any_from_yields_List barred_byte _ _ _ c.any.ensures.ran (YieldsList-from_slice bytes cc) (λ x b q k. search (rules, tests))
+    ∙ barred_among c.args.from bytes

@@ -1,13 +1,18 @@
--- The first comparison passes and settles both sides, or it fails and the second one is left on both.
+-- The two bytes that are barred, or another.
+use mathlib.Core.Bool.{true}
+use mathlib.Core.Logic.{inl, inr}
+use mathlib.Core.Path.{◌≡◌, refl}
+use borrow.Author.Tests.{tests}
+use Rattle.grammar.specs.Sides.{barred_byte}
+use Rattle.std.proofs.Common.{rules}
 use Rattle.songcode.specs.Bytes.{is_byte}
 use Rattle.songcode.specs.Answer.PatternText.{barred}
-use borrow.Author.Tests.{ne_eqb}
 use Rattle.grammar.proofs.sides.is_barred.Goals as goal
 
-pub returns-then-b-eq58 : goal.returns-then-b-eq58
+pub returns-in-58 : goal.returns-in-58
 unfolding barred is_byte
-returns-then-b-eq58 c = rw c.if-b-eq58.true
+returns-in-58 c = elim c.in-58.is as (λ _. true ≡ barred_byte c.args.b) [ inl e ↦ rw e refl | inr e ↦ rw e refl ]
 
-pub returns-else-b-eq58 : goal.returns-else-b-eq58
+pub returns-in_default : goal.returns-in_default
 unfolding barred is_byte
-returns-else-b-eq58 c = rw (ne_eqb _ _ c.if-b-eq58.false)
+returns-in_default c = search (rules, tests)

@@ -1,13 +1,13 @@
--- Where no item stands last the first test settles it; else the count of open loops does.
-use mathlib.Core.Path.{refl}
-use Rattle.grammar.proofs.TestLaws.{and_fails, and_passes}
+-- An item stands last, and no loop is open.
+use borrow.Author.Tests.{tests}
+use Rattle.std.proofs.Common.{rules}
 use Rattle.grammar.specs.Verdicts.{definition_fine}
 use Rattle.grammar.proofs.verdicts.definition_fine.Goals as goal
 
-pub returns-then-not-is_behind : goal.returns-then-not-is_behind
+pub returns-then-is_behind : goal.returns-then-is_behind
 unfolding definition_fine
-returns-then-not-is_behind c = and_fails c.is_behind.ensures _ c.if-not-is_behind.true-raw
+returns-then-is_behind c = search (rules, tests)
 
-pub returns : goal.returns
+pub returns-else-is_behind : goal.returns-else-is_behind
 unfolding definition_fine
-returns c = and_passes c.is_behind.ensures c.if-not-is_behind.false-raw refl
+returns-else-is_behind c = search (rules, tests)

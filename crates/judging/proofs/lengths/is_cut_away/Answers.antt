@@ -14,8 +14,8 @@ pub returns-then-not-has_cut : goal.returns-then-not-has_cut
 unfolding cut_away provided◌then◌else◌
 returns-then-not-has_cut c = rw (c.if-outline.false, sym c.has_cut.ensures ∙ not-true _ c.if-not-has_cut.true-raw)
 
-pub planned-plan-requires : goal.planned-plan-requires
-planned-plan-requires c =
+pub planned-requires : goal.planned-requires
+planned-requires c =
     let h = c.requires in
     rw c.arrangement.ensures (record { meter = h.0; cuts = cut_fits _ h.1; measures = h.2; even = h.3 })
 
@@ -25,6 +25,6 @@ returns c =
     rw (
       c.if-outline.false,
       sym c.has_cut.ensures ∙ not-false _ c.if-not-has_cut.false-raw,
-      c.planned-plan.ensures.left,
+      c.planned.ensures.left,
       c.arrangement.ensures,
     )

@@ -1,26 +1,34 @@
--- Something refused before stays; else at most 65,535 measures stand before, so the section's have room to be added and judged.
+-- What was refused before is passed up; else at most 65,535 measures stand before, so the section's have room to be added and judged.
+use Prim.Native.Nat.{ℕ, ◌≤◌}
+use mathlib.Core.Path.{◌≡◌, refl, ◌∙◌}
+use native.Mathlib.Omega.{arith}
+use Rattle.std.specs.Prelude.{Result, Ok, Err, IfOk, IsErrAnd}
+use Rattle.refusals.specs.declared.Refusal.{Refusal}
 use Rattle.judging.specs.Lengths.{with_lengths}
 use Rattle.judging.proofs.CountLaws.{count_small}
-use Rattle.songcode.specs.Lists.{provided◌then◌else◌}
-use native.Mathlib.Omega.{arith}
-use borrow.Author.Tests.{eq-eqb, ne_eqb}
 use Rattle.judging.proofs.lengths.with_lengths.Goals as goal
 
-pub returns-then-found-ne0 : goal.returns-then-found-ne0
-unfolding with_lengths provided◌then◌else◌
-returns-then-found-ne0 c = rw (ne_eqb _ 0 c.if-found-ne0.true)
+passed : {r x : Result ℕ Refusal} {e : Refusal} → IsErrAnd r (λ y. y ≡ e) → x ≡ Err e → r ≡ x
+passed {r = Ok k} is h = absurd is
+passed {r = Err y} is h = rw (is, h) refl
+
+few : {x : Result ℕ Refusal} {k : ℕ} → IfOk x (λ j. j ≤ 65535) → x ≡ Ok k → k ≤ 65535
+few h e = rw e at h
+
+pub returns-in_err-measures : goal.returns-in_err-measures
+unfolding with_lengths
+returns-in_err-measures c = passed c.from_residual.ensures.1 c.in_err-measures.was ∙ rw c.in_err-measures.was
 
 pub section_count-requires : goal.section_count-requires
 section_count-requires c = let h = c.requires.0 in (h.repeat, h.lead, h.pattern, h.tail)
 
 pub overflow_add-measures : goal.overflow_add-measures
 overflow_add-measures c =
-    let pre = c.requires in
-    let h = pre.0 in
+    let h = c.requires.0 in
     omega (
       arith,
       count_small c.args.m c.args.t h.repeat h.lead h.pattern h.tail,
-      pre.1 c.if-found-ne0.false,
+      few c.requires.1 c.in_ok-measures.was,
       c.section_count.ensures,
     )
 
@@ -28,5 +36,5 @@ pub length_fault-requires : goal.length_fault-requires
 length_fault-requires c = (c.requires.0, omega (arith, c.section_count.ensures))
 
 pub returns : goal.returns
-unfolding with_lengths provided◌then◌else◌
-returns c = rw (eq-eqb _ 0 c.if-found-ne0.false, c.length_fault.ensures, c.section_count.ensures)
+unfolding with_lengths
+returns c = rw (c.in_ok-measures.was, ← c.section_count.ensures) c.length_fault.ensures

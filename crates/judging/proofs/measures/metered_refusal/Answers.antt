@@ -1,8 +1,11 @@
--- Stage 4's least complaint is put as a refusal, and the first given of the two is told by the function that chooses.
+-- Stage 4's least complaint is put as a refusal, and it goes before what stage 5 refuses.
+use mathlib.Core.Path.{refl, ap, ◌∙◌}
+use Rattle.refusals.specs.Refusals.{told}
 use Rattle.judging.specs.Measures.{metered_refusal}
-use mathlib.Core.Path.{refl}
+use Rattle.judging.proofs.StageLaws.{told_or}
 use Rattle.judging.proofs.measures.metered_refusal.Goals as goal
 
 pub returns : goal.returns
 unfolding metered_refusal
-returns c = rw (c.first_given.ensures, c.refusal_at.ensures) refl
+returns c named =
+    ap told c.or.ensures ∙ told_or c.refusal_at.result c.err.result ∙ rw (c.refusal_at.ensures named, c.err.ensures.value) refl

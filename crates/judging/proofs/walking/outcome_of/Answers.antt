@@ -1,21 +1,24 @@
--- The refusal found is the first of stages 4 to 7, and its number tells which branch of the definition is given.
-use mathlib.Core.Path.{◌≡◌}
-use borrow.Author.Tests.{eq-eqb, ne_eqb}
-use Rattle.songcode.specs.Lists.{provided◌then◌else◌}
-use Rattle.judging.specs.Walking.{walk_refusal, outcome_of}
+-- Stages 4 and 5 go before 6 and 7; where none refuses, what the sections hold is what the tables take.
+use mathlib.Core.Path.{◌≡◌, refl, sym, ap, ◌∙◌}
+use Prim.Native.Nat.{◌<◌, ◌%◌}
+use Rattle.refusals.specs.Names.{Numbered}
+use Rattle.refusals.specs.Ranks.{no_section}
+use Rattle.refusals.specs.Refusals.{told}
+use Rattle.judging.specs.Walking.{walk_refusal}
+use Rattle.judging.proofs.StageLaws.{told_or, told_none}
 use Rattle.judging.proofs.walking.outcome_of.Goals as goal
-use Rattle.judging.proofs.walking.outcome_of.Goals.{After-first_given-refusal}
+use Rattle.judging.proofs.walking.outcome_of.Goals.{After-or}
 
 -- The refusal that is found.
-refusal_is : (c : After-first_given-refusal) → c.first_given-refusal.result ≡ walk_refusal c.args.x c.args.y
+refusal_is : (c : After-or) → (c.args.x.meters < no_section → Numbered (c.args.x.meters % 32)) → told c.or.result ≡ walk_refusal c.args.x c.args.y
 unfolding walk_refusal
-refusal_is c = rw (← c.metered_refusal.ensures, ← c.lyric_refusal.ensures) c.first_given-refusal.ensures
+refusal_is c named =
+    ap told c.or.ensures ∙ told_or c.metered_refusal.result c.lyric_refusal.result ∙ rw (c.metered_refusal.ensures named, c.lyric_refusal.ensures) refl
 
-pub returns-then-refusal-ne0 : goal.returns-then-refusal-ne0
-unfolding outcome_of provided◌then◌else◌
-returns-then-refusal-ne0 c = rw
-    (← (refusal_is (goal.at.returns-then-refusal-ne0 c).After-first_given-refusal), ne_eqb _ 0 c.if-refusal-ne0.true) c.refused.ensures
+pub returns-in-Some : goal.returns-in-Some
+returns-in-Some c named =
+    ap told (sym c.in-Some.is) ∙ refusal_is (goal.at.returns-in-Some c).After-or named
 
-pub returns : goal.returns
-unfolding outcome_of provided◌then◌else◌
-returns c = rw (← (refusal_is (goal.at.returns c).After-first_given-refusal), eq-eqb _ 0 c.if-refusal-ne0.false) c.totals_of.ensures
+pub returns-in-None : goal.returns-in-None
+returns-in-None c named =
+    (sym (refusal_is (goal.at.returns-in-None c).After-or named) ∙ told_none c.in-None.is, c.totals_of.ensures)

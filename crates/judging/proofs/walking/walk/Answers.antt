@@ -2,21 +2,24 @@
 use Rattle.judging.proofs.OpenedLaws.{opened_measurable}
 use Rattle.judging.proofs.LengthsAreLaws.{lengths_small}
 use Rattle.judging.proofs.ReferenceLaws.{fault_at, references_start, references_over, references_stop, references_next}
-use Rattle.judging.proofs.StageLaws.{stage_refused, refused_says}
+use Rattle.judging.proofs.StageLaws.{stage_refused, stage_none, none_found, some_found}
 use Rattle.judging.proofs.RowIsLaws.{row_is_start, row_before, row_is_next, row_is_blocks, row_is_sized}
 use Rattle.laying.proofs.ReadyLaws.{ready_told}
-use Rattle.judging.proofs.WalkLaws.{walked_start, walk_sings, walk_on, walk_refused, outcome_verdict, outcome_holds}
-use Rattle.judging.specs.declared.sums.Totals.{Totals}
+use Rattle.judging.proofs.ClearLaws.{song_clear}
+use Rattle.judging.proofs.WalkLaws.{walked_start, walk_named, walk_sings, walk_on, walk_refused, later_verdict, named_end, outcome_holds}
 use Rattle.judging.specs.Stages.{playing_faults, later_faults}
 use Rattle.judging.specs.Sums.{Holds}
+use Rattle.judging.specs.Walking.{Ends}
+use Rattle.std.proofs.lemmas.Result.{MatchResult-at_ok, MatchResult-at_err}
+use Rattle.refusals.specs.Refusals.{told}
+use Rattle.refusals.proofs.PassedLaws.{passed_up}
 use Rattle.songcode.specs.Answer.Answer.{song_of}
 use Rattle.songcode.specs.Answer.References.{reference_faults}
 use Rattle.songcode.specs.Answer.Tables.{tables}
-use lib.ListN.{length}
 use native.Mathlib.Omega.{arith}
 use mathlib.Core.Path.{refl, sym, ap, ◌∙◌, subst}
 use Rattle.judging.proofs.walking.walk.Goals as goal
-use Rattle.judging.proofs.walking.walk.Goals.{then-refusal-eq0, else-refusal-eq0}
+use Rattle.judging.proofs.walking.walk.Goals.{then-is_none, else-is_none, After-outcome_of}
 
 pub loop-place-init : goal.loop-place-init
 loop-place-init c = (
@@ -34,26 +37,15 @@ lay_section-x-requires c =
       row = (row_before i.1, c.requires.song.0);
     }
 
-pub shape_of-words-then-fault-ne0 : goal.shape_of-words-then-fault-ne0
-shape_of-words-then-fault-ne0 c =
-    c.lay_section-x.ensures.length ∙ c.loop-place.invariant.2
-
-pub returns-then-fault-ne0 : goal.returns-then-fault-ne0
+pub returns-in-Some-clause-judged : goal.returns-in-Some-clause-judged
 unfolding later_faults
-returns-then-fault-ne0 c =
+returns-in-Some-clause-judged c =
     let i = c.loop-place.invariant in
     let laid = row_is_next c.lay_section-x.result i.1 c.lay_section-x.ensures.lays c.lay_section-x.ensures.length in
     let song = song_of c.args.s.now in
-    let fault = c.name_fault-fault in
-    let n = c.if-fault-ne0.true in
-    let e = ap (λ (r : Totals). r.refusal) c.refused.ensures in
-    let three = references_stop c.lay_section-x.ensures.lays.opens
-    (fault_at c.lay_section-x.result c.lay_section-x.ensures.lays (ready_told laid.ready) fault.ensures) n i.3 in record {
-      refusal = e ∙ stage_refused (reference_faults song) (playing_faults song) fault.result three n;
-      holds = (λ z. refused_says c.refused.result fault.result e n z);
-      row = (λ z. refused_says c.refused.result fault.result e n z);
-      length = c.lay_section-x.ensures.length ∙ i.2;
-    }
+    let fault = fault_at c.lay_section-x.result c.lay_section-x.ensures.lays (ready_told laid.ready) c.name_fault.ensures in
+    stage_refused _ (reference_faults song) (playing_faults song)
+    (references_stop c.lay_section-x.ensures.lays.opens c.in-Some.refusal (ap told (sym c.in-Some.is) ∙ fault) i.3)
 
 pub with_measures-metered-requires : goal.with_measures-metered-requires
 with_measures-metered-requires c =
@@ -65,8 +57,11 @@ with_measures-metered-requires c =
 pub sing-sung-requires : goal.sing-sung-requires
 sing-sung-requires c =
     let i = c.loop-place.invariant in
-    walk_sings c.lay_section-x.result c.lay_section-x.ensures.lays i.0 c.loop-place-test.true c.requires.song.0.time _ _ i.4
-    c.with_measures-metered.ensures c.metered_refusal-refusal.ensures c.if-refusal-eq0.true
+    let x = c.lay_section-x in
+    let m = c.with_measures-metered.ensures in
+    let named = walk_named x.result x.ensures.lays i.0 c.loop-place-test.true c.requires.song.0.time _ _ i.4 m i.1.ready.small in
+    walk_sings x.result x.ensures.lays i.0 c.loop-place-test.true c.requires.song.0.time _ _ i.4 m c.metered_refusal.result
+    (c.metered_refusal.ensures named) (none_found c.is_none.ensures c.if-is_none.true)
 
 pub loop-place-smaller : goal.loop-place-smaller
 loop-place-smaller c =
@@ -75,40 +70,48 @@ loop-place-smaller c =
 pub loop-place-preserved : goal.loop-place-preserved
 loop-place-preserved c =
     let i = c.loop-place.invariant in
-    let laid = row_is_next c.lay_section-x.result i.1 c.lay_section-x.ensures.lays c.lay_section-x.ensures.length in
-    let song = song_of c.args.s.now in
-    let fault = c.name_fault-fault in
+    let x = c.lay_section-x in
+    let laid = row_is_next x.result i.1 x.ensures.lays x.ensures.length in
+    let fault = fault_at x.result x.ensures.lays (ready_told laid.ready) c.name_fault.ensures in
     let inside = c.loop-place-test.true in
-    let time = c.requires.song.0.time in (
-      c.lay_section-x.ensures.lays.opens.met.onward,
+    let time = c.requires.song.0.time in
+    let m = c.with_measures-metered.ensures in
+    let named = walk_named x.result x.ensures.lays i.0 inside time _ _ i.4 m i.1.ready.small in (
+      x.ensures.lays.opens.met.onward,
       laid,
-      c.lay_section-x.ensures.length ∙ i.2,
-      references_next c.lay_section-x.ensures.lays.opens (fault_at c.lay_section-x.result c.lay_section-x.ensures.lays (ready_told laid.ready) fault.ensures)
-          c.if-fault-ne0.false i.3,
-      elim c.if-refusal-eq0.branch [
-        | then-refusal-eq0 v ↦
-            walk_on c.lay_section-x.result c.lay_section-x.ensures.lays i.0 inside time _ _ i.4 c.with_measures-metered.ensures
-            c.metered_refusal-refusal.ensures v.if-refusal-eq0.true (v.sung-is ∙ v.sing-sung.ensures)
-        | else-refusal-eq0 v ↦
-            walk_refused c.lay_section-x.result c.lay_section-x.ensures.lays i.0 inside time _ _ i.4 c.with_measures-metered.ensures
-            c.metered_refusal-refusal.ensures v.if-refusal-eq0.false v.sung-is
+      x.ensures.length ∙ i.2,
+      references_next x.ensures.lays.opens (stage_none _ fault c.in_default.is) i.3,
+      elim c.if-is_none.branch [
+        | then-is_none v ↦
+            walk_on x.result x.ensures.lays i.0 inside time _ _ i.4 m (v.sung-is ∙ v.sing-sung.ensures)
+        | else-is_none v ↦
+            walk_refused x.result x.ensures.lays i.0 inside time _ _ i.4 m c.metered_refusal.result (c.metered_refusal.ensures named)
+            (some_found c.is_none.ensures v.if-is_none.false) v.sung-is
       ],
     )
 
-pub shape_of-words : goal.shape_of-words
-shape_of-words c =
-    c.loop-place.invariant.2
+-- What is found behind the last section.
+ended : (c : After-outcome_of) → Ends c.loop-place.metered c.loop-place.sung c.outcome_of.result
+ended c = c.outcome_of.ensures (named_end c.loop-place.invariant.1.ready.small c.loop-place-test.false _ _ c.loop-place.invariant.4)
 
-pub returns : goal.returns
-returns c =
+pub returns-in_err-totals-clause-judged : goal.returns-in_err-totals-clause-judged
+returns-in_err-totals-clause-judged c =
+    let l = c.loop-place in
+    let over = c.loop-place-test.false in
+    let none = references_over c.args.s.now l.place over l.invariant.3 in
+    passed_up _ _ _ _ c.from_residual.ensures.1
+    (MatchResult-at_err _ _ _ c.in_err-totals.was (ended (goal.at.returns-in_err-totals-clause-judged c).After-outcome_of)
+    ∙ later_verdict l.invariant.1.ready.small over l.metered l.sung l.invariant.4 none)
+
+pub returns-clause-judged : goal.returns-clause-judged
+returns-clause-judged c =
     let l = c.loop-place in
     let s = c.args.s.now in
     let over = c.loop-place-test.false in
-    let none = references_over s l.place over l.invariant.3 in record {
-      refusal = ap (λ (t : Totals). t.refusal) c.outcome_of.ensures ∙ outcome_verdict l.invariant.1.ready.small over l.metered l.sung l.invariant.4 none;
-      holds = (λ z. subst (λ t. Holds (tables (song_of s)) t) (sym c.outcome_of.ensures)
-          (outcome_holds l.invariant.1.ready.small over l.metered l.sung l.invariant.4
-          (ap (λ (t : Totals). t.refusal.number) (sym c.outcome_of.ensures) ∙ z)));
-      row = (λ z. (row_is_blocks l.invariant.1 over, row_is_sized l.invariant.1 over));
-      length = l.invariant.2;
+    let none = references_over s l.place over l.invariant.3 in
+    let e = MatchResult-at_ok _ _ _ c.in_ok-totals.was (ended (goal.at.returns-clause-judged c).After-outcome_of) in record {
+      clear = song_clear (song_of s) (sym (later_verdict l.invariant.1.ready.small over l.metered l.sung l.invariant.4 none) ∙ e.0);
+      blocks = row_is_blocks l.invariant.1 over;
+      sized = row_is_sized l.invariant.1 over;
+      holds = subst (λ t. Holds (tables (song_of s)) t) (sym e.1) (outcome_holds l.invariant.1.ready.small over l.metered l.sung l.invariant.4 e.0);
     }

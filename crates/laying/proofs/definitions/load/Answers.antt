@@ -1,10 +1,11 @@
 -- The definitions loaded so far stand in the buffer as they are written, and none of them has a fault.
 use Rattle.laying.specs.Loading.{blocks_from}
-use Rattle.laying.proofs.LoadLaws.{loading_first, loads_refused, loads_all}
+use Rattle.laying.proofs.LoadLaws.{loading_first, loads_all}
 use Rattle.laying.proofs.MetadataLaws.{is_metadata, is_definition, is_section, not_definition, come_over}
+use Rattle.refusals.proofs.PassedLaws.{passed_up}
 use lib.ListN.{length-set}
 use mathlib.Core.Path.{refl, sym, ◌∙◌}
-use mathlib.Core.Logic.{inl, inr}
+use mathlib.Core.Logic.{inl, inr, ⊎_elim}
 use native.Mathlib.Omega.{arith}
 use borrow.Author.Rules.{rules}
 use Rattle.laying.proofs.definitions.load.Goals as goal
@@ -17,33 +18,32 @@ pub kind_at-requires : goal.kind_at-requires
 kind_at-requires c =
     c.loop-place.invariant.0.leaves.inside
 
-pub load_one-next-requires : goal.load_one-next-requires
-load_one-next-requires c =
+pub load_one-requires : goal.load_one-requires
+load_one-requires c =
     (c.loop-place.invariant.0, c.loop-place-test.true, is_definition _ (sym c.kind_at.ensures ∙ c.in-Definition.is))
 
-pub shape_of-words-then-refusal-ne0 : goal.shape_of-words-then-refusal-ne0
-shape_of-words-then-refusal-ne0 c =
-    let x = c.load_one-next.ensures.1 in
+pub shape_of-words-in_err-next-in-Definition : goal.shape_of-words-in_err-next-in-Definition
+shape_of-words-in_err-next-in-Definition c =
+    let x = c.load_one.ensures.1 in
     let i = c.loop-place.invariant.1 in
     let l = length-set c.args.words.now 0 0 in
     search rules
 
-pub returns-then-refusal-ne0 : goal.returns-then-refusal-ne0
-returns-then-refusal-ne0 c = (
-  loads_refused c.args.s.now c.load_one-next.new.words c.loop-place.place c.load_one-next.result
-      c.load_one-next.ensures.0 c.if-refusal-ne0.true,
-  c.load_one-next.ensures.1 ∙ c.loop-place.invariant.1 ∙ length-set c.args.words.now 0 0,
+pub returns-in_err-next-in-Definition : goal.returns-in_err-next-in-Definition
+returns-in_err-next-in-Definition c = (
+  passed_up _ _ _ _ c.from_residual.ensures.1 c.in_err-next-in-Definition.ensures.0,
+  c.load_one.ensures.1 ∙ c.loop-place.invariant.1 ∙ length-set c.args.words.now 0 0,
 )
 
 pub loop-place-smaller : goal.loop-place-smaller
 loop-place-smaller c =
-    let x = c.load_one-next.ensures.0.further in
+    let x = c.in_ok-next-in-Definition.ensures.0.further in
     let inside = c.loop-place-test.true in
     omega arith
 
 pub loop-place-preserved : goal.loop-place-preserved
 loop-place-preserved c =
-    (c.load_one-next.ensures.0.loading c.if-refusal-ne0.false, c.load_one-next.ensures.1 ∙ c.loop-place.invariant.1)
+    (c.in_ok-next-in-Definition.ensures.0.loading, c.load_one.ensures.1 ∙ c.loop-place.invariant.1)
 
 pub shape_of-words-after-loop-place : goal.shape_of-words-after-loop-place
 shape_of-words-after-loop-place c =
@@ -64,22 +64,8 @@ shape_of-words-in-Metadata c =
 
 pub returns-in-Metadata : goal.returns-in-Metadata
 returns-in-Metadata c =
-    let kind = is_metadata _ (sym c.kind_at.ensures ∙ c.in-Metadata.is) in (
+    let kind = ⊎_elim (λ m. inl (is_metadata _ (sym c.kind_at.ensures ∙ m))) (λ m. inr (is_section _ (sym c.kind_at.ensures ∙ m))) c.in-Metadata.is in (
       loads_all c.args.s.now c.loop-place.words c.loop-place.mark c.loop-place.place c.loop-place.invariant.0 c.requires.0
-          c.loop-place-test.true (not_definition (inl kind)),
-      c.loop-place.invariant.1 ∙ length-set c.args.words.now 0 0,
-    )
-
-pub shape_of-words-in-Section : goal.shape_of-words-in-Section
-shape_of-words-in-Section c =
-    let i = c.loop-place.invariant.1 in
-    let l = length-set c.args.words.now 0 0 in
-    search rules
-
-pub returns-in-Section : goal.returns-in-Section
-returns-in-Section c =
-    let kind = is_section _ (sym c.kind_at.ensures ∙ c.in-Section.is) in (
-      loads_all c.args.s.now c.loop-place.words c.loop-place.mark c.loop-place.place c.loop-place.invariant.0 c.requires.0
-          c.loop-place-test.true (not_definition (inr kind)),
+          c.loop-place-test.true (not_definition kind),
       c.loop-place.invariant.1 ∙ length-set c.args.words.now 0 0,
     )

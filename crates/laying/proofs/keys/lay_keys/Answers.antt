@@ -1,30 +1,22 @@
 -- Key by key: the words before it are written, the rest of the table is as it was.
-use mathlib.Core.Path.{refl}
-use native.Mathlib.Omega.{arith}
 use Rattle.songcode.specs.Answer.SongText.{metadata_lines}
 use Rattle.songcode.specs.Answer.Answer.{blocks_of}
 use Rattle.sections.specs.Gathering.{FirstSaid}
 use Rattle.laying.proofs.SongSaysLaws.{said_short, keys_none, keys_more, keys_all}
 use Rattle.laying.proofs.keys.lay_keys.Goals as goal
-use Rattle.laying.proofs.keys.lay_keys.Goals.{After-said_by}
+use Rattle.laying.proofs.keys.lay_keys.Goals.{After-said}
 
 pub loop-k-init : goal.loop-k-init
 loop-k-init c =
-    (omega arith, refl, keys_none c.args.s.now c.args.keys.now)
-
-pub said_by-requires : goal.said_by-requires
-said_by-requires c =
-    let wide = c.requires.rows.0.wide in
-    let below = c.loop-k-test.true in
-    (omega arith, omega arith, omega arith)
+    keys_none c.args.s.now c.args.keys.now
 
 -- The setting that is read is the first of its key.
-found : (c : After-said_by)
+found : (c : After-said)
     → FirstSaid c.args.s.now
     (metadata_lines (blocks_of c.args.s.now))
-    c.loop-k.k c.said_by.result
+    c.loop-k.k c.said.result
 found c =
-    rw c.said_by.ensures (c.requires.rows.0.each c.loop-k.k c.loop-k-test.true)
+    rw c.said.ensures (c.requires.rows.0.each c.loop-k.k c.loop-k-test.true)
 
 pub key_said-requires : goal.key_said-requires
 key_said-requires c =
@@ -33,11 +25,10 @@ key_said-requires c =
 pub loop-k-preserved : goal.loop-k-preserved
 loop-k-preserved c =
     let l = c.loop-k in
-    let up = keys_more c.args.s.now l.keys c.args.keys.now l.k c.key_said.result c.loop-k-test.true c.requires.rows.1
-    (found (goal.at.loop-k-preserved c).After-said_by) c.key_said.ensures l.invariant.2 in
-    (omega arith, up.long, up)
+    keys_more c.args.s.now l.keys c.args.keys.now l.k c.key_said.result c.loop-k-test.true c.requires.rows.1
+    (found (goal.at.loop-k-preserved c).After-said) c.key_said.ensures l.invariant
 
 pub returns : goal.returns
 returns c =
     let l = c.loop-k in
-    keys_all c.args.s.now l.keys c.args.keys.now l.k (omega arith) c.requires.rows.1 l.invariant.2
+    keys_all c.args.s.now l.keys c.args.keys.now l.k c.loop-k-test.false c.requires.rows.1 l.invariant

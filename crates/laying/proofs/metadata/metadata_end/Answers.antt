@@ -3,7 +3,7 @@ use Rattle.laying.proofs.MetadataLaws.{is_metadata, is_definition, is_section, n
 use Rattle.laying.proofs.MetadataLaws.{come_next, come_end, come_over}
 use native.Mathlib.Omega.{arith}
 use mathlib.Core.Path.{sym, ◌∙◌}
-use mathlib.Core.Logic.{inl, inr}
+use mathlib.Core.Logic.{inl, inr, ⊎_elim}
 use Rattle.laying.proofs.metadata.metadata_end.Goals as goal
 
 pub loop-place-init : goal.loop-place-init
@@ -28,14 +28,8 @@ loop-place-preserved c =
 pub returns-in-Definition : goal.returns-in-Definition
 returns-in-Definition c =
     let s = c.args.s.now in
-    let kind = is_definition _ (sym c.kind_at.ensures ∙ c.in-Definition.is) in
-    come_end s c.loop-place.place c.loop-place.invariant c.loop-place-test.true (not_metadata (inl kind))
-
-pub returns-in-Section : goal.returns-in-Section
-returns-in-Section c =
-    let s = c.args.s.now in
-    let kind = is_section _ (sym c.kind_at.ensures ∙ c.in-Section.is) in
-    come_end s c.loop-place.place c.loop-place.invariant c.loop-place-test.true (not_metadata (inr kind))
+    let kind = ⊎_elim (λ d. inl (is_definition _ (sym c.kind_at.ensures ∙ d))) (λ e. inr (is_section _ (sym c.kind_at.ensures ∙ e))) c.in-Definition.is in
+    come_end s c.loop-place.place c.loop-place.invariant c.loop-place-test.true (not_metadata kind)
 
 pub returns : goal.returns
 returns c =

@@ -1,36 +1,16 @@
--- Number by number: the search from the number at hand on ends as the search from 1; at 33 none is left to try.
-use Rattle.outlines.proofs.SizeLaws.{both_of, common_found, common_more, common_over}
-use mathlib.Core.Path.{sym, ◌∙◌}
-use native.Mathlib.Omega.{arith}
+-- The search finds the first number that both divide, or none up to 32.
+use Rattle.std.proofs.Common.{◌≡◌, true, false, ◌&&◌, rules, tests, ◌∙◌, refl}
+use Rattle.std.proofs.lemmas.Iterator.{first_from_Range}
+use Rattle.outlines.specs.Sizes.{divides, common_by}
+use Rattle.outlines.proofs.SizeLaws.{first_is}
 use Rattle.outlines.proofs.sizes.common.Goals as goal
 
-pub returns-then-both : goal.returns-then-both
-returns-then-both c =
-    let a = c.args in
-    let l = c.loop-m in
-    let g
-    = c.goes_into in
-    let h = c.goes_into-in-loop-m in
-    let p = c.both in
-    let t = both_of a.a a.b l.m
-    g.result h.result p.result _ g.ensures h.ensures p.ensures c.if-both.true in sym
-    (common_found l.m a.a a.b c.loop-m-test.true t) ∙ l.invariant.2
-
-pub loop-m-preserved : goal.loop-m-preserved
-loop-m-preserved c =
-    let a = c.args in
-    let l = c.loop-m in
-    let g
-    = c.goes_into in
-    let h = c.goes_into-in-loop-m in
-    let p = c.both in
-    let t = both_of a.a a.b l.m
-    g.result h.result p.result _ g.ensures h.ensures p.ensures c.if-both.false in
-    (omega arith, omega arith, sym (common_more l.m a.a a.b c.loop-m-test.true t) ∙ l.invariant.2)
-
 pub returns : goal.returns
+unfolding common_by
 returns c =
-    let l = c.loop-m in
     let a = c.args in
-    sym (common_over l.m a.a a.b (omega (arith, c.loop-m-test.false)))
-    ∙ l.invariant.2
+    c.unwrap_or.ensures
+    ∙ first_is (λ n. divides a.a n && divides a.b n) 32 1 33 c.find.result refl
+    (first_from_Range _ _ _ c.find.result (λ n. (divides a.a n && divides a.b n) ≡ true) (λ n. (divides a.a n && divides a.b n) ≡ false) c.find.ensures.ran
+    (λ x q k. search (rules, tests))
+    (λ x q k. search (rules, tests)))

@@ -1,31 +1,9 @@
--- Word by word: copying those that are left gives the whole copy, for each is stored behind all words that are still to be read.
-use Rattle.player.proofs.CopyLaws.{copy_start, copy_next, copy_over}
-use Rattle.player.specs.Again.{same}
-use Rattle.std.proofs.Common.{refl, ◌∙◌, arith, length-set, rules}
+-- The library copies as many words as both the stretch and the table have; past its end nothing is stored.
+use Rattle.player.proofs.CopyLaws.{copied_within, copied_none}
 use Rattle.player.proofs.again.copy.Goals as goal
 
-pub loop-i-init : goal.loop-i-init
-loop-i-init c = (
-  omega arith,
-  refl,
-  search rules,
-  copy_start same c.args.t.now c.args.from
-      c.args.to,
-)
+pub returns-then-to-t : goal.returns-then-to-t
+returns-then-to-t c = let a = c.args in copied_within a.t.now _ a.from a.to _ c.requires c.if-to-t.true c.min-n.ensures c.copy_within.ensures.after
 
-pub loop-i-preserved : goal.loop-i-preserved
-loop-i-preserved c =
-    let a = c.args in
-    let l = c.loop-i in (
-      omega arith,
-      length-set l.t _ _ ∙ l.invariant.1,
-      l.invariant.2,
-      copy_next same l.t _ a.from a.to l.i _ c.requires
-          (omega (arith, l.invariant.2, c.loop-i-test.true)) (omega (arith, l.invariant.1, l.invariant.2, c.loop-i-test.true)) (refl) l.invariant.3,
-    )
-
-pub returns : goal.returns
-returns c =
-    let a = c.args in
-    let l = c.loop-i in
-    copy_over same l.t _ a.from a.to _ l.i (omega (arith, l.invariant.1, l.invariant.2)) c.loop-i-test.false l.invariant.3
+pub returns-else-to-t : goal.returns-else-to-t
+returns-else-to-t c = let a = c.args in copied_none a.t.now a.from a.to c.if-to-t.false

@@ -22,7 +22,7 @@ loop-i-preserved c =
       l.invariant.2,
       copy_next (later c.args.step) l.t _ a.from a.to l.i _
           c.requires (omega (arith, l.invariant.2, c.loop-i-test.true))
-          (omega (arith, l.invariant.1, l.invariant.2, c.loop-i-test.true)) c.wrapping_add_u32.ensures.value l.invariant.3,
+          (omega (arith, l.invariant.1, l.invariant.2, c.loop-i-test.true)) refl l.invariant.3,
     )
 
 pub returns : goal.returns

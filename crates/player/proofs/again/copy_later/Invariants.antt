@@ -8,6 +8,3 @@ abbrev pub invariant-loop-i : goal.invariant-loop-i
 invariant-loop-i l =
     (l.i ≤ l.n) × (length l.t ≡ length l.initial.t) × (l.n ≡ min (l.to - l.from) (length l.initial.t - l.to))
     × (copying (later l.step) l.t (l.from + l.i) (l.to + l.i) (l.to - l.from - l.i) ≡ copy_of (later l.step) l.initial.t l.from l.to)
-
-abbrev pub decreases-loop-i : goal.decreases-loop-i
-decreases-loop-i l = l.n - l.i

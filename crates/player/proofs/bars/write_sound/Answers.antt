@@ -1,12 +1,9 @@
--- The head, then the same word for the beats that are held.
-use Rattle.player.proofs.BarLaws.{sound_none, sound_some}
+-- The table is filled, then the head stored in its first place, if it has one.
+use Rattle.player.proofs.BarLaws.{sound_set, sound_none}
 use Rattle.player.proofs.bars.write_sound.Goals as goal
 
-pub returns-then-share-eq0 : goal.returns-then-share-eq0
-returns-then-share-eq0 c = let a = c.args in sound_none a.share a.v a.b a.bs.now c.if-share-eq0.true
+pub returns-in-Some : goal.returns-in-Some
+returns-in-Some c = sound_set _ _ _ _ (c.fill.ensures.after (λ y e. e)) c.head_word.ensures
 
-pub returns : goal.returns
-returns c =
-    let a = c.args in
-    sound_some a.share a.v a.b a.bs.now _ c.if-share-eq0.false
-    (rw c.head_word.ensures at c.write_words.ensures)
+pub returns-in_default : goal.returns-in_default
+returns-in_default c = sound_none _ _ _ (c.fill.ensures.after (λ y e. e)) c.in_default.ensures.item.3

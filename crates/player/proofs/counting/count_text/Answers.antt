@@ -8,7 +8,7 @@ pub returns : goal.returns
 returns c =
     let a = c.args in
     let ws = a.words.now in
-    let t = counted_text (row_of a.n ws a.s) _ _ _ _ _ _ c.opening.ensures (short_row a.n ws c.requires.0 a.s) c.requires.1 c.rounds-q.ensures in record {
+    let t = counted_text (row_of a.n ws a.s) _ _ _ _ _ _ c.opening.ensures (short_row a.n ws c.requires.0 a.s) c.requires.1 c.rounds.ensures.played in record {
       measures = t.0;
       beats = t.1;
       bound = (t.2, t.3);

@@ -1,13 +1,16 @@
--- The test is that of the definition: 0 for a remover and 1 for any other kind, neither past 1.
+-- The test is that of the definition.
+use Rattle.std.proofs.Common.{◌≡◌, ℕ, ◌≤◌, eqb, arith}
+use mir.Val.{bool_byte}
+use mathlib.Core.Bool.{not}
 use Rattle.player.specs.Signs.{sounds_as}
-use Rattle.std.proofs.Common.{arith, eq-eqb, ne_eqb}
 use Rattle.songcode.specs.Lists.{provided◌then◌else◌}
+use Rattle.songcode.proofs.ListLaws.{by_cases}
 use Rattle.player.proofs.leaves.sounds.Goals as goal
 
-pub returns-then-k-eq-REMOVER : goal.returns-then-k-eq-REMOVER
+one_but : (k n : ℕ) → n ≡ bool_byte (not (eqb k 61)) → (n ≡ sounds_as k) × (n ≤ 1)
 unfolding sounds_as provided◌then◌else◌
-returns-then-k-eq-REMOVER c = (simp (eq-eqb _ _ c.if-k-eq-REMOVER.true), omega arith)
+one_but k n e =
+    by_cases (eqb k 61) (λ q. let z : n ≡ 0 = rw q at e in (rw (q, z), omega arith)) (λ q. let z : n ≡ 1 = rw q at e in (rw (q, z), omega arith))
 
-pub returns-else-k-eq-REMOVER : goal.returns-else-k-eq-REMOVER
-unfolding sounds_as provided◌then◌else◌
-returns-else-k-eq-REMOVER c = (simp (ne_eqb _ _ c.if-k-eq-REMOVER.false), omega arith)
+pub returns : goal.returns
+returns c = one_but c.args.k c.from.result c.from.ensures

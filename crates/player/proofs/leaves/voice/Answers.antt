@@ -1,17 +1,15 @@
--- A chord, `%`, or another: the kind tells which, and none is past the bound, a chord by its kind, the last chord as required.
+-- A chord, `%`, or another: the kind tells which, and none is past the bound.
 use Rattle.player.specs.Signs.{voice_of}
-use Rattle.std.proofs.Common.{arith, le-ltb, lt-ltb, eq-eqb, ne_eqb}
+use Rattle.std.proofs.Common.{le-ltb, lt-ltb, eq-eqb, ne_eqb}
 use Rattle.songcode.specs.Lists.{provided◌then◌else◌}
 use Rattle.player.proofs.leaves.voice.Goals as goal
-
-pub returns-then-k-lt-CHORDS : goal.returns-then-k-lt-CHORDS
-unfolding voice_of provided◌then◌else◌
-returns-then-k-lt-CHORDS c = (simp (← c.kind-k.ensures, lt-ltb _ _ c.if-k-lt-CHORDS.true), omega (arith, c.kind-k.ensures))
-
-pub returns-then-k-eq-AGAIN : goal.returns-then-k-eq-AGAIN
-unfolding voice_of provided◌then◌else◌
-returns-then-k-eq-AGAIN c = (simp (← c.kind-k.ensures, le-ltb _ _ c.if-k-lt-CHORDS.false, eq-eqb _ _ c.if-k-eq-AGAIN.true), c.requires)
+use Rattle.player.proofs.leaves.voice.Goals.{then-k-lt-CHORDS, else-k-lt-CHORDS+then-k-eq-AGAIN, else-k-lt-CHORDS+else-k-eq-AGAIN}
 
 pub returns : goal.returns
 unfolding voice_of provided◌then◌else◌
-returns c = (simp (← c.kind-k.ensures, le-ltb _ _ c.if-k-lt-CHORDS.false, ne_eqb _ _ c.if-k-eq-AGAIN.false), omega arith)
+returns c =
+    elim c.if-k-lt-CHORDS.branch [
+      | then-k-lt-CHORDS w ↦ simp (w.result-is, ← c.kind-k.ensures, lt-ltb _ _ w.if-k-lt-CHORDS.true)
+      | else-k-lt-CHORDS+then-k-eq-AGAIN w ↦ simp (w.result-is, ← c.kind-k.ensures, le-ltb _ _ w.if-k-lt-CHORDS.false, eq-eqb _ _ w.if-k-eq-AGAIN.true)
+      | else-k-lt-CHORDS+else-k-eq-AGAIN w ↦ simp (w.result-is, ← c.kind-k.ensures, le-ltb _ _ w.if-k-lt-CHORDS.false, ne_eqb _ _ w.if-k-eq-AGAIN.false)
+    ]

@@ -18,9 +18,9 @@ pub returns : goal.returns
 returns c =
     let a = c.args.a in
     let w = planned_is (repeated_row c.args.words.now a) a.front a.back _ _ _ _ _ _ _ c.requires.measures
-    c.tally-all.ensures.measures c.least.ensures
+    c.tally-all.ensures.measures c.min.ensures
     c.beats_before.ensures.0 refl c.beats_but-last.ensures.0
-    c.minus.ensures c.minus-left.ensures in record {
+    c.saturating_sub.ensures c.saturating_sub-2.ensures in record {
       todo = w.0;
       skip = w.1;
       left = w.2;

@@ -6,8 +6,8 @@ use Rattle.songcode.specs.Lists.{times}
 use Rattle.std.proofs.Common.{arith}
 use Rattle.player.proofs.playing.play_cut.Goals as goal
 
-pub at_pattern-requires : goal.at_pattern-requires
-at_pattern-requires c =
+pub at_pattern-page-requires : goal.at_pattern-page-requires
+at_pattern-page-requires c =
     let a = c.args in
     let x = a.a in
     let ws = a.words.now in
@@ -16,30 +16,30 @@ at_pattern-requires c =
     let tail = row_of x.n ws x.tail in
     let pen = c.requires.1 in
     skip_fits x.front x.back x.repeat lead row tail c.planned-plan.result
-    (c.planned-plan.ensures.todo, c.planned-plan.ensures.skip, c.planned-plan.ensures.left) a.p c.rounds-led.result a.ms.now
-    a.bs.now _ _
-    (pen.todo, pen.measures, pen.beats) (omega (arith, c.requires.0.room)) c.rounds-led.ensures c.requires.0.countable.cuts
+    (c.planned-plan.ensures.todo, c.planned-plan.ensures.skip, c.planned-plan.ensures.left) a.page.now.pen c.rounds.new.page.pen a.page.now.measures.now
+    a.page.now.beats.now _ _
+    (pen.todo, pen.measures, pen.beats) (omega (arith, c.requires.0.room)) c.rounds.ensures.played c.requires.0.countable.cuts
     (short_times x.repeat row (short_row x.n ws c.requires.0.countable.meter x.pattern)) c.requires.0.countable.measures pen.skip
 
-pub rounds-kept-requires : goal.rounds-kept-requires
-rounds-kept-requires c =
-    let at : AtPattern c.planned-plan.result c.rounds-led.result c.at_pattern.result =
-    (c.at_pattern.ensures.numbers, (c.at_pattern.ensures.skip, (c.at_pattern.ensures.left, c.at_pattern.ensures.todo))) in
+pub rounds-requires-2 : goal.rounds-requires-2
+rounds-requires-2 c =
+    let at : AtPattern c.planned-plan.result c.rounds.new.page.pen c.at_pattern-page.result =
+    (c.at_pattern-page.ensures.numbers, (c.at_pattern-page.ensures.skip, (c.at_pattern-page.ensures.left, c.at_pattern-page.ensures.todo))) in
     let a = c.args in
     let x = a.a in
     let lead = row_of x.n a.words.now x.lead in
     let pen = c.requires.1 in (
-      fine_pattern _ _ _ (fine_rounds (times 1 lead) _ _ _ _ c.rounds-led.ensures
+      fine_pattern _ _ _ (fine_rounds (times 1 lead) _ _ _ _ c.rounds.ensures.played
           (opening_fine _ pen)) at,
       c.requires.0.countable.meter,
     )
 
-pub rounds-ended-requires : goal.rounds-ended-requires
-rounds-ended-requires c =
-    let at : AtPattern c.planned-plan.result c.rounds-led.result c.at_pattern.result =
-    (c.at_pattern.ensures.numbers, (c.at_pattern.ensures.skip, (c.at_pattern.ensures.left, c.at_pattern.ensures.todo))) in
-    let behind : AtTail c.planned-plan.result c.rounds-led.result c.rounds-kept.result c.at_tail.result =
-    (c.at_tail.ensures.numbers, (c.at_tail.ensures.skip, (c.at_tail.ensures.left, c.at_tail.ensures.todo))) in
+pub rounds-requires-3 : goal.rounds-requires-3
+rounds-requires-3 c =
+    let at : AtPattern c.planned-plan.result c.rounds.new.page.pen c.at_pattern-page.result =
+    (c.at_pattern-page.ensures.numbers, (c.at_pattern-page.ensures.skip, (c.at_pattern-page.ensures.left, c.at_pattern-page.ensures.todo))) in
+    let behind : AtTail c.planned-plan.result c.rounds.new.page.pen c.rounds-2.new.page.pen c.at_tail-page.result =
+    (c.at_tail-page.ensures.numbers, (c.at_tail-page.ensures.skip, (c.at_tail-page.ensures.left, c.at_tail-page.ensures.todo))) in
     let a = c.args in
     let x = a.a in
     let ws = a.words.now in
@@ -47,17 +47,17 @@ rounds-ended-requires c =
     let row = row_of x.n ws x.pattern in
     let tail = row_of x.n ws x.tail in
     let pen = c.requires.1 in
-    let f = fine_rounds (times 1 lead) _ _ _ _ c.rounds-led.ensures (opening_fine _ pen) in (
-      fine_tail _ (times x.repeat row) _ _ _ _ _ _ _ _ f at c.rounds-kept.ensures behind,
+    let f = fine_rounds (times 1 lead) _ _ _ _ c.rounds.ensures.played (opening_fine _ pen) in (
+      fine_tail _ (times x.repeat row) _ _ _ _ _ _ _ _ f at c.rounds-2.ensures.played behind,
       c.requires.0.countable.meter,
     )
 
-pub returns : goal.returns
-returns c =
-    let at : AtPattern c.planned-plan.result c.rounds-led.result c.at_pattern.result =
-    (c.at_pattern.ensures.numbers, (c.at_pattern.ensures.skip, (c.at_pattern.ensures.left, c.at_pattern.ensures.todo))) in
-    let behind : AtTail c.planned-plan.result c.rounds-led.result c.rounds-kept.result c.at_tail.result =
-    (c.at_tail.ensures.numbers, (c.at_tail.ensures.skip, (c.at_tail.ensures.left, c.at_tail.ensures.todo))) in
+pub returns-clause-played : goal.returns-clause-played
+returns-clause-played c =
+    let at : AtPattern c.planned-plan.result c.rounds.new.page.pen c.at_pattern-page.result =
+    (c.at_pattern-page.ensures.numbers, (c.at_pattern-page.ensures.skip, (c.at_pattern-page.ensures.left, c.at_pattern-page.ensures.todo))) in
+    let behind : AtTail c.planned-plan.result c.rounds.new.page.pen c.rounds-2.new.page.pen c.at_tail-page.result =
+    (c.at_tail-page.ensures.numbers, (c.at_tail-page.ensures.skip, (c.at_tail-page.ensures.left, c.at_tail-page.ensures.todo))) in
     let a = c.args in
     let x = a.a in
     let ws = a.words.now in
@@ -67,8 +67,8 @@ returns c =
     let pen = c.requires.1 in
     let w =
     wrote_window x.front x.back x.repeat lead row tail c.planned-plan.result
-    (c.planned-plan.ensures.todo, c.planned-plan.ensures.skip, c.planned-plan.ensures.left) a.p c.rounds-led.result a.ms.now
-    a.bs.now _ _
-    (pen.todo, pen.measures, pen.beats) (omega (arith, c.requires.0.room)) c.rounds-led.ensures
-    _ _ _ _ _ _ _ _ at c.rounds-kept.ensures behind c.rounds-ended.ensures in
+    (c.planned-plan.ensures.todo, c.planned-plan.ensures.skip, c.planned-plan.ensures.left) a.page.now.pen c.rounds.new.page.pen a.page.now.measures.now
+    a.page.now.beats.now _ _
+    (pen.todo, pen.measures, pen.beats) (omega (arith, c.requires.0.room)) c.rounds.ensures.played
+    _ _ _ _ _ _ _ _ at c.rounds-2.ensures.played behind c.rounds-3.ensures.played in
     record { measures = w.measures; beats = w.beats; measure_table = w.measure_table; beat_table = w.beat_table }

@@ -13,8 +13,8 @@ pub returns : goal.returns
 returns c =
     let a = c.args.a in
     let e = c.requires.0.even c.if-a-eq0.false in
-    let few = even_few a.n c.least-measures.result c.requires.0.meter (omega (arith, c.least-measures.ensures, c.requires.1)) in record {
-      measures = c.least-measures.ensures ∙ ap (min c.args.k) (even_measures_lem e a.repeat);
-      beats = ap (λ x. a.n * x) c.least-measures.ensures ∙ even_beats e a.repeat c.args.k;
+    let few = even_few a.n c.min-measures.result c.requires.0.meter (omega (arith, c.min-measures.ensures, c.requires.1)) in record {
+      measures = c.min-measures.ensures ∙ ap (min c.args.k) (even_measures_lem e a.repeat);
+      beats = ap (λ x. a.n * x) c.min-measures.ensures ∙ even_beats e a.repeat c.args.k;
       bound = few;
     }

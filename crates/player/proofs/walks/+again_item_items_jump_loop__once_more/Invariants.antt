@@ -1,9 +1,9 @@
 -- Five steps for a level of depth, in the order in which the functions call each other there.
-use Rattle.std.proofs.Common.{◌≡◌, ◌+◌, ◌-◌, ◌*◌, ◌≤◌, ℕ, length}
+use Rattle.std.proofs.Common.{◌≡◌, ◌+◌, ◌-◌, ◌*◌, ◌≤◌, ℕ}
 use Rattle.songcode.specs.Lists.{times}
-use Rattle.player.specs.Page.{Page, Fine, play}
+use Rattle.player.specs.Page.{Fine, SameTables, play, shown}
 use Rattle.player.specs.Again.{Took}
-use Rattle.player.specs.Walks.{End, finish, rows_by, level, level_from}
+use Rattle.player.specs.Walks.{finish, rows_by, level, level_from}
 use Rattle.player.proofs.walks.+again_item_items_jump_loop__once_more.Given as goal
 
 abbrev pub decreases-again : goal.decreases-again
@@ -24,23 +24,18 @@ decreases-loop_ l = 5 * l.s.depth + 3
 abbrev pub decreases-once_more : goal.decreases-once_more
 decreases-once_more l = 5 * l.s.depth + 1
 
-abbrev pub invariant-again-loop-i : goal.invariant-again-loop-i
-invariant-again-loop-i l =
-    (l.i ≤ l.k) × Fine l.after × (length l.ms ≡ length l.initial.ms) × (length l.bs ≡ length l.initial.bs)
-    × Took (level_from l.s l.start l.words).row l.before l.after l.ms l.bs
-    × (◌≡◌ {A = Page} (play (times (l.k - l.i) (level_from l.s l.start l.words).row) (record { pen = l.after; ms = l.ms; bs = l.bs }))
-    (play (times l.k (level_from l.s l.start l.words).row) (record { pen = l.initial.after; ms = l.initial.ms; bs = l.initial.bs })))
+abbrev pub invariant-again-loop-pass : goal.invariant-again-loop-pass
+invariant-again-loop-pass l =
+    (l._pass ≤ l.k) × Fine l.page.pen × SameTables l.initial.page l.page
+    × Took (level_from l.s l.start).row l.last (shown l.page)
+    × (play (times (l.k - l._pass) (level_from l.s l.start).row) (shown l.page)
+    ≡ play (times l.k (level_from l.s l.start).row) (shown l.initial.page))
 
-abbrev pub decreases-again-loop-i : goal.decreases-again-loop-i
-decreases-again-loop-i l = l.k - l.i
+abbrev pub invariant-items-loop-w : goal.invariant-items-loop-w
+invariant-items-loop-w l =
+    (f : ℕ) × (l.s.to ≤ l.w.at + f) × Fine l.page.pen × SameTables l.initial.page l.page
+    × (finish (rows_by (level (l.s.depth - 1) l.s.n l.s.words.now) l.s.n l.s.words.now f l.s.to l.w.at l.w.last.word) (shown l.page)
+    ≡ finish (level_from l.s l.initial.w) (shown l.initial.page))
 
-abbrev pub invariant-items-loop-s : goal.invariant-items-loop-s
-invariant-items-loop-s l =
-    (f : ℕ) × (l.s.to ≤ l.w.at + f) × (l.w.last ≤ 4227858432) × Fine l.w.pen × (length l.ms ≡ length l.initial.ms)
-    × (length l.bs ≡ length l.initial.bs)
-    × (◌≡◌ {A = End} (finish (rows_by (level (l.s.depth - 1) l.s.n l.words) l.s.n l.words f l.s.to l.w.at l.w.last)
-    (record { pen = l.w.pen; ms = l.ms; bs = l.bs })) (finish (level_from l.s l.initial.w l.words)
-    (record { pen = l.initial.w.pen; ms = l.initial.ms; bs = l.initial.bs })))
-
-abbrev pub decreases-items-loop-s : goal.decreases-items-loop-s
-decreases-items-loop-s l = l.s.to - l.w.at
+abbrev pub decreases-items-loop-w : goal.decreases-items-loop-w
+decreases-items-loop-w l = l.s.to - l.w.at

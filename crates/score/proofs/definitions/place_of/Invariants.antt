@@ -4,8 +4,5 @@ use mathlib.Core.Path.{◌≡◌}
 use Rattle.score.specs.Places.{place_by}
 use Rattle.score.proofs.definitions.place_of.Given as goal
 
-abbrev pub invariant-loop-passed : goal.invariant-loop-passed
-invariant-loop-passed l = (l.passed ≤ 26) × (l.at ≤ l.passed * 131071) × (place_by (26 - l.passed) l.words l.at l.x ≡ place_by 26 l.words 0 l.x)
-
-abbrev pub decreases-loop-passed : goal.decreases-loop-passed
-decreases-loop-passed l = 26 - l.passed
+abbrev pub invariant-loop : goal.invariant-loop
+invariant-loop l = (l.at ≤ l.counter * 131071) × (place_by (26 - l.counter) l.words l.at l.x ≡ place_by 26 l.words 0 l.x)

@@ -4,4 +4,4 @@ use Rattle.sections.proofs.blocks.kind_at.Goals as goal
 
 pub returns : goal.returns
 returns c = let a = c.args in
-    kind_is_lem a.s.now a.number a.at c.line_start-a.result c.line_start-a.ensures.0 c.block_kind.ensures
+    kind_is_lem a.s.now a.number a.at c.line_start.result c.line_start.ensures.0 c.block_kind.ensures

@@ -11,7 +11,7 @@ returns c = let a = c.args in
     record {
       head = refl;
       id = definition_id a.s.now a.number a.at (omega arith) (omega arith) (omega arith) found c.head_in.ensures
-          c.number_or.ensures;
+          c.unwrap_or.ensures;
       pattern_placed = longest_placed run (omega arith) (omega (arith, found.onward));
       pattern = run.lines ∙ sym (others_are a.s.now a.number a.at (omega arith) (omega arith) (omega arith) found);
       past = run.behind ∙ sym (past_are a.s.now a.number a.at (omega arith) (omega arith) (omega arith) found);

@@ -1,16 +1,17 @@
--- Each kind that the code answers is that of one kind of the definition, and of the three only the last is a pattern's.
-use Rattle.sections.specs.Runs.{is_pattern_text, is_pattern_kind}
-use Rattle.sections.proofs.TestLaws.{pattern_read, key_read, modifier_read}
+-- Of the three kinds only the last is a pattern's.
+use mathlib.Core.Path.{◌≡◌, ◌∙◌}
+use borrow.Author.Tests.{tests}
+use Rattle.std.proofs.Common.{rules}
+use Rattle.songcode.proofs.ListLaws.{by_cases}
+use Rattle.settings.specs.declared.kinds.Kind.TheVariants.{Pattern}
+use Rattle.sections.specs.Runs.{is_pattern_text}
+use Rattle.sections.proofs.TestLaws.{pattern_read, other_read}
 use Rattle.sections.proofs.runs.is_pattern.Goals as goal
 
-pub returns-in-Key : goal.returns-in-Key
-unfolding is_pattern_text is_pattern_kind
-returns-in-Key c = rw (key_read _ c.kind_of.ensures c.in-Key.is)
-
-pub returns-in-Modifier : goal.returns-in-Modifier
-unfolding is_pattern_text is_pattern_kind
-returns-in-Modifier c = rw (modifier_read _ c.kind_of.ensures c.in-Modifier.is)
-
-pub returns-in-Pattern : goal.returns-in-Pattern
+pub returns : goal.returns
 unfolding is_pattern_text
-returns-in-Pattern c = pattern_read _ c.kind_of.ensures c.in-Pattern.is
+returns c =
+    by_cases
+    c.eq.result
+    (λ t. let e : c.kind_of.result ≡ Pattern = search (rules, tests) in t ∙ pattern_read _ c.kind_of.ensures e)
+    (λ t. let n : c.kind_of.result ≡ Pattern → ⊥ = search (rules, tests) in t ∙ other_read _ c.kind_of.ensures n)

@@ -4,4 +4,4 @@ use Rattle.sections.proofs.runs.is_pattern_at.Goals as goal
 
 pub returns : goal.returns
 returns c = let a = c.args in
-    pattern_front a.s.now 0 a.at c.line_start-a.result c.line_start-a.ensures.0 c.is_pattern.ensures
+    pattern_front a.s.now 0 a.at c.line_start.result c.line_start.ensures.0 c.is_pattern.ensures

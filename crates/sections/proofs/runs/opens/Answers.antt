@@ -3,16 +3,13 @@ use Rattle.sections.specs.Runs.{opens}
 use Rattle.sections.specs.declared.runs.Test.TheVariants.{Full, Body, Early, Pattern}
 use mathlib.Core.Path.{ap}
 use mathlib.Core.Bool.{not}
+use mathlib.Core.Logic.{inl, inr}
 use Rattle.sections.proofs.TestLaws.{opens_by, pattern_on, pattern_off}
 use Rattle.sections.proofs.runs.opens.Goals as goal
 
 pub returns-in-Full : goal.returns-in-Full
 unfolding opens
-returns-in-Full c = opens_by Full _ c.in-Full.is c.is_full.ensures
-
-pub returns-in-Body : goal.returns-in-Body
-unfolding opens
-returns-in-Body c = opens_by Body _ c.in-Body.is c.is_full-in-Body.ensures
+returns-in-Full c = elim c.in-Full.is [ inl e ↦ opens_by Full _ e c.is_full.ensures | inr e ↦ opens_by Body _ e c.is_full.ensures ]
 
 pub returns-in-Early : goal.returns-in-Early
 unfolding opens

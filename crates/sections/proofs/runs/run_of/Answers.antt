@@ -38,7 +38,7 @@ loop-next-preserved c = let a = c.args in
           (not-false _ c.if-not-opens.false-raw) c.if-is_parted.false),
     )
 
-pub returns : goal.returns
-returns c = let a = c.args in
+pub returns-after-loop-next : goal.returns-after-loop-next
+returns-after-loop-next c = let a = c.args in
     longest a.s.now a.test a.number a.at c.loop-next.lines c.loop-next.next (omega arith) (omega arith) (omega arith) c.loop-next.invariant.3
     (walked_over a.s.now (passing a.test) a.number a.at c.loop-next.lines c.loop-next.next c.loop-next-test.false)

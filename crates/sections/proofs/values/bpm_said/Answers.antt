@@ -7,12 +7,11 @@ use native.Mathlib.Omega.{arith}
 use Prim.Native.Nat.{ℕ, ◌≤◌}
 use Rattle.sections.proofs.values.bpm_said.Goals as goal
 
-pub returns-then-said-eq0 : goal.returns-then-said-eq0
+pub returns-in-None : goal.returns-in-None
 unfolding bpm_said
-returns-then-said-eq0 c = let a = c.args in (said_otherwise a.s.now a.said bpm_in 511 c.if-said-eq0.true, omega arith)
+returns-in-None c = (said_otherwise c.args.s.now bpm_in 511 c.in-None.is, omega arith)
 
-pub returns : goal.returns
+pub returns-in-Some : goal.returns-in-Some
 unfolding bpm_said
-returns c = let a = c.args in
-    said_number a.s.now a.said bpm_in 511 (λ (r : ℕ). r ≤ 511) bpm_in_placeless (omega arith) bpm_range c.if-said-eq0.false
-    c.bpm_in.ensures c.number_or.ensures
+returns-in-Some c =
+    said_number c.args.s.now bpm_in 511 (λ (r : ℕ). r ≤ 511) bpm_in_placeless (omega arith) bpm_range c.in-Some.is c.bpm_in.ensures c.unwrap_or.ensures

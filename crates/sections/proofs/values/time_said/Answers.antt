@@ -7,12 +7,11 @@ use native.Mathlib.Omega.{arith}
 use Prim.Native.Nat.{ℕ, ◌≤◌}
 use Rattle.sections.proofs.values.time_said.Goals as goal
 
-pub returns-then-said-eq0 : goal.returns-then-said-eq0
+pub returns-in-None : goal.returns-in-None
 unfolding time_said
-returns-then-said-eq0 c = let a = c.args in (said_otherwise a.s.now a.said time_in 0 c.if-said-eq0.true, omega arith)
+returns-in-None c = (said_otherwise c.args.s.now time_in 0 c.in-None.is, omega arith)
 
-pub returns : goal.returns
+pub returns-in-Some : goal.returns-in-Some
 unfolding time_said
-returns c = let a = c.args in
-    said_number a.s.now a.said time_in 0 (λ (r : ℕ). r ≤ 32) time_in_placeless (omega arith) time_range c.if-said-eq0.false
-    c.time_in.ensures c.number_or.ensures
+returns-in-Some c =
+    said_number c.args.s.now time_in 0 (λ (r : ℕ). r ≤ 32) time_in_placeless (omega arith) time_range c.in-Some.is c.time_in.ensures c.unwrap_or.ensures

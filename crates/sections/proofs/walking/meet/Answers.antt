@@ -5,4 +5,4 @@ use Rattle.sections.proofs.walking.meet.Goals as goal
 pub returns : goal.returns
 returns c =
     let pre = c.requires in
-    section_meets _ _ _ _ pre.0 pre.1 c.pass-x.ensures c.read_parts-section.ensures
+    section_meets _ _ _ _ pre.0 pre.1 c.pass-x.ensures c.read_parts.ensures

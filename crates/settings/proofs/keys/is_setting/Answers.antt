@@ -1,4 +1,5 @@
--- Key by key the setting is a phrase, a base or a number that is there, as the definition wants it; an unknown key has none.
+-- Key by key the setting is a phrase, a base or a number that is there, as the definition wants it.
+use mathlib.Core.Logic.{inl, inr}
 use mathlib.Core.Path.{◌∙◌}
 use Rattle.songcode.specs.Bytes.{placed}
 use Rattle.songcode.specs.Answer.Numbers.{number_in}
@@ -9,11 +10,11 @@ use Rattle.settings.proofs.keys.is_setting.Goals as goal
 
 pub returns-in-Name : goal.returns-in-Name
 unfolding is_setting_of is_setting
-returns-in-Name c = c.is_phrase.ensures ∙ rw c.in-Name.is
-
-pub returns-in-Artist : goal.returns-in-Artist
-unfolding is_setting_of is_setting
-returns-in-Artist c = c.is_phrase-in-Artist.ensures ∙ rw c.in-Artist.is
+returns-in-Name c =
+    elim c.in-Name.is [
+      | inl e ↦ c.is_phrase.ensures ∙ rw e
+      | inr f ↦ elim f [ inl e ↦ c.is_phrase.ensures ∙ rw e | inr g ↦ elim g [ inl e ↦ c.is_phrase.ensures ∙ rw e | inr e ↦ c.is_phrase.ensures ∙ rw e ] ]
+    ]
 
 pub returns-in-Original : goal.returns-in-Original
 unfolding is_setting_of is_setting
@@ -22,26 +23,14 @@ returns-in-Original c = c.is_base.ensures ∙ rw c.in-Original.is
 pub returns-in-Capo : goal.returns-in-Capo
 unfolding is_setting_of is_setting
 returns-in-Capo c = let w = c.args.w.now in
-    number_there (number_in 1 20 (placed 0 w)) c.is_number.ensures c.number_in.ensures ∙ rw c.in-Capo.is
+    number_there (number_in 1 20 (placed 0 w)) c.is_some.ensures c.number_in.ensures ∙ rw c.in-Capo.is
 
 pub returns-in-Bpm : goal.returns-in-Bpm
 unfolding is_setting_of is_setting
 returns-in-Bpm c = let w = c.args.w.now in
-    number_there (bpm_in (placed 0 w)) c.is_number-in-Bpm.ensures c.bpm_in.ensures ∙ rw c.in-Bpm.is
+    number_there (bpm_in (placed 0 w)) c.is_some-in-Bpm.ensures c.bpm_in.ensures ∙ rw c.in-Bpm.is
 
 pub returns-in-Time : goal.returns-in-Time
 unfolding is_setting_of is_setting
 returns-in-Time c = let w = c.args.w.now in
-    number_there (time_in (placed 0 w)) c.is_number-in-Time.ensures c.time_in.ensures ∙ rw c.in-Time.is
-
-pub returns-in-Warning : goal.returns-in-Warning
-unfolding is_setting_of is_setting
-returns-in-Warning c = c.is_phrase-in-Warning.ensures ∙ rw c.in-Warning.is
-
-pub returns-in-End : goal.returns-in-End
-unfolding is_setting_of is_setting
-returns-in-End c = c.is_phrase-in-End.ensures ∙ rw c.in-End.is
-
-pub returns-in-Unknown : goal.returns-in-Unknown
-unfolding is_setting_of is_setting
-returns-in-Unknown c = rw c.in-Unknown.is
+    number_there (time_in (placed 0 w)) c.is_some-in-Time.ensures c.time_in.ensures ∙ rw c.in-Time.is

@@ -1,44 +1,34 @@
 -- The first byte decides, and behind `_` the second; a byte past the end is a zero, which is neither a sign nor a letter.
-use borrow.Author.Tests.{eq-eqb, ne_eqb}
+use mathlib.Core.Bool.{true, false}
+use mathlib.Core.Path.{◌≡◌}
+use borrow.Author.Tests.{tests}
+use lib.Dec.{eqb}
+use lib.ListN.{get_or}
+use Rattle.std.proofs.Common.{rules}
 use Rattle.songcode.specs.Lists.{provided◌then◌else◌}
-use Rattle.settings.specs.Kinds.{kind_is}
+use Rattle.settings.specs.Kinds.{letter, kind_is}
 use Rattle.settings.proofs.KindLaws.{kind_by, kind_by_lem}
 use Rattle.settings.proofs.kinds.kind_of.Goals as goal
 
-pub returns-then-b-eq64 : goal.returns-then-b-eq64
+pub returns-in-64 : goal.returns-in-64
 unfolding kind_by kind_is provided◌then◌else◌
-returns-then-b-eq64 c = let e = c.byte_at-b.ensures in
-    rw (kind_by_lem 0 c.args.w.now, ← e, eq-eqb _ _ c.if-b-eq64.true)
+returns-in-64 c = rw (kind_by_lem 0 c.args.w.now, ← c.byte_at.ensures, c.in-64.is)
 
-pub returns-then-b-ne95 : goal.returns-then-b-ne95
+pub returns-in-95 : goal.returns-in-95
 unfolding kind_by kind_is provided◌then◌else◌
-returns-then-b-ne95 c = let e = c.byte_at-b.ensures in
-    rw (kind_by_lem 0 c.args.w.now, ← e, ne_eqb _ _ c.if-b-eq64.false, ne_eqb _ _ c.if-b-ne95.true)
+returns-in-95 c =
+    let name : letter (get_or c.args.w.now 1 0) ≡ true = cc in
+    rw (kind_by_lem 0 c.args.w.now, ← c.byte_at.ensures, c.in-95.is, name)
 
-pub returns-then-is_letter : goal.returns-then-is_letter
+pub returns-in_default : goal.returns-in_default
 unfolding kind_by kind_is provided◌then◌else◌
-returns-then-is_letter c = let e = c.byte_at-b.ensures in
-    rw (
-      kind_by_lem 0 c.args.w.now,
-      ← e,
-      ne_eqb _ _ c.if-b-eq64.false,
-      eq-eqb _ _ c.if-b-ne95.false,
-      ←
-          c.byte_at.ensures,
-      ← c.is_letter.ensures,
-      c.if-is_letter.true,
-    )
+returns-in_default c =
+    let no_name : letter (get_or c.args.w.now 1 0) ≡ false = cc in
+    rw (kind_by_lem 0 c.args.w.now, ← c.byte_at.ensures, c.in-95.is, no_name)
 
-pub returns-else-is_letter : goal.returns-else-is_letter
+pub returns-in_default-2 : goal.returns-in_default-2
 unfolding kind_by kind_is provided◌then◌else◌
-returns-else-is_letter c = let e = c.byte_at-b.ensures in
-    rw (
-      kind_by_lem 0 c.args.w.now,
-      ← e,
-      ne_eqb _ _ c.if-b-eq64.false,
-      eq-eqb _ _ c.if-b-ne95.false,
-      ←
-          c.byte_at.ensures,
-      ← c.is_letter.ensures,
-      c.if-is_letter.false,
-    )
+returns-in_default-2 c =
+    let key : eqb c.byte_at.result 64 ≡ false = search (rules, tests) in
+    let modifier : eqb c.byte_at.result 95 ≡ false = search (rules, tests) in
+    rw (kind_by_lem 0 c.args.w.now, ← c.byte_at.ensures, key, modifier)

@@ -20,12 +20,12 @@ returns-then-k-a c = let a = c.args in (
   omega arith,
 )
 
-pub returns-in-Is : goal.returns-in-Is
-returns-in-Is c = let a = c.args in
+pub returns-in-Some : goal.returns-in-Some
+returns-in-Some c = let a = c.args in
     let k = c.word_start-k.result in
-    let n = c.in-Is.n in
+    let n = c.in-Some.n in
     let t = part k a.e a.s.now in
-    let m = count_behind_placeless k t ∙ number_some (count_behind (placed 0 t)) c.count_behind.ensures c.in-Is.is in
+    let m = count_behind_placeless k t ∙ number_some (count_behind (placed 0 t)) c.count_behind.ensures c.in-Some.is in
     let r = count_behind_range (placed k t) m in (
       words_counted a.s.now a.a k a.e (omega arith) (omega arith) (omega arith) c.word_start-k.ensures.0 c.solid_len.result n
           (omega (arith, c.if-k-a.false)) m c.solid_len.ensures.0 (omega arith)
@@ -35,12 +35,12 @@ returns-in-Is c = let a = c.args in
       omega arith,
     )
 
-pub returns-in-Not : goal.returns-in-Not
+pub returns-in-None : goal.returns-in-None
 unfolding count_from
-returns-in-Not c = let a = c.args in
+returns-in-None c = let a = c.args in
     let k = c.word_start-k.result in
     let t = part k a.e a.s.now in
-    let m = count_behind_placeless k t ∙ number_none (count_behind (placed 0 t)) c.count_behind.ensures c.in-Not.is in (
+    let m = count_behind_placeless k t ∙ number_none (count_behind (placed 0 t)) c.count_behind.ensures c.in-None.is in (
       words_uncounted a.s.now a.a k a.e (omega arith) (omega arith) (omega arith) c.word_start-k.ensures.0
           (omega (arith, c.if-k-a.false)) m,
       omega arith,

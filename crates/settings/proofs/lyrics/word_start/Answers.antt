@@ -1,27 +1,19 @@
--- Byte by byte from the end: those passed are no blanks, so what stands before the last word is the same without them.
-use mathlib.Core.Path.{refl, sym, ◌∙◌}
-use native.Mathlib.Omega.{arith}
-use Rattle.settings.proofs.LyricLaws.{word_stop, word_more, word_over}
+-- One more than the place of the last blank, or the beginning.
+use Prim.Native.Nat.{◌+◌}
+use mathlib.Core.Path.{◌≡◌, ap}
+use borrow.Author.Tests.{tests}
+use lib.ListN.{length}
+use Rattle.std.proofs.Common.{rules}
+use Rattle.std.specs.Option.{MatchOption}
+use Rattle.text.specs.Spans.{blank, part}
+use Rattle.text.proofs.SolidLaws.{YieldsList-back, position_from_back}
+use Rattle.settings.proofs.LyricLaws.{word_found}
 use Rattle.settings.proofs.lyrics.word_start.Goals as goal
 
-pub loop-z-init : goal.loop-z-init
-loop-z-init c = (omega arith, omega arith, refl)
-
-pub returns-then-is_blank : goal.returns-then-is_blank
-returns-then-is_blank c = let a = c.args in (
-  c.loop-z.invariant.2 ∙ word_stop a.s.now a.a c.loop-z.z (omega arith) (omega arith) (sym c.is_blank.ensures ∙ c.if-is_blank.true),
-  omega arith,
-  omega arith,
-)
-
-pub loop-z-preserved : goal.loop-z-preserved
-loop-z-preserved c = let a = c.args in (
-  omega arith,
-  omega arith,
-  c.loop-z.invariant.2 ∙ word_more a.s.now a.a c.loop-z.z (omega arith) (omega arith)
-      (sym c.is_blank.ensures ∙ c.if-is_blank.false),
-)
-
 pub returns : goal.returns
-returns c = let a = c.args in
-    (c.loop-z.invariant.2 ∙ word_over a.s.now a.a c.loop-z.z (omega arith), omega arith, omega arith)
+returns c =
+    let q = c.args in
+    let bytes = part q.a q.e q.s.now in
+    let found = position_from_back blank _ _ _ c.rposition.result c.rposition.ensures.ran (YieldsList-back bytes cc) (λ x b q k. search (rules, tests)) in
+    let place : MatchOption c.rposition.result (c.map_or.result ≡ q.a) (λ i. c.map_or.result ≡ q.a + i + 1) = search rules in
+    word_found q.s.now q.a q.e c.requires.0 c.requires.1 c.rposition.result (ap length c.iter.ensures.rest) found place

@@ -1,20 +1,16 @@
--- No byte passed has the value, so the bytes passed and those before it in the rest are those before it in the text.
-use mathlib.Core.Path.{ap}
-use native.Mathlib.Omega.{arith}
-use borrow.Author.Tests.{eq-eqb, ne_eqb}
-use mathlib.Core.Bool.{not}
+-- The place of the first byte that is of that value.
+use mathlib.Core.Path.{◌≡◌, sym, ◌∙◌}
+use mathlib.Core.Bool.{true, false, not}
+use borrow.Author.Tests.{tests}
+use Rattle.std.proofs.Common.{rules}
+use Rattle.std.proofs.lemmas.Iterator.{IsFirst-from_position, YieldsList-from_slice}
 use lib.Dec.{eqb}
-use Rattle.settings.proofs.PartLaws.{passing_stop, passing_more, passing_over}
+use Rattle.settings.proofs.PartLaws.{passing_found}
 use Rattle.settings.proofs.parts.length_before.Goals as goal
 
-pub returns-then-w-i : goal.returns-then-w-i
-returns-then-w-i c = let a = c.args in
-    (omega (arith, passing_stop (λ b. not (eqb b a.c)) a.w.now c.loop-i.i (omega arith) (ap not (eq-eqb _ _ c.if-w-i.true))), omega arith)
-
-pub loop-i-preserved : goal.loop-i-preserved
-loop-i-preserved c = let a = c.args in
-    (omega arith, omega (arith, passing_more (λ b. not (eqb b a.c)) a.w.now c.loop-i.i (omega arith) (ap not (ne_eqb _ _ c.if-w-i.false))))
-
 pub returns : goal.returns
-returns c = let a = c.args in
-    (omega (arith, passing_over (λ b. not (eqb b a.c)) a.w.now c.loop-i.i c.loop-i-test.false), omega arith)
+returns c =
+    let first = IsFirst-from_position _ _ _ (λ b. not (eqb b c.args.c) ≡ false) (λ b. not (eqb b c.args.c) ≡ true) c.position.ensures.ran
+    (YieldsList-from_slice c.args.w.now cc)
+    (λ x q k. search (rules, tests)) (λ x q k. search (rules, tests)) in
+    (c.unwrap_or.ensures ∙ sym (passing_found (λ b. not (eqb b c.args.c)) c.args.w.now c.position.result first), search rules)

@@ -1,21 +1,16 @@
--- No byte passed is blank, so the bytes passed and the word's length in the rest are the word's length in the text.
-use mathlib.Core.Path.{sym, ap, ◌∙◌}
-use native.Mathlib.Omega.{arith}
-use mathlib.Core.Bool.{not}
+-- The place of the first byte that is blank.
+use mathlib.Core.Path.{◌≡◌, sym, ◌∙◌}
+use mathlib.Core.Bool.{true, false, not}
+use borrow.Author.Tests.{tests}
+use Rattle.std.proofs.Common.{rules}
+use Rattle.std.proofs.lemmas.Iterator.{IsFirst-from_position, YieldsList-from_slice}
 use Rattle.text.specs.Spans.{blank}
-use Rattle.settings.proofs.PartLaws.{passing_stop, passing_more, passing_over}
+use Rattle.settings.proofs.PartLaws.{passing_found}
 use Rattle.settings.proofs.parts.word_length.Goals as goal
 
-pub returns-then-is_blank : goal.returns-then-is_blank
-returns-then-is_blank c = let w = c.args.w.now in
-    (omega (arith, passing_stop (λ b. not (blank b)) w c.loop-i.i (omega arith) (ap not (sym c.is_blank.ensures ∙ c.if-is_blank.true))), omega arith)
-
-pub loop-i-preserved : goal.loop-i-preserved
-loop-i-preserved c = let w = c.args.w.now in
-    (omega arith, omega (arith, passing_more (λ b. not (blank b)) w c.loop-i.i (omega arith) (ap not (sym c.is_blank.ensures ∙ c.if-is_blank.false))))
-
 pub returns : goal.returns
-returns c = (
-  omega (arith, passing_over (λ b. not (blank b)) c.args.w.now c.loop-i.i c.loop-i-test.false),
-  omega arith,
-)
+returns c =
+    let first = IsFirst-from_position _ _ _ (λ b. not (blank b) ≡ false) (λ b. not (blank b) ≡ true) c.position.ensures.ran
+    (YieldsList-from_slice c.args.w.now cc)
+    (λ x q k. search (rules, tests)) (λ x q k. search (rules, tests)) in
+    (c.unwrap_or.ensures ∙ sym (passing_found (λ b. not (blank b)) c.args.w.now c.position.result first), search rules)

@@ -1,18 +1,18 @@
--- Byte by byte: the characters so far with those of the bytes that are left are those of the text; a tail adds none.
-use mathlib.Core.Path.{sym, ◌∙◌}
-use native.Mathlib.Omega.{arith}
-use Rattle.settings.proofs.PhraseLaws.{characters_tail, characters_first, characters_over}
+-- Each byte that is no tail begins a character.
+use mathlib.Core.Path.{◌∙◌}
+use mathlib.Core.Bool.{not}
+use borrow.Author.Tests.{tests}
+use Rattle.std.proofs.Common.{rules}
+use Rattle.std.proofs.lemmas.Iterator.{YieldsList-from_slice}
+use Rattle.std.proofs.lemmas.Iterator.Consumers.{YieldsList-from_filter, count_from_yields_List}
+use Rattle.songcode.specs.Answer.Characters.{is_tail}
+use Rattle.settings.proofs.PhraseLaws.{characters_counted}
 use Rattle.settings.proofs.phrases.characters.Goals as goal
-use Rattle.settings.proofs.phrases.characters.Goals.{then-not-is_tail, else-not-is_tail}
-
-pub loop-i-preserved : goal.loop-i-preserved
-loop-i-preserved c = let w = c.args.w.now in
-    let h = c.loop-i-test.true in
-    let e = c.is_tail.ensures in
-    elim c.if-not-is_tail.branch [
-      | then-not-is_tail v ↦ let m = characters_first w c.loop-i.i h (sym e ∙ v.if-not-is_tail.true) in (omega arith, omega arith, omega arith)
-      | else-not-is_tail v ↦ let m = characters_tail w c.loop-i.i h (sym e ∙ v.if-not-is_tail.false) in (omega arith, omega arith, omega arith)
-    ]
 
 pub returns : goal.returns
-returns c = (omega (arith, characters_over c.args.w.now c.loop-i.i c.loop-i-test.false), omega arith)
+returns c = (
+  count_from_yields_List c.filter.result _ c.count.ensures.ran
+      (YieldsList-from_filter _ (λ b. not (is_tail b)) (YieldsList-from_slice c.args.w.now cc) c.filter.ensures.closure (λ x r q k. search (rules, tests)))
+      ∙ characters_counted c.args.w.now,
+  search rules,
+)

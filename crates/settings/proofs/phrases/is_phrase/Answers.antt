@@ -1,12 +1,12 @@
--- Where there is no character the lower bound fails; where there is one it holds, and the upper bound decides.
+-- From 1 to 100 characters.
+use borrow.Author.Tests.{le-leb, lt-leb}
 use Rattle.songcode.specs.Answer.Keys.{is_phrase}
-use Rattle.settings.proofs.PhraseLaws.{range_none, range_some}
 use Rattle.settings.proofs.phrases.is_phrase.Goals as goal
 
-pub returns-then-n-eq0 : goal.returns-then-n-eq0
+pub returns-then-n-ge1 : goal.returns-then-n-ge1
 unfolding is_phrase
-returns-then-n-eq0 c = range_none 100 c.characters-n.ensures.0 c.if-n-eq0.true
+returns-then-n-ge1 c = rw (← c.characters-n.ensures.0, le-leb 1 c.characters-n.result c.if-n-ge1.true)
 
-pub returns : goal.returns
+pub returns-else-n-ge1 : goal.returns-else-n-ge1
 unfolding is_phrase
-returns c = range_some 100 c.characters-n.ensures.0 c.if-n-eq0.false
+returns-else-n-ge1 c = rw (← c.characters-n.ensures.0, lt-leb 1 c.characters-n.result c.if-n-ge1.false)

@@ -6,8 +6,8 @@ use Rattle.slips.proofs.patterns.is_stuck.Goals as goal
 
 pub returns-then-is_bad : goal.returns-then-is_bad
 unfolding is_stuck
-returns-then-is_bad c = or_passes c.is_bad.ensures _ c.if-is_bad.true
+returns-then-is_bad c = c.if-is_bad.true ∙ or_passes c.is_bad.ensures _ c.if-is_bad.true
 
-pub returns : goal.returns
+pub returns-else-is_bad : goal.returns-else-is_bad
 unfolding is_stuck
-returns c = c.is_misnamed.ensures ∙ or_fails c.is_bad.ensures _ c.if-is_bad.false
+returns-else-is_bad c = c.is_misnamed.ensures ∙ or_fails c.is_bad.ensures _ c.if-is_bad.false

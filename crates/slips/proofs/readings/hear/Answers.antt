@@ -1,27 +1,15 @@
--- The five cases of the model in its order: a chord before, a `%` before, a chord now, a `%` now, any other sign.
-use Rattle.slips.proofs.StrayLaws.{sign_chord, sign_found, sign_heard, sign_again, sign_other}
-use native.Mathlib.Omega.{arith}
+-- What was heard stays; where nothing was, a chord or a `%` settles it, as in the model.
+use Rattle.slips.proofs.StrayLaws.{sign_kept, sign_heard, sign_again, sign_other}
 use Rattle.slips.proofs.readings.hear.Goals as goal
 
-pub returns-then-x : goal.returns-then-x
-returns-then-x c = let a = c.args in sign_chord a.x a.sign a.from c.if-x.true
-
-pub returns-then-x-2 : goal.returns-then-x-2
-returns-then-x-2 c = let a = c.args in sign_found a.x a.sign a.from c.if-x.false c.if-x-2.true
+pub returns-in_default : goal.returns-in_default
+returns-in_default c = sign_kept c.args.x c.args.sign c.args.from c.in_default.not-Unheard
 
 pub returns-then-sign-lt-CHORDS : goal.returns-then-sign-lt-CHORDS
-returns-then-sign-lt-CHORDS c =
-    let a = c.args in
-    sign_heard a.x a.sign a.from c.if-x.false c.if-x-2.false c.if-sign-lt-CHORDS.true
+returns-then-sign-lt-CHORDS c = rw c.in-Unheard.is (sign_heard c.args.sign c.args.from c.if-sign-lt-CHORDS.true)
 
 pub returns-then-sign-eq-AGAIN : goal.returns-then-sign-eq-AGAIN
-returns-then-sign-eq-AGAIN c =
-    let a = c.args in
-    let l = c.if-sign-lt-CHORDS.false in
-    sign_again a.x a.sign a.from c.if-x.false c.if-x-2.false
-    (λ k. let z : ⊥ = omega arith in z) c.if-sign-eq-AGAIN.true
+returns-then-sign-eq-AGAIN c = rw c.in-Unheard.is (sign_again c.args.sign c.args.from c.if-sign-eq-AGAIN.true)
 
 pub returns : goal.returns
-returns c =
-    let a = c.args in
-    sign_other a.x a.sign a.from c.if-x.false c.if-x-2.false c.if-sign-lt-CHORDS.false c.if-sign-eq-AGAIN.false
+returns c = rw c.in-Unheard.is (sign_other c.args.sign c.args.from c.if-sign-lt-CHORDS.false c.if-sign-eq-AGAIN.false)

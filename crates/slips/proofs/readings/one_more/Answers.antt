@@ -9,6 +9,6 @@ pub returns-then-positions-lt-LINE_MOST : goal.returns-then-positions-lt-LINE_MO
 unfolding one_more provided◌then◌else◌
 returns-then-positions-lt-LINE_MOST c = rw (lt-ltb c.args.positions 65536 c.if-positions-lt-LINE_MOST.true) refl
 
-pub returns : goal.returns
+pub returns-else-positions-lt-LINE_MOST : goal.returns-else-positions-lt-LINE_MOST
 unfolding one_more provided◌then◌else◌
-returns c = rw (le-ltb c.args.positions 65536 c.if-positions-lt-LINE_MOST.false) refl
+returns-else-positions-lt-LINE_MOST c = rw (le-ltb c.args.positions 65536 c.if-positions-lt-LINE_MOST.false) refl

@@ -6,10 +6,8 @@ use Rattle.slips.specs.Readings.{Follows}
 use Rattle.slips.proofs.MarkLaws.{Within}
 use Rattle.slips.proofs.readings.read_plain.Given as goal
 
-abbrev pub invariant-loop-at : goal.invariant-loop-at
-invariant-loop-at l =
-    (l.number ≤ l.at + 1) × (l.at ≤ length l.s)
-    × Within (λ ms. Follows l.initial.reading ms l.reading) l.s (take l.initial.left (From l.s l.initial.number l.initial.at)) l.number l.at l.left
-
-abbrev pub decreases-loop-at : goal.decreases-loop-at
-decreases-loop-at l = length l.s - l.at
+abbrev pub invariant-loop-i : goal.invariant-loop-i
+invariant-loop-i l =
+    (l.fn.run.number + l.i ≤ l.at + 1) × (l.at ≤ length l.s)
+    × Within (λ ms. Follows l.fn.x ms l.reading) l.s (take l.fn.run.lines (From l.s l.fn.run.number l.fn.run.at)) (l.fn.run.number + l.i) l.at
+    (l.fn.run.lines - l.i)

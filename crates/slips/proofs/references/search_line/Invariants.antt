@@ -2,8 +2,8 @@
 use Prim.Native.Nat.{◌-◌, ◌≤◌}
 use Rattle.slips.proofs.references.search_line.Given as goal
 
-abbrev pub invariant-loop-at : goal.invariant-loop-at
-invariant-loop-at l = (l.at ≤ l.to)
+abbrev pub invariant-loop-t : goal.invariant-loop-t
+invariant-loop-t l = (l.at ≤ l.to)
 
-abbrev pub decreases-loop-at : goal.decreases-loop-at
-decreases-loop-at l = l.to - l.at
+abbrev pub decreases-loop-t : goal.decreases-loop-t
+decreases-loop-t l = l.to - l.at

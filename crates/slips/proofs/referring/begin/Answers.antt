@@ -1,4 +1,4 @@
--- All 26 entries are 0, so no other number is remembered.
+-- All 26 entries are empty, so nothing is remembered.
 use mathlib.Core.Path.{refl}
 use Rattle.slips.proofs.ReferLaws.{none_remembered}
 use Rattle.slips.proofs.referring.begin.Goals as goal

@@ -5,11 +5,11 @@ use Rattle.slips.specs.Marks.{Mark, MarksFrom}
 use Rattle.slips.specs.Referring.{PutRead}
 use Rattle.slips.proofs.referring.read_line.Given as goal
 
-abbrev pub invariant-loop-at : goal.invariant-loop-at
-invariant-loop-at l =
+abbrev pub invariant-loop-t : goal.invariant-loop-t
+invariant-loop-t l =
     (l.at ≤ l.to)
     × ((done : List Mark) × PutRead l.s done l.initial.reading l.reading
     × ((ms : List Mark) → MarksFrom l.s l.at l.to ms → MarksFrom l.s l.from l.to (done ++ ms)))
 
-abbrev pub decreases-loop-at : goal.decreases-loop-at
-decreases-loop-at l = l.to - l.at
+abbrev pub decreases-loop-t : goal.decreases-loop-t
+decreases-loop-t l = l.to - l.at

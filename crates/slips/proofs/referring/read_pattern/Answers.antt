@@ -10,8 +10,8 @@ returns-then-named-eq0 c =
     let a = c.args in
     reads_written a.s.now a.run a.x _ (sym c.named_number-named.ensures ∙ c.if-named-eq0.true) c.read_plain.ensures
 
-pub read_lines-y-requires : goal.read_lines-y-requires
-read_lines-y-requires c =
+pub read_lines-requires : goal.read_lines-requires
+read_lines-requires c =
     let p = c.requires in
     let d = c.definition_lines.ensures in
     let b = c.begin.ensures in
@@ -22,5 +22,5 @@ returns c =
     let n = c.named_number-named in
     let a = c.args in
     reads_named a.s.now a.run a.x n.result n.ensures c.if-named-eq0.false c.definition_lines.result
-    c.definition_lines.ensures.2 c.begin.result c.read_lines-y.result c.begin.ensures.0
-    c.read_lines-y.ensures
+    c.definition_lines.ensures.2 c.begin.result c.read_lines.result c.begin.ensures.0
+    c.read_lines.ensures

@@ -6,4 +6,4 @@ use Rattle.slips.proofs.referring.remember.Goals as goal
 pub returns : goal.returns
 returns c =
     let a = c.args in
-    (refl, λ n i. one_remembered a.x.numbers c.place_of-i.result a.number n i)
+    (refl, λ n i. one_remembered a.x.meant c.in-Some.i a.new n i)

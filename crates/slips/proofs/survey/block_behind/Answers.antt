@@ -14,7 +14,7 @@ returns c =
     let v = f.over in
     let u = l.onward in
     let w = t.onward in
-    let one = h.0 in
-    let fits = h.1 in
-    let within = h.2 in
+    let one = h.0.0 in
+    let fits = h.0.1 in
+    let within = h.1 in
     (t.number, t.counted, omega arith, t.inside, behind_block a.s.now a.p.number a.p.at within one fits f _ _ l t)

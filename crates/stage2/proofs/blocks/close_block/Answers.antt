@@ -4,5 +4,5 @@ use Rattle.stage2.proofs.blocks.close_block.Goals as goal
 
 pub returns : goal.returns
 returns c = block_closed c.args.c c.fine_for-fine.result
-    c.none_if-seven.result c.least_of.result c.least_of-2.result c.fine_for-fine.ensures
-    c.none_if-seven.ensures c.least_of.ensures c.least_of-2.ensures
+    c.none_if-seven.result c.min.result c.min-2.result c.fine_for-fine.ensures
+    c.none_if-seven.ensures c.min.ensures c.min-2.ensures

@@ -4,6 +4,6 @@ use Rattle.stage2.proofs.blocks.open_definition.Goals as goal
 
 pub returns : goal.returns
 returns c = let q = c.args in
-    opened_definition q.k q.l.number c.complain_if-note.result c.most_of-turn.result c.least_of-count.result
-    c.no_pending.result c.block_state-state.result c.complain_if-note.ensures c.most_of-turn.ensures
-    c.least_of-count.ensures c.no_pending.ensures c.block_state-state.ensures
+    opened_definition q.k q.l.number c.complain_if-note.result c.max-turn.result c.min-count.result
+    c.no_pending.result c.block_state-state.result c.complain_if-note.ensures c.max-turn.ensures
+    c.min-count.ensures c.no_pending.ensures c.block_state-state.ensures

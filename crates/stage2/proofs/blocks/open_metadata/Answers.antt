@@ -9,4 +9,4 @@ returns c =
     let late = c.complain_if-late in
     opened_metadata q.k (line_text q.s.now q.l) c.metadata_line-noted.result.note c.metadata_line-noted.result.marks c.metadata_state-state.result
     c.metadata_line-noted.ensures.0 c.metadata_line-noted.ensures.1
-    c.metadata_state-state.ensures late.result c.least_of-note.result late.ensures c.least_of-note.ensures
+    c.metadata_state-state.ensures late.result c.min-note.result late.ensures c.min-note.ensures

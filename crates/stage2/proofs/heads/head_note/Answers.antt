@@ -10,5 +10,5 @@ returns-in_default c = let q = c.args in head_malformed q.head q.n q.ids.now q.l
 pub returns : goal.returns
 returns c =
     let q = c.args in
-    head_formed q.head q.n q.ids.now q.line _ _ _ c.least_of.result _ _ c.in-Is.is refl c.has_head.ensures
-    c.complain_if-many.ensures c.complain_if-2.ensures c.least_of.ensures
+    head_formed q.head q.n q.ids.now q.line _ _ _ c.min.result _ _ c.in-Some.is refl c.has_head.ensures
+    c.complain_if-many.ensures c.complain_if-2.ensures c.min.ensures

@@ -8,10 +8,10 @@ returns c = let q = c.args in
     key_judged_lem q.p q.c (line_text q.s.now q.l) c.key_at-k.result
     c.key_number-n.result c.complain_if-out.result c.again_note-twice.result
     c.key_note-own.result
-    c.least_of.result c.least_of-note.result
+    c.min.result c.min-note.result
     c.past_keys.result c.put_mark-keys.result c.after_key.result
     c.key_at-k.ensures c.key_number-n.ensures
     c.past_keys.ensures c.complain_if-out.ensures c.again_note-twice.ensures
     c.key_note-own.ensures
-    c.least_of.ensures c.least_of-note.ensures
+    c.min.ensures c.min-note.ensures
     c.put_mark-keys.ensures c.after_key.ensures

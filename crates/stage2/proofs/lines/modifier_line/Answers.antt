@@ -8,10 +8,10 @@ returns c = let q = c.args in
     modifier_judged q.p q.c (line_text q.s.now q.l) c.modifier_at-m.result
     c.modifier_number-n.result c.complain_if-out.result c.again_note-twice.result
     c.modifier_note-own.result
-    c.least_of.result c.least_of-note.result
+    c.min.result c.min-note.result
     c.before_pattern.result c.put_mark-modifiers.result c.after_modifier.result
     c.modifier_at-m.ensures c.modifier_number-n.ensures
     c.before_pattern.ensures c.complain_if-out.ensures c.again_note-twice.ensures
     c.modifier_note-own.ensures
-    c.least_of.ensures c.least_of-note.ensures
+    c.min.ensures c.min-note.ensures
     c.put_mark-modifiers.ensures c.after_modifier.ensures

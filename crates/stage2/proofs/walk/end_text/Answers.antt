@@ -4,4 +4,4 @@ use Rattle.stage2.proofs.walk.end_text.Goals as goal
 
 pub returns : goal.returns
 returns c = text_ended c.args.c c.none_if-nine.result c.close_block-closing.result
-    c.least_of.result c.none_if-nine.ensures c.close_block-closing.ensures c.least_of.ensures
+    c.min.result c.none_if-nine.ensures c.close_block-closing.ensures c.min.ensures

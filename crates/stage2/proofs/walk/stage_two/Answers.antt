@@ -1,5 +1,5 @@
 -- The loop over the lines: the least of what was complained of and of what is still to come stays the same.
-use Rattle.stage2.proofs.WalkReturns.{heads_fit, one_line, no_line, all_le, told, marks_first, marks_next, marks_last}
+use Rattle.stage2.proofs.WalkReturns.{heads_fit, one_line, no_line, all_le, refused, marks_first, marks_next, marks_last}
 use Rattle.stage2.proofs.StateLaws.{starts}
 use Rattle.stage2.specs.Walk.{at_first}
 use native.Mathlib.Omega.{arith}
@@ -35,12 +35,12 @@ loop-at-preserved c = let l = c.line_at-l in
     c.loop-at.best _ there l.ensures c.judge_line-j.ensures.value c.note_head-six.ensures.0 c.note_head-six.ensures.1 i.2 in
     let marks = marks_next s c.args.words.now c.loop-at.words c.loop-at.at i.3 c.requires.1 c.loop-at.n l.result _ c.requires.0 there
     l.ensures c.judge_line-j.ensures.keeps in
-    (omega arith, omega arith, omega arith, marks, one.0, one.1, rw (c.least_of-best.ensures, c.least_of.ensures) one.2 ∙ i.6)
+    (omega arith, omega arith, omega arith, marks, one.0, one.1, rw (c.min-best.ensures, c.min.ensures) one.2 ∙ i.6)
 
 pub returns : goal.returns
 returns c = let s = c.args.s.now in
     let i = c.loop-at.invariant in
     let over = no_line s i.4 c.loop-at.c c.loop-at.ids c.loop-at.n c.loop-at.at i.5 c.loop-at-test.false in record {
-      value = told s c.least_of-2.result c.refusal_at.result c.requires.0 (omega arith) c.refusal_at.ensures;
+      value = refused s c.min-2.result c.refusal_at.result c.requires.0 (omega arith) c.refusal_at.ensures;
       kept = marks_last s c.args.words.now c.loop-at.words c.loop-at.at i.3 c.requires.1;
     }

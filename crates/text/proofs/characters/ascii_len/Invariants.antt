@@ -1,4 +1,4 @@
--- The characters passed, by blocks and then one by one, and those from here on, are those in front.
+-- The characters in the blocks passed, and those from here on, are those in front.
 use Prim.Native.Nat.{◌≤◌, ◌+◌, ◌-◌}
 use mathlib.Core.Path.{◌≡◌}
 use lib.ListN.{length, drop}
@@ -10,9 +10,3 @@ invariant-loop-i l = (l.i ≤ length l.t) × (l.i + ascii_length (drop l.i l.t) 
 
 abbrev pub decreases-loop-i : goal.decreases-loop-i
 decreases-loop-i l = length l.t - l.i
-
-abbrev pub invariant-loop-i-2 : goal.invariant-loop-i-2
-invariant-loop-i-2 l = (l.i ≤ length l.t) × (l.i + ascii_length (drop l.i l.t) ≡ ascii_length l.t)
-
-abbrev pub decreases-loop-i-2 : goal.decreases-loop-i-2
-decreases-loop-i-2 l = length l.t - l.i

@@ -5,8 +5,8 @@ use lib.ListN.{length, drop}
 use Rattle.songcode.specs.Answer.Characters.{good_bytes}
 use Rattle.text.proofs.characters.good_bytes.Given as goal
 
-abbrev pub invariant-loop-i : goal.invariant-loop-i
-invariant-loop-i l = (l.i ≤ length l.s) × (l.i + good_bytes 0 (drop l.i l.s) ≡ good_bytes 0 l.s)
+abbrev pub invariant-loop-width : goal.invariant-loop-width
+invariant-loop-width l = (l.i ≤ length l.s) × (l.i + good_bytes 0 (drop l.i l.s) ≡ good_bytes 0 l.s)
 
-abbrev pub decreases-loop-i : goal.decreases-loop-i
-decreases-loop-i l = length l.s - l.i
+abbrev pub decreases-loop-width : goal.decreases-loop-width
+decreases-loop-width l = length l.s - l.i

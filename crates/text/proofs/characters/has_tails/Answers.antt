@@ -1,28 +1,16 @@
--- The tails still to be seen are those of the bytes behind.
-use mathlib.Core.Path.{refl, sym, ◌∙◌}
-use native.Mathlib.Nat.{sub-zero}
-use native.Mathlib.Omega.{arith}
-use borrow.Author.Tests.{not-true, not-false}
-use Rattle.text.proofs.LeadLaws.{tails_short, tails_stop, tails_more, tails_none}
+-- All of so many bytes in front are tails, if so many are there.
+use mathlib.Core.Path.{◌∙◌}
+use borrow.Author.Tests.{tests, lt-leb}
+use Rattle.std.proofs.Common.{rules}
+use Rattle.std.proofs.lemmas.Iterator.{YieldsList-from_slice}
+use Rattle.std.proofs.lemmas.Iterator.Search.{all_from_yields_List}
+use Rattle.songcode.specs.Answer.Characters.{is_tail}
+use Rattle.text.proofs.LeadLaws.{tails_short, tails_all}
 use Rattle.text.proofs.characters.has_tails.Goals as goal
 
-pub returns-then-bs-n : goal.returns-then-bs-n
-returns-then-bs-n c = tails_short _ _ c.if-bs-n.true
+pub returns-then-n-bs : goal.returns-then-n-bs
+returns-then-n-bs c = all_from_yields_List is_tail _ _ _ c.all.ensures.ran (YieldsList-from_slice _ cc) (λ x b q k. search (rules, tests))
+    ∙ tails_all c.args.n c.args.bs.now c.if-n-bs.true
 
-pub loop-i-init : goal.loop-i-init
-loop-i-init c = (omega arith, rw sub-zero refl)
-
-pub returns-then-not-is_tail : goal.returns-then-not-is_tail
-returns-then-not-is_tail c =
-    sym (tails_stop _ c.loop-i.i _ c.loop-i-test.true (omega arith)
-    (sym c.is_tail.ensures ∙ not-true _ c.if-not-is_tail.true-raw)) ∙ c.loop-i.invariant.1
-
-pub loop-i-preserved : goal.loop-i-preserved
-loop-i-preserved c = (
-  omega arith,
-  sym (tails_more _ c.loop-i.i _ c.loop-i-test.true (omega arith)
-      (sym c.is_tail.ensures ∙ not-false _ c.if-not-is_tail.false-raw)) ∙ c.loop-i.invariant.1,
-)
-
-pub returns : goal.returns
-returns c = sym (tails_none _ c.loop-i.i _ c.loop-i-test.false) ∙ c.loop-i.invariant.1
+pub returns-else-n-bs : goal.returns-else-n-bs
+returns-else-n-bs c = lt-leb _ _ c.if-n-bs.false ∙ tails_short c.args.n c.args.bs.now c.if-n-bs.false

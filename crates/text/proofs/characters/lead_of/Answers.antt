@@ -5,59 +5,50 @@ use Rattle.text.specs.Leads.{lead_of}
 use Rattle.text.proofs.TestLaws.{up_from, same_over_range}
 use Rattle.text.proofs.characters.lead_of.Goals as goal
 
-pub returns-then-b-lt1 : goal.returns-then-b-lt1
-unfolding lead_of up_from
-returns-then-b-lt1 c = c.announce.ensures ∙ sym (same_over_range lead_of _ 0x00 1 refl c.args.b (omega arith) (omega arith))
+pub returns-in-224 : goal.returns-in-224
+unfolding lead_of
+returns-in-224 c = rw c.in-224.is c.announce.ensures
 
-pub returns-then-b-lt128 : goal.returns-then-b-lt128
-unfolding lead_of up_from
-returns-then-b-lt128 c = c.announce-then-b-lt128.ensures ∙ sym (same_over_range lead_of _ 0x01 127 refl c.args.b (omega arith) (omega arith))
+pub returns-in-237 : goal.returns-in-237
+unfolding lead_of
+returns-in-237 c = rw c.in-237.is c.announce-in-237.ensures
 
-pub returns-then-b-lt194 : goal.returns-then-b-lt194
-unfolding lead_of up_from
-returns-then-b-lt194 c = c.announce-then-b-lt194.ensures ∙ sym (same_over_range lead_of _ 0x80 66 refl c.args.b (omega arith) (omega arith))
+pub returns-in-240 : goal.returns-in-240
+unfolding lead_of
+returns-in-240 c = rw c.in-240.is c.announce-in-240.ensures
 
-pub returns-then-b-lt224 : goal.returns-then-b-lt224
-unfolding lead_of up_from
-returns-then-b-lt224 c = c.announce-then-b-lt224.ensures ∙ sym (same_over_range lead_of _ 0xC2 30 refl c.args.b (omega arith)
-    (omega arith))
+pub returns-in-244 : goal.returns-in-244
+unfolding lead_of
+returns-in-244 c = rw c.in-244.is c.announce-in-244.ensures
 
-pub returns-then-b-lt225 : goal.returns-then-b-lt225
+pub returns-in-1-to-127 : goal.returns-in-1-to-127
 unfolding lead_of up_from
-returns-then-b-lt225 c = c.announce-then-b-lt225.ensures ∙ sym (same_over_range lead_of _ 0xE0 1 refl c.args.b
-    (omega arith) (omega arith))
+returns-in-1-to-127 c = c.announce-in-1-to-127.ensures ∙ sym (same_over_range lead_of _ 0x01 127 refl c.args.b (omega arith) (omega arith))
 
-pub returns-then-b-lt237 : goal.returns-then-b-lt237
+pub returns-in-194-to-223 : goal.returns-in-194-to-223
 unfolding lead_of up_from
-returns-then-b-lt237 c = c.announce-then-b-lt237.ensures ∙ sym (same_over_range lead_of _ 0xE1 12 refl c.args.b
-    (omega arith) (omega arith))
+returns-in-194-to-223 c = c.announce-in-194-to-223.ensures ∙ sym (same_over_range lead_of _ 0xC2 30 refl c.args.b (omega arith) (omega arith))
 
-pub returns-then-b-lt238 : goal.returns-then-b-lt238
+pub returns-in-225-to-236 : goal.returns-in-225-to-236
 unfolding lead_of up_from
-returns-then-b-lt238 c = c.announce-then-b-lt238.ensures ∙ sym (same_over_range lead_of _ 0xED 1 refl
-    c.args.b (omega arith) (omega arith))
+returns-in-225-to-236 c = c.announce-in-225-to-236.ensures ∙ sym (same_over_range lead_of _ 0xE1 12 refl c.args.b (omega arith) (omega arith))
 
-pub returns-then-b-lt240 : goal.returns-then-b-lt240
+pub returns-in-238-to-239 : goal.returns-in-238-to-239
 unfolding lead_of up_from
-returns-then-b-lt240 c = c.announce-then-b-lt240.ensures ∙ sym (same_over_range lead_of _ 0xEE 2 refl
-    c.args.b (omega arith) (omega arith))
+returns-in-238-to-239 c = c.announce-in-238-to-239.ensures ∙ sym (same_over_range lead_of _ 0xEE 2 refl c.args.b (omega arith) (omega arith))
 
-pub returns-then-b-lt241 : goal.returns-then-b-lt241
+pub returns-in-241-to-243 : goal.returns-in-241-to-243
 unfolding lead_of up_from
-returns-then-b-lt241 c = c.announce-then-b-lt241.ensures ∙ sym (same_over_range lead_of _ 0xF0 1 refl
-    c.args.b (omega arith) (omega arith))
+returns-in-241-to-243 c = c.announce-in-241-to-243.ensures ∙ sym (same_over_range lead_of _ 0xF1 3 refl c.args.b (omega arith) (omega arith))
 
-pub returns-then-b-lt244 : goal.returns-then-b-lt244
+pub returns-in_default : goal.returns-in_default
 unfolding lead_of up_from
-returns-then-b-lt244 c = c.announce-then-b-lt244.ensures ∙ sym (same_over_range lead_of _ 0xF1 3 refl
-    c.args.b (omega arith) (omega arith))
+returns-in_default c = sym (same_over_range lead_of _ 0x00 1 refl c.args.b (omega arith) (omega arith))
 
-pub returns-then-b-lt245 : goal.returns-then-b-lt245
+pub returns-in_default-2 : goal.returns-in_default-2
 unfolding lead_of up_from
-returns-then-b-lt245 c = c.announce-then-b-lt245.ensures ∙ sym (same_over_range lead_of _ 0xF4 1 refl
-    c.args.b (omega arith) (omega arith))
+returns-in_default-2 c = sym (same_over_range lead_of _ 0x80 66 refl c.args.b (omega arith) (omega arith))
 
-pub returns-else-b-lt245 : goal.returns-else-b-lt245
+pub returns-in_default-3 : goal.returns-in_default-3
 unfolding lead_of up_from
-returns-else-b-lt245 c = c.announce-else-b-lt245.ensures ∙ sym (same_over_range lead_of _ 0xF5 11 refl
-    c.args.b (omega arith) (omega arith))
+returns-in_default-3 c = sym (same_over_range lead_of _ 0xF5 11 refl c.args.b (omega arith) (omega arith))

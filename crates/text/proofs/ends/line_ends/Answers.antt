@@ -11,8 +11,8 @@ loop-i-preserved c =
     let e = c.byte_at.ensures in
     let k = c.ends_line.ensures in
     elim c.if-ends_line.branch [
-      | then-ends_line w ↦ let m = ends_yes s c.loop-i.i h e k w.if-ends_line.true in (omega arith, omega arith, omega arith)
-      | else-ends_line w ↦ let m = ends_no s c.loop-i.i h e k w.if-ends_line.false in (omega arith, omega arith, omega arith)
+      | then-ends_line w ↦ let m = ends_yes s c.loop-i.i h e k w.if-ends_line.true in (omega arith, omega arith)
+      | else-ends_line w ↦ let m = ends_no s c.loop-i.i h e k w.if-ends_line.false in (omega arith, omega arith)
     ]
 
 pub returns : goal.returns

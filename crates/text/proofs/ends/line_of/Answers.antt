@@ -1,18 +1,14 @@
--- One more than the line ends before the place.
-use mathlib.Core.Path.{sym}
+-- One more than the line ends before the place; a place past the text has them all before it.
+use mathlib.Core.Path.{ap, ◌∙◌}
 use native.Mathlib.Omega.{arith}
-use lib.Seq.{length-take-le}
-use Rattle.text.proofs.EndLaws.{line_past, line_within}
+use lib.ListN.{length-take}
+use Rattle.std.proofs.lemmas.List.{take_min}
+use Rattle.text.specs.Ends.{line_ends}
+use Rattle.text.proofs.EndLaws.{line_within}
 use Rattle.text.proofs.ends.line_of.Goals as goal
 
-pub returns-then-s-place : goal.returns-then-s-place
-returns-then-s-place c = line_past _ _ c.if-s-place.true c.line_ends.ensures.0
-
-pub slice_bounds-line_ends-end : goal.slice_bounds-line_ends-end
-slice_bounds-line_ends-end c = sym (length-take-le _ _ c.if-s-place.false)
-
-pub overflow_add-result-2 : goal.overflow_add-result-2
-overflow_add-result-2 c = omega (arith, length-take-le _ c.args.s.now c.if-s-place.false)
+pub overflow_add-result : goal.overflow_add-result
+overflow_add-result c = omega (arith, length-take c.min.result c.args.s.now)
 
 pub returns : goal.returns
-returns c = line_within _ _ c.line_ends-2.ensures.0
+returns c = line_within c.args.s.now c.args.place (c.line_ends.ensures.0 ∙ ap line_ends (rw c.min.ensures (take_min c.args.place c.args.s.now)))

@@ -1,46 +1,17 @@
 -- The line end at a place by its two bytes.
-use Prim.Native.Nat.{◌+◌}
-use mathlib.Core.Path.{sym, ◌∙◌}
-use native.Mathlib.Omega.{arith}
-use Rattle.text.proofs.SpanLaws.{break_lf, break_none, break_crlf, break_cr, in_text}
+use borrow.Author.Tests.{tests}
+use Rattle.std.proofs.Common.{rules}
+use Rattle.text.proofs.SpanLaws.{break_lf, break_none, break_crlf, break_cr}
 use Rattle.text.proofs.lines.break_len.Goals as goal
 
-pub returns-then-b-eq10 : goal.returns-then-b-eq10
-returns-then-b-eq10 c =
-    let s = c.args.s.now in
-    let e = c.args.e in
-    let h = c.byte_at-b.ensures in
-    let i = in_text s e (omega arith) in
-    (sym (break_lf s e (sym h ∙ c.if-b-eq10.true)), omega arith)
+pub returns-in-10 : goal.returns-in-10
+returns-in-10 c = search (rules, break_lf)
 
-pub returns-then-b-ne13 : goal.returns-then-b-ne13
-returns-then-b-ne13 c =
-    let s = c.args.s.now in
-    let e = c.args.e in
-    let h = c.byte_at-b.ensures in
-    (sym (break_none s e (λ z. c.if-b-eq10.false (h ∙ z)) (λ z. c.if-b-ne13.true (h ∙ z))), omega arith)
+pub returns-in-13 : goal.returns-in-13
+returns-in-13 c = search (rules, break_crlf)
 
-pub overflow_add-e : goal.overflow_add-e
-overflow_add-e c =
-    let s = c.args.s.now in
-    let e = c.args.e in
-    let h = c.byte_at-b.ensures in
-    omega (arith, in_text s e (omega arith))
+pub returns-in-13-2 : goal.returns-in-13-2
+returns-in-13-2 c = search (rules, tests, break_cr)
 
-pub returns-then-byte_at-eq10 : goal.returns-then-byte_at-eq10
-returns-then-byte_at-eq10 c =
-    let s = c.args.s.now in
-    let e = c.args.e in
-    let h = c.byte_at-b.ensures in
-    let k = c.byte_at.ensures in
-    let i = in_text s (e + 1) (omega arith) in
-    (sym (break_crlf s e (sym h ∙ c.if-b-ne13.false) (sym k ∙ c.if-byte_at-eq10.true)), omega arith)
-
-pub returns-else-byte_at-eq10 : goal.returns-else-byte_at-eq10
-returns-else-byte_at-eq10 c =
-    let s = c.args.s.now in
-    let e = c.args.e in
-    let h = c.byte_at-b.ensures in
-    let k = c.byte_at.ensures in
-    let i = in_text s e (omega arith) in
-    (sym (break_cr s e (sym h ∙ c.if-b-ne13.false) (λ z. c.if-byte_at-eq10.false (k ∙ z))), omega arith)
+pub returns-in_default : goal.returns-in_default
+returns-in_default c = search (rules, tests, break_none)

@@ -1,29 +1,15 @@
--- The blanks passed, and those from here on, are the blanks in front.
-use mathlib.Core.Path.{sym, ◌∙◌}
-use native.Mathlib.Omega.{arith}
-use borrow.Author.Tests.{not-true, not-false}
-use Rattle.text.proofs.SpanLaws.{front_stop, front_more, front_over}
+-- The place of the first byte that is no blank.
+use Rattle.std.proofs.Common.{rules}
+use mathlib.Core.Path.{◌∙◌}
+use borrow.Author.Tests.{tests}
+use Rattle.std.proofs.lemmas.Iterator.{YieldsList-from_slice}
+use Rattle.std.proofs.lemmas.Iterator.Search.{position_from_yields_List}
+use Rattle.text.proofs.FirstLaws.{full, front_found}
 use Rattle.text.proofs.lines.front_blanks.Goals as goal
 
-pub returns-then-not-is_blank : goal.returns-then-not-is_blank
-returns-then-not-is_blank c = (
-  omega (
-    arith,
-    front_stop c.args.t.now c.loop-i.i (omega arith)
-        (sym c.is_blank.ensures ∙ not-true _ c.if-not-is_blank.true-raw),
-  ),
-  omega arith,
-)
-
-pub loop-i-preserved : goal.loop-i-preserved
-loop-i-preserved c = (
-  omega arith,
-  omega (
-    arith,
-    front_more c.args.t.now c.loop-i.i (omega arith)
-        (sym c.is_blank.ensures ∙ not-false _ c.if-not-is_blank.false-raw),
-  ),
-)
-
 pub returns : goal.returns
-returns c = (omega (arith, front_over c.args.t.now c.loop-i.i c.loop-i-test.false), omega arith)
+returns c = (
+  c.unwrap_or.ensures ∙ front_found c.args.t.now (position_from_yields_List full _ _ _ c.position.ensures.ran (YieldsList-from_slice c.args.t.now cc)
+      (λ x b q k. search (rules, tests))),
+  search rules,
+)

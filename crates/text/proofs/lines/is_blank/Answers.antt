@@ -1,12 +1,14 @@
 -- A space or a tab.
-use borrow.Author.Tests.{ne_eqb}
+use mathlib.Core.Logic.{inl, inr}
+use borrow.Author.Tests.{tests}
+use Rattle.std.proofs.Common.{rules}
 use Rattle.songcode.specs.Bytes.{is_blank}
 use Rattle.text.proofs.lines.is_blank.Goals as goal
 
-pub returns-then-b-eq32 : goal.returns-then-b-eq32
+pub returns-in-32 : goal.returns-in-32
 unfolding is_blank
-returns-then-b-eq32 c = rw c.if-b-eq32.true
+returns-in-32 c = elim c.in-32.is [ inl e ↦ rw e | inr e ↦ rw e ]
 
-pub returns-else-b-eq32 : goal.returns-else-b-eq32
+pub returns-in_default : goal.returns-in_default
 unfolding is_blank
-returns-else-b-eq32 c = rw (ne_eqb _ _ c.if-b-eq32.false)
+returns-in_default c = search (rules, tests)

@@ -1,12 +1,17 @@
--- A byte above 13 ends no line, 13 does, and of those that are left only 10 does.
-use Rattle.text.proofs.SpanLaws.{ends_above, ends_cr, ends_lf}
+-- A byte ends a line where it is one of the two, and none above both does.
+use mathlib.Core.Path.{◌∙◌}
+use mathlib.Core.Logic.{inl, inr}
+use native.Mathlib.Omega.{arith}
+use borrow.Author.Tests.{tests, lt-leb}
+use Rattle.std.proofs.Common.{rules}
+use Rattle.text.proofs.SpanLaws.{ends_lf, ends_cr, ends_none}
 use Rattle.text.proofs.lines.is_end.Goals as goal
 
-pub returns-then-b-gt13 : goal.returns-then-b-gt13
-returns-then-b-gt13 c = ends_above _ c.if-b-gt13.true
+pub returns-in-10 : goal.returns-in-10
+returns-in-10 c = elim c.in-10.is [ inl e ↦ ends_lf _ e | inr e ↦ ends_cr _ e ]
 
-pub returns-then-b-eq13 : goal.returns-then-b-eq13
-returns-then-b-eq13 c = ends_cr _ c.if-b-eq13.true
+pub returns-in_default : goal.returns-in_default
+returns-in_default c = search (rules, tests, ends_none)
 
-pub returns : goal.returns
-returns c = ends_lf _ c.if-b-eq13.false
+pub returns-else-b-le13 : goal.returns-else-b-le13
+returns-else-b-le13 c = lt-leb _ _ c.if-b-le13.false ∙ ends_none c.args.b (λ z. omega arith) (λ z. omega arith)

@@ -1,6 +1,6 @@
 -- A word that begins with a letter is a chord, or wrong as one.
 use Rattle.tokens.proofs.PlainBases.{base_in_part, chord_end, chord_base}
-use Rattle.tokens.proofs.ReadLaws.{reads_packed, reads_chord}
+use Rattle.tokens.proofs.ReadLaws.{reads_chord}
 use Rattle.tokens.proofs.RowLaws.{letter_alone}
 use Rattle.tokens.proofs.WordLaws.{chord_bare}
 use Rattle.tokens.proofs.PartLaws.{part_cons, part_none}
@@ -25,11 +25,8 @@ returns-then-not-plain_at c =
     let other = sym c.plain_at.ensures ∙ not-true _ c.if-not-plain_at.true-raw in
     let none = ltb-false 0 (plain_length (part (a + 1) stop s)) other in
     let word : part a (a + 1) s ≡ b ∷ [] = part_cons s a (a + 1) (omega arith) (omega arith) ∙ ap (λ l. b ∷ l) (part_none s (a + 1) (a + 1) (omega arith)) in
-    let bare = chord_bare a (b ∷ []) _ (letter_alone b c.requires.3) (λ z. omega arith) refl in (
-      c.pack.ensures.1,
-      reads_packed s a stop _ (a + 1) _ c.pack.ensures.0 (omega arith)
-          (reads_chord s a stop _ (a + 1) (omega arith) (omega arith) c.requires.3 (omega arith) (rw word (c.letter_token.ensures ∙ bare))),
-    )
+    let bare = chord_bare a (b ∷ []) _ (letter_alone b c.requires.3) (λ z. omega arith) refl in
+    (reads_chord s a stop _ (a + 1) (omega arith) (omega arith) c.requires.3 (omega arith) (rw word (c.letter_token.ensures ∙ bare)))
 
 pub base_of-base-requires : goal.base_of-base-requires
 base_of-base-requires c =
@@ -67,8 +64,5 @@ returns c =
     let b = c.base_of-base in
     let f = chord_end s i.a i.stop (omega arith) (omega arith) b.result b.ensures c.requires.3 _ refl in
     let e = c.plain_end-e.result in
-    let g = c.plain_end-e.ensures in (
-      c.pack-2.ensures.1,
-      reads_packed s i.a i.stop _ e _ c.pack-2.ensures.0 (omega arith)
-          (reads_chord s i.a i.stop _ e (omega arith) (omega arith) c.requires.3 (g.0 ∙ f.0) c.chord_token.ensures),
-    )
+    let g = c.plain_end-e.ensures in
+    (reads_chord s i.a i.stop _ e (omega arith) (omega arith) c.requires.3 (g.0 ∙ f.0) c.chord_token.ensures)

@@ -1,30 +1,26 @@
--- A blank and the first three signs are not plain; a byte that is none of these is plain exactly where it is not the last sign.
-use Rattle.tokens.proofs.LexLaws.{blank_not_plain, sign_not_plain, last_sign}
+-- A blank and the four signs are not plain, and any other byte is.
+use mathlib.Core.Logic.{inl, inr}
+use mathlib.Core.Path.{◌≡◌, refl, sym, ap, ◌∙◌}
+use mathlib.Core.Bool.{true, not}
+use borrow.Author.Tests.{tests}
+use Rattle.std.proofs.Common.{rules}
 use Rattle.tokens.specs.Lexing.{is_plain}
-use mathlib.Core.Path.{refl, sym, ◌∙◌}
+use native.Mathlib.Omega.{arith}
+use Rattle.tokens.proofs.LexLaws.{blank_not_plain, sign_not_plain, colons_not_plain, plain_byte}
 use Rattle.tokens.proofs.lexing.is_plain.Goals as goal
+use Rattle.tokens.proofs.lexing.is_plain.Goals.{in_default, in_default-2, in-59, in-59-2}
 
-pub returns-then-is_blank : goal.returns-then-is_blank
-returns-then-is_blank c =
-    sym (blank_not_plain _ (sym c.is_blank.ensures ∙ c.if-is_blank.true))
+pub returns-else-not-is_blank : goal.returns-else-not-is_blank
+returns-else-not-is_blank c = ap not c.if-not-is_blank.false ∙ sym (blank_not_plain c.args.b (sym c.is_blank.ensures ∙ c.if-not-is_blank.false))
 
-pub returns-then-b-eq59 : goal.returns-then-b-eq59
+pub returns-after-matches : goal.returns-after-matches
 unfolding is_plain
-returns-then-b-eq59 c =
-    sym (sign_not_plain c.args.b 59 refl c.if-b-eq59.true)
-
-pub returns-then-b-eq58 : goal.returns-then-b-eq58
-unfolding is_plain
-returns-then-b-eq58 c =
-    sym (sign_not_plain c.args.b 58 refl c.if-b-eq58.true)
-
-pub returns-then-b-eq91 : goal.returns-then-b-eq91
-unfolding is_plain
-returns-then-b-eq91 c =
-    sym (sign_not_plain c.args.b 91 refl c.if-b-eq91.true)
-
-pub returns : goal.returns
-returns c =
-    last_sign c.args.b
-    (sym c.is_blank.ensures ∙ c.if-is_blank.false) c.if-b-eq59.false
-    c.if-b-eq58.false c.if-b-eq91.false
+returns-after-matches c =
+    let b = c.args.b in
+    let e = sym c.is_blank.ensures ∙ c.if-not-is_blank.true in
+    elim c.match-matches.branch [
+      | in_default w ↦ let p : is_plain b ≡ true = search (rules, tests, plain_byte) in ap not w.matches-is ∙ sym p
+      | in_default-2 w ↦ let p : is_plain b ≡ true = search (rules, tests, plain_byte) in ap not w.matches-is ∙ sym p
+      | in-59 w ↦ ap not w.matches-is ∙ sym (elim w.in-59.is [ inl h ↦ sign_not_plain b 91 refl h | inr h ↦ sign_not_plain b 93 refl h ])
+      | in-59-2 w ↦ ap not w.matches-is ∙ sym (colons_not_plain b (omega arith) (omega arith))
+    ]

@@ -8,8 +8,8 @@ use mathlib.Core.Path.{◌≡◌}
 use Prim.Native.Nat.{ℕ, ◌≤◌, ◌+◌, ◌-◌}
 use Rattle.tokens.proofs.lexing.lex_line.Given as goal
 
-abbrev pub invariant-loop-word : goal.invariant-loop-word
-invariant-loop-word l =
+abbrev pub invariant-loop-token : goal.invariant-loop-token
+invariant-loop-token l =
     (l.start ≤ l.at)
     × (l.at ≤ l.stop)
     × (l.fill + (l.stop - l.at) ≤ l.n + (l.stop - l.start))
@@ -19,6 +19,6 @@ invariant-loop-word l =
     × (l.fill ≡ l.n + length done)
     × (done ++ token_words (tokens_from l.at l.stop l.s) ≡ token_words (tokens_from l.start l.stop l.s)))
 
-abbrev pub decreases-loop-word : goal.decreases-loop-word
-decreases-loop-word l =
+abbrev pub decreases-loop-token : goal.decreases-loop-token
+decreases-loop-token l =
     l.stop - l.at

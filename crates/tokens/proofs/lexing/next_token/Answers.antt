@@ -18,7 +18,7 @@ pub token_at-requires : goal.token_at-requires
 token_at-requires c = (search rules, search rules, search rules, sym c.is_blank.ensures ∙ not-true _ c.if-not-is_blank.true-raw)
 
 pub returns-then-not-is_blank : goal.returns-then-not-is_blank
-returns-then-not-is_blank c = rw c.unpack.ensures c.token_at.ensures.1
+returns-then-not-is_blank c = c.token_at.ensures
 
 pub returns-then-stop-a : goal.returns-then-stop-a
 unfolding Reads
@@ -44,7 +44,6 @@ returns c =
     let s = i.s.now in
     let f = c.front_blanks.result in
     let b = sym c.is_blank.ensures ∙ not-false _ c.if-not-is_blank.false-raw in
-    rw c.unpack-2.ensures
-    (reads_behind s i.at (i.at + 1 + f) i.stop (omega arith) (omega arith)
+    reads_behind s i.at (i.at + 1 + f) i.stop (omega arith) (omega arith)
     (λ to g h. at_blank s i.at to (omega arith) (omega arith) b
-    ∙ blanks_passed s (i.at + 1) i.stop f c.front_blanks.ensures.0 to g h) _ c.token_at-2.ensures.1)
+    ∙ blanks_passed s (i.at + 1) i.stop f c.front_blanks.ensures.0 to g h) _ c.token_at-2.ensures

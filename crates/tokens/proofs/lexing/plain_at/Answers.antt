@@ -1,14 +1,12 @@
--- Past the end no plain byte stands; before it there is at least one exactly where the first byte is plain.
-use Rattle.tokens.proofs.LexLaws.{plain_over, plain_first}
-use lib.Dec.{ltb}
+-- A place behind the part has no byte; one in it has the first byte of what is left.
 use mathlib.Core.Path.{sym, ap, ◌∙◌}
+use borrow.Author.Tests.{le-ltb}
+use lib.Dec.{ltb}
+use Rattle.tokens.proofs.LexLaws.{plain_over, plain_first}
 use Rattle.tokens.proofs.lexing.plain_at.Goals as goal
 
-pub returns-then-stop-i : goal.returns-then-stop-i
-returns-then-stop-i c =
-    let q = c.args in
-    sym (ap (ltb 0) (plain_over q.s.now q.i q.stop c.if-stop-i.true))
+pub returns-then-i-stop : goal.returns-then-i-stop
+returns-then-i-stop c = let q = c.args in c.is_plain.ensures ∙ plain_first q.s.now q.i q.stop c.if-i-stop.true c.requires
 
-pub returns : goal.returns
-returns c =
-    c.is_plain.ensures ∙ plain_first c.args.s.now c.args.i c.args.stop c.if-stop-i.false c.requires
+pub returns-else-i-stop : goal.returns-else-i-stop
+returns-else-i-stop c = let q = c.args in le-ltb q.i q.stop c.if-i-stop.false ∙ sym (ap (ltb 0) (plain_over q.s.now q.i q.stop c.if-i-stop.false))

@@ -1,24 +1,22 @@
--- Byte by byte: the place reached and the plain bytes from there on add up to the same end at every turn.
-use Rattle.tokens.proofs.LexLaws.{plain_over, plain_stop, plain_more}
-use borrow.Author.Tests.{not-true, not-false}
+-- The place, and how far the first byte stands behind it that is not plain.
+use mathlib.Core.Path.{◌≡◌, ◌∙◌}
 use native.Mathlib.Omega.{arith}
-use mathlib.Core.Path.{sym, ◌∙◌}
+use borrow.Author.Tests.{tests}
+use Rattle.std.proofs.Common.{rules}
+use Rattle.std.proofs.lemmas.Iterator.{YieldsList-from_slice}
+use Rattle.std.proofs.lemmas.Iterator.Search.{position_from_yields_List}
+use Rattle.text.specs.Spans.{part}
+use Rattle.text.proofs.WalkLaws.{part_length}
+use Rattle.tokens.specs.Lexing.{plain_length}
+use Rattle.tokens.proofs.LexLaws.{is_ending, plain_found, plain_le}
 use Rattle.tokens.proofs.lexing.plain_end.Goals as goal
+use Rattle.tokens.proofs.lexing.plain_end.Goals.{After-unwrap_or}
 
-pub returns-then-not-is_plain : goal.returns-then-not-is_plain
-returns-then-not-is_plain c =
-    let a = c.args in
-    let e = plain_stop a.s.now c.loop-i.i a.stop (omega arith) (omega arith) (sym c.is_plain.ensures ∙ not-true _ c.if-not-is_plain.true-raw) in
-    (omega arith, omega arith)
-
-pub loop-i-preserved : goal.loop-i-preserved
-loop-i-preserved c =
-    let a = c.args in
-    let e = plain_more a.s.now c.loop-i.i a.stop (omega arith) (omega arith) (sym c.is_plain.ensures ∙ not-false _ c.if-not-is_plain.false-raw) in
-    (omega arith, omega arith, omega arith)
+found : (c : After-unwrap_or) → c.unwrap_or.result ≡ plain_length (part c.args.from c.args.stop c.args.s.now)
+found c = c.unwrap_or.ensures ∙ plain_found _ (position_from_yields_List is_ending _ _ _ c.position.ensures.ran (YieldsList-from_slice _ cc)
+    (λ x b q k. search (rules, tests)))
 
 pub returns : goal.returns
 returns c =
-    let a = c.args in
-    let e = plain_over a.s.now c.loop-i.i a.stop c.loop-i-test.false in
-    (omega arith, omega arith)
+    let p = part c.args.from c.args.stop c.args.s.now in
+    omega (arith, found c, plain_le p, part_length c.args.s.now c.args.from c.args.stop c.requires.1)

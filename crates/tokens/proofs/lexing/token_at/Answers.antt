@@ -1,6 +1,5 @@
 -- The first byte tells the token: a letter a chord, and a case for each sign and for any other word.
 use Rattle.tokens.proofs.LexLaws.{at_semicolon, at_colon, at_bracket, at_closing, at_word, plain_byte, plain_sooner}
-use Rattle.tokens.proofs.ReadLaws.{reads_packed}
 use Rattle.tokens.specs.Lexing.{plain_length, Reads}
 use Rattle.tokens.specs.TokenWords.{token_word}
 use Rattle.songcode.specs.Bytes.{placed}
@@ -21,31 +20,22 @@ pub returns-then-b-eq59 : goal.returns-then-b-eq59
 unfolding Reads token_word
 returns-then-b-eq59 c =
     let i = c.args in
-    let s = i.s.now in (
-      c.pack.ensures.1,
-      reads_packed s i.a i.stop _ (i.a + 1) _ c.pack.ensures.0 (omega arith)
-          (semicolon, omega arith, omega arith, refl, λ to g h. at_semicolon s i.a to (omega arith) (omega arith) c.if-b-eq59.true),
-    )
+    let s = i.s.now in
+    (semicolon, omega arith, omega arith, refl, λ to g h. at_semicolon s i.a to (omega arith) (omega arith) c.if-b-eq59.true)
 
 pub returns-then-b-eq58 : goal.returns-then-b-eq58
 unfolding Reads token_word
 returns-then-b-eq58 c =
     let i = c.args in
-    let s = i.s.now in (
-      c.pack-then-b-eq58.ensures.1,
-      reads_packed s i.a i.stop _ (i.a + 1) _ c.pack-then-b-eq58.ensures.0 (omega arith)
-          (colon, omega arith, omega arith, refl, λ to g h. at_colon s i.a to (omega arith) (omega arith) c.if-b-eq58.true),
-    )
+    let s = i.s.now in
+    (colon, omega arith, omega arith, refl, λ to g h. at_colon s i.a to (omega arith) (omega arith) c.if-b-eq58.true)
 
 pub returns-then-b-eq91 : goal.returns-then-b-eq91
 unfolding Reads token_word
 returns-then-b-eq91 c =
     let i = c.args in
-    let s = i.s.now in (
-      c.pack-then-b-eq91.ensures.1,
-      reads_packed s i.a i.stop _ (i.a + 1) _ c.pack-then-b-eq91.ensures.0 (omega arith)
-          (opens, omega arith, omega arith, refl, λ to g h. at_bracket s i.a to (omega arith) (omega arith) c.if-b-eq91.true),
-    )
+    let s = i.s.now in
+    (opens, omega arith, omega arith, refl, λ to g h. at_bracket s i.a to (omega arith) (omega arith) c.if-b-eq91.true)
 
 pub returns-then-b-eq93 : goal.returns-then-b-eq93
 unfolding Reads
@@ -54,15 +44,13 @@ returns-then-b-eq93 c =
     let s = i.s.now in
     let a = i.a in
     let k = plain_length (part (a + 1) i.stop s) in
-    let e = c.plain_end-e.ensures in (
-      c.pack-then-b-eq93.ensures.1,
-      reads_packed s a i.stop c.closing_token.result (a + 1 + k) c.pack-then-b-eq93.result (omega (arith, e.0, c.pack-then-b-eq93.ensures.0)) (omega arith) (
-        closing_token (repeat_in (placed 0 (part (a + 1) (a + 1 + k) s))),
-        omega arith,
-        omega arith,
-        rw (← e.0) c.closing_token.ensures,
-        λ to g h. at_closing s a to (omega arith) (omega arith) k (plain_sooner s (a + 1) i.stop to h k g refl) c.if-b-eq93.true,
-      ),
+    let e = c.plain_end-e.ensures in
+    rw e.0 (
+      closing_token (repeat_in (placed 0 (part (a + 1) (a + 1 + k) s))),
+      omega arith,
+      omega arith,
+      rw (← e.0) c.closing_token.ensures,
+      λ to g h. at_closing s a to (omega arith) (omega arith) k (plain_sooner s (a + 1) i.stop to h k g refl) c.if-b-eq93.true,
     )
 
 pub word_token-requires : goal.word_token-requires
@@ -81,13 +69,11 @@ returns c =
     let k = plain_length (part (a + 1) i.stop s) in
     let e = c.plain_end-e.ensures in
     let b = plain_byte (get_or s a 0) c.requires.3 c.if-b-eq59.false
-    c.if-b-eq58.false c.if-b-eq91.false c.if-b-eq93.false in (
-      c.pack-2.ensures.1,
-      reads_packed s a i.stop c.word_token.result (a + 1 + k) c.pack-2.result (omega (arith, e.0, c.pack-2.ensures.0)) (omega arith) (
-        word_token (placed a (part a (a + 1 + k) s)),
-        omega arith,
-        omega arith,
-        rw (← e.0) c.word_token.ensures,
-        λ to g h. at_word s a to (omega arith) (omega arith) k (plain_sooner s (a + 1) i.stop to h k g refl) b,
-      ),
+    c.if-b-eq58.false c.if-b-eq91.false c.if-b-eq93.false in
+    rw e.0 (
+      word_token (placed a (part a (a + 1 + k) s)),
+      omega arith,
+      omega arith,
+      rw (← e.0) c.word_token.ensures,
+      λ to g h. at_word s a to (omega arith) (omega arith) k (plain_sooner s (a + 1) i.stop to h k g refl) b,
     )

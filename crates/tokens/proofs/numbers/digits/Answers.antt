@@ -1,33 +1,27 @@
 -- Digit by digit: the number so far with the bytes that are left says what all say; a byte that is no digit, or one digit too many, ends it.
-use Rattle.tokens.proofs.DecimalLaws.{digits_over, digits_low, digits_high, digits_past, digits_more}
+use Rattle.tokens.proofs.DecimalLaws.{digits_over, digits_other, digits_past, digits_more}
 use native.Mathlib.Omega.{arith}
+use mathlib.Core.Logic.{inl, inr}
 use mathlib.Core.Path.{sym, ◌∙◌}
 use Rattle.tokens.proofs.numbers.digits.Goals as goal
 
-pub returns-then-b-lt48 : goal.returns-then-b-lt48
-returns-then-b-lt48 c =
-    sym (digits_low c.args.w.now c.loop-i.i c.loop-i.v c.loop-i-test.true c.if-b-lt48.true) ∙ c.loop-i.invariant.2
+pub returns-then-not-is_ascii_digit : goal.returns-then-not-is_ascii_digit
+returns-then-not-is_ascii_digit c =
+    let w = c.args.w.now in
+    let l = c.loop-b in
+    sym (elim c.then-not-is_ascii_digit.either [
+      | inl e ↦ digits_other w l.b-index l.v c.loop-b-test.true (sym c.is_ascii_digit.ensures.value ∙ e)
+      | inr e ↦ digits_past w l.b-index l.v c.loop-b-test.true e.1
+    ]) ∙ l.invariant.1
 
-pub returns-then-b-gt57 : goal.returns-then-b-gt57
-returns-then-b-gt57 c =
-    sym (digits_high c.args.w.now c.loop-i.i c.loop-i.v c.loop-i-test.true
-    c.if-b-gt57.true) ∙ c.loop-i.invariant.2
-
-pub returns-then-v-gt999 : goal.returns-then-v-gt999
-returns-then-v-gt999 c =
-    sym (digits_past c.args.w.now c.loop-i.i c.loop-i.v c.loop-i-test.true
-    c.if-v-gt999.true) ∙ c.loop-i.invariant.2
-
-pub loop-i-preserved : goal.loop-i-preserved
-loop-i-preserved c =
-    let e = c.digit.ensures in (
+pub loop-b-preserved : goal.loop-b-preserved
+loop-b-preserved c =
+    let l = c.loop-b in
+    let d = c.if-not-is_ascii_digit.ensures.cases in (
       omega arith,
-      omega arith,
-      rw e (sym
-          (digits_more c.args.w.now c.loop-i.i c.loop-i.v
-          c.loop-i-test.true (omega arith) (omega arith)) ∙ c.loop-i.invariant.2),
+      rw c.from.ensures (sym (digits_more c.args.w.now l.b-index l.v c.loop-b-test.true d.0 d.1) ∙ l.invariant.1),
     )
 
 pub returns : goal.returns
 returns c =
-    sym (digits_over c.args.w.now c.loop-i.i c.loop-i.v c.loop-i-test.false (omega arith)) ∙ c.loop-i.invariant.2
+    sym (digits_over c.args.w.now c.loop-b.b-index c.loop-b.v c.loop-b-test.false (omega arith)) ∙ c.loop-b.invariant.1

@@ -5,31 +5,27 @@ use Rattle.songcode.specs.Lists.{provided◌then◌else◌}
 use borrow.Author.Tests.{lt-leb, le-leb}
 use native.Mathlib.Omega.{arith}
 use mathlib.Core.Path.{sym, ◌∙◌}
+use mathlib.Core.Logic.{inl, inr}
 use Rattle.tokens.proofs.numbers.number_in.Goals as goal
 
-pub returns-in_default : goal.returns-in_default
-returns-in_default c =
+pub returns-in_err-n : goal.returns-in_err-n
+returns-in_err-n c =
     let a = c.args in
-    let told = c.in_default.is in
-    told ∙ number_not a.low a.high (placed 0 a.w.now) (omega arith) (sym told ∙ c.decimal-d.ensures)
+    c.from_residual.ensures ∙ number_not a.low a.high (placed 0 a.w.now) (omega arith) (sym c.in_err-n.was ∙ c.decimal.ensures)
 
-pub returns-then-n-low : goal.returns-then-n-low
+pub returns-then-n-high : goal.returns-then-n-high
 unfolding provided◌then◌else◌
-returns-then-n-low c =
+returns-then-n-high c =
     let a = c.args in
-    let h = sym c.in-Is.is ∙ c.decimal-d.ensures in
-    sym (number_is a.low a.high (placed 0 a.w.now) c.in-Is.n h ∙ simp (lt-leb _ _ c.if-n-low.true))
+    let h = sym c.in_ok-n.was ∙ c.decimal.ensures in
+    sym (number_is a.low a.high (placed 0 a.w.now) c.in_ok-n.n h ∙ simp (le-leb _ _ c.if-low-n.true, le-leb _ _ c.if-n-high.true))
 
-pub returns-then-high-n : goal.returns-then-high-n
+pub returns-else-low-n : goal.returns-else-low-n
 unfolding provided◌then◌else◌
-returns-then-high-n c =
+returns-else-low-n c =
     let a = c.args in
-    let h = sym c.in-Is.is ∙ c.decimal-d.ensures in
-    sym (number_is a.low a.high (placed 0 a.w.now) c.in-Is.n h ∙ simp (le-leb _ _ c.if-n-low.false, lt-leb _ _ c.if-high-n.true))
-
-pub returns : goal.returns
-unfolding provided◌then◌else◌
-returns c =
-    let a = c.args in
-    let h = sym c.in-Is.is ∙ c.decimal-d.ensures in
-    sym (number_is a.low a.high (placed 0 a.w.now) c.in-Is.n h ∙ simp (le-leb _ _ c.if-n-low.false, le-leb _ _ c.if-high-n.false))
+    let h = sym c.in_ok-n.was ∙ c.decimal.ensures in
+    sym (number_is a.low a.high (placed 0 a.w.now) c.in_ok-n.n h ∙ elim c.else-low-n.either [
+      | inl w ↦ simp (le-leb _ _ w.0, lt-leb _ _ w.1)
+      | inr w ↦ simp (lt-leb _ _ w)
+    ])

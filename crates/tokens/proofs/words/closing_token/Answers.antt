@@ -12,16 +12,16 @@ returns-in_default c =
 pub overflow_add-result : goal.overflow_add-result
 overflow_add-result c =
     let w = c.args.w.now in
-    let h = number_there 2 9999 (placed 0 w) c.in-Is.n (sym c.in-Is.is ∙ c.number_in.ensures) in
-    omega (arith, number_high 2 9999 (placed 0 w) c.in-Is.n h)
+    let h = number_there 2 9999 (placed 0 w) c.in-Some.n (sym c.in-Some.is ∙ c.number_in.ensures) in
+    omega (arith, number_high 2 9999 (placed 0 w) c.in-Some.n h)
 
 pub overflow_cast-result : goal.overflow_cast-result
 overflow_cast-result c =
     let w = c.args.w.now in
-    let h = number_there 2 9999 (placed 0 w) c.in-Is.n (sym c.in-Is.is ∙ c.number_in.ensures) in
-    omega (arith, number_high 2 9999 (placed 0 w) c.in-Is.n h)
+    let h = number_there 2 9999 (placed 0 w) c.in-Some.n (sym c.in-Some.is ∙ c.number_in.ensures) in
+    omega (arith, number_high 2 9999 (placed 0 w) c.in-Some.n h)
 
 pub returns : goal.returns
 returns c =
-    closing_is c.args.w.now c.in-Is.n
-    (sym c.in-Is.is ∙ c.number_in.ensures)
+    closing_is c.args.w.now c.in-Some.n
+    (sym c.in-Some.is ∙ c.number_in.ensures)

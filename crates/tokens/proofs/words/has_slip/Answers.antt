@@ -1,18 +1,13 @@
--- The bytes are looked through from the first on.
-use Rattle.tokens.proofs.TakenLaws.{slip_over, slip_here, slip_more}
-use native.Mathlib.Omega.{arith}
-use mathlib.Core.Path.{sym, ◌∙◌}
+-- Some byte of the text is one.
+use mathlib.Core.Path.{◌∙◌}
+use borrow.Author.Tests.{tests}
+use Rattle.std.proofs.Common.{rules}
+use Rattle.std.proofs.lemmas.Iterator.{YieldsList-from_slice}
+use Rattle.std.proofs.lemmas.Iterator.Search.{any_from_yields_List}
+use Rattle.tokens.specs.Lexing.{is_slip_byte}
+use Rattle.tokens.proofs.TakenLaws.{slips_any}
 use Rattle.tokens.proofs.words.has_slip.Goals as goal
 
-pub returns-then-is_slip : goal.returns-then-is_slip
-returns-then-is_slip c =
-    sym (slip_here c.args.w.now c.loop-i.i (omega arith) (sym c.is_slip.ensures ∙ c.if-is_slip.true)) ∙ c.loop-i.invariant.1
-
-pub loop-i-preserved : goal.loop-i-preserved
-loop-i-preserved c =
-    let w = c.args.w.now in
-    (omega arith, sym (slip_more w c.loop-i.i (omega arith) (sym c.is_slip.ensures ∙ c.if-is_slip.false)) ∙ c.loop-i.invariant.1)
-
 pub returns : goal.returns
-returns c =
-    sym (slip_over c.args.w.now c.loop-i.i c.loop-i-test.false) ∙ c.loop-i.invariant.1
+returns c = any_from_yields_List is_slip_byte _ _ _ c.any.ensures.ran (YieldsList-from_slice c.args.w.now cc) (λ x b q k. search (rules, tests))
+    ∙ slips_any c.args.w.now

@@ -1,21 +1,22 @@
 -- A byte is one of the four, or none of them.
-use Rattle.tokens.proofs.TakenLaws.{slip_is, slip_last}
-use Rattle.tokens.specs.Lexing.{is_slip_byte}
+use mathlib.Core.Logic.{inl, inr}
 use mathlib.Core.Path.{refl, sym}
+use native.Mathlib.Omega.{arith}
+use borrow.Author.Tests.{tests}
+use Rattle.std.proofs.Common.{rules}
+use Rattle.tokens.specs.Lexing.{is_slip_byte}
+use Rattle.tokens.proofs.TakenLaws.{slip_is, slip_low, slip_none}
 use Rattle.tokens.proofs.words.is_slip.Goals as goal
 
-pub returns-then-b-eq37 : goal.returns-then-b-eq37
+pub returns-in-37 : goal.returns-in-37
 unfolding is_slip_byte
-returns-then-b-eq37 c = sym (slip_is _ 37 refl c.if-b-eq37.true)
+returns-in-37 c = sym (elim c.in-37.is [ inl h ↦ slip_is c.args.b 61 refl h | inr h ↦ slip_is c.args.b 95 refl h ])
 
-pub returns-then-b-eq95 : goal.returns-then-b-eq95
-unfolding is_slip_byte
-returns-then-b-eq95 c = sym (slip_is _ 95 refl c.if-b-eq95.true)
+pub returns-in-37-2 : goal.returns-in-37-2
+returns-in-37-2 c = sym (slip_low c.args.b (omega arith) (omega arith))
 
-pub returns-then-b-eq61 : goal.returns-then-b-eq61
-unfolding is_slip_byte
-returns-then-b-eq61 c = sym (slip_is _ 61 refl c.if-b-eq61.true)
+pub returns-in_default : goal.returns-in_default
+returns-in_default c = search (rules, tests, slip_none)
 
-pub returns : goal.returns
-unfolding is_slip_byte
-returns c = sym (slip_last _ c.if-b-eq37.false c.if-b-eq95.false c.if-b-eq61.false)
+pub returns-in_default-2 : goal.returns-in_default-2
+returns-in_default-2 c = search (rules, tests, slip_none)

@@ -3,4 +3,4 @@ use Rattle.turnipcart.proofs.PaperLaws.{copied_laid}
 use Rattle.turnipcart.proofs.paper.turnipcart_flat.Goals as goal
 
 pub returns : goal.returns
-returns c = let copy = c.flat_copy-c in copied_laid _ _ copy.result _ copy.ensures
+returns c = copied_laid _ _ _ _ _ c.numbers_of.ensures c.flat_copy.ensures
