@@ -15,7 +15,7 @@ pub fn join_up(sections: &[u64], measures: &[u32]) -> bool
     cover(sections, measures.len()) && follow_on(measures)
 }
 
-// The sections "cover the measures in order without gap".
+// The sections "cover the measures in order without gap"; a loop, as each is judged by the sum of those before it.
 fn cover(sections: &[u64], measures: usize) -> bool
     ensures { result ≡ covers 0 measures sections.now }
 {
@@ -30,7 +30,7 @@ fn cover(sections: &[u64], measures: usize) -> bool
     first == measures
 }
 
-// Each measure has 1 to 32 beats and starts where the last ended, the first at 0.
+// Each measure has 1 to 32 beats and starts where the last ended, the first at 0; a loop, as in `cover`.
 fn follow_on(measures: &[u32]) -> bool
     ensures { result ≡ measures_join 0 measures.now }
 {

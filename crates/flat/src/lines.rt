@@ -17,17 +17,15 @@ pub fn put_lines(s: &[u8], run: Run, copy: &mut [u8], at: usize) -> usize
 {
     let mut number = run.number;
     let mut from = run.at;
-    let mut left = run.lines;
     let mut out = at;
-    while from < s.len() {
-        if left == 0 {
-            return out;
+    for _ in 0..run.lines {
+        if from == s.len() {
+            break;
         }
         let line = line_at(s, number, from);
         out = put_line(s, line.start, line.stop, copy, out);
         number += 1;
         from = line.next;
-        left -= 1;
     }
     out
 }
@@ -42,11 +40,7 @@ pub struct Progress {
 fn is_key(kind: Kind) -> bool
     ensures { result ≡ is_key kind }
 {
-    match kind {
-        Kind::Key => true,
-        Kind::Modifier => false,
-        Kind::Pattern => false,
-    }
+    kind == Kind::Key
 }
 
 // The key lines from a line on.

@@ -65,13 +65,6 @@ module _ {s : List ℕ} {n at : ℕ} {l : Line} (f : Found s n at l) (left : ℕ
       let e : left ≡ suc (left - 1) = omega arith in
       ap (λ (k : ℕ). take k (text_lines s n at)) e ∙ rw (lines_found f h)
 
-pub lines_less : {s : List ℕ} {n at : ℕ} {l : Line} → Found s n at l → at < length s → length s - l.next < length s - at
-lines_less {s} {n} {at} {l} f h =
-    let onward = f.onward in
-    let over = f.over in
-    let k : at < l.next = omega arith in
-    omega arith
-
 -- The first line of a run is laid, if there is one; its line end is counted to it.
 pub record First (s : List ℕ) (run : Run) (l : Line) : Type 0 where
   pub words : token_words (run_tokens (lines_of s run))

@@ -26,17 +26,15 @@ pub fn lay_run(s: &[u8], run: Run, words: &mut [u32], n: usize) -> usize
     let mut fill = lay_line(s, first.start, first.stop, words, n);
     let mut line = run.number + 1;
     let mut at = first.next;
-    let mut left = run.lines - 1;
-    while at < s.len() {
-        if left == 0 {
-            return fill;
+    for _ in 1..run.lines {
+        if at == s.len() {
+            break;
         }
         let found = line_at(s, line, at);
         let begun = end_line(words, fill);
         fill = lay_line(s, found.start, found.stop, words, begun);
         line += 1;
         at = found.next;
-        left -= 1;
     }
     fill
 }

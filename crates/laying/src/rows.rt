@@ -91,18 +91,16 @@ pub fn lay_lyrics(s: &[u8], run: Run, words: &mut [u32], n: usize) -> usize
 {
     let mut number = run.number;
     let mut at = run.at;
-    let mut left = run.lines;
     let mut fill = n;
-    while at < s.len() {
-        if left == 0 {
-            return fill;
+    for _ in 0..run.lines {
+        if at == s.len() {
+            break;
         }
         let line = line_at(s, number, at);
         lay_lyric(s, number, line.start, line.stop, words, fill);
         fill += 2;
         number += 1;
         at = line.next;
-        left -= 1;
     }
     fill
 }

@@ -2,9 +2,10 @@
 use Prim.Native.Nat.{ℕ, ◌<◌, ◌≤◌}
 use mathlib.Core.Path.{◌≡◌, refl, sym, ap, ◌∙◌}
 use mathlib.Core.List.{List, []}
-use mathlib.Core.Bool.{true, false}
+use mathlib.Core.Bool.{Bool, true, false, true≢false}
 use mathlib.Core.Option.{get_or}
 use native.Mathlib.Omega.{arith}
+use denote.Enum.Bare.{sameb}
 use lib.Dec.{eqb}
 use lib.ListN.{length}
 use Rattle.songcode.specs.Lists.{provided◌then◌else◌}
@@ -12,7 +13,8 @@ use Rattle.songcode.specs.Answer.Lines.{Line, Block, blocks}
 use Rattle.songcode.specs.Answer.SongText as songtext
 use Rattle.songcode.specs.Answer.SongText.{block_kind, head_in}
 use Rattle.settings.specs.declared.kinds.BlockKind.{BlockKind}
-use Rattle.settings.specs.declared.kinds.BlockKind.TheVariants.{Metadata, Definition, Section}
+use Rattle.settings.specs.declared.kinds.BlockKind.TheVariants.{Definition}
+use Rattle.settings.specs.contracts.kinds.BlockKind.{the_type}
 use Rattle.settings.specs.Kinds.{block_kind_is}
 use Rattle.sections.specs.declared.blocks.Place.{Place}
 use Rattle.sections.specs.declared.runs.Run.{Run}
@@ -22,39 +24,34 @@ use Rattle.sections.proofs.NextLaws.{blocks_over}
 use Rattle.slips.specs.PatternText.{defines_by, defines, definition_lines}
 use Rattle.slips.specs.BlocksMet.{OpensAt, Behind}
 
--- By the kind that is found.
-by_kind : (k : songtext.BlockKind) (n : ℕ) (b : Block) (m : BlockKind) → m ≡ block_kind_is k → (m ≡ Definition → ⊥) → false ≡ defines_by k n b
+-- Whether a kind is that of definitions, as `==` tells it.
+abbrev defining : BlockKind → Bool
+defining k = sameb the_type k Definition
+
+-- By the kind that is found: no other than a definition defines, and that by the number of its head.
+by_kind : (k : songtext.BlockKind) (n : ℕ) (b : Block) → defining (block_kind_is k) ≡ false → false ≡ defines_by k n b
 unfolding defines_by block_kind_is
-by_kind songtext.metadata n b m e o = refl
-by_kind songtext.definition n b m e o = absurd (o e)
-by_kind songtext.section n b m e o = refl
+by_kind songtext.metadata n b o = refl
+by_kind songtext.definition n b o = absurd (true≢false o)
+by_kind songtext.section n b o = refl
 
-by_head : (k : songtext.BlockKind) (n : ℕ) (b : Block) → Definition ≡ block_kind_is k → eqb (get_or (head_in b.first) 0) n ≡ defines_by k n b
+by_head : (k : songtext.BlockKind) (n : ℕ) (b : Block) → defining (block_kind_is k) ≡ true → eqb (get_or (head_in b.first) 0) n ≡ defines_by k n b
 unfolding defines_by block_kind_is
-by_head songtext.metadata n b e =
-    let z : ◌≡◌ {A = ℕ} 0 1 = cc in
-    let y : ⊥ = omega arith in
-    absurd y
-by_head songtext.definition n b e = refl
-by_head songtext.section n b e =
-    let z : ◌≡◌ {A = ℕ} 0 1 = cc in
-    let y : ⊥ = omega arith in
-    absurd y
+by_head songtext.metadata n b o = absurd (true≢false (sym o))
+by_head songtext.definition n b o = refl
+by_head songtext.section n b o = absurd (true≢false (sym o))
 
-module _ (n : ℕ) (b : Block) {m : BlockKind} (e : m ≡ block_kind_is (block_kind b)) where
-  pub of_metadata_lem : m ≡ Metadata → false ≡ defines n b
-  unfolding defines
-  of_metadata_lem f = by_kind (block_kind b) n b m e (λ g. let z : ◌≡◌ {A = ℕ} 0 1 = cc in
-      let y : ⊥ = omega arith in y)
+module _ (n : ℕ) (b : Block) {m : BlockKind} {r : Bool} (e : m ≡ block_kind_is (block_kind b)) (f : r ≡ defining m) where
+  same_kind : r ≡ defining (block_kind_is (block_kind b))
+  same_kind = f ∙ ap defining e
 
-  pub of_section_lem : m ≡ Section → false ≡ defines n b
+  pub of_another : r ≡ false → r ≡ defines n b
   unfolding defines
-  of_section_lem f = by_kind (block_kind b) n b m e (λ g. let z : ◌≡◌ {A = ℕ} 0 1 = cc in
-      let y : ⊥ = omega arith in y)
+  of_another o = o ∙ by_kind (block_kind b) n b (sym same_kind ∙ o)
 
-  pub of_definition : m ≡ Definition → {id : ℕ} → id ≡ get_or (head_in b.first) 0 → eqb id n ≡ defines n b
+  pub of_definition : r ≡ true → {id : ℕ} → id ≡ get_or (head_in b.first) 0 → eqb id n ≡ defines n b
   unfolding defines
-  of_definition f i = ap (λ (k : ℕ). eqb k n) i ∙ by_head (block_kind b) n b (sym f ∙ e)
+  of_definition o i = ap (λ (k : ℕ). eqb k n) i ∙ by_head (block_kind b) n b (sym same_kind ∙ o)
 
 -- Of the blocks from a place on.
 module _ (s : List ℕ) (n : ℕ) (p : Place) where

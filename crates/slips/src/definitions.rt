@@ -15,14 +15,8 @@ fn is_defined_at(s: &[u8], p: Place, number: usize) -> bool
     requires { Counted p × (p.at < length s.now) }
     ensures { result ≡ defines number (block_at s.now p.number p.at) }
 {
-    match kind_at(s, p.number, p.at) {
-        BlockKind::Metadata => false,
-        BlockKind::Definition => {
-            let d = read_definition(s, p.number, p.at);
-            d.id == number
-        }
-        BlockKind::Section => false,
-    }
+    kind_at(s, p.number, p.at) == BlockKind::Definition
+        && read_definition(s, p.number, p.at).id == number
 }
 
 // The lines of the first definition of this number, none where there is none.

@@ -10,7 +10,7 @@ ghost use Rattle.tokens.specs.Fitting.{Fit};
 ghost use Rattle.tokens.specs.Lexing.{tokens_from};
 ghost use Rattle.slips.specs.Standing.{LineIn, Counted};
 ghost use Rattle.slips.specs.Clauses.{number_of};
-ghost use Rattle.slips.specs.Rules.{is_count, is_earlier, Latest, Told, piece};
+ghost use Rattle.slips.specs.Rules.{is_earlier, Latest, Told, piece};
 ghost use Rattle.slips.specs.RulesRead.{misnamed, is_side, is_stuck, back_of, Going, Steps, Reads, up_to};
 ghost use Rattle.slips.specs.Rules.{Ruled};
 ghost use Rattle.slips.specs.RulesRead.{ReadAll, RuledAt, side_line};
@@ -69,7 +69,7 @@ fn reading_from(at: usize) -> Reading
 }
 
 fn blamed(r: Reading, clause: Clause, from: usize, to: usize, stop: usize) -> Stop
-    ensures { (result.clause ≡ clause) × (result.from ≡ from) }
+    ensures { (result.clause ≡ clause) × (result.from ≡ from) × (result.to ≡ to) }
 {
     Stop {
         clause,
@@ -81,17 +81,11 @@ fn blamed(r: Reading, clause: Clause, from: usize, to: usize, stop: usize) -> St
 }
 
 // Whether a `$n` was read that may not stand in this text.
+#[tactic(auto, unfolding(crate::specs::RulesRead::misnamed))]
 fn is_misnamed(whose: Whose, c: Check) -> bool
     ensures { result ≡ misnamed whose c }
 {
-    if !c.named {
-        return false;
-    }
-    match whose {
-        Whose::Definition => false,
-        Whose::Section => !is_alone(c.place),
-        Whose::Side => true,
-    }
+    c.named && (whose == Whose::Side || whose == Whose::Section && !is_alone(c.place))
 }
 
 // Whether no right text goes on from here.
@@ -103,7 +97,7 @@ fn is_stuck(whose: Whose, c: Check) -> bool
 
 // "without `:` and `$`": the clause of a token that may not stand; what stands directly behind a `]` is a wrong count, whatever it is.
 fn barred_clause(whose: Whose, sign: u32, w: &[u8]) -> Option<Clause>
-    ensures { IfSome result (λ clause. is_count (number_of clause) ≡ false) }
+    ensures { IfSome result (λ clause. (19 ≤ number_of clause) × (number_of clause ≤ 20)) }
 {
     if whose != Whose::Side {
         return None;

@@ -29,7 +29,7 @@ pub enum Known {
     Fine,
 }
 
-// Of a number that no definition has, nothing.
+// A number that no definition has is unfit.
 pub fn known_of(known: &[Known], number: usize) -> Known {
     known.get(number).copied().unwrap_or(Known::Unfit)
 }

@@ -38,11 +38,7 @@ pub fn block_of(s: &[u8], wanted: usize) -> Place
 
 // Whether a block is a section or, where definitions count too, no metadata.
 fn is_body(kind: BlockKind, definitions: bool) -> bool {
-    match kind {
-        BlockKind::Metadata => false,
-        BlockKind::Definition => definitions,
-        BlockKind::Section => true,
-    }
+    kind == BlockKind::Section || definitions && kind == BlockKind::Definition
 }
 
 // The first line of the first such block.

@@ -1,14 +1,12 @@
 -- The returns of the functions on definitions' heads.
-use Prim.Native.Nat.{ℕ, ◌+◌, ◌<◌, ◌≤◌, min}
+use Prim.Native.Nat.{ℕ, ◌<◌, ◌≤◌, min}
 use mathlib.Core.Path.{◌≡◌, refl, sym, ap, ◌∙◌}
-use mathlib.Core.List.{List, ◌∷◌}
-use mathlib.Core.Bool.{Bool, true, false}
-use native.Mathlib.Numerals.{add-one}
+use mathlib.Core.List.{List, [], ◌∷◌}
+use mathlib.Core.Bool.{Bool, true, ◌||◌}
 use native.Mathlib.Omega.{arith}
-use borrow.Author.Tests.{le-leb, lt-leb, eq-eqb, ne_eqb}
-use lib.Dec.{leb}
-use lib.ListN.{length, get_or, set, take, drop, drop_of_length-le, length-take}
-use lib.Seq.{drop-cons, get_or-take}
+use borrow.Author.Tests.{le-leb, lt-leb}
+use lib.Dec.{eqb, leb}
+use lib.ListN.{set}
 use Rattle.songcode.specs.Lists.{provided◌then◌else◌, any}
 use Rattle.songcode.specs.Bytes.{placed}
 use Rattle.songcode.specs.Complaints.{complain_if}
@@ -16,37 +14,20 @@ use Rattle.songcode.specs.Answer.Numbers.{count_in}
 use Rattle.songcode.specs.Answer.Sections.{behind_first}
 use Rattle.songcode.specs.Answer.SongText.{head_in}
 use Rattle.tokens.specs.Decimals.{number_of}
+use Rattle.std.specs.List.{list_any}
 use Rattle.std.specs.Prelude as std
 use Rattle.std.specs.Prelude.{Some, None}
 use Rattle.text.specs.Spans.{part}
 use Rattle.settings.proofs.OfLineLaws.{line_from, head_of_line}
 use Rattle.refusals.specs.Ranks.{least}
 use Rattle.stage2.specs.Heads.{has_head, head_again, head_judged, with_head}
-use Rattle.stage2.proofs.MarkLaws.{said}
 use Rattle.refusals.proofs.RankLaws.{least_le}
 
--- The search among the heads.
-module _ (x n : ℕ) (ids : List ℕ) (i : ℕ) where
-  abbrev pub said_from : Bool
-  said_from = said x (drop i (take n ids))
-
-module _ (x n : ℕ) (ids : List ℕ) (i : ℕ) (long : n ≤ length ids) where
-  at_place : i < n → drop i (take n ids) ≡ get_or ids i 0 ∷ drop (i + 1) (take n ids)
-  at_place h =
-      let l : i < length (take n ids) = omega (arith, length-take n ids) in
-      rw (add-one i, drop-cons (take n ids) i 0 l, get_or-take n ids i 0 h) refl
-
-  pub head_here : i < n → get_or ids i 0 ≡ x → said_from x n ids i ≡ true
-  unfolding any
-  head_here h e = rw (at_place h, eq-eqb (get_or ids i 0) x e) refl
-
-  pub head_on : i < n → (get_or ids i 0 ≡ x → ⊥) → said_from x n ids i ≡ said_from x n ids (i + 1)
-  unfolding any
-  head_on h e = rw (at_place h, ne_eqb (get_or ids i 0) x e) refl
-
-  pub head_over : n ≤ i → said_from x n ids i ≡ false
-  unfolding any
-  head_over h = rw (drop_of_length-le (take n ids) {i = i} (omega (arith, length-take n ids))) refl
+-- Whether a slice contains a number is whether that is among the heads.
+pub among_heads : (x : ℕ) (ids : List ℕ) → list_any (λ y. eqb y x) ids ≡ any (λ y. eqb y x) ids
+unfolding any
+among_heads x [] = refl
+among_heads x (y ∷ ids) = ap (λ b. eqb y x || b) (among_heads x ids)
 
 -- What heads are complained of.
 module _ (head : std.Option ℕ) (n : ℕ) (ids : List ℕ) where

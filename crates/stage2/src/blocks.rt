@@ -139,14 +139,7 @@ pub fn open_block(s: &[u8], k: Carried, l: Line) -> Judged
 fn in_definition(place: Place) -> bool
     ensures { result ≡ in_definition place }
 {
-    match place {
-        Place::Between => false,
-        Place::Metadata => false,
-        Place::Head => true,
-        Place::Definition => true,
-        Place::Body(_) => false,
-        Place::Lyrics => false,
-    }
+    matches!(place, Place::Head | Place::Definition)
 }
 
 // Whether the text that ends with a block is right there.

@@ -18,14 +18,7 @@ fn has_head(ids: &[usize], n: usize, x: usize) -> bool
     requires { n ≤ length ids.now }
     ensures { result ≡ has_head n ids.now x }
 {
-    let mut i = 0;
-    while i < n {
-        if ids[i] == x {
-            return true;
-        }
-        i += 1;
-    }
-    false
+    ids[..n].contains(&x)
 }
 
 // 6 where the head is malformed, the 27th or later, or said before.
@@ -67,14 +60,7 @@ fn judge_head(s: &[u8], ids: &mut [usize], n: usize, l: Line) -> usize
 fn is_head(place: Place) -> bool
     ensures { result ≡ is_head place }
 {
-    match place {
-        Place::Between => false,
-        Place::Metadata => false,
-        Place::Head => true,
-        Place::Definition => false,
-        Place::Body(_) => false,
-        Place::Lyrics => false,
-    }
+    matches!(place, Place::Head)
 }
 
 // What a line is complained of as a definition's head, where n stood before it and the walk stands at this place behind it.

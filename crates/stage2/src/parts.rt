@@ -8,36 +8,21 @@ use super::states::Part;
 pub fn past_keys(p: Part) -> bool
     ensures { result ≡ past_keys p }
 {
-    match p {
-        Part::Keys => false,
-        Part::Early => true,
-        Part::Pattern => true,
-        Part::Behind => true,
-    }
+    matches!(p, Part::Early | Part::Pattern | Part::Behind)
 }
 
 // A modifier is out of place.
 pub fn before_pattern(p: Part) -> bool
     ensures { result ≡ before_pattern p }
 {
-    match p {
-        Part::Keys => true,
-        Part::Early => true,
-        Part::Pattern => false,
-        Part::Behind => false,
-    }
+    matches!(p, Part::Keys | Part::Early)
 }
 
 // A pattern line is out of place.
 pub fn past_pattern(p: Part) -> bool
     ensures { result ≡ past_pattern p }
 {
-    match p {
-        Part::Keys => false,
-        Part::Early => false,
-        Part::Pattern => false,
-        Part::Behind => true,
-    }
+    matches!(p, Part::Behind)
 }
 
 pub fn after_key(p: Part) -> Part

@@ -1,6 +1,6 @@
 -- The words of the lines passed are laid, those of the lines from here on fit behind them.
-use Prim.Native.Nat.{◌*◌, ◌^◌}
-use mathlib.Core.Path.{◌≡◌, refl, ap, ◌∙◌}
+use Prim.Native.Nat.{ℕ, ◌+◌, ◌-◌, ◌*◌, ◌^◌}
+use mathlib.Core.Path.{◌≡◌, refl, ap, ◌∙◌, subst}
 use mathlib.Core.List.{[], ◌∷◌}
 use native.Mathlib.Omega.{arith}
 use lib.ListN.{length}
@@ -11,8 +11,7 @@ use Rattle.tokens.specs.Lexing.{tokens_from}
 use Rattle.tokens.proofs.KeptLaws.{found_stop}
 use Rattle.laying.specs.Laying.{run_tokens}
 use Rattle.laying.proofs.KeptRowLaws.{kept_on}
-use Rattle.laying.proofs.LayingLaws.{first_line_lem, lays_none, lays_over, lays_end, lays_room, lays_next, run_laid, lines_less}
-use borrow.Author.Rules.{rules}
+use Rattle.laying.proofs.LayingLaws.{Lays, first_line_lem, lays_none, lays_over, lays_end, lays_room, lays_next, run_laid}
 use Rattle.laying.proofs.laying.lay_run.Goals as goal
 
 pub returns-then-run-eq0 : goal.returns-then-run-eq0
@@ -34,8 +33,8 @@ lay_line-fill-requires c =
       kept = (found_stop c.args.s.now c.line_at-first.ensures, c.requires.3);
     }
 
-pub loop-at-init : goal.loop-at-init
-loop-at-init c =
+pub loop-init : goal.loop-init
+loop-init c =
     let w = c.line_at-first.result in
     let counted = c.requires.0.counted in
     let inside = c.requires.0.inside in
@@ -51,38 +50,32 @@ loop-at-init c =
       rw c.lay_line-fill.ensures.held (kept_on c.args.n new c.lay_line-fill.ensures.fill.0 (omega arith) c.requires.3),
     )
 
-pub shape_of-words-then-left-eq0 : goal.shape_of-words-then-left-eq0
-shape_of-words-then-left-eq0 c =
-    let x = c.lay_line-fill in
-    let same = c.loop-at.invariant.2.same in
-    search rules
-
-pub returns-then-left-eq0 : goal.returns-then-left-eq0
-returns-then-left-eq0 c =
-    let v = c.loop-at in
+pub returns-then-at-s : goal.returns-then-at-s
+returns-then-at-s c =
+    let v = c.loop in
     let i = v.invariant.2 in
     let inside = c.requires.0.inside in
     let g = first_line_lem c.args.run c.line_at-first.ensures c.if-run-eq0.false inside in
     let r = g.room in
     let said = run_laid c.args.s.now c.args.run _ c.args.n c.args.words.now c.lay_line-fill.new.words v.words c.lay_line-fill.result v.fill
-    v.line v.at v.left g c.lay_line-fill.ensures.held c.lay_line-fill.ensures.fill.0 i
-    (lays_end _ _ _ _ _ _ i c.if-left-eq0.true) in record { held = said.0; fill = said.1 }
+    v.line v.at (c.args.run.lines - v.counter) g c.lay_line-fill.ensures.held c.lay_line-fill.ensures.fill.0 i
+    (lays_over _ _ _ _ _ _ i (omega arith)) in record { held = said.0; fill = said.1 }
 
 pub end_line-begun-requires : goal.end_line-begun-requires
 end_line-begun-requires c =
-    let v = c.loop-at in
-    let r = lays_room _ _ _ _ _ _ v.invariant.2 c.line_at-found.ensures c.loop-at-test.true c.if-left-eq0.false in
+    let v = c.loop in
+    let r = lays_room _ _ _ _ _ _ v.invariant.2 c.line_at-found.ensures (omega arith) (omega arith) in
     let same = v.invariant.2.same in
     omega arith
 
-pub lay_line-fill-requires-in-loop-at : goal.lay_line-fill-requires-in-loop-at
-lay_line-fill-requires-in-loop-at c =
-    let v = c.loop-at in
+pub lay_line-fill-requires-in-loop : goal.lay_line-fill-requires-in-loop
+lay_line-fill-requires-in-loop c =
+    let v = c.loop in
     let over = c.line_at-found.ensures.over in
     let next = c.line_at-found.ensures.next in
     let same = v.invariant.2.same in
-    let r = lays_room _ _ _ _ _ _ v.invariant.2 c.line_at-found.ensures c.loop-at-test.true
-    c.if-left-eq0.false in
+    let r = lays_room _ _ _ _ _ _ v.invariant.2 c.line_at-found.ensures (omega arith)
+    (omega arith) in
     let l : length c.end_line-begun.new.words ≡ length v.words = ap length c.end_line-begun.ensures.held
     ∙ length-sets v.words v.fill (58 * 2 ^ 26 ∷ []) in record {
       start_le_stop = (c.line_at-found.ensures.stop, omega arith, omega arith, omega arith);
@@ -92,53 +85,45 @@ lay_line-fill-requires-in-loop-at c =
       );
     }
 
-pub overflow_add-line-in-loop-at : goal.overflow_add-line-in-loop-at
-overflow_add-line-in-loop-at c =
-    let v = c.loop-at in
+pub overflow_add-line-in-loop : goal.overflow_add-line-in-loop
+overflow_add-line-in-loop c =
+    let v = c.loop in
     let small = c.requires.1 in
     let line = v.invariant.0 in
     let at = v.invariant.1 in
     omega arith
 
-pub loop-at-smaller : goal.loop-at-smaller
-loop-at-smaller c =
-    lines_less c.line_at-found.ensures
-    c.loop-at-test.true
-
-pub loop-at-preserved : goal.loop-at-preserved
-loop-at-preserved c =
-    let v = c.loop-at in
+pub loop-preserved : goal.loop-preserved
+loop-preserved c =
+    let v = c.loop in
     let w = c.line_at-found.result in
     let over = c.line_at-found.ensures.over in
     let onward = c.line_at-found.ensures.onward in
     let same = v.invariant.2.same in
-    let r = lays_room _ _ _ _ _ _ v.invariant.2 c.line_at-found.ensures c.loop-at-test.true
-    c.if-left-eq0.false in
+    let r = lays_room _ _ _ _ _ _ v.invariant.2 c.line_at-found.ensures (omega arith)
+    (omega arith) in
     let new = token_words (tokens_from w.start w.stop c.args.s.now) in
     let ended = kept_on v.fill (58 * 2 ^ 26 ∷ []) c.end_line-begun.ensures.fill (omega arith) v.invariant.3 in
-    let l = length-sets v.words v.fill (58 * 2 ^ 26 ∷ []) in (
+    let l = length-sets v.words v.fill (58 * 2 ^ 26 ∷ []) in
+    let one : c.args.run.lines - v.counter - 1 ≡ c.args.run.lines - (v.counter + 1) = omega arith in (
       omega arith,
       omega arith,
-      lays_next _ _ _ _ _ _ v.invariant.2 c.line_at-found.ensures
-          c.loop-at-test.true
-          c.if-left-eq0.false c.end_line-begun.ensures.held c.end_line-begun.ensures.fill c.lay_line-fill-in-loop-at.ensures.held
-          c.lay_line-fill-in-loop-at.ensures.fill.0 c.lay_line-fill-in-loop-at.ensures.fill.1,
-      rw (c.lay_line-fill-in-loop-at.ensures.held, c.end_line-begun.ensures.held)
-          (kept_on c.end_line-begun.result new c.lay_line-fill-in-loop-at.ensures.fill.0 (omega arith) ended),
+      subst (λ (k : ℕ). Lays c.args.s.now c.lay_line-fill.new.words c.lay_line-fill.result (c.args.run.number + 1) c.line_at-first.result.next
+          (c.args.run.lines - 1) c.lay_line-fill-in-loop.new.words c.lay_line-fill-in-loop.result (v.line + 1) w.next k) one
+          (lays_next _ _ _ _ _ _ v.invariant.2 c.line_at-found.ensures (omega arith) (omega arith) c.end_line-begun.ensures.held
+          c.end_line-begun.ensures.fill c.lay_line-fill-in-loop.ensures.held
+          c.lay_line-fill-in-loop.ensures.fill.0 c.lay_line-fill-in-loop.ensures.fill.1),
+      rw (c.lay_line-fill-in-loop.ensures.held, c.end_line-begun.ensures.held)
+          (kept_on c.end_line-begun.result new c.lay_line-fill-in-loop.ensures.fill.0 (omega arith) ended),
     )
 
-pub shape_of-words : goal.shape_of-words
-shape_of-words c =
-    let same = c.loop-at.invariant.2.same in
-    search rules
-
-pub returns : goal.returns
-returns c =
-    let v = c.loop-at in
+pub returns-after-loop : goal.returns-after-loop
+returns-after-loop c =
+    let v = c.loop in
     let i = v.invariant.2 in
     let inside = c.requires.0.inside in
     let g = first_line_lem c.args.run c.line_at-first.ensures c.if-run-eq0.false inside in
     let r = g.room in
     let said = run_laid c.args.s.now c.args.run _ c.args.n c.args.words.now c.lay_line-fill.new.words v.words c.lay_line-fill.result v.fill
-    v.line v.at v.left g c.lay_line-fill.ensures.held c.lay_line-fill.ensures.fill.0 i
-    (lays_over _ _ _ _ _ _ i c.loop-at-test.false) in record { held = said.0; fill = said.1 }
+    v.line v.at (c.args.run.lines - v.counter) g c.lay_line-fill.ensures.held c.lay_line-fill.ensures.fill.0 i
+    (lays_end _ _ _ _ _ _ i (omega arith)) in record { held = said.0; fill = said.1 }

@@ -1,5 +1,5 @@
 -- The words of the lines passed are laid, those of the lines left have room behind them.
-use Prim.Native.Nat.{ℕ, ◌+◌, ◌*◌, ◌≤◌}
+use Prim.Native.Nat.{ℕ, ◌+◌, ◌-◌, ◌*◌, ◌≤◌}
 use mathlib.Core.Path.{◌≡◌, refl, sym, ap, ◌∙◌, subst}
 use mathlib.Core.List.{List, [], ◌∷◌, ◌++◌, map, flat_map, append-nil, append_assoc}
 use native.Mathlib.Omega.{arith}
@@ -86,33 +86,36 @@ ended s run n held words fill left e p =
     let f = o.1 in
     (o.0, (omega arith, o.2))
 
-pub loop-at-init : goal.loop-at-init
+pub loop-init : goal.loop-init
 unfolding lines_of
-loop-at-init c =
+loop-init c =
     let a = c.args in
     let p = c.requires in
     let same = length-map (lines_of a.s.now a.run) lyric_line in
-    (omega arith, omega arith, omega arith, λ h. p.1 (omega arith), start _ _ _)
+    let all : a.run.lines ≡ a.run.lines - 0 = omega arith in
+    let first = p.1 in (
+      omega arith,
+      omega arith,
+      omega arith,
+      (λ h. first (omega (arith, ap (λ (k : ℕ). length (lyrics_at a.s.now a.run.number a.run.at k)) all))),
+      subst (λ (k : ℕ). Passed a.n a.words.now a.words.now a.n (lyrics_at a.s.now a.run.number a.run.at k)
+          (lyrics_at a.s.now a.run.number a.run.at a.run.lines)) all (start _ _ _),
+    )
 
-pub shape_of-words-then-left-eq0 : goal.shape_of-words-then-left-eq0
-shape_of-words-then-left-eq0 c =
+pub returns-then-at-s : goal.returns-then-at-s
+returns-then-at-s c =
+    let l = c.loop in
     let a = c.args in
-    (size _ _ _ _ _ _ c.loop-at.invariant.4 (roomy a.s.now a.run a.n a.words.now c.requires.3)).1
-
-pub returns-then-left-eq0 : goal.returns-then-left-eq0
-returns-then-left-eq0 c =
-    let l = c.loop-at in
-    let a = c.args in
-    let none = lyrics_none a.s.now l.number l.at l.left c.if-left-eq0.true in
+    let none = lyrics_over a.s.now l.number l.at (a.run.lines - l.counter) (omega arith) in
     let said = ended a.s.now a.run a.n a.words.now l.words l.fill _ none l.invariant.4 in record { held = said.0; fill = said.1.0; fits = said.1.1 }
 
 pub lay_lyric-requires : goal.lay_lyric-requires
 lay_lyric-requires c =
-    let l = c.loop-at in
+    let l = c.loop in
     let a = c.args in
     let more = ap (λ (ls : List LyricLine). length ls)
-    (lyrics_more a.s.now l.number l.at l.left c.line_at-line.ensures c.loop-at-test.true
-    c.if-left-eq0.false) in
+    (lyrics_more a.s.now l.number l.at (a.run.lines - l.counter) c.line_at-line.ensures (omega arith)
+    (omega arith)) in
     let z = size _ _ _ _ _ _ l.invariant.4 (roomy a.s.now a.run a.n a.words.now c.requires.3) in
     let z0 = z.0 in
     let z1 = z.1 in
@@ -121,19 +124,21 @@ lay_lyric-requires c =
 
 pub overflow_add-fill : goal.overflow_add-fill
 overflow_add-fill c =
-    let l = c.loop-at in
+    let l = c.loop in
     let a = c.args in
     let z = (size _ _ _ _ _ _ l.invariant.4 (roomy a.s.now a.run a.n a.words.now c.requires.3)).0 in
     omega arith
 
-pub loop-at-preserved : goal.loop-at-preserved
-loop-at-preserved c =
-    let l = c.loop-at in
+pub loop-preserved : goal.loop-preserved
+loop-preserved c =
+    let l = c.loop in
     let a = c.args in
     let s = a.s.now in
     let line = c.line_at-line.result in
-    let more = lyrics_more s l.number l.at l.left c.line_at-line.ensures
-    c.loop-at-test.true c.if-left-eq0.false in
+    let one : a.run.lines - l.counter - 1 ≡ a.run.lines - (l.counter + 1) = omega arith in
+    let more = lyrics_more s l.number l.at (a.run.lines - l.counter) c.line_at-line.ensures
+    (omega arith) (omega arith)
+    ∙ ap (λ (k : ℕ). lyric_at s l.number line ∷ lyrics_at s (l.number + 1) line.next k) one in
     let fewer = ap (λ (ls : List LyricLine). length ls) more in
     let z = (size _ _ _ _ _ _ l.invariant.4 (roomy s a.run a.n a.words.now c.requires.3)).0 in
     let second = l.invariant.3 (omega arith) in (
@@ -146,14 +151,9 @@ loop-at-preserved c =
           more l.invariant.4) c.lay_lyric.ensures.held c.lay_lyric.ensures.fits,
     )
 
-pub shape_of-words : goal.shape_of-words
-shape_of-words c =
+pub returns-after-loop : goal.returns-after-loop
+returns-after-loop c =
+    let l = c.loop in
     let a = c.args in
-    (size _ _ _ _ _ _ c.loop-at.invariant.4 (roomy a.s.now a.run a.n a.words.now c.requires.3)).1
-
-pub returns : goal.returns
-returns c =
-    let l = c.loop-at in
-    let a = c.args in
-    let none = lyrics_over a.s.now l.number l.at l.left c.loop-at-test.false in
+    let none = lyrics_none a.s.now l.number l.at (a.run.lines - l.counter) (omega arith) in
     let said = ended a.s.now a.run a.n a.words.now l.words l.fill _ none l.invariant.4 in record { held = said.0; fill = said.1.0; fits = said.1.1 }

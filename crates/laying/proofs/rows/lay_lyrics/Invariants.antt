@@ -17,13 +17,11 @@ pub record Passed (n : ℕ) (held words : List ℕ) (fill : ℕ) (left all : Lis
   pub same : done ++ left ≡ all
   pub fit : LyricsFit done
 
-abbrev pub invariant-loop-at : goal.invariant-loop-at
-invariant-loop-at l =
+abbrev pub invariant-loop : goal.invariant-loop
+invariant-loop l =
     (1 ≤ l.number)
     × (l.number ≤ l.at + 1)
     × (l.at ≤ length l.s)
-    × (0 < length (lyrics_at l.s l.number l.at l.left) → 2 ≤ l.number)
-    × Passed l.n l.initial.words l.words l.fill (lyrics_at l.s l.number l.at l.left) (lyrics_at l.s l.initial.number l.initial.at l.initial.left)
-
-abbrev pub decreases-loop-at : goal.decreases-loop-at
-decreases-loop-at l = length l.s - l.at
+    × (0 < length (lyrics_at l.s l.number l.at (l.end - l.counter)) → 2 ≤ l.number)
+    × Passed l.n l.initial.words l.words l.fill (lyrics_at l.s l.number l.at (l.end - l.counter))
+    (lyrics_at l.s l.fn.run.number l.fn.run.at l.fn.run.lines)

@@ -15,7 +15,7 @@ returns-then-is_stuck c =
     λ ts at g.
     stops_before q.whose ts at q.r g line_end d.result d.ensures c.blamed.result at
     (sym c.is_stuck.ensures ∙ c.if-is_stuck.true)
-    (told_earlier at _ c.blamed.result c.blamed.ensures c.end_of_line_clause-barred.ensures g.behind (inr (inr refl)))
+    (told_earlier at _ c.blamed.result (c.blamed.ensures.0, c.blamed.ensures.1) c.end_of_line_clause-barred.ensures g.behind (inr (inr refl)))
 
 pub returns : goal.returns
 unfolding kind_of is_colon
