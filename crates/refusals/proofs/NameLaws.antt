@@ -1,4 +1,4 @@
--- What a number names, and that a name's number is small.
+-- What a number names, and that a name's number is small and names it.
 use Prim.Native.Nat.{ℕ, ◌<◌}
 use mathlib.Core.Path.{◌≡◌}
 use native.Mathlib.Omega.{arith}
@@ -32,7 +32,7 @@ use Rattle.refusals.specs.declared.names.Why.TheVariants.{
   NotTimed,
 }
 use Rattle.refusals.specs.declared.names.UnknownNumber.{UnknownNumber}
-use Rattle.refusals.specs.Names.{number_of, Numbered, Names}
+use Rattle.refusals.specs.Names.{number_of, Named, Names}
 
 pub number_small : (why : Why) → number_of why < 32
 number_small TextTooLong = omega arith
@@ -60,11 +60,37 @@ number_small NoBeatWord = omega arith
 number_small NotJoined = omega arith
 number_small NotTimed = omega arith
 
+pub number_named : (why : Why) → Named (number_of why)
+number_named TextTooLong = (omega arith, omega arith, (λ e. omega arith), (λ e. omega arith))
+number_named BadText = (omega arith, omega arith, (λ e. omega arith), (λ e. omega arith))
+number_named BlockOrder = (omega arith, omega arith, (λ e. omega arith), (λ e. omega arith))
+number_named BadKey = (omega arith, omega arith, (λ e. omega arith), (λ e. omega arith))
+number_named BadSetting = (omega arith, omega arith, (λ e. omega arith), (λ e. omega arith))
+number_named BadHead = (omega arith, omega arith, (λ e. omega arith), (λ e. omega arith))
+number_named BadPattern = (omega arith, omega arith, (λ e. omega arith), (λ e. omega arith))
+number_named BadLine = (omega arith, omega arith, (λ e. omega arith), (λ e. omega arith))
+number_named NoSection = (omega arith, omega arith, (λ e. omega arith), (λ e. omega arith))
+number_named ReferenceUndefined = (omega arith, omega arith, (λ e. omega arith), (λ e. omega arith))
+number_named ReferenceKind = (omega arith, omega arith, (λ e. omega arith), (λ e. omega arith))
+number_named Division = (omega arith, omega arith, (λ e. omega arith), (λ e. omega arith))
+number_named NoChordBefore = (omega arith, omega arith, (λ e. omega arith), (λ e. omega arith))
+number_named SongTooLong = (omega arith, omega arith, (λ e. omega arith), (λ e. omega arith))
+number_named NothingLeft = (omega arith, omega arith, (λ e. omega arith), (λ e. omega arith))
+number_named CountMissing = (omega arith, omega arith, (λ e. omega arith), (λ e. omega arith))
+number_named CountSum = (omega arith, omega arith, (λ e. omega arith), (λ e. omega arith))
+number_named TableTooShort = (omega arith, omega arith, (λ e. omega arith), (λ e. omega arith))
+number_named BeatNotFound = (omega arith, omega arith, (λ e. omega arith), (λ e. omega arith))
+number_named CopyTooLong = (omega arith, omega arith, (λ e. omega arith), (λ e. omega arith))
+number_named MoveOutOfRange = (omega arith, omega arith, (λ e. omega arith), (λ e. omega arith))
+number_named NoBeatWord = (omega arith, omega arith, (λ e. omega arith), (λ e. omega arith))
+number_named NotJoined = (omega arith, omega arith, (λ e. omega arith), (λ e. omega arith))
+number_named NotTimed = (omega arith, omega arith, (λ e. omega arith), (λ e. omega arith))
+
 module _ (n : ℕ) where
   pub named : (r : Result Why UnknownNumber) (why : Why) → Names n r → result_ok r ≡ Some why → number_of why ≡ n
   named (Ok w) why h e = grind (arith, h, e)
   named (Err x) why h e = let w : ◌≡◌ {A = ℕ} 0 1 = cc in absurd (omega arith)
 
-  pub unnamed : (r : Result Why UnknownNumber) → Names n r → result_ok r ≡ None → Numbered n → ⊥
+  pub unnamed : (r : Result Why UnknownNumber) → Names n r → result_ok r ≡ None → Named n → ⊥
   unnamed (Ok w) h e k = let z : ◌≡◌ {A = ℕ} 0 1 = cc in omega arith
   unnamed (Err x) h e k = h k
