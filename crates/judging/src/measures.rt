@@ -30,8 +30,8 @@ pub fn with_measures(words: &[u32], n: usize, x: Opened, y: Metered) -> Metered
 }
 
 // What is refused of the sections so far: stage 4 goes before stage 5.
-pub fn metered_refusal(x: Metered) -> Option<Refusal>
-    ensures { told result ≡ metered_refusal x }
+pub fn metered_refusal(x: &Metered) -> Option<Refusal>
+    ensures { told result ≡ metered_refusal x.now }
 {
     refusal_at(x.meters).or(x.lengths.err())
 }

@@ -50,7 +50,7 @@ fn nothing_sung() -> Sung
 fn outcome_of(x: Metered, y: Sung) -> Result<Totals, Refusal>
     ensures { Ends x y result }
 {
-    match metered_refusal(x).or(lyric_refusal(y)) {
+    match metered_refusal(&x).or(lyric_refusal(y)) {
         Some(refusal) => Err(refusal),
         None => Ok(totals_of(y.sums)),
     }
@@ -87,7 +87,7 @@ pub fn walk(
             return Err(refusal);
         }
         metered = with_measures(words, x.meter, x, metered);
-        if metered_refusal(metered).is_none() {
+        if metered_refusal(&metered).is_none() {
             sung = sing(words, x.meter, x, sung);
         }
         at = x.end;
