@@ -1,4 +1,4 @@
--- What a number names, and that a name's number is small and names it.
+-- What a number names, and that a name's number is small.
 use Prim.Native.Nat.{ℕ, ◌<◌}
 use mathlib.Core.Path.{◌≡◌}
 use native.Mathlib.Omega.{arith}
@@ -59,32 +59,6 @@ number_small MoveOutOfRange = omega arith
 number_small NoBeatWord = omega arith
 number_small NotJoined = omega arith
 number_small NotTimed = omega arith
-
-pub number_named : (why : Why) → Named (number_of why)
-number_named TextTooLong = (omega arith, omega arith, (λ e. omega arith), (λ e. omega arith))
-number_named BadText = (omega arith, omega arith, (λ e. omega arith), (λ e. omega arith))
-number_named BlockOrder = (omega arith, omega arith, (λ e. omega arith), (λ e. omega arith))
-number_named BadKey = (omega arith, omega arith, (λ e. omega arith), (λ e. omega arith))
-number_named BadSetting = (omega arith, omega arith, (λ e. omega arith), (λ e. omega arith))
-number_named BadHead = (omega arith, omega arith, (λ e. omega arith), (λ e. omega arith))
-number_named BadPattern = (omega arith, omega arith, (λ e. omega arith), (λ e. omega arith))
-number_named BadLine = (omega arith, omega arith, (λ e. omega arith), (λ e. omega arith))
-number_named NoSection = (omega arith, omega arith, (λ e. omega arith), (λ e. omega arith))
-number_named ReferenceUndefined = (omega arith, omega arith, (λ e. omega arith), (λ e. omega arith))
-number_named ReferenceKind = (omega arith, omega arith, (λ e. omega arith), (λ e. omega arith))
-number_named Division = (omega arith, omega arith, (λ e. omega arith), (λ e. omega arith))
-number_named NoChordBefore = (omega arith, omega arith, (λ e. omega arith), (λ e. omega arith))
-number_named SongTooLong = (omega arith, omega arith, (λ e. omega arith), (λ e. omega arith))
-number_named NothingLeft = (omega arith, omega arith, (λ e. omega arith), (λ e. omega arith))
-number_named CountMissing = (omega arith, omega arith, (λ e. omega arith), (λ e. omega arith))
-number_named CountSum = (omega arith, omega arith, (λ e. omega arith), (λ e. omega arith))
-number_named TableTooShort = (omega arith, omega arith, (λ e. omega arith), (λ e. omega arith))
-number_named BeatNotFound = (omega arith, omega arith, (λ e. omega arith), (λ e. omega arith))
-number_named CopyTooLong = (omega arith, omega arith, (λ e. omega arith), (λ e. omega arith))
-number_named MoveOutOfRange = (omega arith, omega arith, (λ e. omega arith), (λ e. omega arith))
-number_named NoBeatWord = (omega arith, omega arith, (λ e. omega arith), (λ e. omega arith))
-number_named NotJoined = (omega arith, omega arith, (λ e. omega arith), (λ e. omega arith))
-number_named NotTimed = (omega arith, omega arith, (λ e. omega arith), (λ e. omega arith))
 
 module _ (n : ℕ) where
   pub named : (r : Result Why UnknownNumber) (why : Why) → Names n r → result_ok r ≡ Some why → number_of why ≡ n

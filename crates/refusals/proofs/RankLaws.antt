@@ -1,5 +1,5 @@
 -- The least number says the complaint that goes first.
-use Prim.Native.Nat.{ℕ, ◌+◌, ◌*◌, ◌/◌, ◌%◌, ◌<◌, ◌≤◌, min}
+use Prim.Native.Nat.{ℕ, ◌/◌, ◌%◌, ◌<◌, ◌≤◌, min}
 use mathlib.Core.Path.{◌≡◌, refl, ap, ◌∙◌}
 use mathlib.Core.List.{List, [], ◌∷◌, ◌++◌}
 use mathlib.Core.Bool.{Bool, true, false}
@@ -13,9 +13,6 @@ use Rattle.songcode.specs.Answer.Lines.{Block}
 use Rattle.songcode.specs.Complaints.{Complaint, complaint, complain_if, goes_first, earlier, earliest}
 use Rattle.songcode.specs.Answer.SongText.{or_no_section}
 use Rattle.songcode.proofs.ListLaws.{Each, by_cases}
-use Rattle.refusals.specs.declared.names.Why.{Why}
-use Rattle.refusals.specs.Names.{number_of, Named}
-use Rattle.refusals.proofs.NameLaws.{number_small, number_named}
 use Rattle.refusals.specs.Ranks.{ranked, rank, no_section, none, Small, least, only_if, refusal_at}
 
 pub least_le : (cs : List Complaint) → least cs ≤ none
@@ -32,14 +29,6 @@ pub least_if : (t : Bool) (number line : ℕ) → least (complain_if t number li
 unfolding least complain_if when only_if provided◌then◌else◌
 least_if true number line = omega arith
 least_if false number line = refl
-
--- A rank has the number of what is refused.
-pub ranked_named : (why : Why) (line : ℕ) → Named (ranked (number_of why) line % 32)
-unfolding ranked
-ranked_named why line =
-    let s = number_small why in
-    let n : (min line 131071 * 32 + number_of why) % 32 ≡ number_of why = omega arith in
-    rw n (number_named why)
 
 -- What complain_if returns.
 module _ (number line : ℕ) where
