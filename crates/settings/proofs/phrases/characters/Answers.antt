@@ -12,5 +12,5 @@ pub returns : goal.returns
 returns c =
     let w = c.args.w.now in
     let e : c.loop-b.n ≡ count_by (λ b. not (is_tail b)) w =
-        c.loop-b.invariant ∙ ap (count_by (λ b. not (is_tail b))) (take_all c.loop-b.b-index w c.loop-b-test.false) in
+    c.loop-b.invariant ∙ ap (count_by (λ b. not (is_tail b))) (take_all c.loop-b.b-index w c.loop-b-test.false) in
     (e ∙ no_tails_counted w, omega (arith, e, count_by-le-length (λ b. not (is_tail b)) w))
