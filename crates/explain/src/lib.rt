@@ -116,7 +116,7 @@ fn slip_in(text: &[u8], e: Refusal, time: usize) -> Slip
     if TEXT_MOST < text.len() {
         return slips::no_slip();
     }
-    find_slip(text, e.why, e.line, time)
+    find_slip(text, usize::from(e.why), e.line, time)
 }
 
 // A chart that is refused: the row does for what is asked of it.

@@ -1,8 +1,8 @@
 -- Stage 4 from section to section: the least complaint of the sections so far, and of those from a place on.
 use mathlib.Core.Option.{get_or}
 use mathlib.Core.Option as option
-use Prim.Native.Nat.{ℕ, ◌<◌, ◌≤◌, ◌%◌, min}
-use mathlib.Core.Path.{◌≡◌, refl, sym, ap, ◌∙◌, subst}
+use Prim.Native.Nat.{ℕ, ◌≤◌, min}
+use mathlib.Core.Path.{◌≡◌, refl, sym, ap, ◌∙◌}
 use mathlib.Core.List.{List, [], ◌∷◌, ◌++◌, append_assoc, append-nil, flat_map}
 use lib.ListN.{length}
 use Rattle.songcode.specs.Lists.{provided◌then◌else◌}
@@ -11,17 +11,15 @@ use Rattle.songcode.specs.Song.{Section}
 use Rattle.songcode.specs.Answer.Playing.{time_among}
 use Rattle.songcode.specs.Answer.Meter.{section_meter, meter_faults}
 use Rattle.songcode.specs.Answer.Answer.{song_of}
-use Rattle.songcode.proofs.ListLaws.{Each, each_append, append_each, append_is_nil}
-use Rattle.refusals.specs.Ranks.{none, no_section, Small, least, refusal_at}
-use Rattle.refusals.proofs.RankLaws.{least_append, Ranked, least_clear, least_numbered}
+use Rattle.songcode.proofs.ListLaws.{Each, each_append, append_is_nil}
+use Rattle.refusals.specs.Ranks.{none, least, refusal_at}
+use Rattle.refusals.proofs.RankLaws.{least_append, Ranked, least_clear}
 use Rattle.sections.specs.declared.blocks.Place.{Place}
 use Rattle.sections.specs.Onward.{sections_from, section_at}
 use Rattle.sections.proofs.MeetLaws.{sections_over}
 use Rattle.laying.specs.declared.texts.Opened.{Opened}
 use Rattle.laying.specs.Scores.{Begins, Opens}
 use Rattle.laying.specs.Rows.{meter_of}
-use Rattle.refusals.specs.Names.{Numbered}
-use Rattle.judging.proofs.SmallMeters.{meters_small}
 use Rattle.judging.specs.Meters.{meter_fault}
 use Rattle.laying.proofs.MeterLaws.{meter_is, meter_range}
 use Rattle.judging.proofs.FaultLaws.{ranked_section, section_fault_lem}
@@ -62,15 +60,6 @@ module _ (s : List ℕ) (p : Place) (best f : ℕ) (e : f ≡ least (section_met
       (ap refusal_at same ∙ z) in
       let parts = append_is_nil done here all in
       (rw (w.1, parts.0) refl, parts.1)
-
--- What is complained of first has a number that names something.
-pub judged_named : (s : List ℕ) (p : Place) (best : ℕ) → length s ≤ 65536 → Judged s p best → best < no_section → Numbered (best % 32)
-unfolding Judged
-judged_named s p best small w h =
-    let done = w.0 in
-    let rest = flat_map (section_meter (song_of s)) (sections_from s p) in
-    let fine = (append_each Small done rest (subst (Each Small) (sym w.3) (meters_small s small))).0 in
-    rw w.1 (least_numbered done fine (rw w.1 at h))
 
 pub judged_end : (s : List ℕ) (p : Place) (best : ℕ) → length s ≤ p.at → Judged s p best → best ≡ least (meter_faults (song_of s))
 unfolding Judged flat_map

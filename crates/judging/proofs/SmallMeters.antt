@@ -23,7 +23,6 @@ use Rattle.songcode.specs.Answer.References.{pattern_items}
 use Rattle.songcode.specs.Answer.Playing.{time_of}
 use Rattle.songcode.specs.Answer.Meter.{all_fit, stray, row_faults, played_faults, side_faults, section_meter, meter_faults}
 use Rattle.songcode.proofs.ListLaws.{Each, each_append}
-use Rattle.refusals.specs.Names.{Numbered}
 use Rattle.refusals.specs.Ranks.{Small}
 use Rattle.stage2.proofs.SmallLineFaults.{Low, LowBlock, Fine, fine_gather, each_taken}
 use Rattle.stage2.proofs.SmallLines.{sections_low}
@@ -152,8 +151,8 @@ fine_row n line r h =
     each_append Small (complain_if (not (all_fit n r)) 12 line) (complain_if (stray none r) 13 line)
     (one (not (all_fit n r)) 12 (omega arith, omega arith)) (one (stray none r) 13 (omega arith, omega arith))
   where
-    one : (t : Bool) (number : ℕ) → Numbered number → Fine (complain_if t number line)
-    one true number a = ((a, h), tt)
+    one : (t : Bool) (number : ℕ) → (1 ≤ number) × (number < 32) → Fine (complain_if t number line)
+    one true number a = ((a.1, h, a.0), tt)
     one false number a = tt
 
 fine_played : (n line : ℕ) (o : Option Items) → LowLine line → Fine (played_faults n line o)

@@ -4,7 +4,7 @@ use mathlib.Core.Option as option
 use Rattle.std.specs.Prelude as std
 use Rattle.std.specs.Prelude.{None, Result, Ok}
 use Rattle.std.specs.Result.{result_err}
-use Prim.Native.Nat.{ℕ, ◌+◌, ◌*◌, ◌%◌, ◌<◌, ◌≤◌}
+use Prim.Native.Nat.{ℕ, ◌+◌, ◌*◌, ◌<◌, ◌≤◌}
 use mathlib.Core.Path.{◌≡◌, refl, sym, ap, ◌∙◌, subst}
 use mathlib.Core.List.{List, [], ◌∷◌, flat_map}
 use mathlib.Core.Bool.{◌||◌}
@@ -22,7 +22,6 @@ use Rattle.songcode.specs.Answer.Tables.{tables}
 use Rattle.songcode.specs.Answer.Answer.{song_of}
 use Rattle.songcode.proofs.ListLaws.{Each}
 use Rattle.refusals.specs.declared.Refusal.{Refusal}
-use Rattle.refusals.specs.Names.{Numbered}
 use Rattle.refusals.specs.Refusals.{told}
 use Rattle.player.specs.Texts.{row_words}
 use Rattle.player.proofs.SectionMeaning.{rows_length, rows_total}
@@ -44,11 +43,11 @@ use Rattle.judging.specs.Sums.{row_of_texts, counts_of, totals_of, Holds}
 use Rattle.judging.specs.Singing.{sung_with, Singable, off_fault, lyric_refusal}
 use Rattle.judging.specs.Walking.{nothing_metered, nothing_sung, walk_refusal}
 use Rattle.judging.specs.Stages.{lyric_faults, playing_faults, later_faults}
-use Rattle.refusals.specs.Ranks.{no_section, least, refusal_at}
+use Rattle.refusals.specs.Ranks.{least, refusal_at}
 use Rattle.refusals.proofs.RankLaws.{earliest_least}
 use Rattle.judging.proofs.SmallMeters.{meters_small}
 use Rattle.laying.proofs.MeterLaws.{meter_range}
-use Rattle.judging.proofs.JudgedLaws.{Judged, judged_start, judged_next, judged_clear, judged_named, judged_end, opened_fault}
+use Rattle.judging.proofs.JudgedLaws.{Judged, judged_start, judged_next, judged_clear, judged_end, opened_fault}
 use Rattle.judging.proofs.OpenedLaws.{all_counted}
 use Rattle.judging.proofs.LengthsAreLaws.{LengthsAre, lengths_start, lengths_small, lengths_added, lengths_next, lengths_end}
 use Rattle.judging.proofs.PlayedLaws.{played_short}
@@ -145,9 +144,6 @@ module _ {s old ws : List ℕ} {p : Place} {keys : Keys} {at : ℕ} (r : Opened)
 
     next_lengths : LengthsAre s r.next next.lengths
     next_lengths = rw l.said (lengths_next s ws p r w t o inside x.lengths before.lengths)
-
-    pub named_next : length s ≤ 65536 → next.meters < no_section → Numbered (next.meters % 32)
-    named_next small h = judged_named s r.next next.meters small next_meters h
 
     -- Stages 4 and 5 refuse nothing up to its end.
     module _ (clear : refusal_at next.meters ≡ option.none) (k : ℕ) (fine : next.lengths ≡ Ok k) where
@@ -262,9 +258,6 @@ module _ {s old ws : List ℕ} {p : Place} {keys : Keys} {at : ℕ} (r : Opened)
 
   -- As the code finds it.
   module _ (x : Metered) (y : Sung) (before : Walked s p x y) {z : Metered} (e : z ≡ with_measures ws n r x) where
-    pub walk_named : length s ≤ 65536 → z.meters < no_section → Numbered (z.meters % 32)
-    walk_named small = rw e (named_next x y before small)
-
     pub walk_on : {v : Sung} → v ≡ sung_with r.texts.pattern.outline.empty r.section.header lines
         (counts_of ws n r.texts r.section.modifiers) y → Walked s r.next z v
     walk_on g = rw (e, g) (walked_sung x y before)
@@ -326,9 +319,6 @@ module _ {s : List ℕ} {p : Place} (small : length s ≤ 65536) (over : length 
   pub later_verdict : reference_faults all ≡ [] → walk_refusal x y ≡ verdict (later_faults all)
   unfolding later_faults
   later_verdict e = walk_verdict ∙ sym (stage_passed (reference_faults all) (playing_faults all) e)
-
-  pub named_end : x.meters < no_section → Numbered (x.meters % 32)
-  named_end h = judged_named s p x.meters small w.meters h
 
   pub outcome_holds : walk_refusal x y ≡ option.none → Holds (tables all) (totals_of y.sums)
   unfolding walk_refusal

@@ -1,20 +1,18 @@
 // Stages 4 and 5 from section to section: what each of them refuses first.
-ghost use Rattle.std.specs.Prelude.{◌≡◌, ◌≤◌, ◌<◌, ◌%◌, IfOk};
-ghost use Rattle.refusals.specs.Names.{Numbered};
+ghost use Rattle.std.specs.Prelude.{◌≡◌, ◌≤◌, IfOk};
 ghost use Rattle.refusals.specs.Refusals.{told};
-ghost use Rattle.refusals.specs.Ranks.{no_section};
 ghost use Rattle.judging.specs.Lengths.{Measurable};
 ghost use Rattle.judging.specs.Measures.{with_measures, metered_refusal};
 
 use super::lengths::with_lengths;
 use super::meters::meter_fault;
 use laying::Opened;
-use refusals::{Refusal, refusal_at};
+use refusals::{Complaint, Refusal, refusal_at};
 
 // What stage 4 complains of first in the sections so far; and their measures, or what stage 5 refuses of them.
 #[derive(Clone, Copy)]
 pub struct Metered {
-    pub meters: usize,
+    pub meters: Complaint,
     pub lengths: Result<usize, Refusal>,
 }
 
@@ -32,8 +30,8 @@ pub fn with_measures(words: &[u32], n: usize, x: Opened, y: Metered) -> Metered
 }
 
 // What is refused of the sections so far: stage 4 goes before stage 5.
-pub fn metered_refusal(x: Metered) -> Option<Refusal>
-    ensures { (x.meters < no_section → Numbered (x.meters % 32)) → told result ≡ metered_refusal x }
+pub fn metered_refusal(x: &Metered) -> Option<Refusal>
+    ensures { told result ≡ metered_refusal x.now }
 {
     refusal_at(x.meters).or(x.lengths.err())
 }

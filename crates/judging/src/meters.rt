@@ -4,11 +4,11 @@ ghost use Rattle.judging.specs.Meters.{text_fault, side_fault, meter_fault};
 
 use laying::Texts;
 use outlines::{Outline, sizes_fit};
-use refusals::{NO_COMPLAINT, Why, complain_if};
+use refusals::{Complaint, NO_COMPLAINT, Why, complain_if};
 use sections::{Modifiers, Said};
 
 // What a text is complained of in N, on that line.
-fn text_fault(o: Outline, n: usize, line: usize) -> usize
+fn text_fault(o: Outline, n: usize, line: usize) -> Complaint
     ensures { result ≡ text_fault o n line }
 {
     let twelve = complain_if(!sizes_fit(o.sizes, n), Why::Division, line);
@@ -16,7 +16,7 @@ fn text_fault(o: Outline, n: usize, line: usize) -> usize
 }
 
 // What a lead-in or tail is complained of, on its own line.
-fn side_fault(said: Option<Said>, o: Outline, n: usize) -> usize
+fn side_fault(said: Option<Said>, o: Outline, n: usize) -> Complaint
     ensures { result ≡ side_fault said o n }
 {
     match said {
@@ -26,7 +26,7 @@ fn side_fault(said: Option<Said>, o: Outline, n: usize) -> usize
 }
 
 // A section's pattern is complained of on its header's line.
-pub fn meter_fault(header: usize, m: Modifiers, t: Texts, n: usize) -> usize
+pub fn meter_fault(header: usize, m: Modifiers, t: Texts, n: usize) -> Complaint
     ensures { result ≡ meter_fault header m t n }
 {
     let own = text_fault(t.pattern.outline, n, header);

@@ -1,9 +1,7 @@
 // Stages 3 to 7 in one walk over the sections: each is opened once.
-ghost use Rattle.std.specs.Prelude.{◌≡◌, [], ◌+◌, ◌≤◌, ◌<◌, ◌%◌, length, MatchResult};
+ghost use Rattle.std.specs.Prelude.{◌≡◌, [], ◌+◌, ◌≤◌, length, MatchResult};
 ghost use Rattle.songcode.specs.Answer.References.{definitions_references};
 ghost use Rattle.songcode.specs.Answer.Answer.{song_of};
-ghost use Rattle.refusals.specs.Names.{Numbered};
-ghost use Rattle.refusals.specs.Ranks.{no_section};
 ghost use Rattle.tokens.specs.Kept.{KeptFrom};
 ghost use Rattle.laying.specs.Scores.{Begins, Ready};
 ghost use Rattle.laying.specs.Rows.{SongKeys};
@@ -50,9 +48,9 @@ fn nothing_sung() -> Sung
 
 // Behind the last section: what the tables take, or the first of stages 4 to 7 that refuses.
 fn outcome_of(x: Metered, y: Sung) -> Result<Totals, Refusal>
-    ensures { (x.meters < no_section → Numbered (x.meters % 32)) → Ends x y result }
+    ensures { Ends x y result }
 {
-    match metered_refusal(x).or(lyric_refusal(y)) {
+    match metered_refusal(&x).or(lyric_refusal(y)) {
         Some(refusal) => Err(refusal),
         None => Ok(totals_of(y.sums)),
     }
@@ -89,7 +87,7 @@ pub fn walk(
             return Err(refusal);
         }
         metered = with_measures(words, x.meter, x, metered);
-        if metered_refusal(metered).is_none() {
+        if metered_refusal(&metered).is_none() {
             sung = sing(words, x.meter, x, sung);
         }
         at = x.end;

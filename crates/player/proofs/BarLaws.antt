@@ -1,6 +1,7 @@
 -- The beats of a measure written one position after another, where the table has room for all of them.
-use Rattle.std.proofs.Common.{◌≡◌, ℕ, zero, suc, ◌+◌, ◌-◌, ◌*◌, ◌≤◌, List, [], ◌∷◌, ◌++◌, length, take, drop, set, replicate, sym, ap, ◌∙◌}
-use Rattle.std.proofs.Common.{append_assoc, arith, length-drop, length-take-le, take_all, eq-eqb, ne_eqb}
+use Rattle.std.proofs.Common.{◌≡◌, ℕ, zero, suc, ◌+◌, ◌-◌, ◌*◌, ◌<◌, ◌≤◌, List, [], ◌∷◌, ◌++◌, length, take, drop, set, replicate, sym, refl, ap, ◌∙◌}
+use Rattle.std.proofs.Common.{append_assoc, append-nil, arith, length-drop, length-take-le, take_all, lt-ltb, eq-eqb, ne_eqb}
+use Rattle.std.proofs.lemmas.List.{drop_all}
 use lib.Seq.{sets, sets-eq, drop-drop}
 use borrow.Rule.Slice.PartMut.{put_mid}
 use Rattle.songcode.specs.Lists.{provided◌then◌else◌}
@@ -25,6 +26,20 @@ unfolding lasting_of
 sound_none zero v t e h = e
 sound_none (suc n) v t e h = let z : suc (length (replicate n v)) ≤ 0 = rw e at h in absurd (omega arith)
 
+pub sound_nowhere : (v : ℕ) (t : List ℕ) → length t ≤ 0 → t ≡ lasting_of (length t) v
+sound_nowhere v [] h = sound_none 0 v [] refl h
+sound_nowhere v (x ∷ t) h = absurd (omega arith)
+
+-- The head first, then the rest filled: the table is then as if it had been filled and the head stored.
+pub sound_rest : (v w : ℕ) (t ys : List ℕ) → 0 < length t → w ≡ v + 16
+    → ys ≡ replicate (length (take (length (set t 0 w) - 1) (drop 1 (set t 0 w)))) v
+    → put_mid 1 (length (set t 0 w) - 1) (set t 0 w) ys ≡ lasting_of (length t) v
+sound_rest v w [] ys h f e = absurd (omega arith)
+sound_rest v w (x ∷ t) ys h f e =
+    let k : suc (length t) - 1 ≡ length t = omega arith in
+    let e' : ys ≡ replicate (length t) v = rw (k, take_all (length t) t (omega arith)) at e in
+    rw (k, e', drop_all (length t) t (omega arith), append-nil) (sound_set (suc (length t)) v w (replicate (suc (length t)) v) refl f)
+
 -- Words written into a part of a table.
 put_part : (b k : ℕ) (t xs : List ℕ) → k ≡ length xs → b + k ≤ length t → put_mid b k t xs ≡ sets t b xs
 put_part b k t xs e h =
@@ -40,6 +55,15 @@ bar_removed share last w k b t e h = let z = eq-eqb (kind_of w) 61 (sym e ∙ h)
 pub bar_place : (share w k b : ℕ) → k ≡ kind_of w → (k ≡ 61 → ⊥) → b + share ≡ b + share * sounds_as (kind_of w)
 unfolding sounds_as provided◌then◌else◌
 bar_place share w k b e n = let y : (kind_of w ≡ 61 → ⊥) = λ x. n (e ∙ x) in simp (ne_eqb (kind_of w) 61 y) (omega arith)
+
+-- A chord sounds itself.
+pub chord_voice : (last w k : ℕ) → k ≡ kind_of w → k < 34 → w ≡ voice_of last w
+unfolding voice_of provided◌then◌else◌
+chord_voice last w k e h = simp (lt-ltb (kind_of w) 34 (omega arith))
+
+-- Where a position sounds, the table has room for its share.
+pub bar_share : (share w k b n : ℕ) → k ≡ kind_of w → (k ≡ 61 → ⊥) → b + share * sounds_as (kind_of w) ≤ n → b + share ≤ n
+bar_share share w k b n e m h = let p = bar_place share w k b e m in omega arith
 
 pub bar_sounds : (share last w k v b e : ℕ) (t ys : List ℕ) → k ≡ kind_of w → (k ≡ 61 → ⊥) → v ≡ voice_of last w → e ≡ b + share → e ≤ length t
     → ys ≡ lasting_of (length (take (e - b) (drop b t))) v → put_mid b (e - b) t ys ≡ sets t b (part_of share last w)

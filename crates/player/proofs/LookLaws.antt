@@ -1,13 +1,31 @@
 -- Looking at the positions of a measure, and sounding them, one after another.
-use Rattle.std.proofs.Common.{◌≡◌, ℕ, suc, ◌+◌, ◌*◌, ◌/◌, ◌≤◌, List, [], ◌∷◌, ◌++◌, length, take, drop, sym, ◌∙◌, mul-le-mul, div-mul-le_self}
-use Rattle.std.proofs.Common.{arith, eq-eqb, ne_eqb}
+use Rattle.std.proofs.Common.{◌≡◌, ℕ, suc, ◌+◌, ◌*◌, ◌/◌, ◌<◌, ◌≤◌, true, List, [], ◌∷◌, ◌++◌, length, take, drop, sym, ◌∙◌, mul-le-mul, div-mul-le_self}
+use Rattle.std.proofs.Common.{arith, le-ltb, lt-ltb, eq-eqb, ne_eqb}
 use Rattle.songcode.specs.Lists.{provided◌then◌else◌}
-use Rattle.tokens.specs.Signs.{kind_of}
+use Rattle.tokens.specs.Signs.{kind_of, is_position}
 use Rattle.player.specs.Signs.{voice_of, chord_of, chords_of, lasting_of, part_of, parts_of, sounds_as, sounding_of, positions_of, positions_at}
 use Rattle.player.specs.Page.{Page, Ink, Fine, inked, measure_of, play}
 use Rattle.player.specs.Walks.{End, finish, one_of}
 use Rattle.player.proofs.SignLaws.{sounding_length}
 use Rattle.player.proofs.PageLaws.{inked_append, moved_inked}
+
+-- A chord: a position that sounds, and the last chord behind it.
+pub chord_test : (w k : ℕ) → k ≡ kind_of w → k < 34 → is_position (kind_of w) ≡ true
+unfolding is_position
+chord_test w k e h = rw (← e, lt-ltb k 34 h)
+
+pub chord_sounds : (k : ℕ) → k < 34 → 1 ≡ sounds_as k
+unfolding sounds_as provided◌then◌else◌
+chord_sounds k h = rw (ne_eqb k 61 (λ z. omega arith))
+
+pub chord_taken : (l w k : ℕ) → k ≡ kind_of w → k < 34 → w ≡ chord_of l w
+unfolding chord_of provided◌then◌else◌
+chord_taken l w k e h = simp (← e, lt-ltb k 34 h)
+
+-- No other position changes the last chord.
+pub chord_kept : (l w k : ℕ) → k ≡ kind_of w → 34 ≤ k → l ≡ chord_of l w
+unfolding chord_of provided◌then◌else◌
+chord_kept l w k e h = simp (← e, le-ltb k 34 h)
 
 pub look_done : (ps : List ℕ) (i s l a b d : ℕ) → ps ≡ [] → i + length ps ≡ a → s + sounding_of ps ≡ b → chords_of l ps ≡ d → (i ≡ a) × (s ≡ b) × (l ≡ d)
 unfolding sounding_of chords_of

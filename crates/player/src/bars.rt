@@ -8,7 +8,7 @@ ghost use Rattle.player.specs.Bars.{beats_of, Counted};
 use super::heard::Sound;
 use super::leaves::{chord_after, voice};
 use packing::head_word;
-use tokens::{REMOVER, kind};
+use tokens::{CHORDS, REMOVER, kind};
 
 // A measure: its positions, how many of them sound, each for its share of N, and the last chord in front of it.
 #[derive(Clone, Copy)]
@@ -23,19 +23,25 @@ pub struct Bar<'w> {
 pub fn write_sound(v: Sound, bs: &mut [u32])
     ensures { bs.new ≡ lasting_of (length bs.old) v.word }
 {
-    bs.fill(v.word);
-    if let Some(first) = bs.first_mut() {
-        *first = head_word(v.word);
+    if bs.is_empty() {
+        return;
     }
+    bs[0] = head_word(v.word);
+    bs[1..].fill(v.word);
 }
 
-// One position, and the place behind its beats; a remover has none.
+// One position, most often a chord, and the place behind its beats; a remover has none.
 pub fn write_position(w: u32, share: usize, last: Sound, b: usize, bs: &mut [u32]) -> usize
     requires { b + share * sounds_as (kind_of w) ≤ length bs.old }
     ensures place { result ≡ b + share * sounds_as (kind_of w) }
     ensures beats { bs.new ≡ sets bs.old b (part_of share last.word w) }
 {
-    if kind(w) == REMOVER {
+    let k = kind(w);
+    if k < CHORDS {
+        write_sound(Sound { word: w }, &mut bs[b..b + share]);
+        return b + share;
+    }
+    if k == REMOVER {
         return b;
     }
     write_sound(voice(last, w), &mut bs[b..b + share]);

@@ -10,7 +10,7 @@ use super::heard::Sound;
 use super::leaves::{chord_after, share_of, sounds, voice};
 use super::pens::{Page, Pen, close, lasting, resting};
 use score::Stretch;
-use tokens::{REMOVER, is_position, kind};
+use tokens::{CHORDS, REMOVER, is_position, kind};
 
 // Where a walk may read: in which row of words, in which N, up to which place, and how many levels of loops and references deep.
 #[derive(Clone, Copy)]
@@ -48,12 +48,15 @@ pub fn look(text: &[u32], last: Sound) -> Seen
     };
     for &w in text {
         let k = kind(w);
-        if !is_position(k) {
+        if k < CHORDS {
+            seen.sounding += 1;
+            seen.last = Sound { word: w };
+        } else if is_position(k) {
+            seen.sounding += sounds(k);
+        } else {
             return seen;
         }
         seen.count += 1;
-        seen.sounding += sounds(k);
-        seen.last = chord_after(seen.last, w);
     }
     seen
 }

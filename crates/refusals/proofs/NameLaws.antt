@@ -32,7 +32,7 @@ use Rattle.refusals.specs.declared.names.Why.TheVariants.{
   NotTimed,
 }
 use Rattle.refusals.specs.declared.names.UnknownNumber.{UnknownNumber}
-use Rattle.refusals.specs.Names.{number_of, Numbered, Names}
+use Rattle.refusals.specs.Names.{number_of, Named, Names}
 
 pub number_small : (why : Why) → number_of why < 32
 number_small TextTooLong = omega arith
@@ -65,6 +65,6 @@ module _ (n : ℕ) where
   named (Ok w) why h e = grind (arith, h, e)
   named (Err x) why h e = let w : ◌≡◌ {A = ℕ} 0 1 = cc in absurd (omega arith)
 
-  pub unnamed : (r : Result Why UnknownNumber) → Names n r → result_ok r ≡ None → Numbered n → ⊥
+  pub unnamed : (r : Result Why UnknownNumber) → Names n r → result_ok r ≡ None → Named n → ⊥
   unnamed (Ok w) h e k = let z : ◌≡◌ {A = ℕ} 0 1 = cc in omega arith
   unnamed (Err x) h e k = h k

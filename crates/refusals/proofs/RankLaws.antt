@@ -13,7 +13,6 @@ use Rattle.songcode.specs.Answer.Lines.{Block}
 use Rattle.songcode.specs.Complaints.{Complaint, complaint, complain_if, goes_first, earlier, earliest}
 use Rattle.songcode.specs.Answer.SongText.{or_no_section}
 use Rattle.songcode.proofs.ListLaws.{Each, by_cases}
-use Rattle.refusals.specs.Names.{Numbered}
 use Rattle.refusals.specs.Ranks.{ranked, rank, no_section, none, Small, least, only_if, refusal_at}
 
 pub least_le : (cs : List Complaint) → least cs ≤ none
@@ -103,27 +102,6 @@ refusal_said r (option.some c) h =
     let n : r % 32 ≡ c.number = omega arith in
     let k : r / 32 ≡ c.line = omega arith in
     rw (l, n, k) refl
-
--- A rank below that of "no section" holds a number that names something.
-says_numbered : (r : ℕ) (o : Option Complaint) → Says r o → r < no_section → Numbered (r % 32)
-unfolding Says ranked
-says_numbered r option.none h l = absurd (omega arith)
-says_numbered r (option.some c) h l = let n : r % 32 ≡ c.number = omega arith in (omega arith, omega arith)
-
-pub least_numbered : (cs : List Complaint) → Each Small cs → least cs < no_section → Numbered (least cs % 32)
-least_numbered cs h l = says_numbered (least cs) (earliest cs) (least_says cs h) l
-
-pub before_no_section : (cs : List Complaint) (t : Bool) → Each Small cs → min (least cs) (only_if t no_section) < no_section
-    → Numbered (min (least cs) (only_if t no_section) % 32)
-unfolding only_if provided◌then◌else◌
-before_no_section cs true h l =
-    let n = least_numbered cs h (omega arith) in
-    let k : min (least cs) no_section ≡ least cs = omega arith in
-    rw k n
-before_no_section cs false h l =
-    let n = least_numbered cs h (omega arith) in
-    let k : min (least cs) none ≡ least cs = omega arith in
-    rw k n
 
 pub earliest_least : (cs : List Complaint) → Each Small cs → refusal_at (least cs) ≡ earliest cs
 earliest_least cs h = refusal_said (least cs) (earliest cs) (least_says cs h)

@@ -1,5 +1,5 @@
--- What is refused has a number; a number below 23 names one.
-use Rattle.std.specs.Prelude.{ℕ, ◌≤◌, ◌≡◌, Result, MatchResult}
+-- What is refused has a number, and a number names one of them, or none.
+use Rattle.std.specs.Prelude.{ℕ, ◌≤◌, ◌≡◌, ◌≢◌, Result, MatchResult}
 use Rattle.refusals.specs.declared.names.Why.{Why}
 use Rattle.refusals.specs.declared.names.UnknownNumber.{UnknownNumber}
 use Rattle.refusals.specs.declared.names.Why.TheVariants.{TextTooLong, BadText, BlockOrder, BadKey, BadSetting, BadHead}
@@ -33,9 +33,9 @@ number_of NoBeatWord = 22
 number_of NotJoined = 25
 number_of NotTimed = 26
 
--- The numbers of a chart's refusals and of the calls that read one are 1 to 22.
-abbrev pub Numbered : ℕ → Type 0
-Numbered n = (1 ≤ n) × (n ≤ 22)
+-- The numbers that name what is refused: 1 to 22, 25 and 26.
+abbrev pub Named : ℕ → Type 0
+Named n = (1 ≤ n) × (n ≤ 26) × (n ≢ 23) × (n ≢ 24)
 
 abbrev pub Names : ℕ → Result Why UnknownNumber → Type 0
-Names n r = MatchResult r (λ why. number_of why ≡ n) (λ e. Numbered n → ⊥)
+Names n r = MatchResult r (λ why. number_of why ≡ n) (λ e. Named n → ⊥)

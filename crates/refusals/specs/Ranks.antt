@@ -1,9 +1,8 @@
 -- A complaint as one number, so that the one that goes first is the least: by its line, on one line by its number.
-use Rattle.std.specs.Prelude.{ℕ, ◌+◌, ◌*◌, ◌/◌, ◌%◌, ◌<◌, min, List, [], ◌∷◌, Bool, eqb, ltb}
+use Rattle.std.specs.Prelude.{ℕ, ◌+◌, ◌*◌, ◌/◌, ◌%◌, ◌<◌, ◌≤◌, min, List, [], ◌∷◌, Bool, eqb, ltb}
 use Rattle.songcode.specs.Lists.{provided◌then◌else◌}
 use Rattle.std.proofs.Math.Option as math
 use Rattle.songcode.specs.Complaints.{Complaint, complaint}
-use Rattle.refusals.specs.Names.{Numbered}
 
 -- A line past 131,071 counts as that one, behind every line of a text that is judged.
 unfoldable pub ranked : ℕ → ℕ → ℕ
@@ -19,9 +18,9 @@ no_section = 4194313
 abbrev pub none : ℕ
 none = 8388608
 
--- A complaint that a text may have: its number names what is refused, its line is below that of `no_section`.
+-- A complaint that a text may have: its number is from 1 to 31, its line below that of `no_section`.
 abbrev pub Small : Complaint → Type 0
-Small c = Numbered c.number × (c.line < 131072)
+Small c = (c.number < 32) × (c.line < 131072) × (1 ≤ c.number)
 
 unfoldable pub least : List Complaint → ℕ
 least [] = none

@@ -1,11 +1,11 @@
-// What a chart is refused for, by names, and which refusal is given: of one stage the earliest, of two stages the first.
+// What a chart is refused for, by names, and which of one stage's refusals is given: the earliest.
 #![tactic(auto)]
 
 mod names;
 mod ranks;
 
 pub use names::{UnknownNumber, Why};
-pub use ranks::{NO_COMPLAINT, NO_SECTION_RANK, complain_if, rank, refusal_at};
+pub use ranks::{Complaint, NO_COMPLAINT, NO_SECTION_RANK, complain_if, rank, refusal_at};
 
 // Why, and the line that it names; 0 where it names none.
 #[derive(Clone, Copy, PartialEq, Eq)]

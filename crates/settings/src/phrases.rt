@@ -12,7 +12,11 @@ use text::is_tail;
 pub fn characters(w: &[u8]) -> usize
     ensures { (result ≡ songcode.characters (placed 0 w.now)) × (result ≤ length w.now) }
 {
-    w.iter().filter(|b| !is_tail(**b)).count()
+    let mut n = 0;
+    for &b in w {
+        n += usize::from(!is_tail(b));
+    }
+    n
 }
 
 // 1 to 100 characters.

@@ -14,6 +14,10 @@ use Rattle.slips.specs.Strays.{AllSilent, is_settled}
 use Rattle.slips.specs.Misfits.{no_measure, fitted}
 use Rattle.slips.specs.Readings.{Follows, lines_in}
 
+-- This stands among the definitions that are remembered, and has this number.
+abbrev pub EntryOf : List (Option Meant) → ℕ → Meant → Type 0
+EntryOf meant n m = (i : ℕ) × (get_or meant i None ≡ Some m) × (m.number ≡ n)
+
 -- The definition of a number is among those that are remembered.
 abbrev pub Remembers : List (Option Meant) → ℕ → Type 0
 Remembers meant n = (i : ℕ) × (m : Meant) × (get_or meant i None ≡ Some m) × (m.number ≡ n)

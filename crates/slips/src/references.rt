@@ -1,5 +1,5 @@
 // Slips in references: refusals 10 and 11.
-ghost use Rattle.std.specs.Prelude.{◌≤◌, ◌<◌, length};
+ghost use Rattle.std.specs.Prelude.{◌≡◌, ◌≤◌, ◌<◌, length, get_or};
 ghost use Rattle.slips.specs.Standing.{Counted};
 
 use super::definitions::definition_lines;
@@ -30,7 +30,9 @@ pub enum Known {
 }
 
 // A number that no definition has is unfit.
-pub fn known_of(known: &[Known], number: usize) -> Known {
+pub fn known_of(known: &[Known], number: usize) -> Known
+    ensures { result ≡ get_or known.now number Known.Unfit }
+{
     known.get(number).copied().unwrap_or(Known::Unfit)
 }
 

@@ -2,7 +2,7 @@
 ghost use Rattle.std.specs.Prelude.{◌≡◌, ℕ, ◌+◌, ◌≤◌, length};
 ghost use Rattle.std.specs.Option.{IfSome};
 ghost use Rattle.slips.specs.Misfits.{no_measure};
-ghost use Rattle.slips.specs.Referring.{Remembers, Closed, Known, MeansRead, TokenRead, LineRead, RunRead};
+ghost use Rattle.slips.specs.Referring.{EntryOf, Remembers, Closed, Known, MeansRead, TokenRead, LineRead, RunRead};
 ghost use Rattle.slips.specs.Readings.{ReadsPattern};
 
 use super::definitions::definition_lines;
@@ -48,7 +48,7 @@ fn with_reading(x: Referring, reading: Reading) -> Referring
 
 // The definition of a number, if a reference meant it.
 fn meant_by(meant: &[Option<Meant>], number: usize) -> Option<Meant>
-    ensures { IfSome result (λ m. Remembers meant.now number) }
+    ensures { IfSome result (λ m. EntryOf meant.now number m) }
 {
     for entry in meant {
         if let Some(m) = entry

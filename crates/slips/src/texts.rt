@@ -49,7 +49,7 @@ fn slip_on(s: &[u8], p: Spot, why: Why) -> Slip
 }
 
 // The slip of a text that is refused for this on this line; the time is the N of the section that the line stands in.
-pub fn find_slip(s: &[u8], why: Why, line: usize, time: usize) -> Slip
+fn slip_of(s: &[u8], why: Why, line: usize, time: usize) -> Slip
     requires { length s.now ≤ 65536 }
     ensures { Finds s.now (number_of why) line time result }
 {
@@ -61,5 +61,16 @@ pub fn find_slip(s: &[u8], why: Why, line: usize, time: usize) -> Slip
         Why::Division => meter_slip(s, p.line, line, why, time),
         Why::NoChordBefore => meter_slip(s, p.line, line, why, time),
         _ => slip_on(s, p, why),
+    }
+}
+
+// The same by the number of what it is refused for.
+pub fn find_slip(s: &[u8], refusal: usize, line: usize, time: usize) -> Slip
+    requires { length s.now ≤ 65536 }
+    ensures { Finds s.now refusal line time result }
+{
+    match Why::try_from(refusal) {
+        Ok(why) => slip_of(s, why, line, time),
+        Err(_) => at_place(1, 0, 0),
     }
 }

@@ -32,13 +32,13 @@ LowBlock b = Low b.first × Each Low b.others
 abbrev pub Fine : List Complaint → Type 0
 Fine cs = Each Small cs
 
-pub one : (number : ℕ) (l : Line) → (1 ≤ number) × (number ≤ 22) → Low l → Fine (complaint number l.number ∷ [])
+pub one : (number : ℕ) (l : Line) → (1 ≤ number) × (number < 32) → Low l → Fine (complaint number l.number ∷ [])
 unfolding Each
-one number l n h = ((n, h), tt)
+one number l n h = ((n.1, h, n.0), tt)
 
-pub fine_if : (t : Bool) (number : ℕ) (l : Line) → (1 ≤ number) × (number ≤ 22) → Low l → Fine (complain_if t number l.number)
+pub fine_if : (t : Bool) (number : ℕ) (l : Line) → (1 ≤ number) × (number < 32) → Low l → Fine (complain_if t number l.number)
 unfolding complain_if when Each
-fine_if true number l n h = ((n, h), tt)
+fine_if true number l n h = ((n.1, h, n.0), tt)
 fine_if false number l n h = tt
 
 pub fine_gather : {A : Type 0} {P : A → Type 0} (f : A → List Complaint) → ((x : A) → P x → Fine (f x)) → (xs : List A) → Each P xs → Fine (flat_map f xs)
@@ -65,7 +65,7 @@ module _ {A : Type 0} (P : A → Type 0) (t : A → Bool) where
   each_left (x ∷ xs) p = by_cases (t x) (λ e. rw e (each_left xs p.1)) (λ e. rw e p)
 
 -- Said twice.
-module _ (number : ℕ) (small : (1 ≤ number) × (number ≤ 22)) (said : Line → Option ℕ) where
+module _ (number : ℕ) (small : (1 ≤ number) × (number < 32)) (said : Line → Option ℕ) where
   fine_said : (o : Option ℕ) (seen : List ℕ) (l : Line) → Low l → Fine (twice_by number o seen l)
   unfolding twice_by Each
   fine_said none seen l h = tt
@@ -91,7 +91,7 @@ module _ (l : Line) (h : Low l) where
   unfolding key_faults
   fine_key allowed = fine_key_by allowed (key_name_of l)
 
-  refusal_small : (m : ModifierName) → (1 ≤ setting_refusal m) × (setting_refusal m ≤ 22)
+  refusal_small : (m : ModifierName) → (1 ≤ setting_refusal m) × (setting_refusal m < 32)
   unfolding setting_refusal
   refusal_small of_repeat = (omega arith, omega arith)
   refusal_small of_cut_start = (omega arith, omega arith)

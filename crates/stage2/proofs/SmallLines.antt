@@ -1,5 +1,5 @@
 -- The lines of a text of at most 65,536 bytes have small numbers, so its refusal is read off the walk.
-use Prim.Native.Nat.{ℕ, zero, suc, ◌+◌, ◌-◌, ◌%◌, ◌<◌, ◌≤◌}
+use Prim.Native.Nat.{ℕ, zero, suc, ◌+◌, ◌-◌, ◌≤◌}
 use mathlib.Core.Path.{◌≡◌, ap, ◌∙◌}
 use mathlib.Core.List.{List, [], ◌∷◌, map}
 use mathlib.Core.Bool.{Bool, true, false}
@@ -15,10 +15,9 @@ use Rattle.songcode.proofs.ListLaws.{Each}
 use Rattle.std.proofs.Math.Option.{none}
 use Rattle.text.specs.Spans.{line_of, spans_from, spans, line_text}
 use Rattle.text.proofs.LineLaws.{blocks_spans}
-use Rattle.refusals.specs.Names.{Numbered}
-use Rattle.refusals.specs.Ranks.{no_section, refusal_at}
+use Rattle.refusals.specs.Ranks.{refusal_at}
 use Rattle.stage2.specs.Walk.{walked, at_first}
-use Rattle.refusals.proofs.RankLaws.{before_no_section, or_no_section_lem, clear_faults}
+use Rattle.refusals.proofs.RankLaws.{or_no_section_lem, clear_faults}
 use Rattle.stage2.proofs.TextWalk.{block_faults, walked_least}
 use Rattle.stage2.proofs.SmallFaults.{faults_small, low_section}
 use Rattle.stage2.proofs.SmallLineFaults.{Low, LowBlock, each_gather}
@@ -71,16 +70,6 @@ stage_walked s h =
     rw (blocks_spans s)
     (ap refusal_at (walked_least ls) ∙ or_no_section_lem (block_faults (blocks ls)) (section_blocks (blocks ls))
     (faults_small (blocks ls) (low_blocks ls (numbers s 1 0 0 s (omega arith)))))
-
--- What the walk says, if anything, names what is refused.
-pub stage_named : (s : List ℕ) → length s ≤ 65536 → walked at_first (map (line_text s) (spans s)) < no_section
-    → Numbered (walked at_first (map (line_text s) (spans s)) % 32)
-unfolding spans
-stage_named s h l =
-    let ls = map (line_text s) (spans s) in
-    let w = walked_least ls in
-    rw w (before_no_section (block_faults (blocks ls)) (is_empty (section_blocks (blocks ls)))
-    (faults_small (blocks ls) (low_blocks ls (numbers s 1 0 0 s (omega arith)))) (rw w at l))
 
 -- Where stage 2 refuses nothing it complains of nothing.
 pub stage_clear : (s : List ℕ) → length s ≤ 65536 → earliest (text_faults (blocks_of s)) ≡ none → text_faults (blocks_of s) ≡ []

@@ -1,5 +1,5 @@
 -- The returns of the walk: a line where it stands, and the loop over the lines.
-use Prim.Native.Nat.{ℕ, ◌+◌, ◌%◌, min, ◌≤◌, ◌<◌}
+use Prim.Native.Nat.{ℕ, ◌+◌, min, ◌≤◌, ◌<◌}
 use mathlib.Core.Path.{◌≡◌, refl, sym, ap, subst, ◌∙◌}
 use mathlib.Core.List.{List, [], map}
 use mathlib.Core.Bool.{Bool, true, false, not}
@@ -15,7 +15,6 @@ use Rattle.songcode.specs.Complaints.{earliest}
 use Rattle.songcode.specs.Answer.SongText.{text_faults}
 use Rattle.songcode.specs.Answer.Answer.{blocks_of}
 use Rattle.std.specs.Prelude as std
-use Rattle.refusals.specs.Names.{Numbered}
 use Rattle.refusals.specs.Refusals.{told}
 use Rattle.text.specs.Spans.{part, Found, spans_from, spans, line_text}
 use Rattle.text.specs.declared.lines.Line.{Line}
@@ -31,13 +30,13 @@ use Rattle.stage2.specs.declared.states.Place.TheVariants.{Between, Definition, 
 use Rattle.stage2.specs.declared.states.Pending.{Pending}
 use Rattle.stage2.specs.declared.states.State.{State}
 use Rattle.stage2.specs.declared.states.Judged.{Judged}
-use Rattle.refusals.specs.Ranks.{ranked, no_section, none, refusal_at}
+use Rattle.refusals.specs.Ranks.{ranked, none, refusal_at}
 use Rattle.stage2.specs.Walk.{Walk, known, nothing_pending, pattern_pending, stepped, walked, at_first}
 use Rattle.stage2.specs.States.{block_state, judged, definition_state, closing, body_judged, body_state, lyrics_state, judged_at, judge, ends}
 use Rattle.stage2.specs.Heads.{head_noted, heads_after}
 use Rattle.refusals.proofs.RankLaws.{min_assoc}
 use Rattle.stage2.proofs.BlockWalk.{by_blocks_le, walked_by_blocks}
-use Rattle.stage2.proofs.SmallLines.{stage_walked, stage_named}
+use Rattle.stage2.proofs.SmallLines.{stage_walked}
 use Rattle.stage2.proofs.StateLaws.{Stands, keeps_step, ends_same}
 
 module _ (c : State) (p : Part) (n : ℕ) (s : List ℕ) (a e : ℕ) (t : Bool) (h : t ≡ is "--" (placed 0 (part a e s))) where
@@ -115,9 +114,9 @@ all_le s =
     omega arith
 
 pub refused : (s : List ℕ) (x : ℕ) (f : std.Option Refusal) → length s ≤ 65536 → x ≡ to_come s at_first 1 0
-    → ((x < no_section → Numbered (x % 32)) → told f ≡ refusal_at x) → told f ≡ earliest (text_faults (blocks_of s))
+    → told f ≡ refusal_at x → told f ≡ earliest (text_faults (blocks_of s))
 unfolding spans
-refused s x f h e g = g (λ l. rw e (stage_named s h (rw e at l))) ∙ (ap refusal_at e ∙ stage_walked s h)
+refused s x f h e g = g ∙ (ap refusal_at e ∙ stage_walked s h)
 
 -- The row where a line may begin: it is as long as it was, and its marks are right; they end before the line.
 pub record Marks (s before words : List ℕ) (at : ℕ) : Type 0 where

@@ -14,7 +14,7 @@ use super::notes::none_if;
 use super::patterns::no_pending;
 use super::states::{Carried, Judged, Part, Pending, Place, State};
 use grammar::{Check, definition_fine, section_fine, start};
-use refusals::{NO_COMPLAINT, Why, complain_if, rank};
+use refusals::{Complaint, NO_COMPLAINT, Why, complain_if, rank};
 use settings::{BlockKind, block_kind, header_ok};
 use text::Line;
 
@@ -153,7 +153,7 @@ fn fine_for(place: Place, check: Check) -> bool
 }
 
 // What is pending against the block that ends here.
-pub fn close_block(c: State) -> usize
+pub fn close_block(c: State) -> Complaint
     ensures { result ≡ closing c }
 {
     let place = c.place;

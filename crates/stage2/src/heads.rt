@@ -6,7 +6,7 @@ ghost use Rattle.tokens.specs.Decimals.{number_of};
 ghost use Rattle.stage2.specs.Heads.{has_head, head_judged, with_head, is_head, head_noted, heads_after};
 
 use super::states::Place;
-use refusals::{NO_COMPLAINT, Why, complain_if};
+use refusals::{Complaint, NO_COMPLAINT, Why, complain_if};
 use settings::head_in;
 use text::Line;
 
@@ -22,7 +22,7 @@ fn has_head(ids: &[usize], n: usize, x: usize) -> bool
 }
 
 // 6 where the head is malformed, the 27th or later, or said before.
-fn head_note(ids: &[usize], n: usize, head: Option<usize>, line: usize) -> usize
+fn head_note(ids: &[usize], n: usize, head: Option<usize>, line: usize) -> Complaint
     requires { n ≤ length ids.now }
     ensures { result ≡ head_judged head n ids.now line }
 {
@@ -43,7 +43,7 @@ fn put_head(ids: &mut [usize], n: usize, head: Option<usize>)
     }
 }
 
-fn judge_head(s: &[u8], ids: &mut [usize], n: usize, l: Line) -> usize
+fn judge_head(s: &[u8], ids: &mut [usize], n: usize, l: Line) -> Complaint
     requires { (l.start ≤ l.stop) × (l.stop ≤ length s.now) × (n ≤ 26) × (length ids.old ≡ 26) }
     ensures { (result ≡ head_judged (number_of (head_in (line_text s.now l))) n ids.old l.number)
         × (ids.new ≡ with_head (number_of (head_in (line_text s.now l))) n ids.old) }
@@ -64,7 +64,7 @@ fn is_head(place: Place) -> bool
 }
 
 // What a line is complained of as a definition's head, where n stood before it and the walk stands at this place behind it.
-pub fn note_head(s: &[u8], ids: &mut [usize], n: usize, place: Place, l: Line) -> usize
+pub fn note_head(s: &[u8], ids: &mut [usize], n: usize, place: Place, l: Line) -> Complaint
     requires { (l.start ≤ l.stop) × (l.stop ≤ length s.now) × (n ≤ 26) × (length ids.old ≡ 26) }
     ensures { (result ≡ head_noted place n ids.old (line_text s.now l))
         × (ids.new ≡ heads_after place n ids.old (line_text s.now l)) }

@@ -17,14 +17,14 @@ use super::parts::{
 };
 use super::patterns::pattern_pending;
 use super::states::{Judged, Part, Place, State};
-use refusals::{Why, complain_if};
+use refusals::{Complaint, Why, complain_if};
 use settings::{Kind, kind_of};
 use text::Line;
 
 // What a line is complained of, and the marks behind it.
 #[derive(Drop)]
 pub struct Noted {
-    pub note: usize,
+    pub note: Complaint,
     pub marks: [bool; 8],
 }
 

@@ -3,10 +3,10 @@ ghost use Rattle.std.specs.Prelude.{◌≡◌};
 ghost use Rattle.refusals.specs.Names.{number_of};
 ghost use Rattle.stage2.specs.States.{again, marked};
 
-use refusals::{NO_COMPLAINT, Why, complain_if};
+use refusals::{Complaint, NO_COMPLAINT, Why, complain_if};
 
 // Complained of if the mark is there already; 8 is nothing.
-pub fn again_note(why: Why, k: usize, marks: [bool; 8], line: usize) -> usize
+pub fn again_note(why: Why, k: usize, marks: [bool; 8], line: usize) -> Complaint
     ensures { result ≡ again (number_of why) k marks line }
 {
     if k < 8 {

@@ -7,7 +7,7 @@ ghost use Rattle.settings.specs.Names.{modifier_is};
 ghost use Rattle.stage2.specs.LineNotes.{modifier_number, setting_fine, setting_number, modifier_note};
 
 use grammar::side_fine;
-use refusals::{Why, complain_if};
+use refusals::{Complaint, Why, complain_if};
 use settings::{ModifierName, cut_in, modifier_named, name_end, repeat_in, setting_start};
 use text::Line;
 
@@ -60,7 +60,7 @@ fn setting_fine(s: &[u8], l: Line, m: ModifierName) -> bool
 }
 
 // 8 where the modifier is unknown; 5, of a lead-in or tail 7, where its setting is malformed.
-pub fn modifier_note(s: &[u8], l: Line, m: Option<ModifierName>) -> usize
+pub fn modifier_note(s: &[u8], l: Line, m: Option<ModifierName>) -> Complaint
     requires { (l.start < l.stop) × (l.stop ≤ length s.now) × (l.stop ≤ 65536) }
     ensures { result ≡ modifier_note m (setting_of (line_text s.now l)) l.number }
 {

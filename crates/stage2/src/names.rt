@@ -5,7 +5,7 @@ ghost use Rattle.text.specs.Spans.{line_text};
 ghost use Rattle.settings.specs.Names.{key_is};
 ghost use Rattle.stage2.specs.LineNotes.{key_number, allowed_in, key_note};
 
-use refusals::{Why, complain_if};
+use refusals::{Complaint, Why, complain_if};
 use settings::{KeyName, is_setting, key_named, name_end, setting_start};
 use text::Line;
 
@@ -43,7 +43,7 @@ fn is_allowed(section: bool, k: KeyName) -> bool
 }
 
 // 4 where the key is unknown or not allowed, 5 where its setting is malformed.
-pub fn key_note(s: &[u8], l: Line, k: Option<KeyName>, section: bool) -> usize
+pub fn key_note(s: &[u8], l: Line, k: Option<KeyName>, section: bool) -> Complaint
     requires { (l.start < l.stop) × (l.stop ≤ length s.now) }
     ensures { result ≡ key_note section k (setting_of (line_text s.now l)) l.number }
 {

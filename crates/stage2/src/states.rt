@@ -1,5 +1,6 @@
 // What the walk over the lines keeps of those before.
 use grammar::Check;
+use refusals::Complaint;
 
 // Where a section's line stands between its header and the `--`: only keys came before it; a modifier came before the pattern;
 // in the pattern's run; past it.
@@ -33,9 +34,9 @@ pub struct Carried {
 // What a block's end will complain of: no pattern line, `--` without lyrics, and the pattern's text if the check of it says so.
 #[derive(Clone, Copy)]
 pub struct Pending {
-    pub want: usize,
-    pub bare: usize,
-    pub bad: usize,
+    pub want: Complaint,
+    pub bare: Complaint,
+    pub bad: Complaint,
     pub check: Check,
 }
 
@@ -51,6 +52,6 @@ pub struct State {
 // What a line is complained of, and the state behind it.
 #[derive(Clone, Copy)]
 pub struct Judged {
-    pub note: usize,
+    pub note: Complaint,
     pub state: State,
 }

@@ -16,7 +16,7 @@ use super::lines::body_line;
 use super::notes::none_if;
 use super::patterns::{no_pending, pattern_pending};
 use super::states::{Carried, Judged, Part, Pending, Place, State};
-use refusals::{NO_COMPLAINT, NO_SECTION_RANK, Refusal, Why, rank, refusal_at};
+use refusals::{Complaint, NO_COMPLAINT, NO_SECTION_RANK, Refusal, Why, rank, refusal_at};
 use settings::is_dashes;
 use text::{Line, line_at};
 
@@ -39,7 +39,7 @@ fn in_definition(s: &[u8], words: &mut [u32], c: State, p: Part, l: Line) -> Jud
 }
 
 // The `--`, and a line behind it.
-fn in_lyrics(c: State, bare: usize) -> Judged
+fn in_lyrics(c: State, bare: Complaint) -> Judged
     ensures { result ≡ judged none (lyrics_state c bare) }
 {
     let carried = c.carried;
@@ -105,8 +105,8 @@ fn judge_line(s: &[u8], words: &mut [u32], c: State, l: Line) -> Judged
     if l.start < l.stop {
         return in_place(s, words, c, l);
     }
-    let note = close_block(c);
     let k = c.carried;
+    let note = close_block(c);
     let state = block_state(Place::Between, k, no_pending());
     Judged { note, state }
 }
@@ -125,7 +125,7 @@ fn first_state() -> State
 }
 
 // Behind the last line: the block that stands open ends, and a section is there, or 9.
-fn end_text(c: State) -> usize
+fn end_text(c: State) -> Complaint
     ensures { result ≡ ends c }
 {
     let k = c.carried;
@@ -147,10 +147,10 @@ pub fn stage_two(s: &[u8], words: &mut [u32]) -> Option<Refusal>
     let mut n = 1;
     while at < s.len() {
         let l = line_at(s, n, at);
+        let k = c.carried;
         let j = judge_line(s, words, c, l);
         let d = j.state;
         let place = d.place;
-        let k = c.carried;
         let six = note_head(s, &mut ids, k.count, place, l);
         best = best.min(j.note.min(six));
         c = d;

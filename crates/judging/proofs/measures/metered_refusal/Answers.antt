@@ -7,5 +7,5 @@ use Rattle.judging.proofs.measures.metered_refusal.Goals as goal
 
 pub returns : goal.returns
 unfolding metered_refusal
-returns c named =
-    ap told c.or.ensures ∙ told_or c.refusal_at.result c.err.result ∙ rw (c.refusal_at.ensures named, c.err.ensures.value) refl
+returns c =
+    ap told c.or.ensures ∙ told_or c.refusal_at.result c.err.result ∙ rw (c.refusal_at.ensures, c.err.ensures.value) refl

@@ -6,10 +6,9 @@ use Rattle.judging.proofs.StageLaws.{stage_refused, stage_none, none_found, some
 use Rattle.judging.proofs.RowIsLaws.{row_is_start, row_before, row_is_next, row_is_blocks, row_is_sized}
 use Rattle.laying.proofs.ReadyLaws.{ready_told}
 use Rattle.judging.proofs.ClearLaws.{song_clear}
-use Rattle.judging.proofs.WalkLaws.{walked_start, walk_named, walk_sings, walk_on, walk_refused, later_verdict, named_end, outcome_holds}
+use Rattle.judging.proofs.WalkLaws.{walked_start, walk_sings, walk_on, walk_refused, later_verdict, outcome_holds}
 use Rattle.judging.specs.Stages.{playing_faults, later_faults}
 use Rattle.judging.specs.Sums.{Holds}
-use Rattle.judging.specs.Walking.{Ends}
 use Rattle.std.proofs.lemmas.Result.{MatchResult-at_ok, MatchResult-at_err}
 use Rattle.refusals.specs.Refusals.{told}
 use Rattle.refusals.proofs.PassedLaws.{passed_up}
@@ -19,7 +18,7 @@ use Rattle.songcode.specs.Answer.Tables.{tables}
 use native.Mathlib.Omega.{arith}
 use mathlib.Core.Path.{refl, sym, ap, ◌∙◌, subst}
 use Rattle.judging.proofs.walking.walk.Goals as goal
-use Rattle.judging.proofs.walking.walk.Goals.{then-is_none, else-is_none, After-outcome_of}
+use Rattle.judging.proofs.walking.walk.Goals.{then-is_none, else-is_none}
 
 pub loop-place-init : goal.loop-place-init
 loop-place-init c = (
@@ -59,9 +58,8 @@ sing-sung-requires c =
     let i = c.loop-place.invariant in
     let x = c.lay_section-x in
     let m = c.with_measures-metered.ensures in
-    let named = walk_named x.result x.ensures.lays i.0 c.loop-place-test.true c.requires.song.0.time _ _ i.4 m i.1.ready.small in
     walk_sings x.result x.ensures.lays i.0 c.loop-place-test.true c.requires.song.0.time _ _ i.4 m c.metered_refusal.result
-    (c.metered_refusal.ensures named) (none_found c.is_none.ensures c.if-is_none.true)
+    c.metered_refusal.ensures (none_found c.is_none.ensures c.if-is_none.true)
 
 pub loop-place-smaller : goal.loop-place-smaller
 loop-place-smaller c =
@@ -75,8 +73,7 @@ loop-place-preserved c =
     let fault = fault_at x.result x.ensures.lays (ready_told laid.ready) c.name_fault.ensures in
     let inside = c.loop-place-test.true in
     let time = c.requires.song.0.time in
-    let m = c.with_measures-metered.ensures in
-    let named = walk_named x.result x.ensures.lays i.0 inside time _ _ i.4 m i.1.ready.small in (
+    let m = c.with_measures-metered.ensures in (
       x.ensures.lays.opens.met.onward,
       laid,
       x.ensures.length ∙ i.2,
@@ -85,14 +82,10 @@ loop-place-preserved c =
         | then-is_none v ↦
             walk_on x.result x.ensures.lays i.0 inside time _ _ i.4 m (v.sung-is ∙ v.sing-sung.ensures)
         | else-is_none v ↦
-            walk_refused x.result x.ensures.lays i.0 inside time _ _ i.4 m c.metered_refusal.result (c.metered_refusal.ensures named)
+            walk_refused x.result x.ensures.lays i.0 inside time _ _ i.4 m c.metered_refusal.result c.metered_refusal.ensures
             (some_found c.is_none.ensures v.if-is_none.false) v.sung-is
       ],
     )
-
--- What is found behind the last section.
-ended : (c : After-outcome_of) → Ends c.loop-place.metered c.loop-place.sung c.outcome_of.result
-ended c = c.outcome_of.ensures (named_end c.loop-place.invariant.1.ready.small c.loop-place-test.false _ _ c.loop-place.invariant.4)
 
 pub returns-in_err-totals-clause-judged : goal.returns-in_err-totals-clause-judged
 returns-in_err-totals-clause-judged c =
@@ -100,7 +93,7 @@ returns-in_err-totals-clause-judged c =
     let over = c.loop-place-test.false in
     let none = references_over c.args.s.now l.place over l.invariant.3 in
     passed_up _ _ _ _ c.from_residual.ensures.1
-    (MatchResult-at_err _ _ _ c.in_err-totals.was (ended (goal.at.returns-in_err-totals-clause-judged c).After-outcome_of)
+    (MatchResult-at_err _ _ _ c.in_err-totals.was c.outcome_of.ensures
     ∙ later_verdict l.invariant.1.ready.small over l.metered l.sung l.invariant.4 none)
 
 pub returns-clause-judged : goal.returns-clause-judged
@@ -109,7 +102,7 @@ returns-clause-judged c =
     let s = c.args.s.now in
     let over = c.loop-place-test.false in
     let none = references_over s l.place over l.invariant.3 in
-    let e = MatchResult-at_ok _ _ _ c.in_ok-totals.was (ended (goal.at.returns-clause-judged c).After-outcome_of) in record {
+    let e = MatchResult-at_ok _ _ _ c.in_ok-totals.was c.outcome_of.ensures in record {
       clear = song_clear (song_of s) (sym (later_verdict l.invariant.1.ready.small over l.metered l.sung l.invariant.4 none) ∙ e.0);
       blocks = row_is_blocks l.invariant.1 over;
       sized = row_is_sized l.invariant.1 over;

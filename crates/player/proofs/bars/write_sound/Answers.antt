@@ -1,9 +1,15 @@
--- The table is filled, then the head stored in its first place, if it has one.
-use Rattle.player.proofs.BarLaws.{sound_set, sound_none}
+-- The head is stored in the table's first place, if it has one, and the rest of the table is filled.
+use Rattle.player.proofs.BarLaws.{sound_nowhere, sound_rest}
+use Rattle.std.proofs.Common.{◌<◌, ◌≤◌, length, arith}
+use Rattle.std.proofs.lemmas.Bool.Decides.{nat_tests}
 use Rattle.player.proofs.bars.write_sound.Goals as goal
 
-pub returns-in-Some : goal.returns-in-Some
-returns-in-Some c = sound_set _ _ _ _ (c.fill.ensures.after (λ y e. e)) c.head_word.ensures
+pub returns-then-is_empty : goal.returns-then-is_empty
+returns-then-is_empty c =
+    let h : length c.args.bs.now ≤ 0 = grind (arith, nat_tests) in
+    sound_nowhere _ _ h
 
-pub returns-in_default : goal.returns-in_default
-returns-in_default c = sound_none _ _ _ (c.fill.ensures.after (λ y e. e)) c.in_default.ensures.item.3
+pub returns : goal.returns
+returns c =
+    let h : 0 < length c.args.bs.now = grind (arith, nat_tests) in
+    sound_rest _ _ _ _ h c.head_word.ensures (c.fill.ensures.after (λ y e. e))

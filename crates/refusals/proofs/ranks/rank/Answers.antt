@@ -1,4 +1,4 @@
--- The line is at most 131,071 and the number below 32, so that nothing overflows and the sum is the model's.
+-- The line is at most 131,071 and the number below 32, so that nothing overflows, the sum is the model's, and it has the number.
 use Rattle.refusals.specs.Ranks.{ranked}
 use borrow.Author.Rules.{rules}
 use Rattle.refusals.proofs.ranks.rank.Goals as goal

@@ -9,20 +9,20 @@ use Rattle.refusals.proofs.NameLaws.{named, unnamed}
 use Rattle.refusals.proofs.ranks.refusal_at.Goals as goal
 
 pub returns-in_err-why : goal.returns-in_err-why
-returns-in_err-why c h =
+returns-in_err-why c =
     let none = sym c.ok.ensures.value ∙ c.in_err-why.was in
-    absurd (unnamed (c.args.r % 32) c.try_from.result c.try_from.ensures none (h c.if-r-lt-NO_SECTION_RANK.true))
+    absurd (unnamed (c.r.inside.number % 32) c.try_from.result c.try_from.ensures none (c.r.invariant c.if-number-lt-NO_SECTION.true))
 
-pub returns-then-r-lt-NO_SECTION_RANK : goal.returns-then-r-lt-NO_SECTION_RANK
+pub returns-then-number-lt-NO_SECTION : goal.returns-then-number-lt-NO_SECTION
 unfolding refusal_at provided◌then◌else◌ told
-returns-then-r-lt-NO_SECTION_RANK c h =
-    let n = named (c.args.r % 32) c.try_from.result c.in_ok-why.why c.try_from.ensures (sym c.ok.ensures.value ∙ c.in_ok-why.was) in
-    rw (lt-ltb _ _ c.if-r-lt-NO_SECTION_RANK.true, n) refl
+returns-then-number-lt-NO_SECTION c =
+    let n = named (c.r.inside.number % 32) c.try_from.result c.in_ok-why.why c.try_from.ensures (sym c.ok.ensures.value ∙ c.in_ok-why.was) in
+    rw (← c.r.view_is, lt-ltb _ _ c.if-number-lt-NO_SECTION.true, n) refl
 
-pub returns-then-r-eq-NO_SECTION_RANK : goal.returns-then-r-eq-NO_SECTION_RANK
+pub returns-then-number-eq-NO_SECTION : goal.returns-then-number-eq-NO_SECTION
 unfolding refusal_at provided◌then◌else◌ told
-returns-then-r-eq-NO_SECTION_RANK c = rw (le-ltb _ _ c.if-r-lt-NO_SECTION_RANK.false, eq-eqb _ _ c.if-r-eq-NO_SECTION_RANK.true) (λ _. refl)
+returns-then-number-eq-NO_SECTION c = rw (← c.r.view_is, le-ltb _ _ c.if-number-lt-NO_SECTION.false, eq-eqb _ _ c.if-number-eq-NO_SECTION.true) refl
 
 pub returns : goal.returns
 unfolding refusal_at provided◌then◌else◌ told
-returns c = rw (le-ltb _ _ c.if-r-lt-NO_SECTION_RANK.false, ne_eqb _ _ c.if-r-eq-NO_SECTION_RANK.false) (λ _. refl)
+returns c = rw (← c.r.view_is, le-ltb _ _ c.if-number-lt-NO_SECTION.false, ne_eqb _ _ c.if-number-eq-NO_SECTION.false) refl

@@ -3,7 +3,7 @@ use mathlib.Core.Path.{◌≡◌, refl}
 use native.Mathlib.Omega.{arith}
 use Rattle.refusals.specs.Names.{number_of}
 use Rattle.slips.proofs.RuledLaws.{ruled_found}
-use Rattle.slips.proofs.texts.find_slip.Goals as goal
+use Rattle.slips.proofs.texts.slip_of.Goals as goal
 
 pub returns-in-BadPattern : goal.returns-in-BadPattern
 returns-in-BadPattern c =
