@@ -7,7 +7,7 @@ ghost use Rattle.judging.specs.Measures.{with_measures, metered_refusal};
 use super::lengths::with_lengths;
 use super::meters::meter_fault;
 use laying::Opened;
-use refusals::{Complaint, Refusal, refusal_at};
+use refusals::{Complaint, Refusal, refusal_of};
 
 // What stage 4 complains of first in the sections so far; and their measures, or what stage 5 refuses of them.
 #[derive(Clone, Copy)]
@@ -33,5 +33,5 @@ pub fn with_measures(words: &[u32], n: usize, x: Opened, y: Metered) -> Metered
 pub fn metered_refusal(x: &Metered) -> Option<Refusal>
     ensures { told result ≡ metered_refusal x.now }
 {
-    refusal_at(x.meters).or(x.lengths.err())
+    refusal_of(x.meters).or(x.lengths.err())
 }

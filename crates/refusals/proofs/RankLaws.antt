@@ -13,6 +13,7 @@ use Rattle.songcode.specs.Answer.Lines.{Block}
 use Rattle.songcode.specs.Complaints.{Complaint, complaint, complain_if, goes_first, earlier, earliest}
 use Rattle.songcode.specs.Answer.SongText.{or_no_section}
 use Rattle.songcode.proofs.ListLaws.{Each, by_cases}
+use Rattle.refusals.specs.Names.{Numbered}
 use Rattle.refusals.specs.Ranks.{ranked, rank, no_section, none, Small, least, only_if, refusal_at}
 
 pub least_le : (cs : List Complaint) → least cs ≤ none
@@ -102,6 +103,40 @@ refusal_said r (option.some c) h =
     let n : r % 32 ≡ c.number = omega arith in
     let k : r / 32 ≡ c.line = omega arith in
     rw (l, n, k) refl
+
+-- A complaint that a text may have, whose number is 1 to 22. The least of such has one of these numbers, also where "no section" stands behind them.
+abbrev pub SmallNumbered : Complaint → Type 0
+SmallNumbered c = Numbered c.number × (c.line < 131072)
+
+lesser_numbered : (c : Complaint) (n : ℕ) → SmallNumbered c → (n < no_section → Numbered (n % 32)) → min (rank c) n < no_section
+    → Numbered (min (rank c) n % 32)
+unfolding ranked
+lesser_numbered c n h k l =
+    by_cases (leb (rank c) n)
+    (λ t. let le = leb-true (rank c) n t in
+    let e : min (rank c) n ≡ rank c = omega arith in
+    let m : rank c % 32 ≡ c.number = omega arith in
+    rw (e, m) h.0)
+    (λ t. let le = leb-false (rank c) n t in
+    let e : min (rank c) n ≡ n = omega arith in
+    rw e (k (omega arith)))
+
+pub least_numbered : (cs : List Complaint) → Each SmallNumbered cs → least cs < no_section → Numbered (least cs % 32)
+unfolding least Each
+least_numbered [] h l = absurd (omega arith)
+least_numbered (c ∷ cs) h l = lesser_numbered c (least cs) h.0 (least_numbered cs h.1) l
+
+pub before_no_section : (cs : List Complaint) (t : Bool) → Each SmallNumbered cs → min (least cs) (only_if t no_section) < no_section
+    → Numbered (min (least cs) (only_if t no_section) % 32)
+unfolding only_if provided◌then◌else◌
+before_no_section cs true h l =
+    let n = least_numbered cs h (omega arith) in
+    let k : min (least cs) no_section ≡ least cs = omega arith in
+    rw k n
+before_no_section cs false h l =
+    let n = least_numbered cs h (omega arith) in
+    let k : min (least cs) none ≡ least cs = omega arith in
+    rw k n
 
 pub earliest_least : (cs : List Complaint) → Each Small cs → refusal_at (least cs) ≡ earliest cs
 earliest_least cs h = refusal_said (least cs) (earliest cs) (least_says cs h)

@@ -33,6 +33,10 @@ number_of NoBeatWord = 22
 number_of NotJoined = 25
 number_of NotTimed = 26
 
+-- The numbers of a chart's refusals and of the calls that read one are 1 to 22.
+abbrev pub Numbered : ℕ → Type 0
+Numbered n = (1 ≤ n) × (n ≤ 22)
+
 -- The numbers that name what is refused: 1 to 22, 25 and 26.
 abbrev pub Named : ℕ → Type 0
 Named n = (1 ≤ n) × (n ≤ 26) × (n ≢ 23) × (n ≢ 24)

@@ -1,7 +1,7 @@
 // Complaints as numbers, so that of one stage's the one that goes first is the least: the line times 32, and the refusal's number.
 ghost use Rattle.std.specs.Prelude.{◌≡◌, ◌<◌, ◌%◌, ℕ, min};
 ghost use Rattle.songcode.specs.Complaints.{complain_if};
-ghost use Rattle.refusals.specs.Names.{number_of, Named};
+ghost use Rattle.refusals.specs.Names.{number_of, Named, Numbered};
 ghost use Rattle.refusals.specs.Refusals.{told};
 ghost use Rattle.refusals.specs.Ranks.{ranked, no_section, least, refusal_at};
 
@@ -37,6 +37,15 @@ impl Complaint {
     }
 }
 
+// The number by itself.
+impl From<Complaint> for usize {
+    ghost from_gives = { λ complaint number. number ≡ complaint };
+
+    fn from(complaint: Complaint) -> usize {
+        complaint.number
+    }
+}
+
 // No complaint.
 pub const NO_COMPLAINT: Complaint = Complaint { number: 8388608 };
 
@@ -63,7 +72,7 @@ pub fn complain_if(test: bool, why: Why, line: usize) -> Complaint
 }
 
 // The refusal that a complaint's number says.
-pub fn refusal_at(r: Complaint) -> Option<Refusal>
+pub fn refusal_of(r: Complaint) -> Option<Refusal>
     ensures { told result ≡ refusal_at r }
 {
     let number = r.number;
@@ -81,4 +90,14 @@ pub fn refusal_at(r: Complaint) -> Option<Refusal>
         });
     }
     None
+}
+
+// The refusal that a number says, for callers that hold the number alone; one that names nothing says none.
+pub fn refusal_at(r: usize) -> Option<Refusal>
+    ensures { (r < no_section → Numbered (r % 32)) → told result ≡ refusal_at r }
+{
+    if r < NO_SECTION {
+        Why::try_from(r % 32).ok()?;
+    }
+    refusal_of(Complaint { number: r })
 }

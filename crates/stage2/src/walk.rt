@@ -16,7 +16,7 @@ use super::lines::body_line;
 use super::notes::none_if;
 use super::patterns::{no_pending, pattern_pending};
 use super::states::{Carried, Judged, Part, Pending, Place, State};
-use refusals::{Complaint, NO_COMPLAINT, NO_SECTION_RANK, Refusal, Why, rank, refusal_at};
+use refusals::{Complaint, NO_COMPLAINT, NO_SECTION_RANK, Refusal, Why, rank, refusal_of};
 use settings::is_dashes;
 use text::{Line, line_at};
 
@@ -158,5 +158,5 @@ pub fn stage_two(s: &[u8], words: &mut [u32]) -> Option<Refusal>
         n += 1;
     }
     let last = end_text(c);
-    refusal_at(best.min(last))
+    refusal_of(best.min(last))
 }

@@ -8,4 +8,4 @@ use Rattle.judging.proofs.measures.metered_refusal.Goals as goal
 pub returns : goal.returns
 unfolding metered_refusal
 returns c =
-    ap told c.or.ensures ∙ told_or c.refusal_at.result c.err.result ∙ rw (c.refusal_at.ensures, c.err.ensures.value) refl
+    ap told c.or.ensures ∙ told_or c.refusal_of.result c.err.result ∙ rw (c.refusal_of.ensures, c.err.ensures.value) refl

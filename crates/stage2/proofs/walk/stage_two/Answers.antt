@@ -41,6 +41,6 @@ pub returns : goal.returns
 returns c = let s = c.args.s.now in
     let i = c.loop-at.invariant in
     let over = no_line s i.4 c.loop-at.c c.loop-at.ids c.loop-at.n c.loop-at.at i.5 c.loop-at-test.false in record {
-      value = refused s c.min-2.result c.refusal_at.result c.requires.0 (omega arith) c.refusal_at.ensures;
+      value = refused s c.min-2.result c.refusal_of.result c.requires.0 (omega arith) c.refusal_of.ensures;
       kept = marks_last s c.args.words.now c.loop-at.words c.loop-at.at i.3 c.requires.1;
     }

@@ -6,7 +6,7 @@ use Rattle.songcode.specs.Lists.{provided◌then◌else◌}
 use Rattle.refusals.specs.Refusals.{told}
 use Rattle.refusals.specs.Ranks.{refusal_at}
 use Rattle.refusals.proofs.NameLaws.{named, unnamed}
-use Rattle.refusals.proofs.ranks.refusal_at.Goals as goal
+use Rattle.refusals.proofs.ranks.refusal_of.Goals as goal
 
 pub returns-in_err-why : goal.returns-in_err-why
 returns-in_err-why c =
