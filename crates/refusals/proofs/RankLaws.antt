@@ -104,7 +104,7 @@ refusal_said r (option.some c) h =
     let k : r / 32 ≡ c.line = omega arith in
     rw (l, n, k) refl
 
--- A complaint that a text may have, whose number is 1 to 22. The least of such has one of these numbers, also where "no section" stands behind them.
+-- A complaint that a text may have, whose number is 1 to 22. The least of such, where it is below "no section", has one of these numbers.
 abbrev pub SmallNumbered : Complaint → Type 0
 SmallNumbered c = Numbered c.number × (c.line < 131072)
 

@@ -1,5 +1,5 @@
 // Complaints as numbers, so that of one stage's the one that goes first is the least: the line times 32, and the refusal's number.
-ghost use Rattle.std.specs.Prelude.{◌≡◌, ◌<◌, ◌%◌, ℕ, min};
+ghost use Rattle.std.specs.Prelude.{◌≡◌, ◌<◌, ◌%◌, ℕ, min, None};
 ghost use Rattle.songcode.specs.Complaints.{complain_if};
 ghost use Rattle.refusals.specs.Names.{number_of, Named, Numbered};
 ghost use Rattle.refusals.specs.Refusals.{told};
@@ -92,9 +92,11 @@ pub fn refusal_of(r: Complaint) -> Option<Refusal>
     None
 }
 
-// The refusal that a number says, for callers that hold the number alone; one that names nothing says none.
+// The same of a number by itself, for callers that hold no complaint: below "no section" one that names nothing says none.
 pub fn refusal_at(r: usize) -> Option<Refusal>
-    ensures { (r < no_section → Numbered (r % 32)) → told result ≡ refusal_at r }
+    ensures numbered { (r < no_section → Numbered (r % 32)) → told result ≡ refusal_at r }
+    ensures named { r < no_section → Named (r % 32) → told result ≡ refusal_at r }
+    ensures nothing { r < no_section → (Named (r % 32) → ⊥) → result ≡ None }
 {
     if r < NO_SECTION {
         Why::try_from(r % 32).ok()?;

@@ -41,4 +41,4 @@ returns c h =
       c.complain_if.ensures,
       c.complain_if-2.ensures,
     ) in
-    c.refusal_at.ensures (λ l. rw e (first_numbered (twelve ++ thirteen) fine (rw e at l))) ∙ ap refusal_at e
+    c.refusal_at.ensures.numbered (λ l. rw e (first_numbered (twelve ++ thirteen) fine (rw e at l))) ∙ ap refusal_at e
